@@ -1,0 +1,53 @@
+-- The permissions of file rules, the letters that stand for them, and sets of them (apparmor.d(5), "Access Modes").
+use Rattle.std.specs.Prelude.{ℕ, Bool, List, [], ◌∷◌, Option, Some, None, ◌==◌, ◌||◌, map, filter, find, IsTrue, if◌then◌else◌}
+use Rattle.std.specs.List.{list_all, list_any}
+use Rattle.names.specs.declared.permissions.Permission.{Permission}
+use Rattle.names.specs.declared.permissions.Permission.TheVariants.{Read, Write, Link, Lock, Map}
+use Rattle.names.specs.declared.permissions.Perms.{Perms}
+
+-- r, w, l, k and m
+abbrev pub letter : Permission → ℕ
+letter Read = 114
+letter Write = 119
+letter Link = 108
+letter Lock = 107
+letter Map = 109
+
+-- every permission, in the order in which a set is printed
+abbrev pub all_permissions : List Permission
+all_permissions = Read ∷ Write ∷ Link ∷ Lock ∷ Map ∷ []
+
+-- the permission with this letter
+abbrev pub permission_of : ℕ → Option Permission
+permission_of b = find (λ p. letter p == b) all_permissions
+
+abbrev pub has : Perms → Permission → Bool
+has s Read = s.read
+has s Write = s.write
+has s Link = s.link
+has s Lock = s.lock
+has s Map = s.map
+
+-- the set of the permissions that pass the test
+abbrev pub set_of : (Permission → Bool) → Perms
+set_of test = record { read = test Read; write = test Write; link = test Link; lock = test Lock; map = test Map }
+
+-- the set and this permission
+abbrev pub with_permission : Perms → Permission → Perms
+with_permission s p = set_of (λ q. has s q || (letter q == letter p))
+
+-- some permission is in both sets
+abbrev pub Shares : Perms → Perms → Type 0
+Shares s t = (p : Permission) × IsTrue (has s p) × IsTrue (has t p)
+
+-- the letters of a set, as it is printed
+abbrev pub letters : Perms → List ℕ
+letters s = map letter (filter (has s) all_permissions)
+
+-- a letter of some permission
+abbrev pub is_letter : ℕ → Bool
+is_letter b = list_any (λ p. letter p == b) all_permissions
+
+-- the set that a word of letters stands for; a letter that is repeated counts once
+abbrev pub perms_of : List ℕ → Option Perms
+perms_of word = if list_all is_letter word then Some (set_of (λ p. list_any (λ b. letter p == b) word)) else None

@@ -1,0 +1,171 @@
+ghost use Rattle.std.specs.Prelude.{◌≡◌, ◌↔◌, ◌&&◌, ◌∷◌, [], not, false, Some, IsTrue};
+ghost use Rattle.names.specs.declared.permissions.Permission.{Permission};
+ghost use Rattle.names.specs.Permissions.{letter, permission_of, has, set_of, with_permission, perms_of, letters, Shares};
+
+use std::fmt;
+
+/// One of the file permissions that a rule gives or denies (apparmor.d(5), "Access Modes").
+#[derive(Clone, Copy, Debug, PartialEq, Eq)]
+pub enum Permission {
+    Read,
+    Write,
+    Link,
+    Lock,
+    Map,
+}
+
+impl Permission {
+    /// Every permission, in the order in which a set of them is printed: r w l k m.
+    pub const ALL: [Permission; 5] = [
+        Permission::Read,
+        Permission::Write,
+        Permission::Link,
+        Permission::Lock,
+        Permission::Map,
+    ];
+
+    /// The letter that stands for the permission in a rule.
+    pub fn letter(self) -> u8
+        ensures { result ≡ letter self }
+    {
+        match self {
+            Permission::Read => b'r',
+            Permission::Write => b'w',
+            Permission::Link => b'l',
+            Permission::Lock => b'k',
+            Permission::Map => b'm',
+        }
+    }
+
+    /// The permission that a letter stands for, if it stands for one.
+    pub fn from_letter(letter: u8) -> Option<Permission>
+        ensures { result ≡ permission_of letter }
+    {
+        match letter {
+            b'r' => Some(Permission::Read),
+            b'w' => Some(Permission::Write),
+            b'l' => Some(Permission::Link),
+            b'k' => Some(Permission::Lock),
+            b'm' => Some(Permission::Map),
+            _ => None,
+        }
+    }
+}
+
+impl fmt::Display for Permission {
+    ghost output = { λ p. Some (letter p ∷ []) };
+
+    fn fmt<W: fmt::Write>(&self, f: &mut fmt::Formatter<W>) -> fmt::Result {
+        f.write_str(match self {
+            Permission::Read => "r",
+            Permission::Write => "w",
+            Permission::Link => "l",
+            Permission::Lock => "k",
+            Permission::Map => "m",
+        })
+    }
+}
+
+/// A set of permissions. It is printed by its letters, in the order of [`Permission::ALL`].
+#[derive(Clone, Copy, Debug, PartialEq, Eq)]
+pub struct Perms {
+    read: bool,
+    write: bool,
+    link: bool,
+    lock: bool,
+    map: bool,
+}
+
+impl Perms {
+    /// The set with nothing in it.
+    pub const NONE: Perms = Perms {
+        read: false,
+        write: false,
+        link: false,
+        lock: false,
+        map: false,
+    };
+
+    /// Whether the permission is in the set.
+    pub fn contains(self, permission: Permission) -> bool
+        ensures { result ≡ has self permission }
+    {
+        match permission {
+            Permission::Read => self.read,
+            Permission::Write => self.write,
+            Permission::Link => self.link,
+            Permission::Lock => self.lock,
+            Permission::Map => self.map,
+        }
+    }
+
+    /// Whether nothing is in the set.
+    pub fn is_empty(self) -> bool
+        ensures { IsTrue result ↔ ((p : Permission) → has self p ≡ false) }
+    {
+        Permission::ALL.iter().all(|p| !self.contains(*p))
+    }
+
+    /// The set with the permission added.
+    pub fn with(self, permission: Permission) -> Perms
+        ensures { result ≡ with_permission self permission }
+    {
+        match permission {
+            Permission::Read => Perms { read: true, ..self },
+            Permission::Write => Perms {
+                write: true,
+                ..self
+            },
+            Permission::Link => Perms { link: true, ..self },
+            Permission::Lock => Perms { lock: true, ..self },
+            Permission::Map => Perms { map: true, ..self },
+        }
+    }
+
+    /// Whether some permission is in both sets.
+    pub fn intersects(self, other: Perms) -> bool
+        ensures { IsTrue result ↔ Shares self other }
+    {
+        Permission::ALL
+            .iter()
+            .any(|p| self.contains(*p) && other.contains(*p))
+    }
+
+    /// The permissions of the set that aren't in the other.
+    pub fn without(self, other: Perms) -> Perms
+        ensures { result ≡ set_of (λ p. has self p && not (has other p)) }
+    {
+        Perms {
+            read: self.read && !other.read,
+            write: self.write && !other.write,
+            link: self.link && !other.link,
+            lock: self.lock && !other.lock,
+            map: self.map && !other.map,
+        }
+    }
+
+    /// The set that a word of letters stands for, in any order, a repeated letter counting once.
+    /// None where some byte is the letter of no permission. The empty word is the empty set.
+    pub fn from_letters(word: &[u8]) -> Option<Perms>
+        ensures { result ≡ perms_of word.now }
+    {
+        let mut perms = Perms::NONE;
+        for letter in word {
+            perms = perms.with(Permission::from_letter(*letter)?);
+        }
+        Some(perms)
+    }
+}
+
+impl fmt::Display for Perms {
+    ghost output = { λ s. Some (letters s) };
+
+    fn fmt<W: fmt::Write>(&self, f: &mut fmt::Formatter<W>) -> fmt::Result {
+        for permission in &Permission::ALL {
+            if self.contains(*permission) {
+                write!(f, "{permission}")?;
+            }
+        }
+        Ok(())
+    }
+}

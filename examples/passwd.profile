@@ -1,0 +1,3 @@
+profile passwd {
+  /etc/passwd r,
+}
