@@ -1,4 +1,5 @@
--- The errors of calls on paths, by Linux's names and numbers (errno(3)).
+-- The errors of calls on paths. Names: errno(3). Numbers: those of Linux's generic table (errno-base.h and errno.h of
+-- asm-generic); some architectures differ.
 use Rattle.std.specs.Prelude.{ℕ, List, ◌++◌, codes}
 use Rattle.std.specs.Fmt.{decimal}
 use Rattle.names.specs.declared.errors.Errno.{Errno}

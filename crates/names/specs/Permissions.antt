@@ -21,6 +21,7 @@ all_permissions = Read ∷ Write ∷ Link ∷ Lock ∷ Map ∷ []
 abbrev pub permission_of : ℕ → Option Permission
 permission_of b = find (λ p. letter p == b) all_permissions
 
+-- the set has the permission
 abbrev pub has : Perms → Permission → Bool
 has s Read = s.read
 has s Write = s.write
@@ -35,6 +36,10 @@ set_of test = record { read = test Read; write = test Write; link = test Link; l
 -- the set and this permission
 abbrev pub with_permission : Perms → Permission → Perms
 with_permission s p = set_of (λ q. has s q || (letter q == letter p))
+
+-- the set with this permission alone
+abbrev pub only : Permission → Perms
+only p = set_of (λ q. letter q == letter p)
 
 -- some permission is in both sets
 abbrev pub Shares : Perms → Perms → Type 0

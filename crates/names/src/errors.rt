@@ -4,7 +4,7 @@ ghost use Rattle.names.specs.Errors.{errno_number, errno_name, errno_text};
 use std::error::Error;
 use std::fmt;
 
-/// Why a call on a path was refused, by Linux's names and numbers (errno(3)).
+/// Why a call on a path was refused, by the names of errno(3) and the numbers of Linux's generic table.
 /// It is printed as its name, a space and its number.
 #[derive(Clone, Copy, Debug, PartialEq, Eq)]
 pub enum Errno {

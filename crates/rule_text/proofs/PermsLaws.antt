@@ -1,0 +1,62 @@
+-- Sets of permissions, member by member.
+use Rattle.std.proofs.Common.{◌≡◌, Bool, true, false, ◌&&◌, ◌==◌, ◌↔◌, ⊎_elim, IsTrue, Some, refl, sym, ap, ◌∙◌, arith, eq-eqb}
+use Rattle.std.specs.List.{list_any}
+use Rattle.std.proofs.lemmas.Bool.{cases_Bool, eqb-true, and_parts, and_from}
+use Rattle.std.proofs.lemmas.List.Folds.{Any-from_list_any, list_any_at}
+use Rattle.names.specs.declared.permissions.Permission.{Permission}
+use Rattle.names.specs.declared.permissions.Permission.TheVariants.{Read, Write, Link, Lock, Map}
+use Rattle.names.specs.declared.permissions.Perms.{Perms}
+use Rattle.names.specs.Permissions.{letter, has, set_of, permission_of, all_permissions, Shares}
+use Rattle.rule_text.specs.Verdict.{only}
+
+pub has-set_of : (test : Permission → Bool) (p : Permission) → has (set_of test) p ≡ test p
+has-set_of test Read = refl
+has-set_of test Write = refl
+has-set_of test Link = refl
+has-set_of test Lock = refl
+has-set_of test Map = refl
+
+-- what passes the test is found among all permissions
+pub found : (test : Permission → Bool) (p : Permission) → test p ≡ true → list_any test all_permissions ≡ true
+found test Read h = list_any_at test all_permissions 0 Read (omega arith) h
+found test Write h = list_any_at test all_permissions 1 Read (omega arith) h
+found test Link h = list_any_at test all_permissions 2 Read (omega arith) h
+found test Lock h = list_any_at test all_permissions 3 Read (omega arith) h
+found test Map h = list_any_at test all_permissions 4 Read (omega arith) h
+
+-- what is found passes the test
+pub one_found : (test : Permission → Bool) → list_any test all_permissions ≡ true → (p : Permission) × (test p ≡ true)
+one_found test h = let some = Any-from_list_any test all_permissions h in (some.1, some.4)
+
+-- the computed form of `Shares`
+pub shares_by_any : (s t : Perms) → IsTrue (list_any (λ p. has s p && has t p) all_permissions) ↔ Shares s t
+shares_by_any s t = (
+  λ h. let some = one_found (λ p. has s p && has t p) h in
+      let both = and_parts (has s some.0) (has t some.0) some.1 in (some.0, both.0, both.1),
+  λ h. found (λ p. has s p && has t p) h.0 (and_from (has s h.0) (has t h.0) h.1 h.2),
+)
+
+-- a set that isn't empty has a member
+pub some_member : (s : Perms) → (((p : Permission) → has s p ≡ false) → ⊥) → (p : Permission) × IsTrue (has s p)
+some_member s not_empty = ⊎_elim
+    (λ h. one_found (has s) h)
+    (λ h. absurd (not_empty (λ p. ⊎_elim
+    (λ t. let never : true ≡ false = sym (found (has s) p t) ∙ h in let e : ⊥ = cc (never) in absurd e)
+    (λ f. f) (cases_Bool (has s p)))))
+    (cases_Bool (list_any (has s) all_permissions))
+
+letter_again : (p : Permission) → permission_of (letter p) ≡ Some p
+letter_again Read = refl
+letter_again Write = refl
+letter_again Link = refl
+letter_again Lock = refl
+letter_again Map = refl
+
+pub has-only : (p : Permission) → IsTrue (has (only p) p)
+has-only p = has-set_of (λ q. letter q == letter p) p ∙ eq-eqb (letter p) (letter p) refl
+
+pub only_one : (p q : Permission) → IsTrue (has (only p) q) → q ≡ p
+only_one p q h =
+    let same_letter : letter q ≡ letter p = eqb-true (letter q) (letter p) (sym (has-set_of (λ r. letter r == letter p) q) ∙ h) in
+    let e : Some q ≡ Some p = sym (letter_again q) ∙ ap permission_of same_letter ∙ letter_again p in
+    cc (e)

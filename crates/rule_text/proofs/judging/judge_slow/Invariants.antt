@@ -1,0 +1,12 @@
+use Rattle.std.proofs.Common.{◌↔◌, IsTrue}
+use Rattle.names.specs.declared.permissions.Permission.{Permission}
+use Rattle.names.specs.Permissions.{has}
+use Rattle.rule_text.specs.Profile.{profile_value}
+use Rattle.rule_text.proofs.VerdictSteps.{IsQuiet, IsMissingAfter}
+use Rattle.rule_text.proofs.judging.judge_slow.Given as goal
+
+abbrev pub invariant-loop-i : goal.invariant-loop-i
+invariant-loop-i l = record {
+  quiet : IsQuiet (profile_value l.profile).rules l.name l.ask l.i;
+  left : (p : Permission) → IsTrue (has l.missing p) ↔ IsMissingAfter (profile_value l.profile).rules l.name l.ask l.i p;
+}

@@ -1,0 +1,16 @@
+pub mod Glob
+pub mod Meaning
+pub mod LiveSteps
+pub mod Sweep
+pub mod Cursor
+pub mod Profile
+pub mod VerdictText
+pub mod FaultNumber
+pub mod Verdict
+pub mod PlainVerdict
+pub mod RuleHits
+pub mod TextBytes
+pub mod ReadSteps
+pub mod Reading
+pub mod Grammar
+pub mod ReadFaults

@@ -1,0 +1,42 @@
+-- What reading a part of a text answers: a value, or the first fault.
+use Rattle.std.specs.Prelude.{◌≡◌, ℕ, ◌-◌, List, length, Result, Ok, Err}
+use Rattle.rule_text.specs.declared.fault.ReadFault.{ReadFault}
+use Rattle.rule_text.specs.declared.fault.ReadFault.TheVariants as faults
+use Rattle.rule_text.specs.declared.reading.stop.StopKind.{StopKind}
+use Rattle.rule_text.specs.declared.reading.stop.StopKind.TheVariants as kinds
+use Rattle.rule_text.specs.declared.reading.stop.Stop.{Stop}
+use Rattle.rule_text.specs.declared.reading.stop.Failure.{Failure}
+use Rattle.rule_text.specs.declared.reading.stop.Failure.TheVariants as failures
+
+-- one part after another: the first fault is told
+infixl 10 ◌>>=◌
+abbrev pub ◌>>=◌ : {A B : Type 0} → Result A Stop → (A → Result B Stop) → Result B Stop
+(Ok x) >>= f = f x
+(Err s) >>= f = Err s
+
+-- a fault at the first byte of what is left
+abbrev pub stop : {A : Type 0} → StopKind → List ℕ → Result A Stop
+stop kind rest = Err (record { kind = kind; left = length rest })
+
+abbrev pub syntax : {A : Type 0} → List ℕ → Result A Stop
+syntax rest = stop kinds.Syntax rest
+
+-- the fault of this kind, with so many bytes before it
+abbrev pub fault_at : StopKind → ℕ → ReadFault
+fault_at kinds.Syntax offset = faults.Syntax offset
+fault_at kinds.TooManyRules offset = faults.TooManyRules offset
+fault_at kinds.TooManyItems offset = faults.TooManyItems offset
+
+-- how a stop is told of a text of so many bytes
+abbrev pub told : ℕ → Stop → ReadFault
+told n s = fault_at s.kind (n - s.left)
+
+-- What a function failed with is what reading stops with, unless memory ran out.
+abbrev pub Fails : {Y : Type 0} → Failure → Result Y Stop → Type 0
+Fails failures.NoMemory read = Unit {0}
+Fails (failures.At s) read = read ≡ Err s
+
+-- What a function returned, seen by view, is what reading gives, unless memory ran out.
+abbrev pub Gives : {X Y : Type 0} → (X → Y) → Result X Failure → Result Y Stop → Type 0
+Gives view (Ok x) read = read ≡ Ok (view x)
+Gives view (Err e) read = Fails e read

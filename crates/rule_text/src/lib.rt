@@ -1,0 +1,23 @@
+//! Profiles of file rules: their text, what a path's items match, and the plain judge of a name.
+#![tactic(auto)]
+
+mod fault;
+mod items;
+mod judging;
+mod laws;
+mod live;
+mod path;
+mod profile;
+mod reading;
+mod verdict;
+
+pub use fault::ReadFault;
+pub use items::{ByteRange, Class, Item, Stars};
+pub use judging::judge_slow;
+pub use laws::{
+    allowed_alone, byte_zero_never, end_is_live, live_is_left_first, one_verdict_is_right,
+    takes_by_cuts,
+};
+pub use profile::{Profile, Rule, RuleKind};
+pub use reading::{one_outcome, read};
+pub use verdict::Verdict;

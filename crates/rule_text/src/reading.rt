@@ -1,0 +1,55 @@
+//! Reading a profile text, from left to right.
+ghost use Rattle.std.specs.Prelude.{◌≡◌, ◌⊎◌, IfOk, IfErr, MatchResult, Ok, Err};
+ghost use Rattle.rule_text.specs.Profile.{ProfileValue, profile_value};
+ghost use Rattle.rule_text.specs.Grammar.{ReadsAs};
+ghost use Rattle.rule_text.specs.ReadSteps.{told};
+ghost use Rattle.rule_text.specs.Reading.{outcome_of};
+ghost use Rattle.rule_text.specs.ReadFaults.{FaultsAs};
+
+mod laws;
+mod path;
+mod rules;
+mod stop;
+#[cfg(test)]
+mod tests;
+mod text;
+mod words;
+
+use self::stop::{Failure, Stop, StopKind};
+use self::text::text_of;
+use crate::fault::ReadFault;
+use crate::profile::Profile;
+pub use laws::one_outcome;
+use std::alloc::Global;
+
+/// How a stop is told of a text of so many bytes.
+fn told(len: usize, stop: Stop) -> ReadFault
+    ensures { result ≡ told len stop }
+{
+    let offset = len.saturating_sub(stop.left);
+    match stop.kind {
+        StopKind::Syntax => ReadFault::Syntax { offset },
+        StopKind::TooManyRules => ReadFault::TooManyRules { offset },
+        StopKind::TooManyItems => ReadFault::TooManyItems { offset },
+    }
+}
+
+/// Reads a profile text. A text that is no profile is told by its first fault.
+pub fn read(alloc: Global, text: &[u8]) -> Result<Profile, ReadFault>
+    // What is read is in the grammar.
+    ensures found { IfOk result (λ p. ReadsAs text.now (profile_value p)) }
+    // What is in the grammar is read, unless memory runs out.
+    ensures only { (p : ProfileValue) → ReadsAs text.now p
+        → MatchResult result (λ q. profile_value q ≡ p) (λ e. e ≡ ReadFault.NoMemory) }
+    // A fault is the one of the first place where the text leaves the grammar.
+    ensures fault { IfErr result (λ e. (e ≡ ReadFault.NoMemory) ⊎ FaultsAs text.now e) }
+    // The same in one: what reading the text comes to.
+    ensures outcome { MatchResult result (λ p. outcome_of text.now ≡ Ok (profile_value p))
+        (λ e. (e ≡ ReadFault.NoMemory) ⊎ (outcome_of text.now ≡ Err e)) }
+{
+    match text_of(alloc, text) {
+        Ok(profile) => Ok(profile),
+        Err(Failure::NoMemory) => Err(ReadFault::NoMemory),
+        Err(Failure::At(stop)) => Err(told(text.len(), stop)),
+    }
+}

@@ -1,0 +1,20 @@
+//! Laws of the grammar and of reading. The functions do nothing: each stands for its contract.
+ghost use Rattle.std.specs.Prelude.{◌≡◌, ◌↔◌, ℕ, List, Ok, Err};
+ghost use Rattle.rule_text.specs.declared.fault.ReadFault.{ReadFault};
+ghost use Rattle.rule_text.specs.Profile.{ProfileValue};
+ghost use Rattle.rule_text.specs.Grammar.{ReadsAs};
+ghost use Rattle.rule_text.specs.Reading.{outcome_of};
+ghost use Rattle.rule_text.specs.ReadFaults.{FaultsAs, HasOutcome};
+
+/// Each text has one profile or one fault.
+pub fn one_outcome()
+    ensures some { (text : List ℕ) → HasOutcome text }
+    ensures not_both { (text : List ℕ) (p : ProfileValue) (f : ReadFault)
+        → ReadsAs text p → FaultsAs text f → ⊥ }
+    ensures one_profile { (text : List ℕ) (p q : ProfileValue) → ReadsAs text p → ReadsAs text q → p ≡ q }
+    ensures one_fault { (text : List ℕ) (f g : ReadFault) → FaultsAs text f → FaultsAs text g → f ≡ g }
+    // The grammar's trees and the functions that read from left to right say the same.
+    ensures read_as_outcome { (text : List ℕ) (p : ProfileValue) → ReadsAs text p ↔ (outcome_of text ≡ Ok p) }
+    // Want of memory is never a text's own fault.
+    ensures never_memory { (text : List ℕ) → FaultsAs text ReadFault.NoMemory → ⊥ }
+{}
