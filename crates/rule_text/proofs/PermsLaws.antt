@@ -6,8 +6,7 @@ use Rattle.std.proofs.lemmas.List.Folds.{Any-from_list_any, list_any_at}
 use Rattle.names.specs.declared.permissions.Permission.{Permission}
 use Rattle.names.specs.declared.permissions.Permission.TheVariants.{Read, Write, Link, Lock, Map}
 use Rattle.names.specs.declared.permissions.Perms.{Perms}
-use Rattle.names.specs.Permissions.{letter, has, set_of, permission_of, all_permissions, Shares}
-use Rattle.rule_text.specs.Verdict.{only}
+use Rattle.names.specs.Permissions.{letter, has, set_of, permission_of, all_permissions, Shares, only}
 
 pub has-set_of : (test : Permission → Bool) (p : Permission) → has (set_of test) p ≡ test p
 has-set_of test Read = refl

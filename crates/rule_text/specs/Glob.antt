@@ -1,4 +1,5 @@
--- What a pattern over the bytes of a name is, which bytes it takes, and its places (apparmor.d(5), "Globbing").
+-- What a pattern over the bytes of a name is, which lists of bytes it takes as a whole (apparmor.d(5), "Globbing"), and its
+-- places: the positions at which a match can stand.
 use Rattle.std.specs.Prelude.{◌≡◌, ℕ, ◌+◌, Bool, true, not, ◌&&◌, ◌⊎◌, ◌==◌, List, [], ◌∷◌, ◌++◌, IsTrue, nat_lt, nat_le, if◌then◌else◌}
 use Rattle.std.specs.List.{list_all, list_any}
 use Rattle.rule_text.specs.declared.items.ByteRange.{ByteRange}
@@ -9,8 +10,9 @@ pub data ByteSet : Type 0 where
   exactly : ℕ → ByteSet
   -- any byte but a slash
   not_slash : ByteSet
+  -- any byte, a slash too
   every_byte : ByteSet
-  -- a class: whether it is negated, and its ranges
+  -- a class: whether it is negated, and its ranges. A slash is a byte like others here (our choice)
   class : Bool → List ByteRange → ByteSet
 
 abbrev pub is_slash : ℕ → Bool
@@ -25,13 +27,13 @@ contains not_slash b = not (is_slash b)
 contains every_byte b = true
 contains (class negated ranges) b = if negated then not (in_ranges ranges b) else in_ranges ranges b
 
--- byte 0 is taken by nothing
+-- byte 0 is taken by nothing (our choice)
 abbrev pub fits : ByteSet → ℕ → Bool
 fits set b = nat_lt 0 b && contains set b
 
 -- A pattern. Each kind of item is one of these: a strict run of stars is one byte that is no slash, and then a run.
 pub data Glob : Type 0 where
-  -- nothing more
+  -- the list without bytes alone
   empty : Glob
   -- one byte of the set
   one : ByteSet → Glob
@@ -39,7 +41,7 @@ pub data Glob : Type 0 where
   run : ByteSet → Glob
   -- one after another
   cat : Glob → Glob → Glob
-  -- no alternative
+  -- nothing at all: a choice without alternatives
   none : Glob
   -- one or the other
   alt : Glob → Glob → Glob
@@ -62,7 +64,8 @@ places (cat a b) = places a + places b
 places none = 0
 places (alt a b) = places a + places b
 
--- The place `p` stands first once `bytes` are taken: what is before it took them.
+-- The place `p` may take the next byte once `bytes` are taken: by what stands before it and, where it is a run, by the run
+-- too.
 abbrev pub Live : Glob → List ℕ → ℕ → Type 0
 Live empty bytes p = ⊥
 Live (one set) bytes p = (p ≡ 0) × (bytes ≡ [])

@@ -1,6 +1,8 @@
 -- What a profile is to a reader: its name, and its rules in order.
-use Rattle.std.specs.Prelude.{ℕ, List, map}
+use Rattle.std.specs.Prelude.{ℕ, Bool, List, map}
+use Rattle.names.specs.declared.permissions.Permission.{Permission}
 use Rattle.names.specs.declared.permissions.Perms.{Perms}
+use Rattle.names.specs.Permissions.{has}
 use Rattle.rule_text.specs.Glob.{Glob}
 use Rattle.rule_text.specs.Meaning.{meaning_of}
 use Rattle.rule_text.specs.declared.profile.RuleKind.{RuleKind}
@@ -10,7 +12,12 @@ use Rattle.rule_text.specs.declared.profile.Profile.{Profile}
 pub record RuleValue : Type 0 where
   pub kind : RuleKind
   pub perms : Perms
+  -- the pattern of the path's items: other items, a class written differently among them, have another pattern
   pub path : Glob
+
+-- the rule holds the permission: it is among its letters
+abbrev pub holds : RuleValue → Permission → Bool
+holds rule p = has rule.perms p
 
 pub record ProfileValue : Type 0 where
   pub name : List ℕ

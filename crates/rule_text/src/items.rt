@@ -57,7 +57,7 @@ impl Stars {
     }
 }
 
-/// An item of a rule's path (apparmor.d(5), "Globbing").
+/// An item of a rule's path (apparmor.d(5), "Globbing"). No item takes byte 0.
 #[derive(Debug, Drop)]
 pub enum Item {
     /// That byte, as it is.

@@ -54,7 +54,7 @@ impl Rule {
 }
 
 /// Judges a name by each rule in turn: what the profile says of the permissions that are asked for it
-/// (apparmor.d(5), "Qualifiers" and "Access Modes").
+/// (apparmor.d(5), "Access Modes" and "Rule Qualifiers").
 ///
 /// The time grows as the items of the rules times the bytes of the name. No memory is taken: each rule is passed over
 /// once for each byte, in room on the stack.
