@@ -49,6 +49,7 @@ last_alone (f ∷ x) c d e =
     let both : (x ≡ []) × (c ∷ [] ≡ []) = both_empty x (c ∷ []) e2 in
     cc (both.1)
 
+-- a live place is one of the pattern's
 pub Live-below : (g : Glob) (x : List ℕ) (p : ℕ) → Live g x p → p < places g
 Live-below empty x p h = absurd h
 Live-below (one set) x p h = omega (arith, h.0)
@@ -59,6 +60,7 @@ Live-below none x p h = absurd h
 Live-below (alt a b) x p (inl h) = omega (arith, Live-below a x p h)
 Live-below (alt a b) x p (inr h) = omega (arith, Live-below b x h.0 h.2, h.1)
 
+-- what is behind two parts, and which places are live in them
 pub cat_behind : (E : List ℕ → Type 0) (a b : Glob) (x : List ℕ) → Behind E (cat a b) x ↔ Behind (Behind E a) b x
 cat_behind E a b x = (
   λ h. (h.0 ++ h.4.0, h.4.1, h.2 ∙ ap (λ z. h.0 ++ z) h.4.2 ∙ sym (append_assoc h.0 h.4.0 h.4.1), (h.0, h.4.0, refl, h.3, h.4.3), h.4.4),
@@ -108,6 +110,7 @@ alt_right E a b x q = (
   λ h. (h.0, h.1, h.2, h.3, inr (q, refl, h.4)),
 )
 
+-- what is behind one byte or a run, after one byte more
 pub one_behind : (E : List ℕ → Type 0) (set : ByteSet) (x : List ℕ) (c : ℕ) (live : Bool) →
     (IsTrue live ↔ LiveAfter E (one set) x 0) →
     IsTrue (live && fits set c) ↔ Behind E (one set) (x ++ (c ∷ []))

@@ -10,6 +10,7 @@ use Rattle.rule_text.proofs.MeaningLaws.{meaning-Byte, meaning-AnyByte, meaning-
 use Rattle.rule_text.proofs.Weight.{weight}
 use Rattle.rule_text.proofs.Sweeps.{sweep-place}
 
+-- a run of stars, strict and not
 strict_case : (b : Bool) (first set : ByteSet) (c : ℕ) (s : Pass) → b ≡ true →
     sweep (if b then cat (one first) (run set) else run set) c s ≡ pass_run (fits set c) (pass_one (fits first c) s)
 unfolding sweep
@@ -28,6 +29,7 @@ pub sweep-free : (crosses strict : Bool) (c : ℕ) (s : Pass) → strict ≡ fal
     sweep (stars_glob crosses strict) c s ≡ pass_run (fits (in_stars crosses) c) s
 sweep-free crosses strict c s e = free_case strict not_slash (in_stars crosses) c s e
 
+-- the items that take one byte
 pub sweep-Byte : (item : Item) (b c : ℕ) (s : Pass) → item ≡ v.Byte b → sweep (meaning item) c s ≡ pass_one (fits (exactly b) c) s
 unfolding sweep
 sweep-Byte item b c s e = ap (λ z. sweep z c s) (ap meaning e ∙ meaning-Byte b)
@@ -42,17 +44,19 @@ pub sweep-Class : (item : Item) (k : Class) (c : ℕ) (s : Pass) → item ≡ v.
 unfolding sweep
 sweep-Class item k c s e = ap (λ z. sweep z c s) (ap meaning e ∙ meaning-Class k)
 
--- The first item that is left, and the others. `now` is what the whole pass comes to from here.
+-- the first element that is left, and the others
 left : {X : Type 0} (xs : List X) (i : ℕ) (x : X) → i < length xs → x ≡ get_or xs i x → drop i xs ≡ x ∷ drop (i + 1) xs
 left xs i x lt e =
     let one_more : suc i ≡ i + 1 = omega arith in
     drop-cons xs i x lt ∙ ap (λ z. z ∷ drop (suc i) xs) (sym e) ∙ ap (λ n. x ∷ drop n xs) one_more
 
+-- one item more: `now` says what the whole pass comes to from here
 pub items-step : (items : List Item) (i : ℕ) (item : Item) (c : ℕ) (all s : Pass) → i < length items → item ≡ get_or items i item →
     all ≡ sweep (meaning_of (drop i items)) c s → all ≡ sweep (meaning_of (drop (i + 1) items)) c (sweep (meaning item) c s)
 unfolding sweep
 items-step items i item c all s lt e now = now ∙ ap (λ z. sweep (meaning_of z) c s) (left items i item lt e)
 
+-- the room for all is room for this item
 pub items-room : (items : List Item) (i : ℕ) (item : Item) (c n : ℕ) (s0 s : Pass) → i < length items → item ≡ get_or items i item →
     sweep (meaning_of items) c s0 ≡ sweep (meaning_of (drop i items)) c s → s0.place + places (meaning_of items) ≤ n →
     s.place + places (meaning item) ≤ n
@@ -63,6 +67,7 @@ items-room items i item c n s0 s lt e now room =
     ap (λ z. places (meaning_of z)) (left items i item lt e) in
     omega arith
 
+-- behind the last item nothing is left of the pass
 pub items-end : (items : List Item) (i : ℕ) (c : ℕ) (s : Pass) → length items ≤ i → sweep (meaning_of (drop i items)) c s ≡ s
 unfolding sweep
 items-end items i c s h = ap (λ z. sweep (meaning_of z) c s) (drop_of_length-le items h)
@@ -78,29 +83,32 @@ or_false false = refl
 join_twice : (x y : Bool) (s : Pass) → join x (join y s) ≡ join (x || y) s
 join_twice x y s = ap (λ z. record { place = s.place; reached = z; live = s.live }) (or_assoc x y s.reached)
 
-pub alternatives-step : (all : List (Vec Item Global)) (i : ℕ) (sequence : Vec Item Global) (c : ℕ) (reached : Bool) (total s : Pass) →
-    i < length all → sequence ≡ get_or all i sequence →
+-- one alternative more
+pub alternatives-step : (all : List (Vec Item Global)) (i : ℕ) (alternative : Vec Item Global) (c : ℕ) (reached : Bool) (total s : Pass) →
+    i < length all → alternative ≡ get_or all i alternative →
     total ≡ join reached (sweep (alternatives_meaning (drop i all)) c s) →
-    total ≡ join (reached || (sweep (meaning_of sequence.items) c s).reached)
-    (sweep (alternatives_meaning (drop (i + 1) all)) c (restart s.reached (sweep (meaning_of sequence.items) c s)))
+    total ≡ join (reached || (sweep (meaning_of alternative.items) c s).reached)
+    (sweep (alternatives_meaning (drop (i + 1) all)) c (restart s.reached (sweep (meaning_of alternative.items) c s)))
 unfolding sweep
-alternatives-step all i sequence c reached total s lt e now =
-    now ∙ ap (λ z. join reached (sweep (alternatives_meaning z) c s)) (left all i sequence lt e)
-    ∙ join_twice reached (sweep (meaning_of sequence.items) c s).reached
-    (sweep (alternatives_meaning (drop (i + 1) all)) c (restart s.reached (sweep (meaning_of sequence.items) c s)))
+alternatives-step all i alternative c reached total s lt e now =
+    now ∙ ap (λ z. join reached (sweep (alternatives_meaning z) c s)) (left all i alternative lt e)
+    ∙ join_twice reached (sweep (meaning_of alternative.items) c s).reached
+    (sweep (alternatives_meaning (drop (i + 1) all)) c (restart s.reached (sweep (meaning_of alternative.items) c s)))
 
-pub alternatives-room : (all : List (Vec Item Global)) (i : ℕ) (sequence : Vec Item Global) (c n : ℕ) (reached : Bool) (s0 s : Pass) →
-    i < length all → sequence ≡ get_or all i sequence →
+-- the room for all is room for this alternative
+pub alternatives-room : (all : List (Vec Item Global)) (i : ℕ) (alternative : Vec Item Global) (c n : ℕ) (reached : Bool) (s0 s : Pass) →
+    i < length all → alternative ≡ get_or all i alternative →
     sweep (alternatives_meaning all) c s0 ≡ join reached (sweep (alternatives_meaning (drop i all)) c s) →
-    s0.place + places (alternatives_meaning all) ≤ n → s.place + places (meaning_of sequence.items) ≤ n
-alternatives-room all i sequence c n reached s0 s lt e now room =
+    s0.place + places (alternatives_meaning all) ≤ n → s.place + places (meaning_of alternative.items) ≤ n
+alternatives-room all i alternative c n reached s0 s lt e now room =
     let place : s0.place + places (alternatives_meaning all) ≡ s.place + places (alternatives_meaning (drop i all)) =
     sym (sweep-place (alternatives_meaning all) c s0) ∙ ap (λ (z : Pass). z.place) now
     ∙ sweep-place (alternatives_meaning (drop i all)) c s in
-    let parts : places (alternatives_meaning (drop i all)) ≡ places (meaning_of sequence.items) + places (alternatives_meaning (drop (i + 1) all)) =
-    ap (λ z. places (alternatives_meaning z)) (left all i sequence lt e) in
+    let parts : places (alternatives_meaning (drop i all)) ≡ places (meaning_of alternative.items) + places (alternatives_meaning (drop (i + 1) all)) =
+    ap (λ z. places (alternatives_meaning z)) (left all i alternative lt e) in
     omega arith
 
+-- behind the last alternative nothing is left of the pass
 pub alternatives-end : (all : List (Vec Item Global)) (i : ℕ) (c : ℕ) (reached : Bool) (s : Pass) → length all ≤ i →
     join reached (sweep (alternatives_meaning (drop i all)) c s) ≡ record { place = s.place; reached = reached; live = s.live }
 unfolding sweep
@@ -108,16 +116,16 @@ alternatives-end all i c reached s h =
     ap (λ z. join reached (sweep (alternatives_meaning z) c s)) (drop_of_length-le all h)
     ∙ ap (λ z. record { place = s.place; reached = z; live = s.live }) (or_false reached)
 
--- one alternative more, as the loop says it
-pub alternatives-next : (all : List (Vec Item Global)) (i : ℕ) (sequence : Vec Item Global) (items : List Item) (c : ℕ)
+-- the same, as the loop says it
+pub alternatives-next : (all : List (Vec Item Global)) (i : ℕ) (alternative : Vec Item Global) (items : List Item) (c : ℕ)
     (before after : Bool) (total s r : Pass) →
-    i < length all → sequence ≡ get_or all i sequence → items ≡ sequence.items →
+    i < length all → alternative ≡ get_or all i alternative → items ≡ alternative.items →
     total ≡ join before (sweep (alternatives_meaning (drop i all)) c s) →
     r ≡ sweep (meaning_of items) c s → after ≡ (before || r.reached) →
     total ≡ join after (sweep (alternatives_meaning (drop (i + 1) all)) c (restart s.reached r))
-alternatives-next all i sequence items c before after total s r lt e f now g h =
-    let same : sweep (meaning_of sequence.items) c s ≡ r = ap (λ z. sweep (meaning_of z) c s) (sym f) ∙ sym g in
-    alternatives-step all i sequence c before total s lt e now
+alternatives-next all i alternative items c before after total s r lt e f now g h =
+    let same : sweep (meaning_of alternative.items) c s ≡ r = ap (λ z. sweep (meaning_of z) c s) (sym f) ∙ sym g in
+    alternatives-step all i alternative c before total s lt e now
     ∙ ap (λ (z : Pass). join (before || z.reached) (sweep (alternatives_meaning (drop (i + 1) all)) c (restart s.reached z))) same
     ∙ ap (λ z. join z (sweep (alternatives_meaning (drop (i + 1) all)) c (restart s.reached r))) (sym h)
 
@@ -154,6 +162,7 @@ pub at-free : (crosses strict : Bool) (c : ℕ) (s r : Pass) (more : Bool) → s
     more ≡ fits (in_stars crosses) c → r ≡ pass_run more s → r ≡ sweep (stars_glob crosses strict) c s
 at-free crosses strict c s r more e h k = k ∙ ap (λ z. pass_run z s) h ∙ sym (sweep-free crosses strict c s e)
 
+-- What is left of some items weighs no more than they do, and an item or an alternative weighs less.
 weight_cut : (items : List Item) (i : ℕ) → weight (meaning_of (drop i items)) ≤ weight (meaning_of items)
 weight_cut [] i = let e : drop {A = Item} i [] ≡ [] = drop_of_length-le [] {i = i} (omega arith) in omega (arith, ap (λ z. weight (meaning_of z)) e)
 weight_cut (x ∷ items) zero = omega arith
@@ -172,12 +181,12 @@ weight_cut_alternatives [] i = let e : drop {A = Vec Item Global} i [] ≡ [] = 
 weight_cut_alternatives (x ∷ all) zero = omega arith
 weight_cut_alternatives (x ∷ all) (suc i) = omega (arith, weight_cut_alternatives all i)
 
-pub weight-alternative : (all : List (Vec Item Global)) (i : ℕ) (sequence : Vec Item Global) (items : List Item) →
-    i < length all → sequence ≡ get_or all i sequence → items ≡ sequence.items →
+pub weight-alternative : (all : List (Vec Item Global)) (i : ℕ) (alternative : Vec Item Global) (items : List Item) →
+    i < length all → alternative ≡ get_or all i alternative → items ≡ alternative.items →
     weight (meaning_of items) < weight (alternatives_meaning all)
-weight-alternative all i sequence items lt e f =
-    let parts : weight (alternatives_meaning (drop i all)) ≡ 1 + weight (meaning_of sequence.items) + weight (alternatives_meaning (drop (i + 1) all)) =
-    ap (λ z. weight (alternatives_meaning z)) (left all i sequence lt e) in
+weight-alternative all i alternative items lt e f =
+    let parts : weight (alternatives_meaning (drop i all)) ≡ 1 + weight (meaning_of alternative.items) + weight (alternatives_meaning (drop (i + 1) all)) =
+    ap (λ z. weight (alternatives_meaning z)) (left all i alternative lt e) in
     omega (arith, weight_cut_alternatives all i, ap (λ z. weight (meaning_of z)) f)
 
 pub weight-Group : (item : Item) (all : Vec (Vec Item Global) Global) (list : List (Vec Item Global)) → item ≡ v.Group all →

@@ -69,10 +69,10 @@ rules_fault (failures.At s) front i bytes total lt e h so_far =
     let one : with_front front (rules_at (1024 - i) bytes) ≡ Err s = rw (k, rules_at, e, h) refl in
     sym so_far ∙ one
 
-pub rules_stop : (front : List RuleValue) (i : ℕ) (bytes rest : List ℕ) (total : Result (List RuleValue × List ℕ) Stop) → i ≡ 1024 → closing bytes ≡ None → rule_begins bytes ≡ Ok rest
+pub rules_stop : (front : List RuleValue) (i : ℕ) (bytes : List ℕ) (total : Result (List RuleValue × List ℕ) Stop) → i ≡ 1024 → closing bytes ≡ None → rule_begins bytes ≡ Ok tt
     → with_front front (rules_at (1024 - i) bytes) ≡ total → total ≡ stop TooManyRules bytes
 unfolding rules_at
-rules_stop front i bytes rest total full e h so_far =
+rules_stop front i bytes total full e h so_far =
     let k : 1024 - i ≡ 0 = omega arith in
     let one : with_front front (rules_at (1024 - i) bytes) ≡ stop TooManyRules bytes = rw (k, rules_at, e, h) refl in
     sym so_far ∙ one

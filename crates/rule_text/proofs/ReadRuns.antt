@@ -31,6 +31,9 @@ run_length test (b ∷ bytes) =
       | false ↦ omega arith
     ]
 
+-- a run is cut off at its length
+pub ruleset run_cut = (run_take, after_drop, run_length)
+
 pub run_passes : (test : ℕ → Bool) (bytes : List ℕ) → AllPass test (run test bytes)
 run_passes test [] = tt
 run_passes test (b ∷ bytes) =

@@ -6,6 +6,7 @@ use Rattle.rule_text.specs.Glob.{Glob, empty, one, run, cat, none, alt, fits, pl
 use Rattle.rule_text.specs.Sweep.{Pass, sweep, pass_one, pass_run, restart}
 use Rattle.rule_text.proofs.Behind.{Behind, LiveAfter, iff_trans, iff_sym, one_behind, run_behind, run_live, one_live, empty_behind, cat_left, cat_right, cat_behind, alt_left, alt_right, alt_behind}
 
+-- where a sweep goes, that it keeps the length, and that it writes its own places only
 pub sweep-place : (g : Glob) (c : ℕ) (s : Pass) → (sweep g c s).place ≡ s.place + places g
 unfolding sweep
 sweep-place empty c s = omega arith

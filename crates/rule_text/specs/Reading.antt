@@ -129,12 +129,12 @@ rule_at bytes = do
   past ← literal (codes ",") (white perms.1)
   Ok (record { kind = kind.0; perms = perms.0; path = path.0 }, past)
 
--- a byte or a whole word that begins a rule stands here
-unfoldable pub rule_begins : List ℕ → Result (List ℕ) Stop
+-- a rule begins here: by a slash, or by a whole word
+unfoldable pub rule_begins : List ℕ → Result (Unit {0}) Stop
 rule_begins bytes =
-    if begins is_slash bytes then Ok bytes
-    else if begins (λ b. b == 97) bytes then keyword (codes "allow") bytes
-    else if begins (λ b. b == 100) bytes then keyword (codes "deny") bytes
+    if begins is_slash bytes then Ok tt
+    else if begins (λ b. b == 97) bytes then (keyword (codes "allow") bytes >>= λ _. Ok tt)
+    else if begins (λ b. b == 100) bytes then (keyword (codes "deny") bytes >>= λ _. Ok tt)
     else syntax bytes
 
 -- what is left after a closing brace, if one stands here

@@ -12,27 +12,32 @@ ghost use Rattle.rule_text.specs.declared.verdict.Verdict.{Verdict};
 
 /// A pattern takes bytes exactly where its end is live after them.
 pub fn end_is_live()
-    ensures { (pattern : Glob) (bytes : List ℕ) → Takes pattern bytes ↔ LiveOrEnd pattern bytes (places pattern) }
+    ensures { (pattern : Glob) (bytes : List ℕ) →
+        Takes pattern bytes ↔ LiveOrEnd pattern bytes (places pattern) }
 {}
 
 /// A place is live after bytes exactly where some steps with these bytes leave it first.
 pub fn live_is_left_first()
-    ensures { (pattern : Glob) (bytes : List ℕ) (place : ℕ) → IsLeftFirst pattern bytes place ↔ LiveOrEnd pattern bytes place }
+    ensures { (pattern : Glob) (bytes : List ℕ) (place : ℕ) →
+        IsLeftFirst pattern bytes place ↔ LiveOrEnd pattern bytes place }
 {}
 
 /// Trying each way to cut the bytes finds out whether a pattern takes them.
 pub fn takes_by_cuts()
-    ensures { (pattern : Glob) (bytes : List ℕ) → IsTrue (takes pattern bytes) ↔ Takes pattern bytes }
+    ensures { (pattern : Glob) (bytes : List ℕ) →
+        IsTrue (takes pattern bytes) ↔ Takes pattern bytes }
 {}
 
 /// No pattern takes a byte 0.
 pub fn byte_zero_never()
-    ensures { (pattern : Glob) (bytes : List ℕ) → Takes pattern bytes → All (λ b. b ≢ 0) bytes }
+    ensures { (pattern : Glob) (bytes : List ℕ) →
+        Takes pattern bytes → All (λ b. b ≢ 0) bytes }
 {}
 
 /// The plain verdict is right, and no other verdict is.
 pub fn one_verdict_is_right()
-    ensures some { (rules : List RuleValue) (name : List ℕ) (ask : Perms) → IsVerdict rules name ask (verdict rules name ask) }
+    ensures some { (rules : List RuleValue) (name : List ℕ) (ask : Perms) →
+        IsVerdict rules name ask (verdict rules name ask) }
     ensures only { (rules : List RuleValue) (name : List ℕ) (ask : Perms) (first second : Verdict) →
         IsVerdict rules name ask first → IsVerdict rules name ask second → first ≡ second }
 {}
@@ -40,5 +45,6 @@ pub fn one_verdict_is_right()
 /// A permission is allowed exactly where no deny rule hits for it and some allow rule does.
 pub fn allowed_alone()
     ensures { (rules : List RuleValue) (name : List ℕ) (p : Permission) →
-        IsAllowed rules name p ↔ (((n : ℕ) → Hits rules Deny p name n → ⊥) × ((n : ℕ) × Hits rules Allow p name n)) }
+        IsAllowed rules name p
+        ↔ (((n : ℕ) → Hits rules Deny p name n → ⊥) × ((n : ℕ) × Hits rules Allow p name n)) }
 {}

@@ -20,7 +20,8 @@ pub(crate) struct Cursor {
 #[cycle(pass)]
 pub(crate) fn pass_items(items: &[Item], byte: u8, mut cursor: Cursor, live: &mut [bool]) -> Cursor
     requires { cursor.place + places (meaning_of items.now) ≤ length live.old }
-    ensures { pass_at result live.new ≡ sweep (meaning_of items.now) byte (pass_at cursor live.old) }
+    ensures { pass_at result live.new
+        ≡ sweep (meaning_of items.now) byte (pass_at cursor live.old) }
 {
     for item in items {
         cursor = pass_item(item, byte, cursor, live);
@@ -31,7 +32,8 @@ pub(crate) fn pass_items(items: &[Item], byte: u8, mut cursor: Cursor, live: &mu
 #[cycle(pass)]
 fn pass_item(item: &Item, byte: u8, cursor: Cursor, live: &mut [bool]) -> Cursor
     requires { cursor.place + places (meaning item.now) ≤ length live.old }
-    ensures { pass_at result live.new ≡ sweep (meaning item.now) byte (pass_at cursor live.old) }
+    ensures { pass_at result live.new
+        ≡ sweep (meaning item.now) byte (pass_at cursor live.old) }
 {
     match item {
         Item::Byte(wanted) => pass_one_byte(is_written(*wanted, byte), cursor, live),
@@ -51,7 +53,8 @@ fn pass_alternatives(
     live: &mut [bool],
 ) -> Cursor
     requires { cursor.place + places (alternatives_meaning alternatives.now) ≤ length live.old }
-    ensures { pass_at result live.new ≡ sweep (alternatives_meaning alternatives.now) byte (pass_at cursor live.old) }
+    ensures { pass_at result live.new
+        ≡ sweep (alternatives_meaning alternatives.now) byte (pass_at cursor live.old) }
 {
     let mut place = cursor.place;
     let mut reached = false;

@@ -134,78 +134,89 @@ fn profile(alloc: Global, texts: &[(RuleKind, &str, &str)]) -> Result<Profile, F
     })
 }
 
+// Paths and names, and whether the path takes the name.
+const PATHS_AND_NAMES: [(&str, &str, bool); 53] = [
+    // A group with an empty alternative, and two strict stars at the end.
+    ("/{,a*b}/#", "//x", true),
+    ("/{,a*b}/#", "/ab/x", true),
+    ("/{,a*b}/#", "/a:-)b/x/y", true),
+    ("/{,a*b}/#", "//x/", true),
+    ("/{,a*b}/#", "//", false),
+    ("/{,a*b}/#", "///", false),
+    ("/{,a*b}/#", "/ab/", false),
+    ("/{,a*b}/#", "/ab//x", false),
+    ("/{,a*b}/#", "/a/b/x", false),
+    ("/{,a*b}/#", "/ab/\0", false),
+    // Classes: plain, negated and with a slash in them.
+    ("/1", "/b", true),
+    ("/1", "/x", true),
+    ("/1", "/d", false),
+    ("/1", "/", false),
+    ("/1", "/bb", false),
+    ("/2", "/d", true),
+    ("/2", "//", true),
+    ("/2", "/b", false),
+    ("/2", "/\0", false),
+    ("a3b", "a/b", true),
+    ("a3b", "a-b", false),
+    ("4", "/", true),
+    ("4", "\0", false),
+    // One byte but a slash.
+    ("/?", "/a", true),
+    ("/?", "//", false),
+    ("/?", "/\0", false),
+    ("/?", "/", false),
+    // Stars, which may take nothing where they aren't strict.
+    ("/*", "/", true),
+    ("/*", "/ab", true),
+    ("/*", "/a/b", false),
+    ("/@", "/", true),
+    ("/@", "//a/", true),
+    ("/@", "/a\0", false),
+    ("/+", "/", false),
+    ("/+", "/a", true),
+    ("/+", "/a/", false),
+    ("/*b*", "/abab", true),
+    // Groups: of one alternative, of empty ones, and in one another.
+    ("/{a}", "/a", true),
+    ("/{a}", "/", false),
+    ("/{,}", "/", true),
+    ("/{,}", "/a", false),
+    ("/{ab,a}b", "/ab", true),
+    ("/{ab,a}b", "/abb", true),
+    ("/{ab,a}b", "/aab", false),
+    ("/{x{1,},*}/y", "/xc/y", true),
+    ("/{x{1,},*}/y", "/x/y", true),
+    ("/{x{1,},*}/y", "//y", true),
+    ("/{x{1,},*}/y", "/x/", false),
+    // Bytes as they are, byte 0 excepted.
+    ("", "", true),
+    ("", "a", false),
+    ("a", "", false),
+    ("a", "ab", false),
+    ("\0", "\0", false),
+];
+
 #[test]
 fn paths_take_names(rt: HostRuntime) -> Result<(), Fail> {
     let alloc = rt.alloc();
-    for (text, name, want) in [
-        // A group with an empty alternative, and two strict stars at the end.
-        ("/{,a*b}/#", "//x", true),
-        ("/{,a*b}/#", "/ab/x", true),
-        ("/{,a*b}/#", "/a:-)b/x/y", true),
-        ("/{,a*b}/#", "//x/", true),
-        ("/{,a*b}/#", "//", false),
-        ("/{,a*b}/#", "///", false),
-        ("/{,a*b}/#", "/ab/", false),
-        ("/{,a*b}/#", "/ab//x", false),
-        ("/{,a*b}/#", "/a/b/x", false),
-        ("/{,a*b}/#", "/ab/\0", false),
-        // Classes: plain, negated and with a slash in them.
-        ("/1", "/b", true),
-        ("/1", "/x", true),
-        ("/1", "/d", false),
-        ("/1", "/", false),
-        ("/1", "/bb", false),
-        ("/2", "/d", true),
-        ("/2", "//", true),
-        ("/2", "/b", false),
-        ("/2", "/\0", false),
-        ("a3b", "a/b", true),
-        ("a3b", "a-b", false),
-        ("4", "/", true),
-        ("4", "\0", false),
-        // One byte but a slash.
-        ("/?", "/a", true),
-        ("/?", "//", false),
-        ("/?", "/\0", false),
-        ("/?", "/", false),
-        // Stars, which may take nothing where they aren't strict.
-        ("/*", "/", true),
-        ("/*", "/ab", true),
-        ("/*", "/a/b", false),
-        ("/@", "/", true),
-        ("/@", "//a/", true),
-        ("/@", "/a\0", false),
-        ("/+", "/", false),
-        ("/+", "/a", true),
-        ("/+", "/a/", false),
-        ("/*b*", "/abab", true),
-        // Groups: of one alternative, of empty ones, and in one another.
-        ("/{a}", "/a", true),
-        ("/{a}", "/", false),
-        ("/{,}", "/", true),
-        ("/{,}", "/a", false),
-        ("/{ab,a}b", "/ab", true),
-        ("/{ab,a}b", "/abb", true),
-        ("/{ab,a}b", "/aab", false),
-        ("/{x{1,},*}/y", "/xc/y", true),
-        ("/{x{1,},*}/y", "/x/y", true),
-        ("/{x{1,},*}/y", "//y", true),
-        ("/{x{1,},*}/y", "/x/", false),
-        // Bytes as they are, byte 0 excepted.
-        ("", "", true),
-        ("", "a", false),
-        ("a", "", false),
-        ("a", "ab", false),
-        ("\0", "\0", false),
-    ] {
+    for (text, name, want) in &PATHS_AND_NAMES {
         let path = path(alloc, text)?;
-        assert_eq!(rt; takes(&path, name.as_bytes()), want, "{text} at {name}");
+        assert_eq!(rt; takes(&path, name.as_bytes()), *want, "{text} at {name}");
     }
     Ok(())
 }
 
-fn perms(letters: &str) -> Result<Perms, Fail> {
-    Ok(Perms::from_letters(letters.as_bytes()).ok_or("letters")?)
+// What is said of a name and of the permissions with these letters.
+fn said(
+    alloc: Global,
+    texts: &[(RuleKind, &str, &str)],
+    name: &str,
+    letters: &str,
+) -> Result<String, Fail> {
+    let profile = profile(alloc, texts)?;
+    let ask = Perms::from_letters(letters.as_bytes()).ok_or("letters")?;
+    Ok(judge_slow(&profile, name.as_bytes(), ask).to_string(alloc)?)
 }
 
 #[test]
@@ -213,52 +224,28 @@ fn names_are_judged(rt: HostRuntime) -> Result<(), Fail> {
     let alloc = rt.alloc();
     let allow = RuleKind::Allow;
     let deny = RuleKind::Deny;
-
-    let keys = profile(alloc, &[(allow, "/a/@", "rw"), (deny, "/a/k*", "w")])?;
-    let denied = judge_slow(&keys, b"/a/key", perms("rw")?);
-    assert_eq!(rt; denied, Verdict::Denied { rule: 2 });
-    assert_eq!(rt; judge_slow(&keys, b"/a/key", perms("r")?), Verdict::Allowed);
-    assert_eq!(rt; judge_slow(&keys, b"/a/x", perms("rw")?), Verdict::Allowed);
-    assert_eq!(rt; denied.to_string(alloc)?.as_str(), "denied by rule 2");
-
-    let swapped = profile(alloc, &[(deny, "/a/k*", "w"), (allow, "/a/@", "rw")])?;
-    assert_eq!(rt;
-        judge_slow(&swapped, b"/a/key", perms("rw")?),
-        Verdict::Denied { rule: 1 }
-    );
-
-    let twice = profile(
-        alloc,
-        &[(allow, "/a", "rw"), (deny, "/a", "w"), (deny, "/a", "r")],
-    )?;
-    assert_eq!(rt;
-        judge_slow(&twice, b"/a", perms("rw")?),
-        Verdict::Denied { rule: 2 }
-    );
-
-    let empty = profile(alloc, &[])?;
-    let missing = judge_slow(&empty, b"/a", perms("mr")?);
-    assert_eq!(rt;
-        missing,
-        Verdict::NoRule {
-            missing: perms("rm")?
-        }
-    );
-    assert_eq!(rt; missing.to_string(alloc)?.as_str(), "no rule for rm");
-
-    let tmp = profile(alloc, &[(allow, "/tmp/+", "r")])?;
-    let no_read = Verdict::NoRule {
-        missing: perms("r")?,
-    };
-    assert_eq!(rt; judge_slow(&tmp, b"/tmp/", perms("r")?), no_read);
-    assert_eq!(rt; judge_slow(&tmp, b"/tmp/x", perms("r")?), Verdict::Allowed);
-    assert_eq!(rt; judge_slow(&tmp, b"/tmp/x/", perms("r")?), no_read);
-
-    let etc = profile(alloc, &[(allow, "/etc/passwd", "r")])?;
-    let no_write = Verdict::NoRule {
-        missing: perms("w")?,
-    };
-    assert_eq!(rt; judge_slow(&etc, b"/etc/passwd", perms("rw")?), no_write);
-    assert_eq!(rt; Verdict::Allowed.to_string(alloc)?.as_str(), "allowed");
+    let keys = [(allow, "/a/@", "rw"), (deny, "/a/k*", "w")];
+    let swapped = [(deny, "/a/k*", "w"), (allow, "/a/@", "rw")];
+    let twice = [(allow, "/a", "rw"), (deny, "/a", "w"), (deny, "/a", "r")];
+    let tmp = [(allow, "/tmp/+", "r")];
+    let passwd = [(allow, "/etc/passwd", "r")];
+    for (rules, name, letters, want) in [
+        (&keys[..], "/a/key", "rw", "denied by rule 2"),
+        (&keys[..], "/a/key", "r", "allowed"),
+        (&keys[..], "/a/x", "rw", "allowed"),
+        (&keys[..], "/a/key", "lwm", "denied by rule 2"),
+        (&keys[..], "/b", "", "allowed"),
+        (&swapped[..], "/a/key", "rw", "denied by rule 1"),
+        (&twice[..], "/a", "rw", "denied by rule 2"),
+        (&twice[..], "/a", "r", "denied by rule 3"),
+        (&[], "/a", "mr", "no rule for rm"),
+        (&tmp[..], "/tmp/", "r", "no rule for r"),
+        (&tmp[..], "/tmp/x", "r", "allowed"),
+        (&tmp[..], "/tmp/x/", "r", "no rule for r"),
+        (&passwd[..], "/etc/passwd", "rw", "no rule for w"),
+    ] {
+        let verdict = said(alloc, rules, name, letters)?;
+        assert_eq!(rt; verdict.as_str(), want, "{name} asked for {letters}");
+    }
     Ok(())
 }

@@ -24,7 +24,7 @@ fn letters_length(bytes: &[u8]) -> usize
 }
 
 /// The set of one letter or more, and what is left after them.
-#[tactic(auto, using(crate::proofs::ReadRuns::run_take, crate::proofs::ReadRuns::after_drop, crate::proofs::ReadRuns::run_length), unfolding(crate::specs::Reading::perms_at))]
+#[tactic(auto, using(crate::proofs::ReadRuns::run_cut), unfolding(crate::specs::Reading::perms_at))]
 fn perms_of(bytes: &[u8]) -> Result<(Perms, &[u8]), Failure>
     ensures { Gives (λ x. (x.0, x.1.now)) result (perms_at bytes.now) }
 {
@@ -73,15 +73,21 @@ fn rule_of(alloc: Global, bytes: &[u8]) -> Result<(Rule, &[u8]), Failure>
     Ok((Rule { kind, perms, path }, rest))
 }
 
-/// What is left after the byte or the whole word by which a rule begins.
+/// Whether a rule begins here, by a slash or by a whole word. The fault is at the first byte that begins none.
 #[tactic(auto, unfolding(crate::specs::Reading::rule_begins))]
-fn after_rule_begin(bytes: &[u8]) -> Result<&[u8], Failure>
-    ensures { Gives (λ x. x.now) result (rule_begins bytes.now) }
+fn rule_begins(bytes: &[u8]) -> Result<(), Failure>
+    ensures { Gives (λ _. tt) result (rule_begins bytes.now) }
 {
     match bytes {
-        [b'/', ..] => Ok(bytes),
-        [b'a', ..] => after_keyword(b"allow", bytes),
-        [b'd', ..] => after_keyword(b"deny", bytes),
+        [b'/', ..] => Ok(()),
+        [b'a', ..] => {
+            after_keyword(b"allow", bytes)?;
+            Ok(())
+        }
+        [b'd', ..] => {
+            after_keyword(b"deny", bytes)?;
+            Ok(())
+        }
         _ => Err(stop_at(StopKind::Syntax, bytes)),
     }
 }
@@ -108,7 +114,7 @@ pub(crate) fn rules_of(alloc: Global, bytes: &[u8]) -> Result<(Vec<Rule>, &[u8])
             return Ok((rules, more));
         }
         if rules.len() == MAX_RULES {
-            after_rule_begin(rest)?;
+            rule_begins(rest)?;
             return Err(stop_at(StopKind::TooManyRules, rest));
         }
         let (rule, more) = rule_of(alloc, rest)?;

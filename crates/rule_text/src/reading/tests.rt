@@ -1,4 +1,5 @@
 use super::*;
+use crate::ReadFault::{Syntax, TooManyItems, TooManyRules};
 use crate::{Item, Rule, RuleKind, Stars};
 use std::test::Fail;
 
@@ -41,13 +42,13 @@ fn where_the_grammar_goes_on(rt: HostRuntime) -> Result<(), Fail> {
             let mut text = before.to_vec(alloc)?;
             text.push(*probe)?;
             let expected = if !allowed.contains(probe) {
-                Some(ReadFault::Syntax {
+                Some(Syntax {
                     offset: before.len(),
                 })
             } else if text.contains(&b'}') {
                 None
             } else {
-                Some(ReadFault::Syntax { offset: text.len() })
+                Some(Syntax { offset: text.len() })
             };
             assert_eq!(rt;
                 read(alloc, &text).err(),
@@ -79,10 +80,7 @@ fn places_of_faults(rt: HostRuntime) -> Result<(), Fail> {
         (b"profile p {} profile q {}", 13),
     ];
     for (text, offset) in &table {
-        assert_eq!(rt;
-            read(alloc, text).err(),
-            Some(ReadFault::Syntax { offset: *offset })
-        );
+        assert_eq!(rt; read(alloc, text).err(), Some(Syntax { offset: *offset }));
     }
     Ok(())
 }
@@ -90,122 +88,48 @@ fn places_of_faults(rt: HostRuntime) -> Result<(), Fail> {
 #[test]
 fn limits(rt: HostRuntime) -> Result<(), Fail> {
     let alloc = rt.alloc();
-    // A name is 8 bytes behind the start, the first rule 11, and a rule too many 1,024 rules of 5 bytes more.
-    let table: [(&[u8], &[u8], usize, &[u8], Option<ReadFault>); 19] = [
-        (b"profile ", b"n", 255, b" {}", None),
-        (
-            b"profile ",
-            b"n",
-            256,
-            b" {}",
-            Some(ReadFault::Syntax { offset: 8 }),
-        ),
-        (
-            b"profile ",
-            b"n",
-            256,
-            b"",
-            Some(ReadFault::Syntax { offset: 8 }),
-        ),
-        (b"profile p {", b"/a r,", 1024, b"}", None),
-        (
-            b"profile p {",
-            b"/a r,",
-            1024,
-            b"/a r,}",
-            Some(ReadFault::TooManyRules { offset: 5131 }),
-        ),
-        (
-            b"profile p {",
-            b"/a r,",
-            1024,
-            b" /",
-            Some(ReadFault::TooManyRules { offset: 5132 }),
-        ),
-        (
-            b"profile p {",
-            b"/a r,",
-            1024,
-            b"allow /a r,}",
-            Some(ReadFault::TooManyRules { offset: 5131 }),
-        ),
-        (
-            b"profile p {",
-            b"/a r,",
-            1024,
-            b"deny",
-            Some(ReadFault::TooManyRules { offset: 5131 }),
-        ),
-        (
-            b"profile p {",
-            b"/a r,",
-            1024,
-            b"allo",
-            Some(ReadFault::Syntax { offset: 5135 }),
-        ),
-        (
-            b"profile p {",
-            b"/a r,",
-            1024,
-            b"allo /a r,}",
-            Some(ReadFault::Syntax { offset: 5135 }),
-        ),
-        (
-            b"profile p {",
-            b"/a r,",
-            1024,
-            b"allowx /a r,}",
-            Some(ReadFault::Syntax { offset: 5136 }),
-        ),
-        (
-            b"profile p {",
-            b"/a r,",
-            1024,
-            b"r",
-            Some(ReadFault::Syntax { offset: 5131 }),
-        ),
-        (
-            b"profile p {",
-            b"/a r,",
-            1024,
-            b"",
-            Some(ReadFault::Syntax { offset: 5131 }),
-        ),
-        // The path's slash is its first item.
-        (b"profile p {/", b"a", 1023, b" r,}", None),
-        (
-            b"profile p {/",
-            b"a",
-            1023,
-            b"a r,}",
-            Some(ReadFault::TooManyItems { offset: 1035 }),
-        ),
-        (
-            b"profile p {/",
-            b"a",
-            1023,
-            b"**",
-            Some(ReadFault::TooManyItems { offset: 1035 }),
-        ),
-        (
-            b"profile p {/",
-            b"a",
-            1023,
-            b"[",
-            Some(ReadFault::Syntax { offset: 1035 }),
-        ),
-        (b"profile p {/", b"a", 1022, b"*** r,}", None),
-        (
-            b"profile p {/",
-            b"a",
-            1022,
-            b"***? r,}",
-            Some(ReadFault::TooManyItems { offset: 1037 }),
-        ),
+    for (times, fault) in [(255, None), (256, Some(Syntax { offset: 8 }))] {
+        let text = text_of_parts(alloc, b"profile ", b"n", times, b" {}")?;
+        assert_eq!(rt; read(alloc, &text).err(), fault);
+    }
+    // The first rule stands at 11, and 1,024 rules of 5 bytes before what these begin with.
+    let behind_the_rules: [(&[u8], Option<ReadFault>); 10] = [
+        (b"}", None),
+        (b"/a r,}", Some(TooManyRules { offset: 5131 })),
+        (b" /", Some(TooManyRules { offset: 5132 })),
+        (b"allow /a r,}", Some(TooManyRules { offset: 5131 })),
+        (b"deny", Some(TooManyRules { offset: 5131 })),
+        (b"allo", Some(Syntax { offset: 5135 })),
+        (b"allo /a r,}", Some(Syntax { offset: 5135 })),
+        (b"allowx /a r,}", Some(Syntax { offset: 5136 })),
+        (b"r", Some(Syntax { offset: 5131 })),
+        (b"", Some(Syntax { offset: 5131 })),
     ];
-    for (before, part, times, behind, fault) in &table {
-        let text = text_of_parts(alloc, before, part, *times, behind)?;
-        assert_eq!(rt; read(alloc, &text).err(), *fault);
+    for (behind, fault) in &behind_the_rules {
+        let text = text_of_parts(alloc, b"profile p {", b"/a r,", 1024, behind)?;
+        assert_eq!(rt;
+            read(alloc, &text).err(),
+            *fault,
+            "behind the rules: {behind:?}"
+        );
+    }
+    // The path begins at 11, and its slash is the first of 1,023 items before these.
+    let behind_the_items: [(&[u8], Option<ReadFault>); 7] = [
+        (b"a r,}", None),
+        (b"*** r,}", None),
+        (b"aa r,}", Some(TooManyItems { offset: 1035 })),
+        (b"a?", Some(TooManyItems { offset: 1035 })),
+        (b"a** r,}", Some(TooManyItems { offset: 1035 })),
+        (b"***? r,}", Some(TooManyItems { offset: 1037 })),
+        (b"a[a] r,}", Some(Syntax { offset: 1035 })),
+    ];
+    for (behind, fault) in &behind_the_items {
+        let text = text_of_parts(alloc, b"profile p {/", b"a", 1022, behind)?;
+        assert_eq!(rt;
+            read(alloc, &text).err(),
+            *fault,
+            "behind the items: {behind:?}"
+        );
     }
     Ok(())
 }

@@ -88,7 +88,7 @@ fn name_length(bytes: &[u8]) -> usize
 }
 
 /// A name, and what is left after it. The fault of one that is empty or too long is at its first byte.
-#[tactic(auto, using(crate::proofs::ReadRuns::run_take, crate::proofs::ReadRuns::after_drop, crate::proofs::ReadRuns::run_length), unfolding(crate::specs::Reading::name_at))]
+#[tactic(auto, using(crate::proofs::ReadRuns::run_cut), unfolding(crate::specs::Reading::name_at))]
 pub(crate) fn name_of(alloc: Global, bytes: &[u8]) -> Result<(Vec<u8>, &[u8]), Failure>
     ensures { Gives (λ x. (x.0.items, x.1.now)) result (name_at bytes.now) }
 {

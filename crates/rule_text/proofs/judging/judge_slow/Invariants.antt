@@ -1,3 +1,4 @@
+-- No rule so far denies, and what is missing is what no rule so far allows.
 use Rattle.std.proofs.Common.{◌↔◌, IsTrue}
 use Rattle.names.specs.declared.permissions.Permission.{Permission}
 use Rattle.names.specs.Permissions.{has}

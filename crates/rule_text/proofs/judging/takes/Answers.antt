@@ -1,3 +1,4 @@
+-- Before the first byte, and from each byte to the next, by what one pass does.
 use Rattle.std.proofs.Common.{◌↔◌, IsTrue, subst, arith, List, ℕ, get_or}
 use Rattle.std.proofs.lemmas.List.{take_all}
 use Rattle.rule_text.specs.Glob.{Takes}

@@ -1,3 +1,4 @@
+-- The bits are lit for the bytes so far, and the flag says whether the items take those.
 use Rattle.std.proofs.Common.{◌↔◌, ◌≤◌, IsTrue, length, take}
 use Rattle.rule_text.specs.Glob.{Takes, places}
 use Rattle.rule_text.specs.Meaning.{meaning_of}

@@ -1,3 +1,4 @@
+-- What each call does is the part of the sweep that is its own, over places that are there.
 use Rattle.std.proofs.Common.{◌≡◌, ◌+◌, ◌≤◌, length, drop, ap, sym, ◌∙◌, arith}
 use Rattle.std.proofs.Common.{Bool, true, false, ◌||◌}
 use Rattle.std.proofs.lemmas.Bool.{or_left}

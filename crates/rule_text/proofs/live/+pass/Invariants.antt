@@ -1,3 +1,4 @@
+-- The whole pass is what is left of it from here.
 use Rattle.std.proofs.Common.{◌≡◌, ◌+◌, ◌*◌, drop}
 use Rattle.rule_text.proofs.Weight.{weight}
 use Rattle.rule_text.specs.Sweep.{sweep, join}

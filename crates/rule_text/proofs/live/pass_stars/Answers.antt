@@ -1,3 +1,4 @@
+-- The two cases of a run of stars.
 use Rattle.rule_text.specs.Cursor.{pass_at}
 use Rattle.rule_text.proofs.PassLaws.{at-strict, at-free}
 use Rattle.rule_text.proofs.live.pass_stars.Goals as goal

@@ -1,3 +1,4 @@
+-- The count goes down the pattern, and a group has the places of its alternatives.
 use Rattle.std.proofs.Common.{◌≤◌, ◌≡◌, ℕ, IfSome, Option, subst, arith}
 use Rattle.rule_text.specs.Glob.{places}
 use Rattle.rule_text.specs.Meaning.{meaning, alternatives_meaning}

@@ -1,3 +1,4 @@
+-- What is counted is at least the places so far.
 use Rattle.std.proofs.Common.{◌≤◌, ◌+◌, ◌*◌, drop}
 use Rattle.rule_text.specs.Glob.{places}
 use Rattle.rule_text.specs.Meaning.{meaning, meaning_of, alternatives_meaning}

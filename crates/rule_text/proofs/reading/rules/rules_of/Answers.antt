@@ -7,13 +7,13 @@ use Rattle.rule_text.proofs.reading.rules.rules_of.Goals as goal
 pub returns-in-Some-clause-gives : goal.returns-in-Some-clause-gives
 returns-in-Some-clause-gives c = rules_done (map rule_value c.loop-more.rules.items) _ c.loop-more.rest.now c.in-Some.more.now _ (sym c.in-Some.ensures) c.loop-more.invariant.so_far
 
-pub returns-in_err-after_rule_begin-clause-gives : goal.returns-in_err-after_rule_begin-clause-gives
-returns-in_err-after_rule_begin-clause-gives c =
+pub returns-in_err-rule_begins-clause-gives : goal.returns-in_err-rule_begins-clause-gives
+returns-in_err-rule_begins-clause-gives c =
     let p = err_from_is_err_and c.from_residual.result c.from_residual.ensures.1 in
-    rw (p.1, p.2) (rules_refused c.in_err-after_rule_begin.field-0.0 (map rule_value c.loop-more.rules.items) _ c.loop-more.rest.now _ (omega arith) (sym c.in_default.ensures) c.in_err-after_rule_begin.ensures c.loop-more.invariant.so_far)
+    rw (p.1, p.2) (rules_refused c.in_err-rule_begins.field-0.0 (map rule_value c.loop-more.rules.items) _ c.loop-more.rest.now _ (omega arith) (sym c.in_default.ensures) c.in_err-rule_begins.ensures c.loop-more.invariant.so_far)
 
 pub returns-then-len-eq-MAX_RULES-clause-gives : goal.returns-then-len-eq-MAX_RULES-clause-gives
-returns-then-len-eq-MAX_RULES-clause-gives c = rw c.stop_at.ensures (rules_stop (map rule_value c.loop-more.rules.items) _ c.loop-more.rest.now _ _ (omega arith) (sym c.in_default.ensures) c.in_ok-after_rule_begin.ensures c.loop-more.invariant.so_far)
+returns-then-len-eq-MAX_RULES-clause-gives c = rw c.stop_at.ensures (rules_stop (map rule_value c.loop-more.rules.items) _ c.loop-more.rest.now _ (omega arith) (sym c.in_default.ensures) c.in_ok-rule_begins.ensures c.loop-more.invariant.so_far)
 
 pub returns-in_err-rule-clause-gives : goal.returns-in_err-rule-clause-gives
 returns-in_err-rule-clause-gives c =
