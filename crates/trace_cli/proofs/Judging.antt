@@ -1,0 +1,86 @@
+-- Facts that join what the steps of judging say.
+use Rattle.std.proofs.Common.{◌≡◌, ◌≢◌, ◌⊎◌, ℕ, List, [], Bool, true, false, cond, Option, Some, None, Result, Ok, Err, refl, ap, inl, inr, sym, ◌∙◌, subst, rules}
+use Rattle.std.specs.Io.KnownBytes.{Keeps, Appends}
+use Rattle.names.specs.declared.permissions.Perms.{Perms}
+use Rattle.rule_text.specs.declared.verdict.Verdict.{Verdict}
+use Rattle.rule_text.specs.Profile.{ProfileValue}
+use Rattle.rule_text.specs.declared.fault.ReadFault.{ReadFault}
+use Rattle.rule_text.specs.Reading.{outcome_of}
+use Rattle.trace_cli.specs.declared.status.Status.{Status}
+use Rattle.trace_cli.specs.declared.status.Status.TheVariants.{Done, BadArguments, Refused, InputFailed, FaultsFailed, NoMemory}
+use Rattle.trace_cli.specs.declared.fault.Fault.{Fault}
+use Rattle.trace_cli.specs.declared.fault.Fault.TheVariants.{Permissions, Name, Text, Input, Memory}
+use Rattle.trace_cli.specs.Fault.{fault_text, fault_status, IsFaultOf}
+use Rattle.trace_cli.specs.Output.{Output, asked, fault, judged, judge_output, refusal, line}
+use Rattle.trace_cli.specs.Streams.{Streams, IsTextOf, IsTold, IsWritten, IsCutShort, Ends}
+
+-- whatever is known of a reader, some text may have been read
+pub text_of : (left : Option (List ℕ)) → (text : List ℕ) × IsTextOf left text
+text_of None = ([], tt)
+text_of (Some known) = (known, refl)
+
+-- bad arguments are told as such, whatever the text
+pub asked_in_vain : (perms name text : List ℕ) (f : Fault) → asked perms name ≡ Err (fault_text f) → (f ≡ Permissions) ⊎ (f ≡ Name)
+    → IsFaultOf (judge_output perms name text) f
+asked_in_vain perms name text Permissions e which = rw (e, judge_output) refl
+asked_in_vain perms name text Name e which = rw (e, judge_output) refl
+asked_in_vain perms name text Input e (inl p) = cc
+asked_in_vain perms name text Input e (inr p) = cc
+asked_in_vain perms name text Memory e (inl p) = cc
+asked_in_vain perms name text Memory e (inr p) = cc
+asked_in_vain perms name text (Text f) e (inl p) = cc
+asked_in_vain perms name text (Text f) e (inr p) = cc
+
+-- good arguments aren't told as bad ones
+judged_status : (ask : Perms) (name : List ℕ) (outcome : Result ProfileValue ReadFault) → (judged ask name outcome).status ≢ BadArguments
+judged_status ask name (Ok profile) = λ e. cc
+judged_status ask name (Err f) = λ e. cc
+
+good_arguments : (perms name text : List ℕ) (ask : Perms) → asked perms name ≡ Ok ask → (judge_output perms name text).status ≢ BadArguments
+good_arguments perms name text ask e = rw (e, judge_output) (judged_status ask name (outcome_of text))
+
+-- what hides the text says only that the arguments are good
+pub unread : (perms name text : List ℕ) (ask : Perms) (f : Fault) → asked perms name ≡ Ok ask → (f ≡ Input) ⊎ (f ≡ Memory)
+    → IsFaultOf (judge_output perms name text) f
+unread perms name text ask f e (inl h) = rw h (good_arguments perms name text ask e)
+unread perms name text ask f e (inr h) = rw h (good_arguments perms name text ask e)
+
+-- nothing more was written
+appends_nothing : (known : Option (List ℕ)) → Appends known known []
+appends_nothing None = tt
+appends_nothing (Some xs) = search rules
+
+pub keeps : (known : Option (List ℕ)) → Keeps known known
+keeps None = tt
+keeps (Some xs) = refl
+
+-- the streams of a command that told a fault and nothing else
+abbrev pub told_alone : Option (List ℕ) → Option (List ℕ) → Option (List ℕ) → Streams
+told_alone answers before after = record { answers_before = answers; answers_after = answers; faults_before = before; faults_after = after }
+
+written : (answers before after : Option (List ℕ)) (output : Output) (told : List ℕ) (status : Status)
+    → output ≡ fault told status → Appends before after (line told) → IsWritten (told_alone answers before after) output status
+written answers before after output told status e h = record {
+  answers = rw e (appends_nothing answers);
+  faults = rw e h;
+  ends = rw e refl;
+}
+
+cut_short : (answers before after : Option (List ℕ)) (output : Output) (told : List ℕ)
+    → output.status ≢ BadArguments → Appends before after (line told) → IsCutShort (told_alone answers before after) output told
+cut_short answers before after output told good h = record { answers = keeps answers; faults = h; arguments = good }
+
+-- a command that told its fault ends as it should
+pub ends_told : (answers before after : Option (List ℕ)) (output : Output) (f : Fault) (status : Status)
+    → IsFaultOf output f → IsTold before after (fault_text f) (fault_status f) status → Ends (told_alone answers before after) output status
+ends_told answers before after output f status of (inl e) = rw e tt
+ends_told answers before after output Permissions status of (inr h) =
+    rw h.0 (written answers before after output (fault_text Permissions) BadArguments of h.1)
+ends_told answers before after output Name status of (inr h) =
+    rw h.0 (written answers before after output (fault_text Name) BadArguments of h.1)
+ends_told answers before after output (Text f) status of (inr h) =
+    rw h.0 (written answers before after output (fault_text (Text f)) Refused of h.1)
+ends_told answers before after output Input status of (inr h) =
+    rw h.0 (cut_short answers before after output (fault_text Input) of h.1)
+ends_told answers before after output Memory status of (inr h) =
+    rw h.0 (cut_short answers before after output (fault_text Memory) of h.1)

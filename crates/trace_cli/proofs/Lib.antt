@@ -1,0 +1,4 @@
+pub mod Judging
+pub mod LineWalk
+pub mod CommandLine
+pub mod Running

@@ -1,0 +1,17 @@
+use Rattle.std.proofs.Common.{◌≡◌, true, map}
+use Rattle.std.specs.Prelude.{is_some}
+use Rattle.trace_cli.specs.CommandLine.{line_of}
+use Rattle.trace_cli.proofs.Judging.{text_of}
+use Rattle.trace_cli.proofs.Running.{memory_ends, usage_ends}
+use Rattle.trace_cli.proofs.program.run_words.Goals as goal
+
+pub returns-in-Err-Usage-clause-output : goal.returns-in-Err-Usage-clause-output
+returns-in-Err-Usage-clause-output g c =
+    let text = text_of (g.R.Read.remaining c.args.input.now) in
+    let no_line : is_some (line_of (map g.S.AsStr.text c.args.words.now)) ≡ true → ⊥ = λ some. cc (c.in-Err-Usage.ensures.err some) in
+    (text.0, text.1, usage_ends _ text.0 _ _ _ c.tell_usage.result no_line c.tell_usage.ensures)
+
+pub returns-in-Err-NoMemory-clause-output : goal.returns-in-Err-NoMemory-clause-output
+returns-in-Err-NoMemory-clause-output g c =
+    let text = text_of (g.R.Read.remaining c.args.input.now) in
+    (text.0, text.1, memory_ends _ text.0 _ _ _ c.fail.result c.fail.ensures)

@@ -1,0 +1,6 @@
+pub mod Status
+pub mod Output
+pub mod Streams
+pub mod Fault
+pub mod CommandLine
+pub mod Program

@@ -1,0 +1,61 @@
+-- What a command writes and how it ends, memory and failures of the streams aside.
+use Rattle.std.specs.Prelude.{ℕ, Bool, false, List, [], ◌∷◌, ◌++◌, ◌==◌, Option, Some, None, Result, Ok, Err, codes, decimal, unwrap_or, if◌then◌else◌}
+use Rattle.names.specs.declared.permissions.Perms.{Perms}
+use Rattle.names.specs.Permissions.{perms_of}
+use Rattle.rule_text.specs.declared.fault.ReadFault.{ReadFault}
+use Rattle.rule_text.specs.FaultNumber.{fault_number, fault_offset}
+use Rattle.rule_text.specs.PlainVerdict.{verdict}
+use Rattle.rule_text.specs.Profile.{ProfileValue}
+use Rattle.rule_text.specs.Reading.{outcome_of}
+use Rattle.rule_text.specs.VerdictText.{verdict_text}
+use Rattle.trace_cli.specs.declared.status.Status.{Status}
+use Rattle.trace_cli.specs.declared.status.Status.TheVariants.{Done, BadArguments, Refused}
+
+pub record Output : Type 0 where
+  -- on standard output
+  pub answers : List ℕ
+  -- on standard error
+  pub faults : List ℕ
+  pub status : Status
+
+abbrev pub line : List ℕ → List ℕ
+line text = text ++ codes "\n"
+
+abbrev pub answer : List ℕ → Output
+answer text = record { answers = line text; faults = []; status = Done }
+
+abbrev pub fault : List ℕ → Status → Output
+fault text status = record { answers = []; faults = line text; status = status }
+
+-- the permissions that are asked: one letter or more
+abbrev pub asked_by : List ℕ → Option Perms
+asked_by [] = None
+asked_by (b ∷ letters) = perms_of (b ∷ letters)
+
+-- the name begins with a slash
+abbrev pub is_absolute : List ℕ → Bool
+is_absolute [] = false
+is_absolute (b ∷ name) = b == 47
+
+-- what is asked, or what is told of the arguments
+abbrev pub asked : List ℕ → List ℕ → Result Perms (List ℕ)
+asked perms name = elim (asked_by perms) [
+  | None ↦ Err (codes "bad permissions")
+  | Some ask ↦ if is_absolute name then Ok ask else Err (codes "bad name")
+]
+
+-- `refused: read N at OFFSET`, with the number and the place of the fault
+abbrev pub refusal : ReadFault → List ℕ
+refusal f = codes "refused: read " ++ decimal (fault_number f) ++ codes " at " ++ decimal (unwrap_or (fault_offset f) 0)
+
+-- the verdict on the name by the profile that was read, or why there is none
+abbrev pub judged : Perms → List ℕ → Result ProfileValue ReadFault → Output
+judged ask name (Ok profile) = answer (verdict_text (verdict profile.rules name ask))
+judged ask name (Err f) = fault (refusal f) Refused
+
+-- what `judge PERMS NAME` writes on a text
+abbrev pub judge_output : List ℕ → List ℕ → List ℕ → Output
+judge_output perms name text = elim (asked perms name) [
+  | Err told ↦ fault told BadArguments
+  | Ok ask ↦ judged ask name (outcome_of text)
+]

@@ -1,0 +1,34 @@
+-- What a run of the program comes to, by its words and the text on standard input.
+use Rattle.std.specs.Prelude.{◌≡◌, ◌⊎◌, ℕ, Bool, true, List, Option, Some, None, codes, is_err, ⊤}
+use Rattle.std.specs.Io.KnownBytes.{Keeps, Appends}
+use Rattle.trace_cli.specs.CommandLine.{LineValue, judge}
+use Rattle.trace_cli.specs.Output.{asked, judge_output, line}
+use Rattle.trace_cli.specs.Streams.{Ends, Streams}
+use Rattle.trace_cli.specs.declared.status.Status.{Status}
+use Rattle.trace_cli.specs.declared.status.Status.TheVariants.{Done, BadArguments, Refused, InputFailed, OutputFailed, FaultsFailed, NoMemory}
+
+-- no answer was written, and standard error has `no memory`
+pub record IsOutOfMemory (streams : Streams) : Type 0 where
+  pub answers : Keeps streams.answers_before streams.answers_after
+  pub faults : Appends streams.faults_before streams.faults_after (line (codes "no memory"))
+
+-- How the program ends where its words are no command line: no answer is written. Its text for the user is left open.
+abbrev pub UsageEnds : Streams → Status → Type 0
+UsageEnds streams Done = ⊥
+UsageEnds streams BadArguments = Keeps streams.answers_before streams.answers_after
+UsageEnds streams Refused = ⊥
+UsageEnds streams InputFailed = ⊥
+UsageEnds streams OutputFailed = ⊥
+UsageEnds streams FaultsFailed = Keeps streams.answers_before streams.answers_after
+UsageEnds streams NoMemory = IsOutOfMemory streams
+
+-- How the program ends: as its command does, or for want of memory to read the words.
+abbrev pub ProgramEnds : Option LineValue → List ℕ → Streams → Status → Type 0
+ProgramEnds None text streams status = UsageEnds streams status
+ProgramEnds (Some (judge perms name)) text streams status =
+    Ends streams (judge_output perms name text) status ⊎ ((status ≡ NoMemory) × IsOutOfMemory streams)
+
+-- whether the words say that nothing is to be read
+abbrev pub is_told_by_words : Option LineValue → Bool
+is_told_by_words None = true
+is_told_by_words (Some (judge perms name)) = is_err (asked perms name)

@@ -1,0 +1,48 @@
+-- How a command leaves its streams.
+use Rattle.std.specs.Prelude.{◌≡◌, ◌≢◌, ◌⊎◌, ℕ, List, Option, codes, IfSome, ⊤}
+use Rattle.std.specs.Io.KnownBytes.{Keeps, Appends}
+use Rattle.trace_cli.specs.Output.{Output, line}
+use Rattle.trace_cli.specs.declared.status.Status.{Status}
+use Rattle.trace_cli.specs.declared.status.Status.TheVariants.{Done, BadArguments, Refused, InputFailed, OutputFailed, FaultsFailed, NoMemory}
+
+-- the bytes of both streams of output, before and after, where they are known
+pub record Streams : Type 0 where
+  pub answers_before : Option (List ℕ)
+  pub answers_after : Option (List ℕ)
+  pub faults_before : Option (List ℕ)
+  pub faults_after : Option (List ℕ)
+
+-- what is to be written was written, and the status is the one that goes with it
+pub record IsWritten (streams : Streams) (output : Output) (status : Status) : Type 0 where
+  pub answers : Appends streams.answers_before streams.answers_after output.answers
+  pub faults : Appends streams.faults_before streams.faults_after output.faults
+  pub ends : output.status ≡ status
+
+-- good arguments, and then a fault of which the input says nothing
+pub record IsCutShort (streams : Streams) (output : Output) (told : List ℕ) : Type 0 where
+  pub answers : Keeps streams.answers_before streams.answers_after
+  pub faults : Appends streams.faults_before streams.faults_after (line told)
+  pub arguments : output.status ≢ BadArguments
+
+-- an answer that couldn't be written: some of it may have been
+pub record IsUnanswered (streams : Streams) (output : Output) : Type 0 where
+  pub faults : Appends streams.faults_before streams.faults_after (line (codes "refused: output"))
+  pub answer : output.status ≡ Done
+
+-- How a command ends that is to write `output`. Nothing is said of a message that couldn't be written.
+abbrev pub Ends : Streams → Output → Status → Type 0
+Ends streams output Done = IsWritten streams output Done
+Ends streams output BadArguments = IsWritten streams output BadArguments
+Ends streams output Refused = IsWritten streams output Refused
+Ends streams output InputFailed = IsCutShort streams output (codes "refused: input")
+Ends streams output NoMemory = IsCutShort streams output (codes "no memory")
+Ends streams output OutputFailed = IsUnanswered streams output
+Ends streams output FaultsFailed = ⊤
+
+-- a text that may have been read by a reader with these bytes left
+abbrev pub IsTextOf : Option (List ℕ) → List ℕ → Type 0
+IsTextOf left text = IfSome left (λ known. text ≡ known)
+
+-- a message was written and the status is the one that goes with it, or the message couldn't be written
+abbrev pub IsTold : Option (List ℕ) → Option (List ℕ) → List ℕ → Status → Status → Type 0
+IsTold before after told status result = (result ≡ FaultsFailed) ⊎ ((result ≡ status) × Appends before after (line told))

@@ -1,0 +1,92 @@
+//! `judge PERMS NAME`: the verdict on a name by the profile that is read.
+ghost use Rattle.std.specs.Prelude.{◌≡◌, ◌≢◌, ◌↔◌, ℕ, List, IsErr, MatchResult, IfSome, IsTrue, Some, Ok, Err};
+ghost use Rattle.std.specs.Io.KnownBytes.{Keeps};
+ghost use Rattle.names.specs.declared.permissions.Perms.{Perms};
+ghost use Rattle.trace_cli.specs.Output.{asked, asked_by, is_absolute, judge_output};
+ghost use Rattle.trace_cli.specs.Streams.{Ends, IsTextOf};
+ghost use Rattle.trace_cli.specs.Fault.{IsJudged, IsAsked, IsTextRead};
+
+use crate::fault::Fault;
+use crate::status::Status;
+use crate::telling::{fail, tell};
+use names::Perms;
+use rule_text::{ReadFault, Verdict, judge_slow, read};
+use std::alloc::Global;
+use std::io::{Read, Write};
+
+/// Reads a profile from `input` and writes to `answers` what it says of the name and the permissions that are asked.
+/// A fault is told on `faults` in place of an answer. The arguments are tested before anything is read.
+pub fn judge<R: Read, A: Write, F: Write>(
+    alloc: Global,
+    perms: &str,
+    name: &str,
+    input: &mut R,
+    answers: &mut A,
+    faults: &mut F,
+) -> Status
+    ensures output { (text : List ℕ) × IsTextOf (R.remaining input.old) text × Ends
+        (record {
+          answers_before = A.contents answers.old;
+          answers_after = A.contents answers.new;
+          faults_before = F.contents faults.old;
+          faults_after = F.contents faults.new;
+        })
+        (judge_output perms.now name.now text) result }
+    ensures unread { IsErr (asked perms.now name.now)
+        → Keeps (R.remaining input.old) (R.remaining input.new) }
+{
+    match judged(alloc, perms, name, input) {
+        Ok(verdict) => match tell(answers, verdict) {
+            Ok(()) => Status::Done,
+            Err(_) => fail(faults, "refused: output", Status::OutputFailed),
+        },
+        Err(fault) => fail(faults, fault, fault.status()),
+    }
+}
+
+/// The verdict on the name, or why there is none.
+fn judged<R: Read>(alloc: Global, perms: &str, name: &str, input: &mut R) -> Result<Verdict, Fault>
+    ensures output { (text : List ℕ) × IsTextOf (R.remaining input.old) text
+        × IsJudged (judge_output perms.now name.now text) result }
+    ensures unread { IsErr (asked perms.now name.now)
+        → Keeps (R.remaining input.old) (R.remaining input.new) }
+{
+    let ask = asked(perms, name)?;
+    let text = read_all(alloc, input)?;
+    match read(alloc, &text) {
+        Ok(profile) => Ok(judge_slow(&profile, name.as_bytes(), ask)),
+        Err(ReadFault::NoMemory) => Err(Fault::Memory),
+        Err(fault) => Err(Fault::Text(fault)),
+    }
+}
+
+/// What is asked, if the arguments say so.
+fn asked(perms: &str, name: &str) -> Result<Perms, Fault>
+    ensures { IsAsked (asked perms.now name.now) result }
+{
+    let ask = asked_by(perms).ok_or(Fault::Permissions)?;
+    if name.starts_with('/') {
+        Ok(ask)
+    } else {
+        Err(Fault::Name)
+    }
+}
+
+/// The permissions that a word asks for: one letter or more.
+fn asked_by(perms: &str) -> Option<Perms>
+    ensures { result ≡ asked_by perms.now }
+{
+    if perms.is_empty() {
+        return None;
+    }
+    Perms::from_letters(perms.as_bytes())
+}
+
+/// All that is left to read.
+fn read_all<R: Read>(alloc: Global, input: &mut R) -> Result<Vec<u8>, Fault>
+    ensures { IsTextRead (R.remaining input.old) result }
+{
+    let mut text = Vec::new(alloc);
+    input.read_to_end(&mut text)?;
+    Ok(text)
+}

@@ -1,0 +1,50 @@
+//! A run of the program, over any streams.
+ghost use Rattle.std.specs.Prelude.{◌≡◌, ◌⊎◌, ℕ, List, true, map};
+ghost use Rattle.std.specs.Io.KnownBytes.{Keeps};
+ghost use Rattle.trace_cli.specs.CommandLine.{line_of};
+ghost use Rattle.trace_cli.specs.Program.{ProgramEnds, is_told_by_words};
+ghost use Rattle.trace_cli.specs.Streams.{IsTextOf};
+
+use crate::command_line::{Line, LineFault, command_line};
+use crate::judge::judge;
+use crate::status::Status;
+use crate::telling::fail;
+use std::alloc::Global;
+use std::convert::AsStr;
+use std::io::{Read, Write};
+
+/// Does what the words ask for, of which the first is the program's name. A fault is told on `faults`.
+pub fn run_words<S: AsStr, R: Read, A: Write, F: Write>(
+    alloc: Global,
+    words: &[S],
+    input: &mut R,
+    answers: &mut A,
+    faults: &mut F,
+) -> Status
+    ensures output { (text : List ℕ) × IsTextOf (R.remaining input.old) text
+        × ProgramEnds (line_of (map S.text words.now)) text
+        (record {
+          answers_before = A.contents answers.old;
+          answers_after = A.contents answers.new;
+          faults_before = F.contents faults.old;
+          faults_after = F.contents faults.new;
+        }) result }
+    ensures unread { is_told_by_words (line_of (map S.text words.now)) ≡ true
+        → Keeps (R.remaining input.old) (R.remaining input.new) }
+{
+    match command_line(alloc, words) {
+        Ok(Line::Judge { perms, name }) => judge(alloc, perms, name, input, answers, faults),
+        Err(LineFault::Usage(error)) => tell_usage(faults, &error),
+        Err(LineFault::NoMemory) => fail(faults, "no memory", Status::NoMemory),
+    }
+}
+
+/// Tells how the program is called. The text ends its last line itself.
+fn tell_usage<F: Write>(faults: &mut F, error: &clap::Error) -> Status
+    ensures { (result ≡ Status.BadArguments) ⊎ (result ≡ Status.FaultsFailed) }
+{
+    if write!(faults, "{error}").is_err() || faults.flush().is_err() {
+        return Status::FaultsFailed;
+    }
+    Status::BadArguments
+}

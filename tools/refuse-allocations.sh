@@ -1,0 +1,73 @@
+#!/bin/sh
+# Refuses each allocation of one run of ./aa-trace in turn: the first alone, then the second alone, and so on, until a
+# run has no such allocation. Each refused run must write nothing to standard output and `no memory` to standard error,
+# and end with status 4; or it did without that allocation, and then answers all as the whole run does. Wants a C
+# compiler, for the few lines that stand before malloc and realloc.
+set -eu
+cd "$(dirname "$0")/.."
+work=$(mktemp -d)
+trap 'rm -rf "$work"' EXIT
+
+cat >"$work/refuse.c" <<'C'
+#define _GNU_SOURCE
+#include <dlfcn.h>
+#include <stdlib.h>
+#include <unistd.h>
+
+/* Whether this is the allocation that REFUSE names. A file descriptor that REFUSE_TOLD names is told by one byte. */
+static int is_refused(void) {
+    static long count = 0, wanted = -1;
+    if (wanted < 0) wanted = getenv("REFUSE") ? atol(getenv("REFUSE")) : 0;
+    if (++count != wanted) return 0;
+    if (getenv("REFUSE_TOLD") && write(atoi(getenv("REFUSE_TOLD")), "x", 1) != 1) abort();
+    return 1;
+}
+
+void *malloc(size_t size) {
+    static void *(*next)(size_t);
+    if (!next) *(void **)&next = dlsym(RTLD_NEXT, "malloc");
+    return is_refused() ? NULL : next(size);
+}
+
+void *realloc(void *old, size_t size) {
+    static void *(*next)(void *, size_t);
+    if (!next) *(void **)&next = dlsym(RTLD_NEXT, "realloc");
+    return is_refused() ? NULL : next(old, size);
+}
+C
+${CC:-cc} -shared -fPIC -O1 -o "$work/refuse.so" "$work/refuse.c" -ldl
+
+# refuse_all TEXT ARGUMENTS..: every allocation of the run `./aa-trace ARGUMENTS < TEXT`
+refuse_all() {
+    text=$1
+    shift
+    refused=0
+    spared=0
+    wanted=0
+    ./aa-trace "$@" <"$text" >"$work/whole-answers" 2>"$work/whole-faults" || wanted=$?
+    while :; do
+        status=0
+        : >"$work/told"
+        REFUSE=$((refused + 1)) REFUSE_TOLD=9 LD_PRELOAD="$work/refuse.so" \
+            ./aa-trace "$@" <"$text" >"$work/answers" 2>"$work/faults" 9>"$work/told" || status=$?
+        [ -s "$work/told" ] || break
+        refused=$((refused + 1))
+        if [ "$status" -eq "$wanted" ] && cmp -s "$work/answers" "$work/whole-answers" \
+            && cmp -s "$work/faults" "$work/whole-faults"; then
+            spared=$((spared + 1))
+        elif [ "$status" -ne 4 ] || [ -s "$work/answers" ] || [ "$(cat "$work/faults")" != 'no memory' ]; then
+            echo "allocation $refused of '$*': status $status, $(cat "$work/answers" "$work/faults")" >&2
+            exit 1
+        fi
+    done
+    echo "aa-trace $*: $refused allocations, each refused in turn: $((refused - spared)) times no memory, $spared times done without"
+}
+
+# A text of many rules and items, so that every vector grows more than once.
+awk 'BEGIN { print "profile p {"; for (i = 0; i < 40; i++) print "  deny /home/*/.ssh/**/id_" i "*.pub rwklm,"; print "}" }' >"$work/rules"
+
+refuse_all examples/passwd.profile judge rw /etc/passwd
+refuse_all "$work/rules" judge r /home/me/.ssh/a/id_39.pub
+refuse_all /dev/null judge r /x
+refuse_all /dev/null judge r
+refuse_all /dev/null --help
