@@ -56,13 +56,7 @@ impl fmt::Display for Permission {
     ghost output = { λ p. Some (letter p ∷ []) };
 
     fn fmt<W: fmt::Write>(&self, f: &mut fmt::Formatter<W>) -> fmt::Result {
-        f.write_str(match self {
-            Permission::Read => "r",
-            Permission::Write => "w",
-            Permission::Link => "l",
-            Permission::Lock => "k",
-            Permission::Map => "m",
-        })
+        write!(f, "{}", char::from(self.letter()))
     }
 }
 

@@ -8,7 +8,7 @@ use Rattle.rule_text.specs.declared.reading.stop.StopKind.TheVariants as kinds
 use Rattle.rule_text.specs.Profile.{ProfileValue}
 use Rattle.rule_text.specs.declared.reading.stop.Failure.{Failure}
 use Rattle.rule_text.specs.declared.reading.stop.Failure.TheVariants as failures
-use Rattle.rule_text.specs.ReadSteps.{fault_at, told, Fails}
+use Rattle.rule_text.specs.ReadSteps.{fault_at, fault_of, Fails}
 use Rattle.rule_text.specs.Reading.{text_at, outcome_of}
 use Rattle.rule_text.specs.Grammar.{ReadsAs}
 use Rattle.rule_text.specs.ReadFaults.{FaultsAs, HasOutcome}
@@ -38,7 +38,7 @@ pub outcome_ok : (text : List ℕ) (p : ProfileValue) → text_at text ≡ Ok p 
 unfolding outcome_of
 outcome_ok text p e = rw (e, outcome_of) refl
 
-pub outcome_err : (text : List ℕ) (s : Stop) → text_at text ≡ Err s → outcome_of text ≡ Err (told (length text) s)
+pub outcome_err : (text : List ℕ) (s : Stop) → text_at text ≡ Err s → outcome_of text ≡ Err (fault_of (length text) s)
 unfolding outcome_of
 outcome_err text s e = rw (e, outcome_of) refl
 
@@ -50,11 +50,11 @@ read_outcome text p h = outcome_ok text p (read_again text p h)
 outcome_takes : (text : List ℕ) (p : ProfileValue) → outcome_of text ≡ Ok p → ReadsAs text p
 unfolding outcome_of
 outcome_takes text p e =
-    let go : Result ProfileValue Stop → Outcome = λ r. elim r [ Ok q ↦ Ok q | Err s ↦ Err (told (length text) s) ] in
+    let go : Result ProfileValue Stop → Outcome = λ r. elim r [ Ok q ↦ Ok q | Err s ↦ Err (fault_of (length text) s) ] in
     let P : (r : Result ProfileValue Stop) → text_at text ≡ r → go r ≡ Ok p → ReadsAs text p =
     λ r. elim r as (λ r. text_at text ≡ r → go r ≡ Ok p → ReadsAs text p) [
       | Ok q ↦ λ a h. subst (ReadsAs text) (same_profile q p h) (text_takes text q a)
-      | Err s ↦ λ a h. absurd (clash p (told (length text) s) (sym h))
+      | Err s ↦ λ a h. absurd (clash p (fault_of (length text) s) (sym h))
     ] in
     P (text_at text) refl e
 
@@ -89,11 +89,11 @@ told_not_memory kinds.TooManyItems offset e = cc
 pub never_memory : (text : List ℕ) → FaultsAs text faults.NoMemory → ⊥
 unfolding outcome_of
 never_memory text e =
-    let go : Result ProfileValue Stop → Outcome = λ r. elim r [ Ok q ↦ Ok q | Err s ↦ Err (told (length text) s) ] in
+    let go : Result ProfileValue Stop → Outcome = λ r. elim r [ Ok q ↦ Ok q | Err s ↦ Err (fault_of (length text) s) ] in
     let P : (r : Result ProfileValue Stop) → go r ≡ Err faults.NoMemory → ⊥ =
     λ r. elim r as (λ r. go r ≡ Err faults.NoMemory → ⊥) [
       | Ok q ↦ λ h. clash q faults.NoMemory h
-      | Err s ↦ λ h. told_not_memory s.kind (length text - s.left) (same_fault (told (length text) s) faults.NoMemory h)
+      | Err s ↦ λ h. told_not_memory s.kind (length text - s.left) (same_fault (fault_of (length text) s) faults.NoMemory h)
     ] in
     P (text_at text) e
 
@@ -105,8 +105,8 @@ is_the_one text p q e h = same_profile q p (sym (outcome_ok text q e) ∙ read_o
 stopped : (text : List ℕ) (e : Failure) (s : Stop) → e ≡ failures.At s → Fails e (text_at text) → text_at text ≡ Err s
 stopped text e s is k = subst (λ (x : Failure). Fails x (text_at text)) is k
 
-pub failed_so : (text : List ℕ) (e : Failure) (s : Stop) (f : ReadFault) → e ≡ failures.At s → f ≡ told (length text) s → Fails e (text_at text) → outcome_of text ≡ Err f
+pub failed_so : (text : List ℕ) (e : Failure) (s : Stop) (f : ReadFault) → e ≡ failures.At s → f ≡ fault_of (length text) s → Fails e (text_at text) → outcome_of text ≡ Err f
 failed_so text e s f is told_so k = outcome_err text s (stopped text e s is k) ∙ ap (λ (x : ReadFault). Err x) (sym told_so)
 
 pub not_failed : (text : List ℕ) (p : ProfileValue) (e : Failure) (s : Stop) → e ≡ failures.At s → ReadsAs text p → Fails e (text_at text) → ⊥
-not_failed text p e s is h k = clash p (told (length text) s) (sym (read_outcome text p h) ∙ outcome_err text s (stopped text e s is k))
+not_failed text p e s is h k = clash p (fault_of (length text) s) (sym (read_outcome text p h) ∙ outcome_err text s (stopped text e s is k))

@@ -32,7 +32,7 @@ pub data WrittenItem : Type 0 where
   -- two stars, and so many more
   stars : ℕ → WrittenItem
 
--- so many stars
+-- so many stars (42 is *)
 abbrev pub star_bytes : ℕ → List ℕ
 star_bytes zero = []
 star_bytes (suc n) = 42 ∷ star_bytes n
@@ -68,7 +68,7 @@ abbrev pub AreItems : List WrittenItem → Type 0
 AreItems [] = Unit {0}
 AreItems (i ∷ items) = IsItem i × (is_run i ≡ true → begins_with_run items ≡ false) × AreItems items
 
--- a path begins with a slash, and has at most 1,024 items
+-- a path begins with a slash, byte 47, and has at most 1,024 items
 abbrev pub IsPath : List WrittenItem → Type 0
 IsPath [] = ⊥
 IsPath (i ∷ items) = (i ≡ byte 47) × AreItems (i ∷ items) × (length (i ∷ items) ≤ 1024)
@@ -131,11 +131,14 @@ IsWord letters perms = (0 < length letters) × (perms_of letters ≡ Some perms)
 pub record WrittenRule : Type 0 where
   pub qualifier : Qualifier
   pub path : List WrittenItem
+  -- the white between path and permissions
   pub gap : List ℕ
   pub letters : List ℕ
+  -- the set of the letters
   pub perms : Perms
+  -- white, or nothing
   pub before_comma : List ℕ
-  -- the white after the rule
+  -- white after the rule, or nothing
   pub past : List ℕ
 
 abbrev pub print_rule : WrittenRule → List ℕ
@@ -168,12 +171,17 @@ rules_mean (r ∷ rules) = rule_means r ∷ rules_mean rules
 -- ---- texts (apparmor.d(5), "Format")
 
 pub record WrittenText : Type 0 where
+  -- white before the text, or nothing
   pub before : List ℕ
+  -- the white between the word profile and the name
   pub gap : List ℕ
   pub name : List ℕ
+  -- the white between the name and the brace
   pub brace_gap : List ℕ
+  -- white before the first rule, or nothing
   pub inside : List ℕ
   pub rules : List WrittenRule
+  -- white after the closing brace, or nothing
   pub past : List ℕ
 
 unfoldable pub print_text : WrittenText → List ℕ

@@ -27,9 +27,9 @@ fault_at kinds.Syntax offset = faults.Syntax offset
 fault_at kinds.TooManyRules offset = faults.TooManyRules offset
 fault_at kinds.TooManyItems offset = faults.TooManyItems offset
 
--- how a stop is told of a text of so many bytes
-abbrev pub told : ℕ → Stop → ReadFault
-told n s = fault_at s.kind (n - s.left)
+-- the fault that a stop is of a text of so many bytes
+abbrev pub fault_of : ℕ → Stop → ReadFault
+fault_of n s = fault_at s.kind (n - s.left)
 
 -- What a function failed with is what reading stops with, unless memory ran out.
 abbrev pub Fails : {Y : Type 0} → Failure → Result Y Stop → Type 0

@@ -11,7 +11,7 @@ use Rattle.rule_text.specs.declared.reading.stop.Stop.{Stop}
 use Rattle.rule_text.specs.Glob.{Glob, one, exactly, not_slash, is_slash}
 use Rattle.rule_text.specs.Meaning.{cat_all, stars_glob}
 use Rattle.rule_text.specs.Profile.{RuleValue, ProfileValue}
-use Rattle.rule_text.specs.ReadSteps.{◌>>=◌, stop, syntax, told}
+use Rattle.rule_text.specs.ReadSteps.{◌>>=◌, stop, syntax, fault_of}
 use Rattle.rule_text.specs.TextBytes.{is_white, is_word_byte, is_name_byte, is_plain, is_star, is_question, is_path_byte}
 
 -- ---- runs of bytes
@@ -107,7 +107,8 @@ perms_at bytes =
     if length (run is_letter bytes) == 0 then syntax bytes
     else elim (perms_of (run is_letter bytes)) [ Some perms ↦ Ok (perms, after is_letter bytes) | None ↦ syntax bytes ]
 
--- what the rule does: the word allow or deny, if one stands here, and white; without it the rule allows
+-- what the rule does: the word allow or deny, if one stands here, and white; without it the rule allows (97 is the letter
+-- a, 100 is d)
 unfoldable pub qualifier_at : List ℕ → Result (RuleKind × List ℕ) Stop
 qualifier_at bytes =
     if begins (λ b. b == 97) bytes then (do
@@ -137,7 +138,7 @@ rule_begins bytes =
     else if begins (λ b. b == 100) bytes then (keyword (codes "deny") bytes >>= λ _. Ok tt)
     else syntax bytes
 
--- what is left after a closing brace, if one stands here
+-- what is left after a closing brace, byte 125, if one stands here
 abbrev pub closing : List ℕ → Option (List ℕ)
 closing [] = None
 closing (b ∷ bytes) = if b == 125 then Some bytes else None
@@ -179,4 +180,4 @@ text_at bytes = do
 
 -- what reading a text comes to, memory aside: its profile or its first fault
 unfoldable pub outcome_of : List ℕ → Result ProfileValue ReadFault
-outcome_of text = elim (text_at text) [ Ok p ↦ Ok p | Err s ↦ Err (told (length text) s) ]
+outcome_of text = elim (text_at text) [ Ok p ↦ Ok p | Err s ↦ Err (fault_of (length text) s) ]

@@ -7,11 +7,11 @@ use Rattle.rule_text.specs.Glob.{is_slash}
 abbrev pub is_white : ℕ → Bool
 is_white b = b == 32 || b == 9 || b == 10 || b == 13
 
--- a letter, a digit, or _
+-- an ASCII letter or digit, or _
 abbrev pub is_word_byte : ℕ → Bool
 is_word_byte b = is_ascii_alphanumeric b || b == 95
 
--- a letter, a digit, or one of _ . -
+-- an ASCII letter or digit, or one of _ . -
 abbrev pub is_name_byte : ℕ → Bool
 is_name_byte b = is_word_byte b || b == 46 || b == 45
 
@@ -19,9 +19,11 @@ is_name_byte b = is_word_byte b || b == 46 || b == 45
 abbrev pub is_plain : ℕ → Bool
 is_plain b = is_name_byte b || is_slash b
 
+-- *
 abbrev pub is_star : ℕ → Bool
 is_star b = b == 42
 
+-- ?
 abbrev pub is_question : ℕ → Bool
 is_question b = b == 63
 

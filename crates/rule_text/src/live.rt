@@ -75,7 +75,8 @@ fn pass_alternatives(
 }
 
 fn pass_stars(stars: Stars, byte: u8, cursor: Cursor, live: &mut [bool]) -> Cursor
-    requires { cursor.place + places (stars_glob stars.crosses_slashes stars.strict) ≤ length live.old }
+    requires { cursor.place + places (stars_glob stars.crosses_slashes stars.strict)
+        ≤ length live.old }
     ensures { pass_at result live.new
         ≡ sweep (stars_glob stars.crosses_slashes stars.strict) byte (pass_at cursor live.old) }
 {

@@ -14,7 +14,8 @@ pub enum RuleKind {
     Deny,
 }
 
-/// A file rule: it allows or denies its permissions to the names that its path matches (apparmor.d(5), "Access Modes Details").
+/// A file rule: it allows or denies its permissions to the names that its path matches
+/// (apparmor.d(5), "Access Modes Details").
 #[derive(Debug, Drop)]
 pub struct Rule {
     pub(crate) kind: RuleKind,

@@ -2,7 +2,7 @@
 ghost use Rattle.std.specs.Prelude.{◌≡◌, ◌⊎◌, IfOk, IfErr, MatchResult, Ok, Err};
 ghost use Rattle.rule_text.specs.Profile.{ProfileValue, profile_value};
 ghost use Rattle.rule_text.specs.Grammar.{ReadsAs};
-ghost use Rattle.rule_text.specs.ReadSteps.{told};
+ghost use Rattle.rule_text.specs.ReadSteps.{fault_of};
 ghost use Rattle.rule_text.specs.Reading.{outcome_of};
 ghost use Rattle.rule_text.specs.ReadFaults.{FaultsAs};
 
@@ -22,9 +22,9 @@ use crate::profile::Profile;
 pub use laws::one_outcome;
 use std::alloc::Global;
 
-/// How a stop is told of a text of so many bytes.
-fn told(len: usize, stop: Stop) -> ReadFault
-    ensures { result ≡ told len stop }
+/// The fault that a stop is of a text of so many bytes.
+fn fault_of(len: usize, stop: Stop) -> ReadFault
+    ensures { result ≡ fault_of len stop }
 {
     let offset = len.saturating_sub(stop.left);
     match stop.kind {
@@ -41,7 +41,7 @@ pub fn read(alloc: Global, text: &[u8]) -> Result<Profile, ReadFault>
     // What is in the grammar is read, unless memory runs out.
     ensures only { (p : ProfileValue) → ReadsAs text.now p
         → MatchResult result (λ q. profile_value q ≡ p) (λ e. e ≡ ReadFault.NoMemory) }
-    // A fault is the one of the first place where the text leaves the grammar.
+    // A fault is the one at which reading from left to right stops first.
     ensures fault { IfErr result (λ e. (e ≡ ReadFault.NoMemory) ⊎ FaultsAs text.now e) }
     // The same in one: what reading the text comes to.
     ensures outcome { MatchResult result (λ p. outcome_of text.now ≡ Ok (profile_value p))
@@ -50,6 +50,6 @@ pub fn read(alloc: Global, text: &[u8]) -> Result<Profile, ReadFault>
     match text_of(alloc, text) {
         Ok(profile) => Ok(profile),
         Err(Failure::NoMemory) => Err(ReadFault::NoMemory),
-        Err(Failure::At(stop)) => Err(told(text.len(), stop)),
+        Err(Failure::At(stop)) => Err(fault_of(text.len(), stop)),
     }
 }

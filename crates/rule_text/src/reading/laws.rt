@@ -11,10 +11,13 @@ pub fn one_outcome()
     ensures some { (text : List ℕ) → HasOutcome text }
     ensures not_both { (text : List ℕ) (p : ProfileValue) (f : ReadFault)
         → ReadsAs text p → FaultsAs text f → ⊥ }
-    ensures one_profile { (text : List ℕ) (p q : ProfileValue) → ReadsAs text p → ReadsAs text q → p ≡ q }
-    ensures one_fault { (text : List ℕ) (f g : ReadFault) → FaultsAs text f → FaultsAs text g → f ≡ g }
+    ensures one_profile { (text : List ℕ) (p q : ProfileValue)
+        → ReadsAs text p → ReadsAs text q → p ≡ q }
+    ensures one_fault { (text : List ℕ) (f g : ReadFault)
+        → FaultsAs text f → FaultsAs text g → f ≡ g }
     // The grammar's trees and the functions that read from left to right say the same.
-    ensures read_as_outcome { (text : List ℕ) (p : ProfileValue) → ReadsAs text p ↔ (outcome_of text ≡ Ok p) }
+    ensures read_as_outcome { (text : List ℕ) (p : ProfileValue)
+        → ReadsAs text p ↔ (outcome_of text ≡ Ok p) }
     // Want of memory is never a text's own fault.
     ensures never_memory { (text : List ℕ) → FaultsAs text ReadFault.NoMemory → ⊥ }
 {}

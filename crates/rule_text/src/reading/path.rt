@@ -57,7 +57,8 @@ fn after_stars(bytes: &[u8]) -> &[u8]
 
 /// The run of stars whose first star stands before `bytes`, and what is left after it.
 fn stars_of(after_slash: bool, bytes: &[u8]) -> (Stars, &[u8])
-    ensures { (stars_glob result.0.crosses_slashes result.0.strict, result.1.now) ≡ stars_at after_slash bytes.now }
+    ensures { (stars_glob result.0.crosses_slashes result.0.strict, result.1.now)
+        ≡ stars_at after_slash bytes.now }
 {
     let rest = after_stars(bytes);
     let stars = Stars {

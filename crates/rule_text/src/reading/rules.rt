@@ -16,11 +16,11 @@ use std::alloc::Global;
 fn letters_length(bytes: &[u8]) -> usize
     ensures { result ≡ length (run is_letter bytes.now) }
 {
-    let mut n = 0;
-    while n < bytes.len() && Permission::from_letter(bytes[n]).is_some() {
-        n += 1;
+    let mut length = 0;
+    while length < bytes.len() && Permission::from_letter(bytes[length]).is_some() {
+        length += 1;
     }
-    n
+    length
 }
 
 /// The set of one letter or more, and what is left after them.
@@ -28,13 +28,14 @@ fn letters_length(bytes: &[u8]) -> usize
 fn perms_of(bytes: &[u8]) -> Result<(Perms, &[u8]), Failure>
     ensures { Gives (λ x. (x.0, x.1.now)) result (perms_at bytes.now) }
 {
-    let n = letters_length(bytes);
-    if n == 0 {
+    let length = letters_length(bytes);
+    if length == 0 {
         return Err(stop_at(StopKind::Syntax, bytes));
     }
-    let (word, rest) = bytes.split_at(n);
+    let (word, rest) = bytes.split_at(length);
     match Perms::from_letters(word) {
         Some(perms) => Ok((perms, rest)),
+        // Never: only letters of permissions were counted.
         None => Err(stop_at(StopKind::Syntax, bytes)),
     }
 }
@@ -104,7 +105,8 @@ fn after_closing(bytes: &[u8]) -> Option<&[u8]>
 
 /// The rules up to the closing brace, and what is left after it.
 pub(crate) fn rules_of(alloc: Global, bytes: &[u8]) -> Result<(Vec<Rule>, &[u8]), Failure>
-    ensures gives { Gives (λ x. (map rule_value x.0.items, x.1.now)) result (rules_at 1024 bytes.now) }
+    ensures gives { Gives (λ x. (map rule_value x.0.items, x.1.now))
+        result (rules_at 1024 bytes.now) }
     ensures few { IfOk result (λ x. length x.0.items ≤ 1024) }
 {
     let mut rules = Vec::new(alloc);

@@ -80,11 +80,11 @@ pub(crate) fn after_keyword<'a>(word: &[u8], bytes: &'a [u8]) -> Result<&'a [u8]
 fn name_length(bytes: &[u8]) -> usize
     ensures { result ≡ length (run is_name_byte bytes.now) }
 {
-    let mut n = 0;
-    while n < bytes.len() && is_name_byte(bytes[n]) {
-        n += 1;
+    let mut length = 0;
+    while length < bytes.len() && is_name_byte(bytes[length]) {
+        length += 1;
     }
-    n
+    length
 }
 
 /// A name, and what is left after it. The fault of one that is empty or too long is at its first byte.
@@ -92,10 +92,10 @@ fn name_length(bytes: &[u8]) -> usize
 pub(crate) fn name_of(alloc: Global, bytes: &[u8]) -> Result<(Vec<u8>, &[u8]), Failure>
     ensures { Gives (λ x. (x.0.items, x.1.now)) result (name_at bytes.now) }
 {
-    let n = name_length(bytes);
-    if n == 0 || n > MAX_NAME {
+    let length = name_length(bytes);
+    if length == 0 || length > MAX_NAME {
         return Err(stop_at(StopKind::Syntax, bytes));
     }
-    let (name, rest) = bytes.split_at(n);
+    let (name, rest) = bytes.split_at(length);
     Ok((Vec::from_slice(alloc, name)?, rest))
 }

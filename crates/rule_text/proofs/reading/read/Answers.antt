@@ -17,7 +17,7 @@ pub returns-in-Err-At-clause-only : goal.returns-in-Err-At-clause-only
 returns-in-Err-At-clause-only c = λ p h. absurd (outcomes.not_failed c.args.text.now p c.in-Err-At.field-0 c.in-Err-At.stop c.in-Err-At.field-0-is h c.in-Err-At.ensures)
 
 pub returns-in-Err-At-clause-fault : goal.returns-in-Err-At-clause-fault
-returns-in-Err-At-clause-fault c = inr (outcomes.failed_so c.args.text.now c.in-Err-At.field-0 c.in-Err-At.stop _ c.in-Err-At.field-0-is c.told.ensures c.in-Err-At.ensures)
+returns-in-Err-At-clause-fault c = inr (outcomes.failed_so c.args.text.now c.in-Err-At.field-0 c.in-Err-At.stop _ c.in-Err-At.field-0-is c.fault_of.ensures c.in-Err-At.ensures)
 
 pub returns-in-Err-At-clause-outcome : goal.returns-in-Err-At-clause-outcome
-returns-in-Err-At-clause-outcome c = inr (outcomes.failed_so c.args.text.now c.in-Err-At.field-0 c.in-Err-At.stop _ c.in-Err-At.field-0-is c.told.ensures c.in-Err-At.ensures)
+returns-in-Err-At-clause-outcome c = inr (outcomes.failed_so c.args.text.now c.in-Err-At.field-0 c.in-Err-At.stop _ c.in-Err-At.field-0-is c.fault_of.ensures c.in-Err-At.ensures)

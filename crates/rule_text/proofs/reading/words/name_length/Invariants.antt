@@ -4,8 +4,8 @@ use Rattle.rule_text.specs.Reading.{run}
 use Rattle.rule_text.specs.TextBytes.{is_name_byte}
 use Rattle.rule_text.proofs.reading.words.name_length.Given as goal
 
-abbrev pub invariant-loop-n : goal.invariant-loop-n
-invariant-loop-n l = l.n + length (run is_name_byte (drop l.n l.bytes)) ≡ length (run is_name_byte l.bytes)
+abbrev pub invariant-loop-length : goal.invariant-loop-length
+invariant-loop-length l = l.length + length (run is_name_byte (drop l.length l.bytes)) ≡ length (run is_name_byte l.bytes)
 
-abbrev pub decreases-loop-n : goal.decreases-loop-n
-decreases-loop-n l = length l.bytes - l.n
+abbrev pub decreases-loop-length : goal.decreases-loop-length
+decreases-loop-length l = length l.bytes - l.length
