@@ -1,17 +1,16 @@
 -- Facts that join what the steps of judging say.
-use Rattle.std.proofs.Common.{◌≡◌, ◌≢◌, ◌⊎◌, ℕ, List, [], Bool, true, false, cond, Option, Some, None, Result, Ok, Err, refl, ap, inl, inr, sym, ◌∙◌, subst, rules}
+use Rattle.std.proofs.Common.{◌≡◌, ◌≢◌, ◌⊎◌, ℕ, List, [], Option, Some, None, Result, Ok, Err, refl, inl, inr, rules}
 use Rattle.std.specs.Io.KnownBytes.{Keeps, Appends}
 use Rattle.names.specs.declared.permissions.Perms.{Perms}
-use Rattle.rule_text.specs.declared.verdict.Verdict.{Verdict}
 use Rattle.rule_text.specs.Profile.{ProfileValue}
 use Rattle.rule_text.specs.declared.fault.ReadFault.{ReadFault}
 use Rattle.rule_text.specs.Reading.{outcome_of}
 use Rattle.trace_cli.specs.declared.status.Status.{Status}
-use Rattle.trace_cli.specs.declared.status.Status.TheVariants.{Done, BadArguments, Refused, InputFailed, FaultsFailed, NoMemory}
+use Rattle.trace_cli.specs.declared.status.Status.TheVariants.{BadArguments, Refused}
 use Rattle.trace_cli.specs.declared.fault.Fault.{Fault}
 use Rattle.trace_cli.specs.declared.fault.Fault.TheVariants.{Permissions, Name, Text, Input, Memory}
 use Rattle.trace_cli.specs.Fault.{fault_text, fault_status, IsFaultOf}
-use Rattle.trace_cli.specs.Output.{Output, asked, fault, judged, judge_output, refusal, line}
+use Rattle.trace_cli.specs.Output.{Output, asked, fault, judged, judge_output, line}
 use Rattle.trace_cli.specs.Streams.{Streams, IsTextOf, IsTold, IsWritten, IsCutShort, Ends}
 
 -- whatever is known of a reader, some text may have been read

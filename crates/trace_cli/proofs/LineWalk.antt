@@ -1,12 +1,12 @@
 -- What clap's walk over the words comes to at the commands of the program.
-use Rattle.std.proofs.Common.{◌≡◌, ◌≢◌, ◌⊎◌, ℕ, zero, suc, ◌+◌, ◌==◌, Bool, true, false, not, cond, ◌&&◌, List, [], ◌∷◌, ◌++◌, length, Option, Some, None, MatchOption, refl, ap, ap₂, sym, ◌∙◌, subst, inl, inr, arith, rules, append_assoc}
+use Rattle.std.proofs.Common.{◌≡◌, ◌≢◌, ◌⊎◌, ℕ, ◌==◌, Bool, true, false, List, [], ◌∷◌, ◌++◌, length, Option, Some, None, refl, ap, ap₂, sym, ◌∙◌, inl, inr, append_assoc}
 use Rattle.std.proofs.lemmas.List.{append-nil}
 use Rattle.std.proofs.lemmas.Slice.Eq.{bytes_eq-Decides}
-use Rattle.std.specs.Prelude.{is_some, slice_get, drop, encode_utf8, nat_lt, codes, option_map, fold, ⊤}
+use Rattle.std.specs.Prelude.{is_some, slice_get, drop, encode_utf8, codes, option_map, fold}
 use Rattle.std.specs.Str.{bytes_eq, chars}
 use Rattle.std.proofs.lemmas.Bool.{eqb-true}
 use Rattle.clap.specs.Lexer.{long_of, short_of, name_and_value}
-use Rattle.clap.specs.Walk.{arg_by_long, arg_by_short, plain, Held, Names, Row, Rule, Text, Waiting, idle, Walk, Step, value, walked, walk_from, word_met, finished, first_of, nothing_held, pushed, settled, to_positional, arg_by_index, bundle_met, rows_after}
+use Rattle.clap.specs.Walk.{arg_by_long, arg_by_short, plain, Held, Names, Row, Rule, Text, idle, Walk, value, walked, walk_from, finished, first_of, nothing_held, pushed, settled, to_positional, arg_by_index}
 use Rattle.clap.specs.Simple.{App, Shape, new_rule, new_shape, help_rule, built, names_of, subcommand_of, entered}
 use Rattle.clap.specs.Kinds.{Kinds, or_else}
 use Rattle.clap.proofs.FaultLemmas.{fault_ends, stopped_fault}

@@ -1,7 +1,7 @@
 -- What the words of a command line ask for.
-use Rattle.std.specs.Prelude.{◌≡◌, ◌↔◌, ℕ, ◌&&◌, Bool, true, false, not, List, [], ◌∷◌, ◌==◌, Option, Some, None, option_map, is_some, slice_get, codes, if◌then◌else◌}
+use Rattle.std.specs.Prelude.{◌≡◌, ℕ, ◌&&◌, Bool, true, false, List, [], ◌∷◌, ◌==◌, Option, Some, None, option_map, is_some, slice_get, codes, if◌then◌else◌}
 use Rattle.std.specs.Str.{bytes_eq, chars}
-use Rattle.clap.specs.Words.{App, Rule, Text, kind_of, new_app, new_rule, with_rule, with_subcommand}
+use Rattle.clap.specs.Words.{App, Rule, kind_of, new_app, new_rule, with_rule, with_subcommand}
 use Rattle.clap.specs.declared.error.Error.{Error}
 use Rattle.clap.specs.declared.error.kind.ErrorKind.TheVariants.{OutOfMemory}
 use Rattle.trace_cli.specs.declared.command_line.Line.{Line}

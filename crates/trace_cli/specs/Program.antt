@@ -5,22 +5,24 @@ use Rattle.trace_cli.specs.CommandLine.{LineValue, judge}
 use Rattle.trace_cli.specs.Output.{asked, judge_output, line}
 use Rattle.trace_cli.specs.Streams.{Ends, Streams}
 use Rattle.trace_cli.specs.declared.status.Status.{Status}
-use Rattle.trace_cli.specs.declared.status.Status.TheVariants.{Done, BadArguments, Refused, InputFailed, OutputFailed, FaultsFailed, NoMemory}
+use Rattle.trace_cli.specs.declared.status.Status.TheVariants.{BadArguments, FaultsFailed, NoMemory}
 
 -- no answer was written, and standard error has `no memory`
 pub record IsOutOfMemory (streams : Streams) : Type 0 where
   pub answers : Keeps streams.answers_before streams.answers_after
   pub faults : Appends streams.faults_before streams.faults_after (line (codes "no memory"))
 
--- How the program ends where its words are no command line: no answer is written. Its text for the user is left open.
-abbrev pub UsageEnds : Streams → Status → Type 0
-UsageEnds streams Done = ⊥
-UsageEnds streams BadArguments = Keeps streams.answers_before streams.answers_after
-UsageEnds streams Refused = ⊥
-UsageEnds streams InputFailed = ⊥
-UsageEnds streams OutputFailed = ⊥
-UsageEnds streams FaultsFailed = Keeps streams.answers_before streams.answers_after
-UsageEnds streams NoMemory = IsOutOfMemory streams
+-- How it is told that the words are no command line: by a text of the parser, which is left open.
+abbrev pub TellsUsage : Option (List ℕ) → Option (List ℕ) → Status → Type 0
+TellsUsage before after BadArguments = (text : List ℕ) × Appends before after (line text)
+TellsUsage before after NoMemory = Appends before after (line (codes "no memory"))
+TellsUsage before after FaultsFailed = ⊤
+TellsUsage before after _ = ⊥
+
+-- How the program ends where its words are no command line: no answer is written.
+pub record UsageEnds (streams : Streams) (status : Status) : Type 0 where
+  pub answers : Keeps streams.answers_before streams.answers_after
+  pub faults : TellsUsage streams.faults_before streams.faults_after status
 
 -- How the program ends: as its command does, or for want of memory to read the words.
 abbrev pub ProgramEnds : Option LineValue → List ℕ → Streams → Status → Type 0

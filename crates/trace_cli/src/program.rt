@@ -2,7 +2,7 @@
 ghost use Rattle.std.specs.Prelude.{◌≡◌, ◌⊎◌, ℕ, List, true, map};
 ghost use Rattle.std.specs.Io.KnownBytes.{Keeps};
 ghost use Rattle.trace_cli.specs.CommandLine.{line_of};
-ghost use Rattle.trace_cli.specs.Program.{ProgramEnds, is_told_by_words};
+ghost use Rattle.trace_cli.specs.Program.{ProgramEnds, TellsUsage, is_told_by_words};
 ghost use Rattle.trace_cli.specs.Streams.{IsTextOf};
 
 use crate::command_line::{Line, LineFault, command_line};
@@ -34,17 +34,17 @@ pub fn run_words<S: AsStr, R: Read, A: Write, F: Write>(
 {
     match command_line(alloc, words) {
         Ok(Line::Judge { perms, name }) => judge(alloc, perms, name, input, answers, faults),
-        Err(LineFault::Usage(error)) => tell_usage(faults, &error),
+        Err(LineFault::Usage(error)) => tell_usage(alloc, faults, &error),
         Err(LineFault::NoMemory) => fail(faults, "no memory", Status::NoMemory),
     }
 }
 
-/// Tells how the program is called. The text ends its last line itself.
-fn tell_usage<F: Write>(faults: &mut F, error: &clap::Error) -> Status
-    ensures { (result ≡ Status.BadArguments) ⊎ (result ≡ Status.FaultsFailed) }
+/// Tells how the program is called, or what is wrong with the words.
+fn tell_usage<F: Write>(alloc: Global, faults: &mut F, error: &clap::Error) -> Status
+    ensures { TellsUsage (F.contents faults.old) (F.contents faults.new) result }
 {
-    if write!(faults, "{error}").is_err() || faults.flush().is_err() {
-        return Status::FaultsFailed;
+    match error.to_string(alloc) {
+        Ok(text) => fail(faults, text.trim_end(), Status::BadArguments),
+        Err(_) => fail(faults, "no memory", Status::NoMemory),
     }
-    Status::BadArguments
 }

@@ -1,7 +1,7 @@
 use crate::command_line::{Line, LineFault, command_line};
 use crate::program::run_words;
 use crate::status::Status;
-use std::alloc::{AllocError, Global};
+use std::alloc::Global;
 use std::io;
 use std::io::{ErrorKind, Read, Write};
 use std::test::Fail;
@@ -70,118 +70,64 @@ impl Write for Failing {
 }
 
 /// A run over memory: its status, and what stands on both streams.
-fn run(
-    alloc: Global,
-    words: &[&str],
-    text: &str,
-) -> Result<(Status, Vec<u8>, Vec<u8>), AllocError> {
+fn run(alloc: Global, words: &[&str], text: &str) -> (Status, Vec<u8>, Vec<u8>) {
     let mut input = text.as_bytes();
     let mut answers = Vec::new(alloc);
     let mut faults = Vec::new(alloc);
     let status = run_words(alloc, words, &mut input, &mut answers, &mut faults);
-    Ok((status, answers, faults))
+    (status, answers, faults)
 }
 
 #[test]
-fn verdicts_and_refusals(rt: HostRuntime) -> Result<(), Fail> {
+fn verdicts_and_refusals(rt: HostRuntime) {
     let cases = [
-        ("r", "/etc/passwd", PASSWD, Status::Done, "allowed\n", ""),
-        ("rrr", "/etc/passwd", PASSWD, Status::Done, "allowed\n", ""),
-        (
-            "wr",
-            "/etc/passwd",
-            PASSWD,
-            Status::Done,
-            "no rule for w\n",
-            "",
-        ),
-        ("mk", "/", PASSWD, Status::Done, "no rule for km\n", ""),
-        (
-            "rx",
-            "/x",
-            PASSWD,
-            Status::BadArguments,
-            "",
-            "bad permissions\n",
-        ),
-        (
-            "",
-            "/x",
-            PASSWD,
-            Status::BadArguments,
-            "",
-            "bad permissions\n",
-        ),
-        ("r", "x", PASSWD, Status::BadArguments, "", "bad name\n"),
-        ("r", "", "", Status::BadArguments, "", "bad name\n"),
-        ("rx", "x", "", Status::BadArguments, "", "bad permissions\n"),
-        (
-            "r",
-            "/x",
-            SUFFIXED,
-            Status::Refused,
-            "",
-            "refused: read 1 at 17\n",
-        ),
-        ("r", "/x", "", Status::Refused, "", "refused: read 1 at 0\n"),
+        ("r", "/etc/passwd", PASSWD, 0, "allowed\n"),
+        ("rrr", "/etc/passwd", PASSWD, 0, "allowed\n"),
+        ("wr", "/etc/passwd", PASSWD, 0, "no rule for w\n"),
+        ("mk", "/", PASSWD, 0, "no rule for km\n"),
+        ("rx", "/x", PASSWD, 2, "bad permissions\n"),
+        ("", "/x", PASSWD, 2, "bad permissions\n"),
+        ("rx", "x", "", 2, "bad permissions\n"),
+        ("r", "x", PASSWD, 2, "bad name\n"),
+        ("r", "", "", 2, "bad name\n"),
+        ("r", "/x", SUFFIXED, 3, "refused: read 1 at 17\n"),
+        ("r", "/x", "", 3, "refused: read 1 at 0\n"),
     ];
-    for (perms, name, text, status, answers, faults) in cases {
+    for (perms, name, text, code, told) in cases {
         let words = ["aa-trace", "judge", perms, name];
-        let told = run(rt.alloc(), &words, text)?;
-        assert_eq!(rt; told.0, status, "{perms} {name}");
-        assert!(rt; told.1.as_slice() == answers.as_bytes(), "{perms} {name}");
-        assert!(rt; told.2.as_slice() == faults.as_bytes(), "{perms} {name}");
+        let (status, answers, faults) = run(rt.alloc(), &words, text);
+        assert_eq!(rt; status.code(), code, "{perms} {name}");
+        let (answer, fault) = if code == 0 { (told, "") } else { ("", told) };
+        assert!(rt; answers.as_slice() == answer.as_bytes(), "{perms} {name}");
+        assert!(rt; faults.as_slice() == fault.as_bytes(), "{perms} {name}");
     }
-    Ok(())
 }
 
 #[test]
-fn readers_that_fail(rt: HostRuntime) -> Result<(), Fail> {
+fn readers_that_fail(rt: HostRuntime) {
     let words = ["aa-trace", "judge", "r", "/etc/passwd"];
+    let broken = ErrorKind::BrokenPipe;
     let cases = [
-        (1, 100, ErrorKind::BrokenPipe, Status::Done, ""),
-        (
-            1,
-            7,
-            ErrorKind::BrokenPipe,
-            Status::InputFailed,
-            "refused: input\n",
-        ),
-        (
-            9,
-            0,
-            ErrorKind::BrokenPipe,
-            Status::InputFailed,
-            "refused: input\n",
-        ),
-        (
-            1,
-            7,
-            ErrorKind::OutOfMemory,
-            Status::NoMemory,
-            "no memory\n",
-        ),
+        (1, 100, broken, 0, "allowed\n", ""),
+        (1, 7, broken, 3, "", "refused: input\n"),
+        (9, 0, broken, 3, "", "refused: input\n"),
+        (1, 7, ErrorKind::OutOfMemory, 4, "", "no memory\n"),
     ];
-    for (piece, reads, error, status, told) in cases {
+    for (piece, reads, error, code, answer, fault) in cases {
+        let left = PASSWD.as_bytes();
         let mut input = Pieces {
-            left: PASSWD.as_bytes(),
+            left,
             piece,
             reads,
             error,
         };
         let mut answers = Vec::new(rt.alloc());
         let mut faults = Vec::new(rt.alloc());
-        let end = run_words(rt.alloc(), &words, &mut input, &mut answers, &mut faults);
-        assert_eq!(rt; end, status, "{piece} {reads}");
-        assert!(rt; faults.as_slice() == told.as_bytes(), "{piece} {reads}");
-        let answer = if status == Status::Done {
-            "allowed\n"
-        } else {
-            ""
-        };
+        let status = run_words(rt.alloc(), &words, &mut input, &mut answers, &mut faults);
+        assert_eq!(rt; status.code(), code, "{piece} {reads}");
         assert!(rt; answers.as_slice() == answer.as_bytes(), "{piece} {reads}");
+        assert!(rt; faults.as_slice() == fault.as_bytes(), "{piece} {reads}");
     }
-    Ok(())
 }
 
 #[test]
@@ -272,9 +218,9 @@ fn lines_that_are_not_followed(rt: HostRuntime) -> Result<(), Fail> {
             }
             _ => return Err(Fail::new("no usage fault")),
         }
-        let told = run(rt.alloc(), words, PASSWD)?;
-        assert_eq!(rt; told.0, Status::BadArguments);
-        assert!(rt; told.1.is_empty() && told.2.as_slice().ends_with(b"\n"));
+        let (status, answers, faults) = run(rt.alloc(), words, PASSWD);
+        assert_eq!(rt; status, Status::BadArguments);
+        assert!(rt; answers.is_empty() && faults.as_slice().ends_with(b"\n"));
     }
     Ok(())
 }

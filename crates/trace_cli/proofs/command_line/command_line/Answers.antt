@@ -1,7 +1,5 @@
-use Rattle.std.proofs.Common.{◌≡◌, ◌∙◌, Some, ap, ap₂, codes, map, refl, sym}
-use Rattle.std.specs.Borrow.{Bor}
+use Rattle.std.proofs.Common.{◌≡◌, codes, map, refl}
 use Rattle.clap.specs.Words.{found_of, rows_of}
-use Rattle.trace_cli.specs.CommandLine.{judge}
 use Rattle.trace_cli.proofs.CommandLine.{entered_line, refused_line, value_given}
 use Rattle.trace_cli.proofs.command_line.command_line.Goals as goal
 

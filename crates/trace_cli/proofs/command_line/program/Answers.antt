@@ -1,8 +1,8 @@
-use Rattle.std.proofs.Common.{◌≡◌, ◌∙◌, ap, ap₂, rules, codes, true, false}
+use Rattle.std.proofs.Common.{◌≡◌, ◌∙◌, ap, ap₂, rules, codes, true}
 use Rattle.std.proofs.lemmas.Result.{IfOk-weaker}
 use Rattle.clap.specs.Words.{App, app_of, new_app, rule_of, with_rule, with_subcommand}
 use Rattle.clap.specs.Simple.{app_of_fields}
-use Rattle.trace_cli.specs.CommandLine.{judge_app, program_app, required_rule}
+use Rattle.trace_cli.specs.CommandLine.{judge_app, required_rule}
 use Rattle.trace_cli.proofs.command_line.program.Goals as goal
 
 -- of a program with a subcommand, that it has to be given

@@ -1,4 +1,4 @@
-use Rattle.std.proofs.Common.{◌≡◌, Err, rules, sym}
+use Rattle.std.proofs.Common.{◌≡◌, Err, rules}
 use Rattle.trace_cli.proofs.Judging.{text_of, asked_in_vain, unread}
 use Rattle.trace_cli.proofs.judge.judged.Goals as goal
 
