@@ -10,7 +10,7 @@ use Rattle.trace_cli.specs.declared.status.Status.TheVariants.{BadArguments, Ref
 use Rattle.trace_cli.specs.declared.fault.Fault.{Fault}
 use Rattle.trace_cli.specs.declared.fault.Fault.TheVariants.{Permissions, Name, Text, Input, Memory}
 use Rattle.trace_cli.specs.Fault.{fault_text, fault_status, IsFaultOf}
-use Rattle.trace_cli.specs.Output.{Output, asked, fault, judged, judge_output, line}
+use Rattle.trace_cli.specs.Output.{Output, ask_of, fault, verdict_output, judge_output, line}
 use Rattle.trace_cli.specs.Streams.{Streams, IsTextOf, IsTold, IsWritten, IsCutShort, Ends}
 
 -- whatever is known of a reader, some text may have been read
@@ -19,7 +19,7 @@ text_of None = ([], tt)
 text_of (Some known) = (known, refl)
 
 -- bad arguments are told as such, whatever the text
-pub asked_in_vain : (perms name text : List ℕ) (f : Fault) → asked perms name ≡ Err (fault_text f) → (f ≡ Permissions) ⊎ (f ≡ Name)
+pub asked_in_vain : (perms name text : List ℕ) (f : Fault) → ask_of perms name ≡ Err (fault_text f) → (f ≡ Permissions) ⊎ (f ≡ Name)
     → IsFaultOf (judge_output perms name text) f
 asked_in_vain perms name text Permissions e which = rw (e, judge_output) refl
 asked_in_vain perms name text Name e which = rw (e, judge_output) refl
@@ -31,15 +31,15 @@ asked_in_vain perms name text (Text f) e (inl p) = cc
 asked_in_vain perms name text (Text f) e (inr p) = cc
 
 -- good arguments aren't told as bad ones
-judged_status : (ask : Perms) (name : List ℕ) (outcome : Result ProfileValue ReadFault) → (judged ask name outcome).status ≢ BadArguments
+judged_status : (ask : Perms) (name : List ℕ) (outcome : Result ProfileValue ReadFault) → (verdict_output ask name outcome).status ≢ BadArguments
 judged_status ask name (Ok profile) = λ e. cc
 judged_status ask name (Err f) = λ e. cc
 
-good_arguments : (perms name text : List ℕ) (ask : Perms) → asked perms name ≡ Ok ask → (judge_output perms name text).status ≢ BadArguments
+good_arguments : (perms name text : List ℕ) (ask : Perms) → ask_of perms name ≡ Ok ask → (judge_output perms name text).status ≢ BadArguments
 good_arguments perms name text ask e = rw (e, judge_output) (judged_status ask name (outcome_of text))
 
 -- what hides the text says only that the arguments are good
-pub unread : (perms name text : List ℕ) (ask : Perms) (f : Fault) → asked perms name ≡ Ok ask → (f ≡ Input) ⊎ (f ≡ Memory)
+pub unread : (perms name text : List ℕ) (ask : Perms) (f : Fault) → ask_of perms name ≡ Ok ask → (f ≡ Input) ⊎ (f ≡ Memory)
     → IsFaultOf (judge_output perms name text) f
 unread perms name text ask f e (inl h) = rw h (good_arguments perms name text ask e)
 unread perms name text ask f e (inr h) = rw h (good_arguments perms name text ask e)
@@ -72,7 +72,7 @@ cut_short answers before after output told good h = record { answers = keeps ans
 -- a command that told its fault ends as it should
 pub ends_told : (answers before after : Option (List ℕ)) (output : Output) (f : Fault) (status : Status)
     → IsFaultOf output f → IsTold before after (fault_text f) (fault_status f) status → Ends (told_alone answers before after) output status
-ends_told answers before after output f status of (inl e) = rw e tt
+ends_told answers before after output f status of (inl e) = rw e (inr (keeps answers))
 ends_told answers before after output Permissions status of (inr h) =
     rw h.0 (written answers before after output (fault_text Permissions) BadArguments of h.1)
 ends_told answers before after output Name status of (inr h) =

@@ -17,5 +17,5 @@ pub memory_ends : (line : Option LineValue) (text : List ℕ) (answers before af
     → IsTold before after (codes "no memory") NoMemory status → ProgramEnds line text (told_alone answers before after) status
 memory_ends None text answers before after status (inl e) = record { answers = keeps answers; faults = rw e tt }
 memory_ends None text answers before after status (inr h) = record { answers = keeps answers; faults = rw h.0 h.1 }
-memory_ends (Some (judge perms name)) text answers before after status (inl e) = inl (rw e tt)
+memory_ends (Some (judge perms name)) text answers before after status (inl e) = inl (rw e (inr (keeps answers)))
 memory_ends (Some (judge perms name)) text answers before after status (inr h) = inr (h.0, record { answers = keeps answers; faults = h.1 })

@@ -40,8 +40,8 @@ IsJudged output (Err f) = IsFaultOf output f
 
 -- what is asked, or which of the arguments says nothing
 abbrev pub IsAsked : Result Perms (List ℕ) → Result Perms Fault → Type 0
-IsAsked asked (Ok ask) = asked ≡ Ok ask
-IsAsked asked (Err f) = (asked ≡ Err (fault_text f)) × (f ≡ Permissions ⊎ f ≡ Name)
+IsAsked wanted (Ok ask) = wanted ≡ Ok ask
+IsAsked wanted (Err f) = (wanted ≡ Err (fault_text f)) × (f ≡ Permissions ⊎ f ≡ Name)
 
 -- all that was left where it's known, or a failure of the stream or of memory
 abbrev pub IsTextRead : Option (List ℕ) → Result (Vec ℕ Global) Fault → Type 0

@@ -38,8 +38,8 @@ is_absolute [] = false
 is_absolute (b ∷ name) = b == 47
 
 -- what is asked, or what is told of the arguments
-abbrev pub asked : List ℕ → List ℕ → Result Perms (List ℕ)
-asked perms name = elim (asked_by perms) [
+abbrev pub ask_of : List ℕ → List ℕ → Result Perms (List ℕ)
+ask_of perms name = elim (asked_by perms) [
   | None ↦ Err (codes "bad permissions")
   | Some ask ↦ if is_absolute name then Ok ask else Err (codes "bad name")
 ]
@@ -49,13 +49,13 @@ abbrev pub refusal : ReadFault → List ℕ
 refusal f = codes "refused: read " ++ decimal (fault_number f) ++ codes " at " ++ decimal (unwrap_or (fault_offset f) 0)
 
 -- the verdict on the name by the profile that was read, or why there is none
-abbrev pub judged : Perms → List ℕ → Result ProfileValue ReadFault → Output
-judged ask name (Ok profile) = answer (verdict_text (verdict profile.rules name ask))
-judged ask name (Err f) = fault (refusal f) Refused
+abbrev pub verdict_output : Perms → List ℕ → Result ProfileValue ReadFault → Output
+verdict_output ask name (Ok profile) = answer (verdict_text (verdict profile.rules name ask))
+verdict_output ask name (Err f) = fault (refusal f) Refused
 
 -- what `judge PERMS NAME` writes on a text
 abbrev pub judge_output : List ℕ → List ℕ → List ℕ → Output
-judge_output perms name text = elim (asked perms name) [
+judge_output perms name text = elim (ask_of perms name) [
   | Err told ↦ fault told BadArguments
-  | Ok ask ↦ judged ask name (outcome_of text)
+  | Ok ask ↦ verdict_output ask name (outcome_of text)
 ]

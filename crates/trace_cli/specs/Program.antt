@@ -2,7 +2,7 @@
 use Rattle.std.specs.Prelude.{◌≡◌, ◌⊎◌, ℕ, Bool, true, List, Option, Some, None, codes, is_err, ⊤}
 use Rattle.std.specs.Io.KnownBytes.{Keeps, Appends}
 use Rattle.trace_cli.specs.CommandLine.{LineValue, judge}
-use Rattle.trace_cli.specs.Output.{asked, judge_output, line}
+use Rattle.trace_cli.specs.Output.{ask_of, judge_output, line}
 use Rattle.trace_cli.specs.Streams.{Ends, Streams}
 use Rattle.trace_cli.specs.declared.status.Status.{Status}
 use Rattle.trace_cli.specs.declared.status.Status.TheVariants.{BadArguments, FaultsFailed, NoMemory}
@@ -31,6 +31,6 @@ ProgramEnds (Some (judge perms name)) text streams status =
     Ends streams (judge_output perms name text) status ⊎ ((status ≡ NoMemory) × IsOutOfMemory streams)
 
 -- whether the words say that nothing is to be read
-abbrev pub is_told_by_words : Option LineValue → Bool
-is_told_by_words None = true
-is_told_by_words (Some (judge perms name)) = is_err (asked perms name)
+abbrev pub reads_nothing : Option LineValue → Bool
+reads_nothing None = true
+reads_nothing (Some (judge perms name)) = is_err (ask_of perms name)

@@ -1,5 +1,5 @@
 -- How a command leaves its streams.
-use Rattle.std.specs.Prelude.{◌≡◌, ◌≢◌, ◌⊎◌, ℕ, List, Option, codes, IfSome, ⊤}
+use Rattle.std.specs.Prelude.{◌≡◌, ◌≢◌, ◌⊎◌, ℕ, List, Option, codes, IfSome}
 use Rattle.std.specs.Io.KnownBytes.{Keeps, Appends}
 use Rattle.trace_cli.specs.Output.{Output, line}
 use Rattle.trace_cli.specs.declared.status.Status.{Status}
@@ -29,7 +29,11 @@ pub record IsUnanswered (streams : Streams) (output : Output) : Type 0 where
   pub faults : Appends streams.faults_before streams.faults_after (line (codes "refused: output"))
   pub answer : output.status ≡ Done
 
--- How a command ends that is to write `output`. Nothing is said of a message that couldn't be written.
+-- A message that couldn't be written: no answer was written either, unless an answer is what was to be written.
+abbrev pub IsUntold : Streams → Output → Type 0
+IsUntold streams output = (output.status ≡ Done) ⊎ Keeps streams.answers_before streams.answers_after
+
+-- How a command ends that is to write `output`.
 abbrev pub Ends : Streams → Output → Status → Type 0
 Ends streams output Done = IsWritten streams output Done
 Ends streams output BadArguments = IsWritten streams output BadArguments
@@ -37,7 +41,7 @@ Ends streams output Refused = IsWritten streams output Refused
 Ends streams output InputFailed = IsCutShort streams output (codes "refused: input")
 Ends streams output NoMemory = IsCutShort streams output (codes "no memory")
 Ends streams output OutputFailed = IsUnanswered streams output
-Ends streams output FaultsFailed = ⊤
+Ends streams output FaultsFailed = IsUntold streams output
 
 -- a text that may have been read by a reader with these bytes left
 abbrev pub IsTextOf : Option (List ℕ) → List ℕ → Type 0

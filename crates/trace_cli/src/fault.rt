@@ -57,6 +57,7 @@ impl fmt::Display for Fault {
             Fault::Name => write!(f, "bad name"),
             Fault::Text(fault) => {
                 let number = fault.number();
+                // Only want of memory has no place, and that is told as such.
                 let offset = fault.offset().unwrap_or(0);
                 write!(f, "refused: read {number} at {offset}")
             }

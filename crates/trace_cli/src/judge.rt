@@ -2,7 +2,7 @@
 ghost use Rattle.std.specs.Prelude.{◌≡◌, ◌≢◌, ◌↔◌, ℕ, List, IsErr, MatchResult, IfSome, IsTrue, Some, Ok, Err};
 ghost use Rattle.std.specs.Io.KnownBytes.{Keeps};
 ghost use Rattle.names.specs.declared.permissions.Perms.{Perms};
-ghost use Rattle.trace_cli.specs.Output.{asked, asked_by, is_absolute, judge_output};
+ghost use Rattle.trace_cli.specs.Output.{ask_of, asked_by, is_absolute, judge_output};
 ghost use Rattle.trace_cli.specs.Streams.{Ends, IsTextOf};
 ghost use Rattle.trace_cli.specs.Fault.{IsJudged, IsAsked, IsTextRead};
 
@@ -32,10 +32,10 @@ pub fn judge<R: Read, A: Write, F: Write>(
           faults_after = F.contents faults.new;
         })
         (judge_output perms.now name.now text) result }
-    ensures unread { IsErr (asked perms.now name.now)
+    ensures unread { IsErr (ask_of perms.now name.now)
         → Keeps (R.remaining input.old) (R.remaining input.new) }
 {
-    match judged(alloc, perms, name, input) {
+    match verdict_on(alloc, perms, name, input) {
         Ok(verdict) => match tell(answers, verdict) {
             Ok(()) => Status::Done,
             Err(_) => fail(faults, "refused: output", Status::OutputFailed),
@@ -45,13 +45,18 @@ pub fn judge<R: Read, A: Write, F: Write>(
 }
 
 /// The verdict on the name, or why there is none.
-fn judged<R: Read>(alloc: Global, perms: &str, name: &str, input: &mut R) -> Result<Verdict, Fault>
+fn verdict_on<R: Read>(
+    alloc: Global,
+    perms: &str,
+    name: &str,
+    input: &mut R,
+) -> Result<Verdict, Fault>
     ensures output { (text : List ℕ) × IsTextOf (R.remaining input.old) text
         × IsJudged (judge_output perms.now name.now text) result }
-    ensures unread { IsErr (asked perms.now name.now)
+    ensures unread { IsErr (ask_of perms.now name.now)
         → Keeps (R.remaining input.old) (R.remaining input.new) }
 {
-    let ask = asked(perms, name)?;
+    let ask = ask_of(perms, name)?;
     let text = read_all(alloc, input)?;
     match read(alloc, &text) {
         Ok(profile) => Ok(judge_slow(&profile, name.as_bytes(), ask)),
@@ -61,8 +66,8 @@ fn judged<R: Read>(alloc: Global, perms: &str, name: &str, input: &mut R) -> Res
 }
 
 /// What is asked, if the arguments say so.
-fn asked(perms: &str, name: &str) -> Result<Perms, Fault>
-    ensures { IsAsked (asked perms.now name.now) result }
+fn ask_of(perms: &str, name: &str) -> Result<Perms, Fault>
+    ensures { IsAsked (ask_of perms.now name.now) result }
 {
     let ask = asked_by(perms).ok_or(Fault::Permissions)?;
     if name.starts_with('/') {

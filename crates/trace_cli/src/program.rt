@@ -2,7 +2,7 @@
 ghost use Rattle.std.specs.Prelude.{◌≡◌, ◌⊎◌, ℕ, List, true, map};
 ghost use Rattle.std.specs.Io.KnownBytes.{Keeps};
 ghost use Rattle.trace_cli.specs.CommandLine.{line_of};
-ghost use Rattle.trace_cli.specs.Program.{ProgramEnds, TellsUsage, is_told_by_words};
+ghost use Rattle.trace_cli.specs.Program.{ProgramEnds, TellsUsage, reads_nothing};
 ghost use Rattle.trace_cli.specs.Streams.{IsTextOf};
 
 use crate::command_line::{Line, LineFault, command_line};
@@ -29,7 +29,7 @@ pub fn run_words<S: AsStr, R: Read, A: Write, F: Write>(
           faults_before = F.contents faults.old;
           faults_after = F.contents faults.new;
         }) result }
-    ensures unread { is_told_by_words (line_of (map S.text words.now)) ≡ true
+    ensures unread { reads_nothing (line_of (map S.text words.now)) ≡ true
         → Keeps (R.remaining input.old) (R.remaining input.new) }
 {
     match command_line(alloc, words) {

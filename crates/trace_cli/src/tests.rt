@@ -131,38 +131,56 @@ fn readers_that_fail(rt: HostRuntime) {
 }
 
 #[test]
-fn writers_that_fail(rt: HostRuntime) -> Result<(), Fail> {
+fn answers_that_fail(rt: HostRuntime) {
     let alloc = rt.alloc();
     let words = ["aa-trace", "judge", "r", "/etc/passwd"];
-    // The line is written in parts, and flushed at last.
-    for calls in 0..2 {
+    // The line is written in two parts and flushed, so the fourth call isn't made.
+    for calls in 0..4 {
         let mut input = PASSWD.as_bytes();
         let mut answers = Failing::after(alloc, calls);
         let mut faults = Vec::new(alloc);
-        let end = run_words(alloc, &words, &mut input, &mut answers, &mut faults);
-        assert_eq!(rt; end, Status::OutputFailed, "{calls}");
-        assert!(rt;
-            faults.as_slice() == b"refused: output\n".as_slice(),
-            "{calls}"
-        );
-        let mut input = PASSWD.as_bytes();
-        let mut answers = Failing::after(alloc, calls);
-        let mut faults = Failing::after(alloc, calls);
-        let end = run_words(alloc, &words, &mut input, &mut answers, &mut faults);
-        assert_eq!(rt; end, Status::FaultsFailed, "{calls}");
+        let status = run_words(alloc, &words, &mut input, &mut answers, &mut faults);
+        let (wanted, told) = if calls < 3 {
+            (Status::OutputFailed, "refused: output\n")
+        } else {
+            (Status::Done, "")
+        };
+        assert_eq!(rt; status, wanted, "{calls}");
+        assert!(rt; faults.as_slice() == told.as_bytes(), "{calls}");
+        assert!(rt; b"allowed\n".starts_with(&answers.taken), "{calls}");
     }
+}
+
+#[test]
+fn messages_that_fail(rt: HostRuntime) {
+    let alloc = rt.alloc();
     for words in [
         ["aa-trace", "judge", "r", "x"],
         ["aa-trace", "judge", "r", "--no"],
     ] {
-        let mut input = PASSWD.as_bytes();
-        let mut answers = Vec::new(alloc);
-        let mut faults = Failing::after(alloc, 0);
-        let end = run_words(alloc, &words, &mut input, &mut answers, &mut faults);
-        assert_eq!(rt; end, Status::FaultsFailed);
-        assert!(rt; answers.is_empty() && input.len() == PASSWD.len());
+        for calls in 0..4 {
+            let mut input = PASSWD.as_bytes();
+            let mut answers = Vec::new(alloc);
+            let mut faults = Failing::after(alloc, calls);
+            let status = run_words(alloc, &words, &mut input, &mut answers, &mut faults);
+            let wanted = if calls < 3 {
+                Status::FaultsFailed
+            } else {
+                Status::BadArguments
+            };
+            assert_eq!(rt; status, wanted, "{calls}");
+            assert!(rt;
+                answers.is_empty() && input.len() == PASSWD.len(),
+                "{calls}"
+            );
+        }
     }
-    Ok(())
+    let words = ["aa-trace", "judge", "r", "/etc/passwd"];
+    let mut input = PASSWD.as_bytes();
+    let mut answers = Failing::after(alloc, 0);
+    let mut faults = Failing::after(alloc, 0);
+    let status = run_words(alloc, &words, &mut input, &mut answers, &mut faults);
+    assert_eq!(rt; status, Status::FaultsFailed);
 }
 
 #[test]
@@ -238,4 +256,66 @@ fn statuses_of_the_process(rt: HostRuntime) {
     ] {
         assert_eq!(rt; status.code(), code);
     }
+}
+
+/// Verdicts worked by hand from the rules.
+#[test]
+fn worked_verdicts(rt: HostRuntime) -> Result<(), Fail> {
+    let denies_last = "/a/** rw, deny /a/k* w,";
+    let denies_first = "deny /a/k* w, /a/** rw,";
+    let denies_twice = "/a rw, deny /a w, deny /a r,";
+    let cases = [
+        ("/etc/passwd r,", "/etc/passwd", "r", "allowed\n"),
+        ("/etc/passwd r,", "/etc/passwd", "rw", "no rule for w\n"),
+        (denies_last, "/a/key", "rw", "denied by rule 2\n"),
+        (denies_first, "/a/key", "rw", "denied by rule 1\n"),
+        (denies_twice, "/a", "rw", "denied by rule 2\n"),
+        ("/tmp/* r,", "/tmp/", "r", "no rule for r\n"),
+        ("/tmp/* r,", "/tmp/x", "r", "allowed\n"),
+        ("/tmp/* r,", "/tmp/x/", "r", "no rule for r\n"),
+        ("/tmp/** r,", "/tmp/", "r", "no rule for r\n"),
+        ("/tmp/** r,", "/tmp/d/", "r", "allowed\n"),
+        ("/tmp/** r,", "/tmp/d/f", "r", "allowed\n"),
+        ("", "/x", "rm", "no rule for rm\n"),
+    ];
+    for (rules, name, perms, answer) in cases {
+        let text = format!(in rt.alloc(); "profile p {{ {rules} }}")?;
+        let words = ["aa-trace", "judge", perms, name];
+        let (status, answers, faults) = run(rt.alloc(), &words, text.as_str());
+        assert_eq!(rt; status, Status::Done, "{rules} {name}");
+        assert!(rt; answers.as_slice() == answer.as_bytes(), "{rules} {name}");
+        assert!(rt; faults.is_empty(), "{rules} {name}");
+    }
+    Ok(())
+}
+
+/// A name is judged whatever its length.
+#[test]
+fn a_long_name(rt: HostRuntime) -> Result<(), Fail> {
+    let mut name = String::from_str(rt.alloc(), "/")?;
+    for _ in 0..5000 {
+        name.push_str("a")?;
+    }
+    let words = ["aa-trace", "judge", "rk", name.as_str()];
+    let (status, answers, _) = run(rt.alloc(), &words, "profile p { /a* r, }");
+    assert_eq!(rt; status, Status::Done);
+    assert!(rt; answers.as_slice() == b"no rule for k\n".as_slice());
+    Ok(())
+}
+
+#[test]
+fn usage_and_help(rt: HostRuntime) {
+    let usage = "error: the following required arguments were not provided:\n  <NAME>\n\n\
+        Usage: aa-trace judge <PERMS> <NAME>\n\nFor more information, try '--help'.\n";
+    let (status, answers, faults) = run(rt.alloc(), &["aa-trace", "judge", "r"], PASSWD);
+    assert_eq!(rt; status, Status::BadArguments);
+    assert!(rt; answers.is_empty() && faults.as_slice() == usage.as_bytes());
+    let help = "Judges a name by the profile on standard input\n\n\
+        Usage: aa-trace judge <PERMS> <NAME>\n\nArguments:\n  \
+        <PERMS>  The permissions that are asked, by their letters: r, w, l, k, m\n  \
+        <NAME>   The name that is judged, from its first slash on\n\nOptions:\n  \
+        -h, --help  Print help\n";
+    let (status, answers, faults) = run(rt.alloc(), &["aa-trace", "judge", "--help"], PASSWD);
+    assert_eq!(rt; status, Status::BadArguments);
+    assert!(rt; answers.is_empty() && faults.as_slice() == help.as_bytes());
 }

@@ -1,6 +1,6 @@
 use Rattle.std.proofs.Common.{◌≡◌, Err, rules}
 use Rattle.trace_cli.proofs.Judging.{text_of, asked_in_vain, unread}
-use Rattle.trace_cli.proofs.judge.judged.Goals as goal
+use Rattle.trace_cli.proofs.judge.verdict_on.Goals as goal
 
 pub returns-in_err-ask-clause-output : goal.returns-in_err-ask-clause-output
 returns-in_err-ask-clause-output g c =
