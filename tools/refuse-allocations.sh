@@ -5,6 +5,7 @@
 # compiler, for the few lines that stand before malloc and realloc.
 set -eu
 cd "$(dirname "$0")/.."
+[ -x ./aa-trace ] || { echo "./aa-trace is missing: run make" >&2; exit 1; }
 work=$(mktemp -d)
 trap 'rm -rf "$work"' EXIT
 
@@ -60,6 +61,7 @@ refuse_all() {
             exit 1
         fi
     done
+    [ "$refused" -gt 0 ] || { echo "no allocation of '$*' could be refused" >&2; exit 1; }
     echo "aa-trace $*: $refused allocations, each refused in turn: $((refused - spared)) times no memory, $spared times done without"
 }
 
