@@ -12,10 +12,7 @@ SOURCES := crates.txt HANDLES $(shell find crates -path '*/out' -prune -o -type 
 all: aa-trace
 
 need-rt:
-ifeq ($(RT),)
-	@echo "make: the command rt is missing: install the Rattle toolchain and put its bin folder on PATH" >&2
-	@exit 1
-endif
+	@:$(if $(RT),,$(error the command rt is missing: install the Rattle toolchain and put its bin folder on PATH))
 
 aa-trace: $(SOURCES) | need-rt
 	@sh tools/build.sh
