@@ -1,9 +1,9 @@
 #!/bin/sh
 # Times ./aa-trace on large inputs, and prints for each the ratio to an input of half the size.
-# Each time is the least of RUNS runs of the whole program, in milliseconds.
+# Each time is the least of RUNS runs of the whole program, less that of a run on the smallest input, in milliseconds.
 set -eu
 cd "$(dirname "$0")/.."
-RUNS=${RUNS:-7}
+RUNS=${RUNS:-15}
 work=$(mktemp -d)
 trap 'rm -rf "$work"' EXIT
 
@@ -29,19 +29,25 @@ least() {
         if [ -z "$best" ] || [ "$took" -lt "$best" ]; then best=$took; fi
         run=$((run + 1))
     done
-    echo "$best"
+    echo $((best - start))
 }
 
 # row LABEL HALF FULL: one line of the table, from two times in microseconds
 row() {
     awk -v label="$1" -v half="$2" -v full="$3" \
-        'BEGIN { printf "%-58s %9.1f ms %9.1f ms   ratio %.2f\n", label, half / 1000, full / 1000, full / half }'
+        'BEGIN { printf "%-72s %9.1f ms %9.1f ms   ratio %.2f\n", label, half / 1000, full / 1000, full / half }'
 }
 
+# What the program takes to start and to end.
+start=0
+profile_of 1 / >"$work/smallest"
+start=$(least r / "$work/smallest")
+
+# Ten equal rules, so that the time is long enough to be measured.
 name=/$(repeat a 4094)
-profile_of 1 "/$(repeat '**a' 500)" >"$work/stars"
-profile_of 1 "/$(repeat '**a' 250)" >"$work/stars-half"
-row 'judge: 500 times **a, name of 4,095 bytes; half the items' "$(least r "$name" "$work/stars-half")" "$(least r "$name" "$work/stars")"
+profile_of 10 "/$(repeat '**a' 500)" >"$work/stars"
+profile_of 10 "/$(repeat '**a' 250)" >"$work/stars-half"
+row 'judge: 10 rules of 500 times **a, name of 4,095 bytes; half the items' "$(least r "$name" "$work/stars-half")" "$(least r "$name" "$work/stars")"
 row 'judge: the same; half the name' "$(least r "/$(repeat a 2046)" "$work/stars")" "$(least r "$name" "$work/stars")"
 
 # Nothing is matched here, since no rule holds w: the time is that of reading.
