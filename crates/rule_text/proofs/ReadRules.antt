@@ -12,11 +12,11 @@ use Rattle.rule_text.specs.declared.reading.stop.StopKind.TheVariants.{TooManyRu
 use Rattle.rule_text.specs.Glob.{Glob, is_slash}
 use Rattle.rule_text.specs.Profile.{RuleValue}
 use Rattle.rule_text.specs.ReadSteps.{◌>>=◌, stop, syntax}
-use Rattle.rule_text.specs.Reading.{begins, run, after, white, white1, literal, keyword, path_at, perms_at, qualifier_at, rule_at, rule_begins, closing, rules_at}
+use Rattle.rule_text.specs.Reading.{begins, leading, after, white, white1, literal, keyword, path_at, perms_at, qualifier_at, rule_at, rule_begins, closing, rules_at}
 use Rattle.rule_text.specs.TextBytes.{is_white, is_word_byte}
 use Rattle.rule_text.specs.Grammar.{AllPass, IsWhite, WrittenItem, print_items, IsPath, path_means, Qualifier, none, allow, deny, print_qualifier, IsQualifier, kind_of, IsWord, WrittenRule, print_rule, IsRule, rule_means, print_rules, AreRules, rules_mean}
 use Rattle.rule_text.proofs.ReadSteps.{bind_ok, chosen, ok_is, not_ok, some_is, none_some}
-use Rattle.rule_text.proofs.ReadRuns.{run_passes, run_parts, run_again, after_again, apart, white_stops, gap_stops, not_white}
+use Rattle.rule_text.proofs.ReadRuns.{leading_passes, leading_parts, leading_again, after_again, apart, white_stops, gap_stops, not_white}
 use Rattle.rule_text.proofs.ReadWords.{white1_takes, literal_takes, keyword_takes, gap_again, keyword_again}
 use Rattle.rule_text.proofs.ReadPaths.{path_takes, path_again}
 
@@ -25,7 +25,7 @@ use Rattle.rule_text.proofs.ReadPaths.{path_takes, path_again}
 perms_take : (bytes : List ℕ) (perms : Perms) (rest : List ℕ) → perms_at bytes ≡ Ok (perms, rest) → (letters : List ℕ) × IsWord letters perms × (bytes ≡ letters ++ rest)
 unfolding perms_at
 perms_take bytes perms rest e =
-    let letters : List ℕ = run is_letter bytes in
+    let letters : List ℕ = leading is_letter bytes in
     let go : Option Perms → Result (Perms × List ℕ) Stop = λ o. elim o [ Some p ↦ Ok (p, after is_letter bytes) | None ↦ syntax bytes ] in
     let G : Perms × List ℕ → Type 0 = λ x. (letters : List ℕ) × IsWord letters x.0 × (bytes ≡ letters ++ x.1) in
     elim (chosen (length letters == 0) (syntax bytes) (go (perms_of letters)) (Ok (perms, rest)) e) [
@@ -35,7 +35,7 @@ perms_take bytes perms rest e =
           let some : 0 < length letters = omega arith in
           let P : (o : Option Perms) → perms_of letters ≡ o → go o ≡ Ok (perms, rest) → G (perms, rest) =
           λ o. elim o as (λ o. perms_of letters ≡ o → go o ≡ Ok (perms, rest) → G (perms, rest)) [
-            | Some p ↦ λ a k. subst G (ok_is (p, after is_letter bytes) (perms, rest) k) (letters, (some, a), run_parts is_letter bytes)
+            | Some p ↦ λ a k. subst G (ok_is (p, after is_letter bytes) (perms, rest) k) (letters, (some, a), leading_parts is_letter bytes)
             | None ↦ λ a k. absurd (not_ok _ (perms, rest) k)
           ] in
           P (perms_of letters) refl h.1
@@ -57,7 +57,7 @@ perms_again : (letters : List ℕ) (perms : Perms) (rest : List ℕ) → IsWord 
 unfolding perms_at
 perms_again letters perms rest h s =
     let all = letters_pass letters perms h.1 in
-    let r = run_again is_letter letters rest all s in
+    let r = leading_again is_letter letters rest all s in
     let a = after_again is_letter letters rest all s in
     let some : eqb (length letters) 0 ≡ false = ne_eqb (length letters) 0 (λ e. omega (arith, h.0)) in
     let go : List ℕ → Option Perms → Result (Perms × List ℕ) Stop = λ y o. elim o [ Some p ↦ Ok (p, y) | None ↦ syntax (letters ++ rest) ] in
@@ -157,12 +157,12 @@ rule_takes bytes r rest e =
     let g = white1_takes b.0.1 c.0 c.1 in
     let w = perms_take c.0 d.0.0 d.0.1 d.1 in
     let k = literal_takes (codes ",") (white d.0.1) f.0 f.1 in
-    let before : List ℕ = run is_white d.0.1 in
-    let past : List ℕ = run is_white f.0 in
+    let before : List ℕ = leading is_white d.0.1 in
+    let past : List ℕ = leading is_white f.0 in
     let whole : OneRule bytes (value_of a.0.0 d.0.0 b.0.0) f.0 = record {
       written = record { qualifier = q.0; path = p.0; gap = g.0; letters = w.0; perms = d.0.0; before_comma = before; past = past };
-      valid = record { qualifier = q.1; path = p.1; gap = g.1; word = w.1; before_comma = run_passes is_white d.0.1; past = run_passes is_white f.0 };
-      parts = joined bytes (print_qualifier q.0) a.0.1 (print_items p.0) b.0.1 g.0 c.0 w.0 d.0.1 before (white d.0.1) (codes ",") f.0 past (white f.0) q.2 p.2 g.2 w.2 (run_parts is_white d.0.1) k (run_parts is_white f.0);
+      valid = record { qualifier = q.1; path = p.1; gap = g.1; word = w.1; before_comma = leading_passes is_white d.0.1; past = leading_passes is_white f.0 };
+      parts = joined bytes (print_qualifier q.0) a.0.1 (print_items p.0) b.0.1 g.0 c.0 w.0 d.0.1 before (white d.0.1) (codes ",") f.0 past (white f.0) q.2 p.2 g.2 w.2 (leading_parts is_white d.0.1) k (leading_parts is_white f.0);
       means = (let x = q.3 in let y = p.3 in cc);
     } in
     that_rule bytes (value_of a.0.0 d.0.0 b.0.0, f.0) (r, rest) (ok_is (value_of a.0.0 d.0.0 b.0.0, f.0) (r, rest) f.2) whole

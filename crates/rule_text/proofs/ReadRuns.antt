@@ -3,49 +3,49 @@ use Rattle.std.proofs.Common.{◌≡◌, ℕ, ◌≤◌, Bool, true, false, cond
 use Rattle.std.specs.Prelude.{◌||◌}
 use Rattle.std.proofs.lemmas.Bool.{eqb-true, ne_eqb}
 use Rattle.rule_text.specs.Grammar.{AllPass, IsGap}
-use Rattle.rule_text.specs.Reading.{begins, run, after}
+use Rattle.rule_text.specs.Reading.{begins, leading, after}
 use Rattle.rule_text.specs.TextBytes.{is_white}
 
-pub run_take : (test : ℕ → Bool) (bytes : List ℕ) → run test bytes ≡ take (length (run test bytes)) bytes
-run_take test [] = refl
-run_take test (b ∷ bytes) =
-    elim (test b) as (λ t. cond t (b ∷ run test bytes) [] ≡ take (length (cond t (b ∷ run test bytes) [])) (b ∷ bytes)) [
-      | true ↦ ap (λ (x : List ℕ). b ∷ x) (run_take test bytes)
+pub leading_take : (test : ℕ → Bool) (bytes : List ℕ) → leading test bytes ≡ take (length (leading test bytes)) bytes
+leading_take test [] = refl
+leading_take test (b ∷ bytes) =
+    elim (test b) as (λ t. cond t (b ∷ leading test bytes) [] ≡ take (length (cond t (b ∷ leading test bytes) [])) (b ∷ bytes)) [
+      | true ↦ ap (λ (x : List ℕ). b ∷ x) (leading_take test bytes)
       | false ↦ refl
     ]
 
-pub after_drop : (test : ℕ → Bool) (bytes : List ℕ) → after test bytes ≡ drop (length (run test bytes)) bytes
+pub after_drop : (test : ℕ → Bool) (bytes : List ℕ) → after test bytes ≡ drop (length (leading test bytes)) bytes
 after_drop test [] = refl
 after_drop test (b ∷ bytes) =
-    elim (test b) as (λ t. cond t (after test bytes) (b ∷ bytes) ≡ drop (length (cond t (b ∷ run test bytes) [])) (b ∷ bytes)) [
+    elim (test b) as (λ t. cond t (after test bytes) (b ∷ bytes) ≡ drop (length (cond t (b ∷ leading test bytes) [])) (b ∷ bytes)) [
       | true ↦ after_drop test bytes
       | false ↦ refl
     ]
 
-pub run_length : (test : ℕ → Bool) (bytes : List ℕ) → length (run test bytes) ≤ length bytes
-run_length test [] = omega arith
-run_length test (b ∷ bytes) =
-    let h = run_length test bytes in
-    elim (test b) as (λ t. length (cond t (b ∷ run test bytes) []) ≤ length (b ∷ bytes)) [
+pub leading_length : (test : ℕ → Bool) (bytes : List ℕ) → length (leading test bytes) ≤ length bytes
+leading_length test [] = omega arith
+leading_length test (b ∷ bytes) =
+    let h = leading_length test bytes in
+    elim (test b) as (λ t. length (cond t (b ∷ leading test bytes) []) ≤ length (b ∷ bytes)) [
       | true ↦ omega (arith, h)
       | false ↦ omega arith
     ]
 
 -- a run is cut off at its length
-pub ruleset run_cut = (run_take, after_drop, run_length)
+pub ruleset leading_cut = (leading_take, after_drop, leading_length)
 
-pub run_passes : (test : ℕ → Bool) (bytes : List ℕ) → AllPass test (run test bytes)
-run_passes test [] = tt
-run_passes test (b ∷ bytes) =
-    let h = run_passes test bytes in
-    let P : (t : Bool) → test b ≡ t → AllPass test (cond t (b ∷ run test bytes) []) = λ t. elim t as (λ t. test b ≡ t → AllPass test (cond t (b ∷ run test bytes) [])) [ true ↦ λ e. (e, h) | false ↦ λ e. tt ] in
+pub leading_passes : (test : ℕ → Bool) (bytes : List ℕ) → AllPass test (leading test bytes)
+leading_passes test [] = tt
+leading_passes test (b ∷ bytes) =
+    let h = leading_passes test bytes in
+    let P : (t : Bool) → test b ≡ t → AllPass test (cond t (b ∷ leading test bytes) []) = λ t. elim t as (λ t. test b ≡ t → AllPass test (cond t (b ∷ leading test bytes) [])) [ true ↦ λ e. (e, h) | false ↦ λ e. tt ] in
     P (test b) refl
 
-pub run_parts : (test : ℕ → Bool) (bytes : List ℕ) → bytes ≡ run test bytes ++ after test bytes
-run_parts test [] = refl
-run_parts test (b ∷ bytes) =
-    elim (test b) as (λ t. b ∷ bytes ≡ cond t (b ∷ run test bytes) [] ++ cond t (after test bytes) (b ∷ bytes)) [
-      | true ↦ ap (λ (x : List ℕ). b ∷ x) (run_parts test bytes)
+pub leading_parts : (test : ℕ → Bool) (bytes : List ℕ) → bytes ≡ leading test bytes ++ after test bytes
+leading_parts test [] = refl
+leading_parts test (b ∷ bytes) =
+    elim (test b) as (λ t. b ∷ bytes ≡ cond t (b ∷ leading test bytes) [] ++ cond t (after test bytes) (b ∷ bytes)) [
+      | true ↦ ap (λ (x : List ℕ). b ∷ x) (leading_parts test bytes)
       | false ↦ refl
     ]
 
@@ -54,10 +54,10 @@ after_again test [] [] h s = refl
 after_again test [] (b ∷ rest) h s = ap (λ t. cond t (after test rest) (b ∷ rest)) s
 after_again test (b ∷ w) rest h s = ap (λ t. cond t (after test (w ++ rest)) (b ∷ w ++ rest)) h.0 ∙ after_again test w rest h.1 s
 
-pub run_again : (test : ℕ → Bool) (w rest : List ℕ) → AllPass test w → begins test rest ≡ false → run test (w ++ rest) ≡ w
-run_again test [] [] h s = refl
-run_again test [] (b ∷ rest) h s = ap (λ t. cond t (b ∷ run test rest) []) s
-run_again test (b ∷ w) rest h s = ap (λ t. cond t (b ∷ run test (w ++ rest)) []) h.0 ∙ ap (λ (x : List ℕ). b ∷ x) (run_again test w rest h.1 s)
+pub leading_again : (test : ℕ → Bool) (w rest : List ℕ) → AllPass test w → begins test rest ≡ false → leading test (w ++ rest) ≡ w
+leading_again test [] [] h s = refl
+leading_again test [] (b ∷ rest) h s = ap (λ t. cond t (b ∷ leading test rest) []) s
+leading_again test (b ∷ w) rest h s = ap (λ t. cond t (b ∷ leading test (w ++ rest)) []) h.0 ∙ ap (λ (x : List ℕ). b ∷ x) (leading_again test w rest h.1 s)
 
 -- ---- bytes that pass one test and not another
 

@@ -5,11 +5,11 @@ use Rattle.std.proofs.lemmas.List.{append-nil}
 use Rattle.rule_text.specs.declared.reading.stop.Stop.{Stop}
 use Rattle.rule_text.specs.Profile.{RuleValue, ProfileValue}
 use Rattle.rule_text.specs.ReadSteps.{◌>>=◌}
-use Rattle.rule_text.specs.Reading.{begins, run, after, white, white1, literal, name_at, rules_at, header_at, end_at, text_at}
+use Rattle.rule_text.specs.Reading.{begins, leading, after, white, white1, literal, name_at, rules_at, header_at, end_at, text_at}
 use Rattle.rule_text.specs.TextBytes.{is_white, is_name_byte}
 use Rattle.rule_text.specs.Grammar.{AllPass, IsGap, print_rules, rules_mean, WrittenText, print_text, IsText, text_means, ReadsAs}
 use Rattle.rule_text.proofs.ReadSteps.{bind_ok, ok_is, not_ok}
-use Rattle.rule_text.proofs.ReadRuns.{run_passes, run_parts, after_again, gap_stops, not_white}
+use Rattle.rule_text.proofs.ReadRuns.{leading_passes, leading_parts, after_again, gap_stops, not_white}
 use Rattle.rule_text.proofs.ReadWords.{white1_takes, literal_takes, name_takes, gap_again, literal_again, name_again}
 use Rattle.rule_text.proofs.ReadRules.{rules_take, rules_again, rules_not_white}
 
@@ -94,13 +94,13 @@ text_takes text p e =
     let head = header_takes (white text) a.0.0 a.0.1 a.1 in
     let rules = rules_take 1024 (white a.0.1) b.0.0 b.0.1 b.1 in
     let nothing = ended (white b.0.1) c.0 c.1 in
-    let last : b.0.1 ≡ run is_white b.0.1 = run_parts is_white b.0.1 ∙ ap (λ (x : List ℕ). run is_white b.0.1 ++ x) nothing ∙ append-nil (run is_white b.0.1) in
-    let w : WrittenText = record { before = run is_white text; gap = head.gap; name = a.0.0; brace_gap = head.brace_gap; inside = run is_white a.0.1; rules = rules.written; past = run is_white b.0.1 } in
+    let last : b.0.1 ≡ leading is_white b.0.1 = leading_parts is_white b.0.1 ∙ ap (λ (x : List ℕ). leading is_white b.0.1 ++ x) nothing ∙ append-nil (leading is_white b.0.1) in
+    let w : WrittenText = record { before = leading is_white text; gap = head.gap; name = a.0.0; brace_gap = head.brace_gap; inside = leading is_white a.0.1; rules = rules.written; past = leading is_white b.0.1 } in
     subst (ReadsAs text) (ok_is (profile_of a.0.0 b.0.0) p c.2) (record {
       written = w;
-      valid = record { before = run_passes is_white text; gap = head.is_gap; name = head.named.0; name_some = head.named.1; name_fits = head.named.2; brace_gap = head.is_brace_gap; inside = run_passes is_white a.0.1; rules = rules.valid; rules_fit = rules.few; past = run_passes is_white b.0.1 };
-      bytes = whole text (run is_white text) (white text) (codes "profile") head.gap a.0.0 head.brace_gap (codes "{") a.0.1 (run is_white a.0.1) (white a.0.1) (print_rules rules.written) (codes "}") b.0.1 (run is_white b.0.1)
-          (run_parts is_white text) head.parts (run_parts is_white a.0.1) rules.parts last;
+      valid = record { before = leading_passes is_white text; gap = head.is_gap; name = head.named.0; name_some = head.named.1; name_fits = head.named.2; brace_gap = head.is_brace_gap; inside = leading_passes is_white a.0.1; rules = rules.valid; rules_fit = rules.few; past = leading_passes is_white b.0.1 };
+      bytes = whole text (leading is_white text) (white text) (codes "profile") head.gap a.0.0 head.brace_gap (codes "{") a.0.1 (leading is_white a.0.1) (white a.0.1) (print_rules rules.written) (codes "}") b.0.1 (leading is_white b.0.1)
+          (leading_parts is_white text) head.parts (leading_parts is_white a.0.1) rules.parts last;
       means = (let m = rules.means in cc);
     })
 

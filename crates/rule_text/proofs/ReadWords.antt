@@ -3,11 +3,11 @@ use Rattle.std.proofs.Common.{◌≡◌, ℕ, ◌≤◌, ◌<◌, false, cond, e
 use Rattle.std.proofs.lemmas.Bool.{eqb-true, eq-eqb, ne_eqb, le-ltb, ltb-false, eqb-false}
 use Rattle.rule_text.specs.declared.reading.stop.Stop.{Stop}
 use Rattle.rule_text.specs.ReadSteps.{◌>>=◌, syntax}
-use Rattle.rule_text.specs.Reading.{begins, run, after, white, white1, literal, word_ends, keyword, name_at}
+use Rattle.rule_text.specs.Reading.{begins, leading, after, white, white1, literal, word_ends, keyword, name_at}
 use Rattle.rule_text.specs.TextBytes.{is_white, is_word_byte, is_name_byte}
 use Rattle.rule_text.specs.Grammar.{AllPass, IsGap}
 use Rattle.rule_text.proofs.ReadSteps.{bind_ok, chosen, ok_is, not_ok}
-use Rattle.rule_text.proofs.ReadRuns.{run_passes, run_parts, run_again, after_again}
+use Rattle.rule_text.proofs.ReadRuns.{leading_passes, leading_parts, leading_again, after_again}
 
 -- ---- what is read is written so
 
@@ -17,7 +17,7 @@ white1_takes (b ∷ bytes) rest e =
     elim (chosen (is_white b) (Ok (white (b ∷ bytes))) (syntax (b ∷ bytes)) (Ok rest) e) [
       | inl h ↦
           let same : white bytes ≡ rest = ap (λ t. cond t (white bytes) (b ∷ bytes)) (sym h.0) ∙ ok_is _ _ h.1 in
-          (b ∷ run is_white bytes, (h.0, run_passes is_white bytes), ap (λ (x : List ℕ). b ∷ x) (run_parts is_white bytes ∙ ap (λ (x : List ℕ). run is_white bytes ++ x) same))
+          (b ∷ leading is_white bytes, (h.0, leading_passes is_white bytes), ap (λ (x : List ℕ). b ∷ x) (leading_parts is_white bytes ∙ ap (λ (x : List ℕ). leading is_white bytes ++ x) same))
       | inr h ↦ absurd (not_ok _ rest h.1)
     ]
 
@@ -45,17 +45,17 @@ keyword_takes word bytes rest e =
 pub name_takes : (bytes name rest : List ℕ) → name_at bytes ≡ Ok (name, rest) → (bytes ≡ name ++ rest) × AllPass is_name_byte name × (0 < length name) × (length name ≤ 255)
 unfolding name_at
 name_takes bytes name rest e =
-    let found : Result (List ℕ × List ℕ) Stop = Ok (run is_name_byte bytes, after is_name_byte bytes) in
-    let long : Result (List ℕ × List ℕ) Stop = cond (ltb 255 (length (run is_name_byte bytes))) (syntax bytes) found in
-    elim (chosen (length (run is_name_byte bytes) == 0) (syntax bytes) long (Ok (name, rest)) e) [
+    let found : Result (List ℕ × List ℕ) Stop = Ok (leading is_name_byte bytes, after is_name_byte bytes) in
+    let long : Result (List ℕ × List ℕ) Stop = cond (ltb 255 (length (leading is_name_byte bytes))) (syntax bytes) found in
+    elim (chosen (length (leading is_name_byte bytes) == 0) (syntax bytes) long (Ok (name, rest)) e) [
       | inl h ↦ absurd (not_ok _ (name, rest) h.1)
-      | inr h ↦ elim (chosen (ltb 255 (length (run is_name_byte bytes))) (syntax bytes) found (Ok (name, rest)) h.1) [
+      | inr h ↦ elim (chosen (ltb 255 (length (leading is_name_byte bytes))) (syntax bytes) found (Ok (name, rest)) h.1) [
         | inl g ↦ absurd (not_ok _ (name, rest) g.1)
         | inr g ↦
-            let some : length (run is_name_byte bytes) ≡ 0 → ⊥ = eqb-false _ _ h.0 in
-            let fits : length (run is_name_byte bytes) ≤ 255 = ltb-false _ _ g.0 in
-            subst (λ (x : List ℕ × List ℕ). (bytes ≡ x.0 ++ x.1) × AllPass is_name_byte x.0 × (0 < length x.0) × (length x.0 ≤ 255)) (ok_is (run is_name_byte bytes, after is_name_byte bytes) (name, rest) g.1)
-            (run_parts is_name_byte bytes, run_passes is_name_byte bytes, omega arith, fits)
+            let some : length (leading is_name_byte bytes) ≡ 0 → ⊥ = eqb-false _ _ h.0 in
+            let fits : length (leading is_name_byte bytes) ≤ 255 = ltb-false _ _ g.0 in
+            subst (λ (x : List ℕ × List ℕ). (bytes ≡ x.0 ++ x.1) × AllPass is_name_byte x.0 × (0 < length x.0) × (length x.0 ≤ 255)) (ok_is (leading is_name_byte bytes, after is_name_byte bytes) (name, rest) g.1)
+            (leading_parts is_name_byte bytes, leading_passes is_name_byte bytes, omega arith, fits)
       ]
     ]
 
@@ -78,7 +78,7 @@ keyword_again word rest s =
 pub name_again : (name rest : List ℕ) → AllPass is_name_byte name → 0 < length name → length name ≤ 255 → begins is_name_byte rest ≡ false → name_at (name ++ rest) ≡ Ok (name, rest)
 unfolding name_at
 name_again name rest all some fits s =
-    let r = run_again is_name_byte name rest all s in
+    let r = leading_again is_name_byte name rest all s in
     let a = after_again is_name_byte name rest all s in
     let e1 : eqb (length name) 0 ≡ false = ne_eqb (length name) 0 (λ h. omega arith) in
     let e2 : ltb 255 (length name) ≡ false = le-ltb 255 (length name) fits in

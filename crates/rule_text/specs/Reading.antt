@@ -22,9 +22,9 @@ begins test [] = false
 begins test (b ∷ bytes) = test b
 
 -- the longest front part whose bytes pass the test
-abbrev pub run : (ℕ → Bool) → List ℕ → List ℕ
-run test [] = []
-run test (b ∷ bytes) = if test b then b ∷ run test bytes else []
+abbrev pub leading : (ℕ → Bool) → List ℕ → List ℕ
+leading test [] = []
+leading test (b ∷ bytes) = if test b then b ∷ leading test bytes else []
 
 -- what is left after it
 abbrev pub after : (ℕ → Bool) → List ℕ → List ℕ
@@ -56,9 +56,9 @@ keyword word bytes = literal word bytes >>= word_ends
 -- a name of 1 to 255 bytes; a longer one is a fault at its first byte
 unfoldable pub name_at : List ℕ → Result (List ℕ × List ℕ) Stop
 name_at bytes =
-    if length (run is_name_byte bytes) == 0 then syntax bytes
-    else if nat_lt 255 (length (run is_name_byte bytes)) then syntax bytes
-    else Ok (run is_name_byte bytes, after is_name_byte bytes)
+    if length (leading is_name_byte bytes) == 0 then syntax bytes
+    else if nat_lt 255 (length (leading is_name_byte bytes)) then syntax bytes
+    else Ok (leading is_name_byte bytes, after is_name_byte bytes)
 
 -- ---- paths (apparmor.d(5), "Globbing")
 
@@ -104,8 +104,8 @@ path_at bytes =
 -- the set of one letter or more
 unfoldable pub perms_at : List ℕ → Result (Perms × List ℕ) Stop
 perms_at bytes =
-    if length (run is_letter bytes) == 0 then syntax bytes
-    else elim (perms_of (run is_letter bytes)) [ Some perms ↦ Ok (perms, after is_letter bytes) | None ↦ syntax bytes ]
+    if length (leading is_letter bytes) == 0 then syntax bytes
+    else elim (perms_of (leading is_letter bytes)) [ Some perms ↦ Ok (perms, after is_letter bytes) | None ↦ syntax bytes ]
 
 -- what the rule does: the word allow or deny, if one stands here, and white; without it the rule allows (97 is the letter
 -- a, 100 is d)

@@ -3,7 +3,7 @@ ghost use Rattle.std.specs.Prelude.{◌≡◌, ◌≤◌, ℕ, List, length, map
 ghost use Rattle.names.specs.Permissions.{is_letter};
 ghost use Rattle.rule_text.specs.Profile.{rule_value};
 ghost use Rattle.rule_text.specs.ReadSteps.{Gives};
-ghost use Rattle.rule_text.specs.Reading.{run, white, perms_at, qualifier_at, rule_at, rule_begins, closing, rules_at};
+ghost use Rattle.rule_text.specs.Reading.{leading, white, perms_at, qualifier_at, rule_at, rule_begins, closing, rules_at};
 
 use super::path::path_of;
 use super::stop::{Failure, StopKind, stop_at};
@@ -14,7 +14,7 @@ use std::alloc::Global;
 
 /// How many letters of permissions stand at the front.
 fn letters_length(bytes: &[u8]) -> usize
-    ensures { result ≡ length (run is_letter bytes.now) }
+    ensures { result ≡ length (leading is_letter bytes.now) }
 {
     let mut length = 0;
     while length < bytes.len() && Permission::from_letter(bytes[length]).is_some() {
@@ -24,7 +24,7 @@ fn letters_length(bytes: &[u8]) -> usize
 }
 
 /// The set of one letter or more, and what is left after them.
-#[tactic(auto, using(crate::proofs::ReadRuns::run_cut), unfolding(crate::specs::Reading::perms_at))]
+#[tactic(auto, using(crate::proofs::ReadRuns::leading_cut), unfolding(crate::specs::Reading::perms_at))]
 fn perms_of(bytes: &[u8]) -> Result<(Perms, &[u8]), Failure>
     ensures { Gives (λ x. (x.0, x.1.now)) result (perms_at bytes.now) }
 {

@@ -1,7 +1,7 @@
 //! White, words and names.
 ghost use Rattle.std.specs.Prelude.{◌≡◌, ℕ, length};
 ghost use Rattle.rule_text.specs.ReadSteps.{Gives};
-ghost use Rattle.rule_text.specs.Reading.{run, begins, white, white1, literal, keyword, name_at};
+ghost use Rattle.rule_text.specs.Reading.{leading, begins, white, white1, literal, keyword, name_at};
 ghost use Rattle.rule_text.specs.TextBytes.{is_white, is_word_byte, is_name_byte};
 
 use super::stop::{Failure, StopKind, stop_at};
@@ -78,7 +78,7 @@ pub(crate) fn after_keyword<'a>(word: &[u8], bytes: &'a [u8]) -> Result<&'a [u8]
 
 /// How many bytes of a name stand at the front.
 fn name_length(bytes: &[u8]) -> usize
-    ensures { result ≡ length (run is_name_byte bytes.now) }
+    ensures { result ≡ length (leading is_name_byte bytes.now) }
 {
     let mut length = 0;
     while length < bytes.len() && is_name_byte(bytes[length]) {
@@ -88,7 +88,7 @@ fn name_length(bytes: &[u8]) -> usize
 }
 
 /// A name, and what is left after it. The fault of one that is empty or too long is at its first byte.
-#[tactic(auto, using(crate::proofs::ReadRuns::run_cut), unfolding(crate::specs::Reading::name_at))]
+#[tactic(auto, using(crate::proofs::ReadRuns::leading_cut), unfolding(crate::specs::Reading::name_at))]
 pub(crate) fn name_of(alloc: Global, bytes: &[u8]) -> Result<(Vec<u8>, &[u8]), Failure>
     ensures { Gives (λ x. (x.0.items, x.1.now)) result (name_at bytes.now) }
 {

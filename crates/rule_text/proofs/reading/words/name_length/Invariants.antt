@@ -1,11 +1,11 @@
 -- The first n bytes are a name's.
 use Rattle.std.proofs.Common.{◌≡◌, ◌+◌, ◌-◌, length, drop}
-use Rattle.rule_text.specs.Reading.{run}
+use Rattle.rule_text.specs.Reading.{leading}
 use Rattle.rule_text.specs.TextBytes.{is_name_byte}
 use Rattle.rule_text.proofs.reading.words.name_length.Given as goal
 
 abbrev pub invariant-loop-length : goal.invariant-loop-length
-invariant-loop-length l = l.length + length (run is_name_byte (drop l.length l.bytes)) ≡ length (run is_name_byte l.bytes)
+invariant-loop-length l = l.length + length (leading is_name_byte (drop l.length l.bytes)) ≡ length (leading is_name_byte l.bytes)
 
 abbrev pub decreases-loop-length : goal.decreases-loop-length
 decreases-loop-length l = length l.bytes - l.length
