@@ -1,17 +1,18 @@
 -- Facts that join what the steps of judging say.
 use Rattle.std.proofs.Common.{◌≡◌, ◌≢◌, ◌⊎◌, ℕ, List, [], Option, Some, None, Result, Ok, Err, refl, inl, inr, rules}
+use Rattle.std.specs.Prelude.{codes}
 use Rattle.std.specs.Io.KnownBytes.{Keeps, Appends}
 use Rattle.names.specs.declared.permissions.Perms.{Perms}
 use Rattle.rule_text.specs.Profile.{ProfileValue}
 use Rattle.rule_text.specs.declared.fault.ReadFault.{ReadFault}
 use Rattle.rule_text.specs.Reading.{outcome_of}
 use Rattle.trace_cli.specs.declared.status.Status.{Status}
-use Rattle.trace_cli.specs.declared.status.Status.TheVariants.{BadArguments, Refused}
+use Rattle.trace_cli.specs.declared.status.Status.TheVariants.{Done, BadArguments, Refused, OutputFailed}
 use Rattle.trace_cli.specs.declared.fault.Fault.{Fault}
 use Rattle.trace_cli.specs.declared.fault.Fault.TheVariants.{Permissions, Name, Text, Input, Memory}
 use Rattle.trace_cli.specs.Fault.{fault_text, fault_status, IsFaultOf}
 use Rattle.trace_cli.specs.Output.{Output, ask_of, fault, verdict_output, judge_output, line}
-use Rattle.trace_cli.specs.Streams.{Streams, IsTextOf, IsTold, IsWritten, IsCutShort, Ends}
+use Rattle.trace_cli.specs.Streams.{Streams, IsTextOf, IsTold, IsWritten, IsCutShort, AppendsFront, Ends}
 
 -- whatever is known of a reader, some text may have been read
 pub text_of : (left : Option (List ℕ)) → (text : List ℕ) × IsTextOf left text
@@ -49,6 +50,10 @@ appends_nothing : (known : Option (List ℕ)) → Appends known known []
 appends_nothing None = tt
 appends_nothing (Some xs) = search rules
 
+-- of any bytes nothing was written yet
+pub nothing_yet : (known : Option (List ℕ)) (bytes : List ℕ) → AppendsFront known known bytes
+nothing_yet known bytes = ([], bytes, refl, appends_nothing known)
+
 pub keeps : (known : Option (List ℕ)) → Keeps known known
 keeps None = tt
 keeps (Some xs) = refl
@@ -72,7 +77,7 @@ cut_short answers before after output told good h = record { answers = keeps ans
 -- a command that told its fault ends as it should
 pub ends_told : (answers before after : Option (List ℕ)) (output : Output) (f : Fault) (status : Status)
     → IsFaultOf output f → IsTold before after (fault_text f) (fault_status f) status → Ends (told_alone answers before after) output status
-ends_told answers before after output f status of (inl e) = rw e (inr (keeps answers))
+ends_told answers before after output f status of (inl e) = rw e (nothing_yet answers output.answers)
 ends_told answers before after output Permissions status of (inr h) =
     rw h.0 (written answers before after output (fault_text Permissions) BadArguments of h.1)
 ends_told answers before after output Name status of (inr h) =
@@ -83,3 +88,10 @@ ends_told answers before after output Input status of (inr h) =
     rw h.0 (cut_short answers before after output (fault_text Input) of h.1)
 ends_told answers before after output Memory status of (inr h) =
     rw h.0 (cut_short answers before after output (fault_text Memory) of h.1)
+
+-- an answer of which a front part was written, and then what is told of that
+pub unanswered : (answers after faults told : Option (List ℕ)) (output : Output) (status : Status)
+    → output.status ≡ Done → AppendsFront answers after output.answers → IsTold faults told (codes "refused: output") OutputFailed status
+    → Ends (record { answers_before = answers; answers_after = after; faults_before = faults; faults_after = told }) output status
+unanswered answers after faults told output status done front (inl e) = rw e front
+unanswered answers after faults told output status done front (inr h) = rw h.0 (record { faults = h.1; answers = front; answer = done })

@@ -2,3 +2,4 @@ pub mod Judging
 pub mod LineWalk
 pub mod CommandLine
 pub mod Running
+pub mod Fronts

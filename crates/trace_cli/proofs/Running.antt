@@ -3,10 +3,11 @@ use Rattle.std.proofs.Common.{◌≡◌, ℕ, true, List, Option, Some, None, re
 use Rattle.std.specs.Prelude.{codes, is_some}
 use Rattle.trace_cli.specs.CommandLine.{LineValue, judge}
 use Rattle.trace_cli.specs.Program.{ProgramEnds, TellsUsage}
+use Rattle.trace_cli.specs.Output.{judge_output}
 use Rattle.trace_cli.specs.Streams.{IsTold}
 use Rattle.trace_cli.specs.declared.status.Status.{Status}
 use Rattle.trace_cli.specs.declared.status.Status.TheVariants.{NoMemory}
-use Rattle.trace_cli.proofs.Judging.{keeps, told_alone}
+use Rattle.trace_cli.proofs.Judging.{keeps, nothing_yet, told_alone}
 
 pub usage_ends : (line : Option LineValue) (text : List ℕ) (answers before after : Option (List ℕ)) (status : Status)
     → (is_some line ≡ true → ⊥) → TellsUsage before after status → ProgramEnds line text (told_alone answers before after) status
@@ -17,5 +18,5 @@ pub memory_ends : (line : Option LineValue) (text : List ℕ) (answers before af
     → IsTold before after (codes "no memory") NoMemory status → ProgramEnds line text (told_alone answers before after) status
 memory_ends None text answers before after status (inl e) = record { answers = keeps answers; faults = rw e tt }
 memory_ends None text answers before after status (inr h) = record { answers = keeps answers; faults = rw h.0 h.1 }
-memory_ends (Some (judge perms name)) text answers before after status (inl e) = inl (rw e (inr (keeps answers)))
+memory_ends (Some (judge perms name)) text answers before after status (inl e) = inl (rw e (nothing_yet answers (judge_output perms name text).answers))
 memory_ends (Some (judge perms name)) text answers before after status (inr h) = inr (h.0, record { answers = keeps answers; faults = h.1 })

@@ -1,5 +1,5 @@
 -- How a command leaves its streams.
-use Rattle.std.specs.Prelude.{◌≡◌, ◌≢◌, ◌⊎◌, ℕ, List, Option, codes, IfSome}
+use Rattle.std.specs.Prelude.{◌≡◌, ◌≢◌, ◌⊎◌, ℕ, List, ◌++◌, Option, codes, IfSome}
 use Rattle.std.specs.Io.KnownBytes.{Keeps, Appends}
 use Rattle.trace_cli.specs.Output.{Output, line}
 use Rattle.trace_cli.specs.declared.status.Status.{Status}
@@ -11,6 +11,11 @@ pub record Streams : Type 0 where
   pub answers_after : Option (List ℕ)
   pub faults_before : Option (List ℕ)
   pub faults_after : Option (List ℕ)
+
+-- a front part of the bytes was appended
+abbrev pub AppendsFront : Option (List ℕ) → Option (List ℕ) → List ℕ → Type 0
+AppendsFront before after bytes =
+    (front : List ℕ) × (back : List ℕ) × (bytes ≡ front ++ back) × Appends before after front
 
 -- what is to be written was written, and the status is the one that goes with it
 pub record IsWritten (streams : Streams) (output : Output) (status : Status) : Type 0 where
@@ -24,14 +29,15 @@ pub record IsCutShort (streams : Streams) (output : Output) (told : List ℕ) : 
   pub faults : Appends streams.faults_before streams.faults_after (line told)
   pub arguments : output.status ≢ BadArguments
 
--- an answer that couldn't be written: some of it may have been
+-- an answer that couldn't be written whole: a front part of it stands
 pub record IsUnanswered (streams : Streams) (output : Output) : Type 0 where
   pub faults : Appends streams.faults_before streams.faults_after (line (codes "refused: output"))
+  pub answers : AppendsFront streams.answers_before streams.answers_after output.answers
   pub answer : output.status ≡ Done
 
--- A message that couldn't be written: no answer was written either, unless an answer is what was to be written.
+-- A message that couldn't be written: the answers are what they are to be, or a front part of that.
 abbrev pub IsUntold : Streams → Output → Type 0
-IsUntold streams output = (output.status ≡ Done) ⊎ Keeps streams.answers_before streams.answers_after
+IsUntold streams output = AppendsFront streams.answers_before streams.answers_after output.answers
 
 -- How a command ends that is to write `output`.
 abbrev pub Ends : Streams → Output → Status → Type 0

@@ -2,13 +2,14 @@
 ghost use Rattle.std.specs.Prelude.{◌≡◌, ◌≢◌, ◌↔◌, ℕ, List, IsErr, MatchResult, IfSome, IsTrue, Some, Ok, Err};
 ghost use Rattle.std.specs.Io.KnownBytes.{Keeps};
 ghost use Rattle.names.specs.declared.permissions.Perms.{Perms};
-ghost use Rattle.trace_cli.specs.Output.{ask_of, asked_by, is_absolute, judge_output};
+ghost use Rattle.rule_text.specs.VerdictText.{verdict_text};
+ghost use Rattle.trace_cli.specs.Output.{answer, ask_of, asked_by, is_absolute, judge_output};
 ghost use Rattle.trace_cli.specs.Streams.{Ends, IsTextOf};
 ghost use Rattle.trace_cli.specs.Fault.{IsJudged, IsAsked, IsTextRead};
 
 use crate::fault::Fault;
 use crate::status::Status;
-use crate::telling::{fail, tell};
+use crate::telling::{fail, write_through};
 use names::Perms;
 use rule_text::{ReadFault, Verdict, judge_slow, read};
 use std::alloc::Global;
@@ -36,11 +37,33 @@ pub fn judge<R: Read, A: Write, F: Write>(
         → Keeps (R.remaining input.old) (R.remaining input.new) }
 {
     match verdict_on(alloc, perms, name, input) {
-        Ok(verdict) => match tell(answers, verdict) {
-            Ok(()) => Status::Done,
-            Err(_) => fail(faults, "refused: output", Status::OutputFailed),
-        },
+        Ok(verdict) => answer(alloc, verdict, answers, faults),
         Err(fault) => fail(faults, fault, fault.status()),
+    }
+}
+
+/// Writes the verdict as a line. Where that fails, a front part of the line was written.
+fn answer<A: Write, F: Write>(
+    alloc: Global,
+    verdict: Verdict,
+    answers: &mut A,
+    faults: &mut F,
+) -> Status
+    ensures { Ends
+        (record {
+          answers_before = A.contents answers.old;
+          answers_after = A.contents answers.new;
+          faults_before = F.contents faults.old;
+          faults_after = F.contents faults.new;
+        })
+        (answer (verdict_text verdict)) result }
+{
+    let Ok(line) = format!(in alloc; "{verdict}\n") else {
+        return fail(faults, "no memory", Status::NoMemory);
+    };
+    match write_through(answers, line.as_bytes()) {
+        Ok(()) => Status::Done,
+        Err(_) => fail(faults, "refused: output", Status::OutputFailed),
     }
 }
 

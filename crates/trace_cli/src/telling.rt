@@ -1,13 +1,37 @@
 //! Lines on the streams of output.
-ghost use Rattle.std.specs.Prelude.{◌≡◌, ◌⊎◌, OnOk, IfSome, Some};
+ghost use Rattle.std.specs.Prelude.{◌≡◌, ◌⊎◌, OnOk, OnErr, IfSome, Some};
 ghost use Rattle.std.specs.Io.KnownBytes.{Appends};
 ghost use Rattle.trace_cli.specs.Output.{line};
-ghost use Rattle.trace_cli.specs.Streams.{IsTold};
+ghost use Rattle.trace_cli.specs.Streams.{IsTold, AppendsFront};
 
 use crate::status::Status;
 use std::fmt::Display;
 use std::io;
-use std::io::Write;
+use std::io::{ErrorKind, Write};
+
+/// Writes the bytes, in as many parts as the writer takes, and has them stand where they go to. At an error a front
+/// part of them was written.
+pub(crate) fn write_through<W: Write>(to: &mut W, bytes: &[u8]) -> io::Result<()>
+    ensures ok { OnOk result (Appends (W.contents to.old) (W.contents to.new) bytes.now) }
+    ensures err { OnErr result (AppendsFront (W.contents to.old) (W.contents to.new) bytes.now) }
+{
+    let mut left = bytes;
+    for _ in 0..u64::MAX {
+        if left.is_empty() {
+            return to.flush();
+        }
+        match to.write(left) {
+            Ok(0) => return Err(io::Error::from(ErrorKind::WriteZero)),
+            Ok(count) => left = &left[count..],
+            Err(error) => {
+                if error.kind() != ErrorKind::Interrupted {
+                    return Err(error);
+                }
+            }
+        }
+    }
+    Err(io::Error::from(ErrorKind::TimedOut))
+}
 
 /// Writes the text as a line, and has it stand where it goes to.
 pub(crate) fn tell<W: Write, D: Display + Drop>(to: &mut W, text: D) -> io::Result<()>

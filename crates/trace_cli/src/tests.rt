@@ -33,17 +33,19 @@ impl Read for Pieces<'_> {
     }
 }
 
-/// Takes what is written, and fails once it has been written to or flushed often enough.
+/// Takes what is written, a few bytes at a time, and fails once it has been written to or flushed often enough.
 #[derive(Drop)]
 struct Failing {
     taken: Vec<u8>,
+    piece: usize,
     calls: usize,
 }
 
 impl Failing {
-    fn after(alloc: Global, calls: usize) -> Failing {
+    fn after(alloc: Global, piece: usize, calls: usize) -> Failing {
         Failing {
             taken: Vec::new(alloc),
+            piece,
             calls,
         }
     }
@@ -60,8 +62,9 @@ impl Failing {
 impl Write for Failing {
     fn write(&mut self, buf: &[u8]) -> io::Result<usize> {
         self.count()?;
-        self.taken.extend_from_slice(buf)?;
-        Ok(buf.len())
+        let taken = self.piece.min(buf.len());
+        self.taken.extend_from_slice(&buf[..taken])?;
+        Ok(taken)
     }
 
     fn flush(&mut self) -> io::Result<()> {
@@ -134,20 +137,24 @@ fn readers_that_fail(rt: HostRuntime) {
 fn answers_that_fail(rt: HostRuntime) {
     let alloc = rt.alloc();
     let words = ["aa-trace", "judge", "r", "/etc/passwd"];
-    // The line is written in two parts and flushed, so the fourth call isn't made.
-    for calls in 0..4 {
+    // Eight bytes are written in three parts and flushed, so a fifth call isn't made.
+    for calls in 0..5 {
         let mut input = PASSWD.as_bytes();
-        let mut answers = Failing::after(alloc, calls);
+        let mut answers = Failing::after(alloc, 3, calls);
         let mut faults = Vec::new(alloc);
         let status = run_words(alloc, &words, &mut input, &mut answers, &mut faults);
-        let (wanted, told) = if calls < 3 {
+        let (wanted, told) = if calls < 4 {
             (Status::OutputFailed, "refused: output\n")
         } else {
             (Status::Done, "")
         };
         assert_eq!(rt; status, wanted, "{calls}");
         assert!(rt; faults.as_slice() == told.as_bytes(), "{calls}");
-        assert!(rt; b"allowed\n".starts_with(&answers.taken), "{calls}");
+        let written = 8.min(3 * calls);
+        assert!(rt;
+            answers.taken.as_slice() == &b"allowed\n"[..written],
+            "{calls}"
+        );
     }
 }
 
@@ -161,7 +168,7 @@ fn messages_that_fail(rt: HostRuntime) {
         for calls in 0..4 {
             let mut input = PASSWD.as_bytes();
             let mut answers = Vec::new(alloc);
-            let mut faults = Failing::after(alloc, calls);
+            let mut faults = Failing::after(alloc, 5000, calls);
             let status = run_words(alloc, &words, &mut input, &mut answers, &mut faults);
             let wanted = if calls < 3 {
                 Status::FaultsFailed
@@ -177,8 +184,8 @@ fn messages_that_fail(rt: HostRuntime) {
     }
     let words = ["aa-trace", "judge", "r", "/etc/passwd"];
     let mut input = PASSWD.as_bytes();
-    let mut answers = Failing::after(alloc, 0);
-    let mut faults = Failing::after(alloc, 0);
+    let mut answers = Failing::after(alloc, 5000, 0);
+    let mut faults = Failing::after(alloc, 5000, 0);
     let status = run_words(alloc, &words, &mut input, &mut answers, &mut faults);
     assert_eq!(rt; status, Status::FaultsFailed);
 }
