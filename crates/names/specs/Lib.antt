@@ -1,2 +1,3 @@
 pub mod Permissions
 pub mod Errors
+pub mod Paths

@@ -1,8 +1,9 @@
 //! Laws that show the definitions of `specs/` sane. The functions do nothing: each stands for its contract.
-ghost use Rattle.std.specs.Prelude.{◌≡◌, ℕ, Some};
+ghost use Rattle.std.specs.Prelude.{◌≡◌, ℕ, ◌<◌, List, ◌∷◌, ◌++◌, length, Some, None, All, false};
 ghost use Rattle.names.specs.declared.permissions.Permission.{Permission};
 ghost use Rattle.names.specs.declared.permissions.Perms.{Perms};
 ghost use Rattle.names.specs.Permissions.{letter, permission_of, perms_of, letters};
+ghost use Rattle.names.specs.Paths.{components, ends_with_slash, path_fault, IsName, IsPart, IsComponent};
 
 /// A letter stands for one permission at most, and each permission has its letter.
 pub fn one_letter_each()
@@ -13,4 +14,25 @@ pub fn one_letter_each()
 /// The letters of a set, as it is printed, are read again as that set.
 pub fn letters_read_again()
     ensures { (s : Perms) → perms_of (letters s) ≡ Some s }
+{}
+
+/// A component of a text is never empty, and has no slash.
+pub fn components_are_parts()
+    ensures { (text : List ℕ) → All IsPart (components text) }
+{}
+
+/// A component of a path is short enough, too, and has no byte 0.
+pub fn components_of_paths()
+    ensures { (path : List ℕ) → path_fault path ≡ None → All IsComponent (components path) }
+{}
+
+/// Text that ends with no slash, a slash and more text have the components of both texts.
+pub fn components_of_joined()
+    ensures { (text more : List ℕ) → ends_with_slash text ≡ false → 0 < length more
+        → components (text ++ 47 ∷ more) ≡ components text ++ components more }
+{}
+
+/// A path is a name, since each of its bytes is one.
+pub fn paths_are_names()
+    ensures { (path : List ℕ) → path_fault path ≡ None → All (λ b. b < 256) path → IsName path }
 {}

@@ -1,14 +1,20 @@
-//! What all the crates name alike: the permissions of file rules, and the error numbers of path calls.
+//! What all the crates name alike: the permissions of file rules, the error numbers of path calls, and
+//! checked paths.
 //!
 //! Nothing here takes memory.
 #![tactic(auto)]
 
 mod errors;
 mod laws;
+mod paths;
 mod permissions;
 
 pub use errors::Errno;
-pub use laws::{letters_read_again, one_letter_each};
+pub use laws::{
+    components_are_parts, components_of_joined, components_of_paths, letters_read_again,
+    one_letter_each, paths_are_names,
+};
+pub use paths::{Components, Path};
 pub use permissions::{Permission, Perms};
 
 #[cfg(test)]

@@ -1,0 +1,5 @@
+use Rattle.names.proofs.PathLaws.{components_joined}
+use Rattle.names.proofs.laws.components_of_joined.Goals as goal
+
+pub returns : goal.returns
+returns c = components_joined

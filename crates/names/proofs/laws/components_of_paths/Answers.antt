@@ -1,0 +1,5 @@
+use Rattle.names.proofs.PathLaws.{path_components}
+use Rattle.names.proofs.laws.components_of_paths.Goals as goal
+
+pub returns : goal.returns
+returns c = path_components

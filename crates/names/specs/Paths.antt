@@ -1,0 +1,55 @@
+-- Paths, the tests that a path must pass, and the components that a walk takes (path_resolution(7)).
+use Rattle.std.specs.Prelude.{◌≡◌, ℕ, ◌<◌, ◌≤◌, ◌≢◌, ◌-◌, Bool, List, [], ◌∷◌, ◌++◌, length, filter, nat_lt, not, ◌==◌, slice_index, All, Option, Some, None, if◌then◌else◌}
+use Rattle.std.specs.List.{list_any, slice_split}
+use Rattle.names.specs.declared.errors.Errno.{Errno}
+use Rattle.names.specs.declared.errors.Errno.TheVariants.{ENOENT, EINVAL, ENAMETOOLONG}
+
+-- the byte `/`
+abbrev pub is_slash : ℕ → Bool
+is_slash b = b == 47
+
+abbrev pub is_empty : List ℕ → Bool
+is_empty bytes = length bytes == 0
+
+abbrev pub begins_with_slash : List ℕ → Bool
+begins_with_slash bytes = is_slash (slice_index bytes 0)
+
+abbrev pub ends_with_slash : List ℕ → Bool
+ends_with_slash bytes = is_slash (slice_index bytes (length bytes - 1))
+
+-- `.`, where the text ends with a slash
+abbrev pub closing_component : List ℕ → List (List ℕ)
+closing_component bytes = if ends_with_slash bytes then (46 ∷ []) ∷ [] else []
+
+-- the non-empty parts between slashes, and then `.` where the text ends with a slash
+abbrev pub components : List ℕ → List (List ℕ)
+components bytes = filter (λ part. not (is_empty part)) (slice_split is_slash bytes) ++ closing_component bytes
+
+-- some component is longer than limits.h's NAME_MAX
+abbrev pub has_long_component : List ℕ → Bool
+has_long_component bytes = list_any (λ component. nat_lt 255 (length component)) (components bytes)
+
+-- why the text is no path: the first of these tests that holds
+abbrev pub path_fault : List ℕ → Option Errno
+path_fault bytes =
+    if is_empty bytes then Some ENOENT
+    else if not (begins_with_slash bytes) then Some EINVAL
+    else if list_any (λ b. b == 0) bytes then Some EINVAL
+    -- limits.h's PATH_MAX counts the byte 0 that closes a path in C
+    else if nat_lt 4095 (length bytes) then Some ENAMETOOLONG
+    else if has_long_component bytes then Some ENAMETOOLONG
+    else None
+
+-- what a name of a profile or a path looks like: it begins with a slash, and has no byte 0
+abbrev pub IsName : List ℕ → Type 0
+IsName bytes = (slice_index bytes 0 ≡ 47) × All (λ b. (0 < b) × (b < 256)) bytes
+
+-- text between slashes
+abbrev pub IsPart : List ℕ → Type 0
+IsPart part = (0 < length part) × All (λ b. b ≢ 47) part
+
+-- what a directory can have an entry of, or `.`
+pub record IsComponent (component : List ℕ) : Type 0 where
+  pub part : IsPart component
+  pub short : length component ≤ 255
+  pub bytes : All (λ b. b ≢ 0) component

@@ -1,0 +1,144 @@
+ghost use Rattle.std.specs.Prelude.{◌≡◌, ◌≤◌, IfOk, IfErr, None, Some, drop, length};
+ghost use Rattle.std.specs.Iterator.{YieldsFirstBy, item_count};
+ghost use Rattle.std.specs.List.{prefix_len, position_or_len, before_first};
+ghost use Rattle.names.specs.Paths.{components, path_fault, has_long_component, is_slash};
+
+use crate::Errno;
+use std::iter::FusedIterator;
+use std::marker::Model;
+
+/// The longest path, in bytes: limits.h's PATH_MAX without the byte 0 that closes a path in C.
+const LONGEST_PATH: usize = 4095;
+
+/// The longest component of a path, in bytes: limits.h's NAME_MAX.
+const LONGEST_COMPONENT: usize = 255;
+
+/// A path as calls take it (path_resolution(7)). It begins with a slash, has no byte 0, and is
+/// nowhere too long. Its bytes need not be UTF-8.
+#[derive(Debug, Drop)]
+pub struct Path<'a> {
+    bytes: &'a [u8],
+}
+
+impl<'a> Model for Path<'a> {
+    ghost use Rattle.std.specs.Prelude.{◌≡◌, ℕ, List, None};
+    ghost use Rattle.names.specs.Paths.{path_fault};
+
+    ghost Value = { List ℕ };
+
+    ghost view = { λ p. p.bytes.now };
+
+    ghost invariant = { λ p. path_fault p.bytes.now ≡ None };
+}
+
+impl<'a> Path<'a> {
+    /// The bytes as a path, or why they are none, of these tests the first that fails: they are
+    /// empty (ENOENT), begin with no slash or have a byte 0 (EINVAL), or are too long as a whole
+    /// or in some component (ENAMETOOLONG). No memory is taken.
+    pub fn check(bytes: &'a [u8]) -> Result<Path<'a>, Errno>
+        ensures path { IfOk result (λ path. (path ≡ bytes.now) × (path_fault path ≡ None)) }
+        ensures fault { IfErr result (λ fault. path_fault bytes.now ≡ Some fault) }
+    {
+        if bytes.is_empty() {
+            return Err(Errno::ENOENT);
+        }
+        if bytes[0] != b'/' {
+            return Err(Errno::EINVAL);
+        }
+        if bytes.contains(&0) {
+            return Err(Errno::EINVAL);
+        }
+        if bytes.len() > LONGEST_PATH {
+            return Err(Errno::ENAMETOOLONG);
+        }
+        if has_long_component(bytes) {
+            return Err(Errno::ENAMETOOLONG);
+        }
+        Ok(Path { bytes })
+    }
+
+    /// The path as it was given.
+    pub fn as_bytes(&self) -> &'a [u8]
+        ensures bytes { result.now ≡ self.now }
+        ensures checked { path_fault self.now ≡ None }
+    {
+        self.bytes
+    }
+
+    /// What a walk of the path takes, one after the other. No memory is taken.
+    pub fn components(&self) -> Components<'a>
+        ensures components { result ≡ components self.now }
+        ensures few { length result ≤ 4095 }
+        ensures checked { path_fault self.now ≡ None }
+    {
+        Components { left: self.bytes }
+    }
+}
+
+/// The non-empty parts between a text's slashes, and then `.` where it ends with a slash, seen as
+/// the list of those that are left. So a walk of `/a/` takes `a` and then `.`, which fails where
+/// `a` is no directory.
+#[derive(Debug, Drop)]
+pub struct Components<'a> {
+    left: &'a [u8],
+}
+
+impl<'a> Model for Components<'a> {
+    ghost use Rattle.std.specs.Prelude.{ℕ, List};
+    ghost use Rattle.names.specs.Paths.{components};
+
+    ghost Value = { List (List ℕ) };
+
+    ghost view = { λ c. components c.left.now };
+}
+
+impl<'a> Iterator for Components<'a> {
+    type Item = &'a [u8];
+
+    ghost next_gives = { YieldsFirstBy (λ component. component.now) (λ left. left) };
+
+    ghost remaining = { item_count (λ left. left) };
+
+    fn next(&mut self) -> Option<&'a [u8]> {
+        if self.left.is_empty() {
+            return None;
+        }
+        let (component, left) = split_at_slash(skip_slashes(self.left));
+        self.left = left;
+        if component.is_empty() {
+            // Only slashes were left, so the text ends with one.
+            return Some(b".");
+        }
+        Some(component)
+    }
+}
+
+impl<'a> FusedIterator for Components<'a> {}
+
+// Whether some component of the text is too long.
+fn has_long_component(text: &[u8]) -> bool
+    ensures { result ≡ has_long_component text.now }
+{
+    Components { left: text }.any(|component| component.len() > LONGEST_COMPONENT)
+}
+
+// The bytes from the first that is no slash on.
+fn skip_slashes(bytes: &[u8]) -> &[u8]
+    ensures { result.now ≡ drop (prefix_len is_slash bytes.now) bytes.now }
+{
+    match bytes.iter().position(|b| *b != b'/') {
+        Some(i) => &bytes[i..],
+        None => &[],
+    }
+}
+
+// The bytes before the first slash, and those from it on.
+fn split_at_slash(bytes: &[u8]) -> (&[u8], &[u8])
+    ensures before { result.0.now ≡ before_first is_slash bytes.now }
+    ensures from { result.1.now ≡ drop (position_or_len is_slash bytes.now) bytes.now }
+{
+    match bytes.iter().position(|b| *b == b'/') {
+        Some(i) => bytes.split_at(i),
+        None => (bytes, &[]),
+    }
+}
