@@ -1,0 +1,13 @@
+pub mod Basics
+pub mod Found
+pub mod Kept
+pub mod Depth
+pub mod Texts
+pub mod Links
+pub mod Walks
+pub mod NodeKinds
+pub mod Standing
+pub mod Dropping
+pub mod Moving
+pub mod Renaming
+pub mod Changes

@@ -1,0 +1,33 @@
+use names::Path;
+use std::marker::Model;
+
+/// The bytes of a link's text, before they are tested.
+pub struct LinkBytes<'a> {
+    bytes: &'a [u8],
+}
+
+impl<'a> Model for LinkBytes<'a> {
+    ghost use Rattle.std.specs.Prelude.{List, ℕ};
+
+    ghost Value = { List ℕ };
+
+    ghost view = { λ t. t.bytes.now };
+}
+
+/// A change of the tree. Its paths name the entries that are made, taken away or moved.
+pub enum Change<'a> {
+    /// A new directory (mkdir(2)).
+    Mkdir(Path<'a>),
+    /// A new file (open(2) with O_CREAT and O_EXCL).
+    Create(Path<'a>),
+    /// A new symbolic link with this text (symlink(2)).
+    Symlink(LinkBytes<'a>, Path<'a>),
+    /// One more entry of the first path's file (link(2)).
+    Link(Path<'a>, Path<'a>),
+    /// An entry of a file or a symbolic link goes (unlink(2)).
+    Unlink(Path<'a>),
+    /// An empty directory goes (rmdir(2)).
+    Rmdir(Path<'a>),
+    /// The entry of the first path moves to the second (rename(2)).
+    Rename(Path<'a>, Path<'a>),
+}
