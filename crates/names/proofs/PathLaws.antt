@@ -7,7 +7,7 @@ use Rattle.std.proofs.lemmas.List.Elements.{All-nil, All-cons, All-head, All-tai
 use Rattle.std.proofs.lemmas.List.Folds.{list_any_at}
 use Rattle.std.proofs.lemmas.List.Splits.{length-slice_split}
 use Rattle.names.specs.declared.errors.Errno.TheVariants.{ENOENT, EINVAL, ENAMETOOLONG}
-use Rattle.names.specs.Paths.{is_slash, is_empty, begins_with_slash, ends_with_slash, closing_component, components, has_long_component, path_fault, IsPart, IsComponent}
+use Rattle.names.specs.Paths.{is_slash, is_empty, begins_with_slash, ends_with_slash, closing_component, components, has_long_component, path_fault, IsPart, IsPathComponent}
 use Rattle.names.proofs.PathLemmas.{components_few}
 
 abbrev some : List ℕ → Bool
@@ -55,7 +55,7 @@ onto_append x [] others h = absurd (omega arith)
 onto_append x (part ∷ parts) others h = refl
 
 -- a slash between two texts leaves the parts of both as they are
-split_joined : (xs ys : List ℕ) → slice_split is_slash (xs ++ 47 ∷ ys) ≡ slice_split is_slash xs ++ slice_split is_slash ys
+pub split_joined : (xs ys : List ℕ) → slice_split is_slash (xs ++ 47 ∷ ys) ≡ slice_split is_slash xs ++ slice_split is_slash ys
 split_joined [] ys = refl
 split_joined (x ∷ xs) ys = by (is_slash x) (split_joined xs ys)
   where
@@ -63,7 +63,7 @@ split_joined (x ∷ xs) ys = by (is_slash x) (split_joined xs ys)
     by true e = ap (λ ps. [] ∷ ps) e
     by false e = ap (onto_first x) e ∙ onto_append x (slice_split is_slash xs) (slice_split is_slash ys) (omega (arith, length-slice_split is_slash xs))
 
-ends_joined : (xs ys : List ℕ) → 0 < length ys → ends_with_slash (xs ++ 47 ∷ ys) ≡ ends_with_slash ys
+pub ends_joined : (xs ys : List ℕ) → 0 < length ys → ends_with_slash (xs ++ 47 ∷ ys) ≡ ends_with_slash ys
 ends_joined xs ys h =
     let size = length-append xs (47 ∷ ys) in
     let at : length (xs ++ 47 ∷ ys) - 1 - length xs ≡ suc (length ys - 1) = omega arith in
@@ -103,10 +103,10 @@ no_fault path h =
     let components_short = went_on (has_long_component path) ENAMETOOLONG _ short.1 in
     record { zero_free = zero_free.0; short = short.0; components_short = components_short.0 }
 
-none_passes : {X : Type 0} (p : X → Bool) (xs : List X) → list_any p xs ≡ false → (k : ℕ) (d : X) → k < length xs → p (get_or xs k d) ≡ false
+pub none_passes : {X : Type 0} (p : X → Bool) (xs : List X) → list_any p xs ≡ false → (k : ℕ) (d : X) → k < length xs → p (get_or xs k d) ≡ false
 none_passes p xs e k d l = false_from_ne_true (p (get_or xs k d)) (λ t. false≢true (sym e ∙ list_any_at p xs k d l t))
 
-pub path_components : (path : List ℕ) → path_fault path ≡ None → All IsComponent (components path)
+pub path_components : (path : List ℕ) → path_fault path ≡ None → All IsPathComponent (components path)
 path_components path h k d l = record {
   part = components_parts path k d l;
   short = ltb-false 255 (length (get_or (components path) k d)) (none_passes (λ component. nat_lt 255 (length component)) (components path) (no_fault path h).components_short k d l);

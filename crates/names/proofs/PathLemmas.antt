@@ -6,7 +6,7 @@ use Rattle.std.proofs.lemmas.List.{drop_more, drop_all, length-drop, get_or-drop
 use Rattle.std.proofs.lemmas.List.Elements.{All-from_get_or}
 use Rattle.std.proofs.lemmas.List.Sums.{prefix_len_passes, prefix_len_stops, prefix_len-le-length, fails_before_first, passes_at_first}
 use Rattle.std.proofs.lemmas.List.Splits.{slice_split_none, slice_split_first, slice_split-cons_yes, slice_split-cons_no}
-use Rattle.names.specs.Paths.{is_slash, is_empty, ends_with_slash, components}
+use Rattle.names.specs.Paths.{is_slash, is_empty, begins_with_slash, ends_with_slash, components}
 
 -- the non-empty parts alone
 abbrev non_empty : List (List ℕ) → List (List ℕ)
@@ -16,7 +16,7 @@ kept : (part : List ℕ) (parts : List (List ℕ)) → 0 < length part → non_e
 kept part parts h = ap (λ empty. cond (not empty) (part ∷ non_empty parts) (non_empty parts)) (ne_eqb (length part) 0 (λ e. omega arith))
 
 -- what is left of a text ends as the text does
-ends_alike : (xs : List ℕ) (n : ℕ) → n < length xs → ends_with_slash (drop n xs) ≡ ends_with_slash xs
+pub ends_alike : (xs : List ℕ) (n : ℕ) → n < length xs → ends_with_slash (drop n xs) ≡ ends_with_slash xs
 ends_alike xs n h =
     let at : n + (length (drop n xs) - 1) ≡ length xs - 1 = omega (arith, length-drop n xs) in
     ap is_slash (get_or-drop n xs (length (drop n xs) - 1) 0 ∙ ap (λ k. get_or xs k 0) at)
@@ -164,3 +164,29 @@ module _ (xs : List ℕ) where
       slashes h =
           let ended : left ≡ [] = f ∙ drop_all (position_or_len is_slash rest) rest (omega arith) in
           slashes_alone xs some (omega (arith, long)) ∙ ap (λ l. (46 ∷ []) ∷ components l) (sym ended)
+
+  pub left_shorter : (left : List ℕ) → left ≡ drop (position_or_len is_slash rest) rest → 0 < length xs → length left < length xs
+  left_shorter left f some =
+      let size = length-drop (position_or_len is_slash rest) rest in
+      elim (cases_lt 0 (length rest)) [
+        | inl h ↦ omega (arith, runs_on h, long, size, ap length f)
+        | inr h ↦ omega (arith, size, ap length f)
+      ]
+
+  pub left_slash : (left : List ℕ) → left ≡ drop (position_or_len is_slash rest) rest → 0 < length left → begins_with_slash left ≡ true
+  left_slash left f some =
+      let size = length-drop (position_or_len is_slash rest) rest in
+      let at : position_or_len is_slash rest + 0 ≡ position_or_len is_slash rest = omega arith in
+      ap begins_with_slash f
+      ∙ ap is_slash (get_or-drop (position_or_len is_slash rest) rest 0 0 ∙ ap (λ k. get_or rest k 0) at)
+      ∙ passes_at_first is_slash rest 0 (omega (arith, size, ap length f))
+
+-- a text that isn't empty has a component
+pub some_component : (xs : List ℕ) → 0 < length xs → 0 < length (components xs)
+some_component xs some =
+    let left = drop (position_or_len is_slash (drop (prefix_len is_slash xs) xs)) (drop (prefix_len is_slash xs) xs) in
+    let front = before_first is_slash (drop (prefix_len is_slash xs) xs) in
+    elim (cases_lt 0 (length front)) [
+      | inl h ↦ omega (arith, ap length (step_at_part xs front left refl refl h))
+      | inr h ↦ omega (arith, ap length (step_at_end xs front left refl refl (omega arith) some))
+    ]

@@ -21,9 +21,13 @@ ends_with_slash bytes = is_slash (slice_index bytes (length bytes - 1))
 abbrev pub closing_component : List ℕ → List (List ℕ)
 closing_component bytes = if ends_with_slash bytes then (46 ∷ []) ∷ [] else []
 
--- the non-empty parts between slashes, and then `.` where the text ends with a slash
+-- the non-empty parts between slashes: slashes that follow one another count as one, and those at the end for nothing
+abbrev pub filled_parts : List ℕ → List (List ℕ)
+filled_parts bytes = filter (λ part. not (is_empty part)) (slice_split is_slash bytes)
+
+-- the non-empty parts, and then `.` where the text ends with a slash
 abbrev pub components : List ℕ → List (List ℕ)
-components bytes = filter (λ part. not (is_empty part)) (slice_split is_slash bytes) ++ closing_component bytes
+components bytes = filled_parts bytes ++ closing_component bytes
 
 -- some component is longer than limits.h's NAME_MAX
 abbrev pub has_long_component : List ℕ → Bool
@@ -40,7 +44,7 @@ path_fault bytes =
     else if has_long_component bytes then Some ENAMETOOLONG
     else None
 
--- what a name of a profile or a path looks like: it begins with a slash, and has no byte 0
+-- what rules judge: a list of bytes that begins with a slash, none of them 0
 abbrev pub IsName : List ℕ → Type 0
 IsName bytes = (slice_index bytes 0 ≡ 47) × All (λ b. (0 < b) × (b < 256)) bytes
 
@@ -49,7 +53,7 @@ abbrev pub IsPart : List ℕ → Type 0
 IsPart part = (0 < length part) × All (λ b. b ≢ 47) part
 
 -- what a directory can have an entry of, or `.`
-pub record IsComponent (component : List ℕ) : Type 0 where
+pub record IsPathComponent (component : List ℕ) : Type 0 where
   pub part : IsPart component
   pub short : length component ≤ 255
   pub bytes : All (λ b. b ≢ 0) component

@@ -89,3 +89,19 @@ impl fmt::Display for Errno {
 }
 
 impl Error for Errno {}
+
+/// Memory was refused, and nothing was changed. It is printed as `no memory`.
+#[derive(Clone, Copy, Debug, PartialEq, Eq)]
+pub struct NoMemory;
+
+impl fmt::Display for NoMemory {
+    ghost use Rattle.std.specs.Prelude.{codes};
+
+    ghost output = { λ _. Some (codes "no memory") };
+
+    fn fmt<W: fmt::Write>(&self, f: &mut fmt::Formatter<W>) -> fmt::Result {
+        write!(f, "no memory")
+    }
+}
+
+impl Error for NoMemory {}

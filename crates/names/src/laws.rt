@@ -3,7 +3,7 @@ ghost use Rattle.std.specs.Prelude.{◌≡◌, ℕ, ◌<◌, List, ◌∷◌, �
 ghost use Rattle.names.specs.declared.permissions.Permission.{Permission};
 ghost use Rattle.names.specs.declared.permissions.Perms.{Perms};
 ghost use Rattle.names.specs.Permissions.{letter, permission_of, perms_of, letters};
-ghost use Rattle.names.specs.Paths.{components, ends_with_slash, path_fault, IsName, IsPart, IsComponent};
+ghost use Rattle.names.specs.Paths.{components, ends_with_slash, path_fault, IsName, IsPart, IsPathComponent};
 
 /// A letter stands for one permission at most, and each permission has its letter.
 pub fn one_letter_each()
@@ -23,7 +23,7 @@ pub fn components_are_parts()
 
 /// A component of a path is short enough, too, and has no byte 0.
 pub fn components_of_paths()
-    ensures { (path : List ℕ) → path_fault path ≡ None → All IsComponent (components path) }
+    ensures { (path : List ℕ) → path_fault path ≡ None → All IsPathComponent (components path) }
 {}
 
 /// Text that ends with no slash, a slash and more text have the components of both texts.

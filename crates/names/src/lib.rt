@@ -9,12 +9,12 @@ mod laws;
 mod paths;
 mod permissions;
 
-pub use errors::Errno;
+pub use errors::{Errno, NoMemory};
 pub use laws::{
     components_are_parts, components_of_joined, components_of_paths, letters_read_again,
     one_letter_each, paths_are_names,
 };
-pub use paths::{Components, Path};
+pub use paths::{Components, Path, split_component};
 pub use permissions::{Permission, Perms};
 
 #[cfg(test)]

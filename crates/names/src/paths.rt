@@ -1,7 +1,7 @@
-ghost use Rattle.std.specs.Prelude.{◌≡◌, ◌≤◌, IfOk, IfErr, None, Some, drop, length};
+ghost use Rattle.std.specs.Prelude.{◌≡◌, ◌<◌, ◌≤◌, ◌-◌, ◌∷◌, IfOk, IfErr, IfSome, IfNone, None, Some, drop, length, true};
 ghost use Rattle.std.specs.Iterator.{YieldsFirstBy, item_count};
 ghost use Rattle.std.specs.List.{prefix_len, position_or_len, before_first};
-ghost use Rattle.names.specs.Paths.{components, path_fault, has_long_component, is_slash};
+ghost use Rattle.names.specs.Paths.{components, path_fault, begins_with_slash, has_long_component, is_slash};
 
 use crate::Errno;
 use std::iter::FusedIterator;
@@ -92,6 +92,15 @@ impl<'a> Model for Components<'a> {
     ghost view = { λ c. components c.left.now };
 }
 
+impl<'a> Components<'a> {
+    /// The components of any text, such as the text of a symbolic link. No memory is taken.
+    pub fn of(text: &'a [u8]) -> Components<'a>
+        ensures { result ≡ components text.now }
+    {
+        Components { left: text }
+    }
+}
+
 impl<'a> Iterator for Components<'a> {
     type Item = &'a [u8];
 
@@ -100,26 +109,39 @@ impl<'a> Iterator for Components<'a> {
     ghost remaining = { item_count (λ left. left) };
 
     fn next(&mut self) -> Option<&'a [u8]> {
-        if self.left.is_empty() {
-            return None;
-        }
-        let (component, left) = split_at_slash(skip_slashes(self.left));
+        let (component, left) = split_component(self.left)?;
         self.left = left;
-        if component.is_empty() {
-            // Only slashes were left, so the text ends with one.
-            return Some(b".");
-        }
         Some(component)
     }
 }
 
 impl<'a> FusedIterator for Components<'a> {}
 
+/// The first component of any text, and the end of the text that follows it: nothing, or text that
+/// begins with a slash. Only an empty text has none. No memory is taken.
+pub fn split_component(text: &[u8]) -> Option<(&[u8], &[u8])>
+    ensures none { IfNone result (length text.now ≡ 0) }
+    ensures first { IfSome result (λ cut. components text.now ≡ cut.0.now ∷ components cut.1.now) }
+    ensures shorter { IfSome result (λ cut. length cut.1.now < length text.now) }
+    ensures end { IfSome result (λ cut. cut.1.now ≡ drop (length text.now - length cut.1.now) text.now) }
+    ensures slash { IfSome result (λ cut. 0 < length cut.1.now → begins_with_slash cut.1.now ≡ true) }
+{
+    if text.is_empty() {
+        return None;
+    }
+    let (component, left) = split_at_slash(skip_slashes(text));
+    if component.is_empty() {
+        // Only slashes were left, so the text ends with one.
+        return Some((b".", left));
+    }
+    Some((component, left))
+}
+
 // Whether some component of the text is too long.
 fn has_long_component(text: &[u8]) -> bool
     ensures { result ≡ has_long_component text.now }
 {
-    Components { left: text }.any(|component| component.len() > LONGEST_COMPONENT)
+    Components::of(text).any(|component| component.len() > LONGEST_COMPONENT)
 }
 
 // The bytes from the first that is no slash on.

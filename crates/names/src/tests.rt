@@ -34,12 +34,23 @@ fn sets_of_permissions(rt: HostRuntime) -> Result<(), Fail> {
 fn errors_by_name_and_number(rt: HostRuntime) -> Result<(), Fail> {
     let alloc = rt.alloc();
     assert_eq!(rt; Errno::ENOENT.to_string(alloc)?.as_str(), "ENOENT 2");
+    assert_eq!(rt; NoMemory.to_string(alloc)?.as_str(), "no memory");
     assert_eq!(rt;
         Errno::ENAMETOOLONG.to_string(alloc)?.as_str(),
         "ENAMETOOLONG 36"
     );
     assert_eq!(rt; Errno::EOVERFLOW.number(), 75);
     assert_eq!(rt; Errno::ELOOP.name(), "ELOOP");
+    Ok(())
+}
+
+#[test]
+fn first_component_of_a_text(rt: HostRuntime) -> Result<(), Fail> {
+    let (first, rest) = split_component(b"//a/b/").ok_or("a component")?;
+    assert!(rt; first == b"a".as_slice() && rest == b"/b/".as_slice());
+    let (last, rest) = split_component(b"//").ok_or("the closing dot")?;
+    assert!(rt; last == b".".as_slice() && rest.is_empty());
+    assert!(rt; split_component(b"").is_none());
     Ok(())
 }
 

@@ -1,5 +1,6 @@
 -- What a pattern over the bytes of a name is, which lists of bytes it takes as a whole (apparmor.d(5), "Globbing"), and its
 -- places: the positions at which a match can stand.
+pub use Rattle.names.specs.Paths.{is_slash}
 use Rattle.std.specs.Prelude.{◌≡◌, ℕ, ◌+◌, Bool, true, not, ◌&&◌, ◌⊎◌, ◌==◌, List, [], ◌∷◌, ◌++◌, IsTrue, nat_lt, nat_le, if◌then◌else◌}
 use Rattle.std.specs.List.{list_all, list_any}
 use Rattle.rule_text.specs.declared.items.ByteRange.{ByteRange}
@@ -14,9 +15,6 @@ pub data ByteSet : Type 0 where
   every_byte : ByteSet
   -- a class: whether it is negated, and its ranges. A slash is a byte like others here (our choice)
   class : Bool → List ByteRange → ByteSet
-
-abbrev pub is_slash : ℕ → Bool
-is_slash b = b == 47
 
 abbrev pub in_ranges : List ByteRange → ℕ → Bool
 in_ranges ranges b = list_any (λ range. nat_le range.first b && nat_le b range.last) ranges
