@@ -1,7 +1,7 @@
 -- An accepted change keeps a tree well-formed.
 use Rattle.std.proofs.Common.{◌≡◌, ℕ, suc, ◌+◌, ◌==◌, ◌||◌, Bool, true, false, List, [], ◌∷◌, map, Some, None, Option, sym, refl, ap, ◌∙◌, subst, arith, eq-eqb, ne_eqb, cond}
-use Rattle.std.specs.Prelude.{if◌then◌else◌, Result, Ok, Err, filter, nat_lt, bytes_eq}
-use Rattle.std.specs.List.{list_any}
+use Rattle.std.specs.Prelude.{if◌then◌else◌, Result, Ok, Err, filter, not, nat_lt, bytes_eq}
+use Rattle.std.specs.List.{list_any, slice_split, onto_first}
 use Rattle.names.specs.declared.errors.Errno.{Errno}
 use Rattle.names.specs.declared.errors.Errno.TheVariants.{EBUSY, ENOTDIR, EINVAL, EOVERFLOW}
 use Rattle.path_walk.specs.declared.node.NodeKind.{NodeKind}
@@ -9,12 +9,14 @@ use Rattle.path_walk.specs.declared.node.NodeKind.TheVariants.{Directory, File, 
 use Rattle.path_walk.specs.declared.node.Last.TheVariants.{Follow}
 use Rattle.path_walk.specs.declared.change.Change.{Change}
 use Rattle.path_walk.specs.declared.change.Change.TheVariants as change
-use Rattle.path_walk.specs.Components.{IsComponent, slash, onto_first, parts, is_filled, names, ends_in_slash, step_of, dot, dot_dot}
+use Rattle.names.specs.Paths.{is_slash, is_empty, filled_parts, ends_with_slash}
+use Rattle.path_walk.specs.Components.{IsComponent, slash, is_filled, step_of, dot, dot_dot}
 use Rattle.path_walk.specs.Tree.{Tree, Entry, WellFormed, root, root_alone, place, leads, is_directory}
 use Rattle.path_walk.specs.Walk.{Spot, resolve, max_links}
 use Rattle.path_walk.specs.Walk.Spot.{Root, Held}
 use Rattle.path_walk.specs.Apply.{Changed, Target, and_then, make, link, unlink, rmdir, rename, target_from, is_dots, tested, target_of, directory_target, other_target, directory_at, parent_of, at_one, at_two, text_of, apply, apply_counted, max_changes, has_room, after_from, tree_after}
 use Rattle.path_walk.proofs.Basics.{none_is_some, ok_inj, err_is_ok, both_false}
+use Rattle.path_walk.proofs.Texts.{filled_is}
 use Rattle.path_walk.proofs.Standing.{Stands, placed_at, resolve_stands}
 use Rattle.path_walk.proofs.Kept.{make_keeps, link_keeps}
 use Rattle.path_walk.proofs.Dropping.{unlink_keeps, rmdir_keeps}
@@ -38,17 +40,17 @@ onto_plain : (b : ℕ) (ps : List (List ℕ)) → (b == slash) ≡ false → Eac
 onto_plain b [] h each = (ap (λ (k : Bool). k || false) h, tt)
 onto_plain b (p ∷ ps) h each = ((λ i. h i || each.0 i), each.1)
 
-parts_plain : (text : List ℕ) → Each NoSlash (parts text)
+parts_plain : (text : List ℕ) → Each NoSlash (slice_split is_slash text)
 parts_plain [] = (refl, tt)
-parts_plain (b ∷ text) = elim (b == slash) as (λ (k : Bool). (b == slash) ≡ k → Each NoSlash (if k then [] ∷ parts text else onto_first b (parts text))) [
+parts_plain (b ∷ text) = elim (b == slash) as (λ (k : Bool). (b == slash) ≡ k → Each NoSlash (if k then [] ∷ slice_split is_slash text else onto_first b (slice_split is_slash text))) [
   | true ↦ λ q. (refl, parts_plain text)
-  | false ↦ λ q. onto_plain b (parts text) q (parts_plain text)
+  | false ↦ λ q. onto_plain b (slice_split is_slash text) q (parts_plain text)
 ] refl
 
-filter_plain : (ps : List (List ℕ)) → Each NoSlash ps → Each Plain (filter is_filled ps)
+filter_plain : (ps : List (List ℕ)) → Each NoSlash ps → Each Plain (filter (λ part. not (is_empty part)) ps)
 filter_plain [] h = tt
-filter_plain (p ∷ ps) h = elim (is_filled p) as (λ (k : Bool). is_filled p ≡ k → Each Plain (cond k (p ∷ filter is_filled ps) (filter is_filled ps))) [
-  | true ↦ λ q. ((q, h.0), filter_plain ps h.1)
+filter_plain (p ∷ ps) h = elim (not (is_empty p)) as (λ (k : Bool). not (is_empty p) ≡ k → Each Plain (cond k (p ∷ filter (λ part. not (is_empty part)) ps) (filter (λ part. not (is_empty part)) ps))) [
+  | true ↦ λ q. ((sym (filled_is p) ∙ q, h.0), filter_plain ps h.1)
   | false ↦ λ q. filter_plain ps h.1
 ] refl
 
@@ -73,10 +75,10 @@ abbrev Good : Result Target Errno → Type 0
 Good target = (a : Target) → target ≡ Ok a → IsComponent a.last
 
 directory_good : (path : List ℕ) → Good (directory_target path)
-directory_good path a h = target_good false (names path) a (filter_plain (parts path) (parts_plain path)) h
+directory_good path a h = target_good false (filled_parts path) a (filter_plain (slice_split is_slash path) (parts_plain path)) h
 
 other_good : (path : List ℕ) → Good (other_target path)
-other_good path a h = target_good (ends_in_slash path) (names path) a (filter_plain (parts path) (parts_plain path)) h
+other_good path a h = target_good (ends_with_slash path) (filled_parts path) a (filter_plain (slice_split is_slash path) (parts_plain path)) h
 
 module _ (t : Tree) (well : WellFormed t) where
   directory_leads : (s : Spot) (d : ℕ) → Stands t s → directory_at s ≡ Ok d → (n : ℕ) × (leads t.entries n d ≡ true)

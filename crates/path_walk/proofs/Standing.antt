@@ -7,7 +7,8 @@ use Rattle.path_walk.specs.declared.node.NodeKind.{NodeKind}
 use Rattle.path_walk.specs.declared.node.NodeKind.TheVariants.{Directory, File, Link}
 use Rattle.path_walk.specs.declared.node.Last.{Last}
 use Rattle.path_walk.specs.declared.node.Last.TheVariants.{Stay}
-use Rattle.path_walk.specs.Components.{Step, IsComponent, step_of, steps_of, slash, dot, names}
+use Rattle.names.specs.Paths.{filled_parts}
+use Rattle.path_walk.specs.Components.{Step, IsComponent, step_of, steps_of, slash, dot}
 use Rattle.path_walk.specs.Components.Step.{Here, Up, Down}
 use Rattle.path_walk.specs.Tree.{Tree, Entry, WellFormed, root, find, place, is_at, is_directory, is_link, leads}
 use Rattle.path_walk.specs.Walk.{Spot, Walked, spot_of, above, stays, at_entry, at_kind, start_of, is_last, onward, resolve, walk, max_links}
@@ -111,8 +112,8 @@ found_last (Link text) last found go follow h ends = ap (λ (b : Bool). if b the
 steps_open : (xs c : List ℕ) → IsComponent c → steps_of (xs ++ slash ∷ (c ++ [])) ≡ steps xs ++ Down c ∷ []
 steps_open xs c h =
     ap (λ (z : List ℕ). steps_of (xs ++ slash ∷ z)) (append-nil c)
-    ∙ ap (λ (b : Bool). map step_of (names (xs ++ slash ∷ c) ++ (if b then dot ∷ [] else []))) (ends_open xs c h.filled h.no_slash)
-    ∙ ap (map step_of) (append-nil (names (xs ++ slash ∷ c)))
+    ∙ ap (λ (b : Bool). map step_of (filled_parts (xs ++ slash ∷ c) ++ (if b then dot ∷ [] else []))) (ends_open xs c h.filled h.no_slash)
+    ∙ ap (map step_of) (append-nil (filled_parts (xs ++ slash ∷ c)))
     ∙ steps_more xs c h
 
 module _ (t : Tree) (last : Last) (well : WellFormed t) (follow : ℕ → List Step → Walked) (d : ℕ) (c : List ℕ) (e : Entry) (is : find t.entries d c ≡ Some e) where

@@ -5,7 +5,8 @@ use Rattle.std.proofs.lemmas.List.{map-append}
 use Rattle.path_walk.specs.declared.node.NodeKind.{NodeKind}
 use Rattle.path_walk.specs.declared.node.NodeKind.TheVariants.{Directory, File, Link}
 use Rattle.path_walk.specs.declared.node.Last.{Last}
-use Rattle.path_walk.specs.Components.{Step, IsComponent, step_of, steps_of, slash, dot, dot_dot, names}
+use Rattle.names.specs.Paths.{filled_parts}
+use Rattle.path_walk.specs.Components.{Step, IsComponent, step_of, steps_of, slash, dot, dot_dot}
 use Rattle.path_walk.specs.Components.Step.{Here, Up, Down}
 use Rattle.path_walk.specs.Tree.{Tree, Entry, WellFormed, root, find, place, is_at, is_directory, Distinct, leads}
 use Rattle.path_walk.specs.Walk.{Walked, at_entry, at_kind, start_of, is_last, onward}
@@ -41,15 +42,15 @@ pub step_down : (c : List ℕ) → IsComponent c → step_of c ≡ Down c
 step_down c h = ap (λ (b : Bool). if b then Here else if bytes_eq c dot_dot then Up else Down c) h.no_dot ∙ ap (λ (b : Bool). if b then Up else Down c) h.no_dot_dot
 
 abbrev pub steps : List ℕ → List Step
-steps text = map step_of (names text)
+steps text = map step_of (filled_parts text)
 
 pub steps_more : (xs c : List ℕ) → IsComponent c → steps (xs ++ slash ∷ c) ≡ steps xs ++ Down c ∷ []
-steps_more xs c h = ap (map step_of) (names_more xs c h.filled h.no_slash) ∙ map-append step_of (names xs) (c ∷ []) ∙ ap (λ (s : Step). steps xs ++ s ∷ []) (step_down c h)
+steps_more xs c h = ap (map step_of) (names_more xs c h.filled h.no_slash) ∙ map-append step_of (filled_parts xs) (c ∷ []) ∙ ap (λ (s : Step). steps xs ++ s ∷ []) (step_down c h)
 
 pub steps_closed : (xs : List ℕ) → steps_of (xs ++ slash ∷ []) ≡ steps xs ++ Here ∷ []
 steps_closed xs =
     (λ i. map step_of (names_closed xs i ++ (if ends_closed xs i then dot ∷ [] else [])))
-    ∙ map-append step_of (names xs) (dot ∷ [])
+    ∙ map-append step_of (filled_parts xs) (dot ∷ [])
 
 go_in : (k : NodeKind) (ends : Bool) (last : Last) (found go : Walked) (follow : List ℕ → Walked) → is_directory k ≡ true → at_kind ends last found go follow k ≡ go
 go_in Directory ends last found go follow h = refl

@@ -9,7 +9,8 @@ use Rattle.path_walk.specs.declared.node.NodeKind.TheVariants.{Directory, File, 
 use Rattle.path_walk.specs.declared.node.Last.TheVariants.{Follow}
 use Rattle.path_walk.specs.declared.change.Change.{Change}
 use Rattle.path_walk.specs.declared.change.Change.TheVariants as change
-use Rattle.path_walk.specs.Components.{names, ends_in_slash, is_filled, step_of, dot, dot_dot}
+use Rattle.names.specs.Paths.{filled_parts, ends_with_slash}
+use Rattle.path_walk.specs.Components.{is_filled, step_of, dot, dot_dot}
 use Rattle.path_walk.specs.Tree.{Tree, Entry, root, root_alone, is_directory, is_at, find, is_empty, is_below}
 use Rattle.path_walk.specs.Walk.{Spot, resolve, max_links}
 use Rattle.path_walk.specs.Walk.Spot.{Root, Held}
@@ -136,10 +137,10 @@ target_of refuse_slash (component ∷ rest) = if refuse_slash then Err EINVAL el
 
 -- of a directory's path: a slash may stand at its end
 abbrev pub directory_target : List ℕ → Result Target Errno
-directory_target path = target_of false (names path)
+directory_target path = target_of false (filled_parts path)
 
 abbrev pub other_target : List ℕ → Result Target Errno
-other_target path = target_of (ends_in_slash path) (names path)
+other_target path = target_of (ends_with_slash path) (filled_parts path)
 
 abbrev pub directory_at : Spot → Result ℕ Errno
 directory_at Root = Ok root
@@ -167,7 +168,7 @@ abbrev pub text_of : List ℕ → Result (List ℕ) Errno
 text_of text =
     if not (is_filled text) then Err ENOENT
     else (if list_any (λ b. b == 0) text then Err EINVAL
-    else (if nat_lt max_text (length text) || list_any (λ c. nat_lt max_component (length c)) (names text) then Err ENAMETOOLONG
+    else (if nat_lt max_text (length text) || list_any (λ c. nat_lt max_component (length c)) (filled_parts text) then Err ENAMETOOLONG
     else Ok text))
 
 -- `room`: an entry is free

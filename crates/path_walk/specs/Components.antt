@@ -1,6 +1,7 @@
--- The components of a path (path_resolution(7)).
-use Rattle.std.specs.Prelude.{ℕ, Bool, true, false, ◌≡◌, ◌==◌, List, [], ◌∷◌, ◌++◌, map, filter, bytes_eq, if◌then◌else◌}
+-- What a walk does with the components of a path or a link's text (path_resolution(7)).
+use Rattle.std.specs.Prelude.{ℕ, Bool, true, false, ◌≡◌, ◌==◌, List, [], ◌∷◌, map, bytes_eq, if◌then◌else◌}
 use Rattle.std.specs.List.{list_any}
+use Rattle.names.specs.Paths.{components}
 
 abbrev pub slash : ℕ
 slash = 47
@@ -13,39 +14,9 @@ dot = 46 ∷ []
 abbrev pub dot_dot : List ℕ
 dot_dot = 46 ∷ 46 ∷ []
 
--- a byte more at the front of the first part
-abbrev pub onto_first : ℕ → List (List ℕ) → List (List ℕ)
-onto_first b [] = (b ∷ []) ∷ []
-onto_first b (part ∷ parts) = (b ∷ part) ∷ parts
-
--- the parts between slashes, empty ones among them: one more than there are slashes
-abbrev pub parts : List ℕ → List (List ℕ)
-parts [] = [] ∷ []
-parts (b ∷ bytes) = if b == slash then [] ∷ parts bytes else onto_first b (parts bytes)
-
 abbrev pub is_filled : List ℕ → Bool
 is_filled [] = false
 is_filled (b ∷ bytes) = true
-
--- the parts that aren't empty: slashes that follow one another count as one, and those at the end for nothing
-abbrev pub names : List ℕ → List (List ℕ)
-names text = filter is_filled (parts text)
-
-abbrev pub ends_in_slash : List ℕ → Bool
-ends_in_slash [] = false
-ends_in_slash (b ∷ bytes) = if is_filled bytes then ends_in_slash bytes else b == slash
-
-abbrev pub begins_with_slash : List ℕ → Bool
-begins_with_slash [] = false
-begins_with_slash (b ∷ bytes) = b == slash
-
--- `.` where the text ends with a slash: the rest of the path has to be a directory
-abbrev pub closing : List ℕ → List (List ℕ)
-closing text = if ends_in_slash text then dot ∷ [] else []
-
--- the components of a path or a link's text
-abbrev pub components : List ℕ → List (List ℕ)
-components text = names text ++ closing text
 
 -- a component leads nowhere, up, or down to an entry
 pub data Step : Type 0 where

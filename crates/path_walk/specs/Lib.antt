@@ -3,4 +3,14 @@ pub mod Tree
 pub mod Walk
 pub mod Name
 pub mod Apply
+pub mod World
+pub mod Walking
+pub mod Plain
+pub mod PlainEntry
+pub mod Store
+pub mod Mirror
+pub mod Target
+pub mod Judge
+pub mod PlainLaws
 pub mod Script
+pub mod SmallTree

@@ -26,5 +26,8 @@ abbrev pub max_name : ℕ
 max_name = 4095
 
 -- a longer name can't be judged (our choice)
+abbrev pub judged : List ℕ → Result (List ℕ) Errno
+judged name = if nat_lt max_name (length name) then Err ENAMETOOLONG else Ok name
+
 abbrev pub judged_name : Tree → Spot → Result (List ℕ) Errno
-judged_name t spot = if nat_lt max_name (length (name_of t spot)) then Err ENAMETOOLONG else Ok (name_of t spot)
+judged_name t spot = judged (name_of t spot)

@@ -12,7 +12,7 @@ pub record Entry : Type 0 where
   pub node : ℕ
   pub kind : NodeKind
 
--- the entries, in the order in which they were made, and the number of the next node
+-- the entries, whose order means nothing, and the number of the next node
 pub record Tree : Type 0 where
   pub entries : List Entry
   pub next : ℕ

@@ -6,7 +6,8 @@ use Rattle.path_walk.specs.declared.node.NodeKind.{NodeKind}
 use Rattle.path_walk.specs.declared.node.NodeKind.TheVariants.{Directory, File, Link}
 use Rattle.path_walk.specs.declared.node.Last.{Last}
 use Rattle.path_walk.specs.declared.node.Last.TheVariants.{Follow, Stay}
-use Rattle.path_walk.specs.Components.{Step, steps_of, begins_with_slash}
+use Rattle.names.specs.Paths.{begins_with_slash}
+use Rattle.path_walk.specs.Components.{Step, steps_of}
 use Rattle.path_walk.specs.Components.Step.{Here, Up, Down}
 use Rattle.path_walk.specs.Tree.{Tree, Entry, root, find, place}
 

@@ -2,6 +2,7 @@ use names::Path;
 use std::marker::Model;
 
 /// The bytes of a link's text, before they are tested.
+#[derive(Debug, Drop)]
 pub struct LinkBytes<'a> {
     bytes: &'a [u8],
 }
@@ -14,7 +15,26 @@ impl<'a> Model for LinkBytes<'a> {
     ghost view = { λ t. t.bytes.now };
 }
 
+impl<'a> LinkBytes<'a> {
+    ghost use Rattle.std.specs.Prelude.{◌≡◌};
+
+    /// Any bytes: they are tested where a link is made of them.
+    pub fn new(bytes: &'a [u8]) -> LinkBytes<'a>
+        ensures { result ≡ bytes.now }
+    {
+        LinkBytes { bytes }
+    }
+
+    /// The bytes as they were given.
+    pub fn as_bytes(&self) -> &'a [u8]
+        ensures { result.now ≡ self.now }
+    {
+        self.bytes
+    }
+}
+
 /// A change of the tree. Its paths name the entries that are made, taken away or moved.
+#[derive(Debug, Drop)]
 pub enum Change<'a> {
     /// A new directory (mkdir(2)).
     Mkdir(Path<'a>),

@@ -10,6 +10,7 @@ ghost use Rattle.path_walk.specs.Walk.{Walked, walk, resolve, above};
 ghost use Rattle.path_walk.specs.Walk.Spot.{Root, Held};
 ghost use Rattle.path_walk.specs.declared.node.Last.TheVariants.{Stay};
 ghost use Rattle.path_walk.specs.Name.{name_of};
+ghost use Rattle.path_walk.specs.Plain.{Plain, tree_of};
 ghost use Rattle.path_walk.specs.Apply.{make, link, unlink, rmdir, rename, apply, tree_after};
 
 /// The root alone is a well-formed tree.
@@ -45,6 +46,11 @@ pub fn rename_keeps_well_formed()
 pub fn changes_keep_well_formed()
     ensures one { (t u : Tree) (room : Bool) (c : Change) → WellFormed t → apply t room c ≡ Ok u → WellFormed u }
     ensures all { (capacity : ℕ) (cs : List Change) (t : Tree) → tree_after capacity cs ≡ Ok t → WellFormed t }
+{}
+
+/// The tree of a plain tree is well-formed, whatever its history.
+pub fn plain_trees_are_well_formed()
+    ensures { (p : Plain) → WellFormed (tree_of p) }
 {}
 
 /// The kind of a node is that of any of its entries.

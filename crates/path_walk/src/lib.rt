@@ -2,15 +2,40 @@
 #![tactic(auto)]
 
 mod change;
+mod directory;
+mod entry;
+mod fault;
 mod laws;
+mod look;
+mod met;
+mod name;
 mod node;
+mod places;
+mod plain;
+mod reads;
+mod record;
 mod rows;
+mod scratch;
+mod store;
+mod target;
+mod walk;
 
 pub use change::{Change, LinkBytes};
+pub use entry::PlainEntry;
+pub use fault::WalkFault;
 pub use laws::{
     changes_keep_well_formed, kind_is_of_any_entry, link_keeps_well_formed, make_keeps_well_formed,
-    more_links_change_no_answer, name_leads_back, names_differ, removal_keeps_well_formed,
-    rename_keeps_well_formed, root_alone_is_well_formed, root_is_above_itself, walk_stays_in_tree,
+    more_links_change_no_answer, name_leads_back, names_differ, plain_trees_are_well_formed,
+    removal_keeps_well_formed, rename_keeps_well_formed, root_alone_is_well_formed,
+    root_is_above_itself, walk_stays_in_tree,
 };
-pub use node::{Last, LinkText, NodeKind};
+pub use look::{Look, Torn};
+pub use name::name_of;
+pub use node::{Kind, Last, LinkText, NodeKind};
+pub use plain::PlainTree;
 pub use rows::{changes_are_answered, long_names_are_told, paths_are_walked};
+pub use scratch::Scratch;
+pub use walk::resolve;
+
+#[cfg(test)]
+mod tests;
