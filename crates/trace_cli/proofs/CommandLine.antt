@@ -1,17 +1,23 @@
 -- Facts that join what reading a command line says.
-use Rattle.std.proofs.Common.{◌≡◌, true, List, [], Option, Some, None, Result, Ok, Err, IfErr, IsErrAnd, refl, ap, sym, ◌∙◌, inl, inr}
-use Rattle.std.specs.Prelude.{codes, is_some, option_map}
+use Rattle.std.proofs.Common.{◌≡◌, ℕ, true, List, [], Option, Some, None, Result, Ok, Err, IfErr, IsErrAnd, refl, ap, subst, sym, ◌∙◌, inl, inr}
+use Rattle.std.specs.Prelude.{codes, is_some, option_map, unwrap_or}
 use Rattle.std.specs.Borrow.{Bor}
-use Rattle.clap.proofs.WalkLemmas.{first_value-rows}
+use Rattle.std.specs.Box.{box_value}
+use Rattle.std.specs.Str.Parse.{ParsesUnsigned, ExplainsUnsignedError, HasUnsignedDigitsIfOk}
+use Rattle.clap.proofs.WalkLemmas.{first_value-rows, one_text-rows}
+use Rattle.clap.specs.Matches.{ReadsOne}
+use Rattle.clap.specs.declared.parser.matches.ArgMatches.TheViews.{out-ArgMatches, out-SubCommand}
 use Rattle.clap.specs.declared.parser.matches.ArgMatches.{ArgMatches}
 use Rattle.clap.specs.declared.parser.matches.Found.{Found}
-use Rattle.clap.specs.Words.{App, HasKind, HasMatchesOf, Row, Text, fault_of, first_of, first_value, is_simple_and_free, is_simple, rows_of, subcommand_of, subcommand_rows_of}
+use Rattle.clap.specs.Words.{App, HasKind, HasMatchesOf, Row, Text, fault_of, first_of, first_value, found_of, is_simple_and_free, is_simple, one_of, one_text, rows_of, subcommand_name_of, subcommand_of, subcommand_rows_of}
 use Rattle.clap.specs.declared.error.Error.{Error}
-use Rattle.trace_cli.specs.CommandLine.{IsLineFaultOf, LineValue, judge, line_of, program_app}
+use Rattle.trace_cli.specs.CommandLine.{IsLineFaultOf, LineValue, judge, line_of, number_of, program_app, run}
 use Rattle.trace_cli.specs.declared.command_line.Line.{Line}
 use Rattle.trace_cli.specs.declared.command_line.LineFault.{LineFault}
 use Rattle.trace_cli.specs.declared.command_line.LineFault.TheVariants.{Usage, NoMemory}
+use Rattle.trace_cli.proofs.LeafWalk.{HasMatches}
 use Rattle.trace_cli.proofs.LineWalk.{ReadsAs, words_read}
+use Rattle.trace_cli.proofs.Numbers.{reads_number}
 
 pub if_err : (r : Result Line LineFault) (P Q : LineFault → Type 0) → ((fault : LineFault) → P fault → Q fault) → IsErrAnd r P → IfErr r Q
 if_err (Ok line) P Q f h = tt
@@ -32,20 +38,24 @@ pub only_memory : (words : List Text) (e : Error) (fault : LineFault) → HasKin
     → is_some (line_of words) ≡ true → fault ≡ NoMemory
 only_memory words e fault has is some = memory_alone e fault (rw (faultless words (line_of words) (words_read words) some) at has) is
 
--- the values that a parse gave, and the line
-pub record HasLine (words : List Text) (rows : List Row) : Type 0 where
-  pub perms : Text
-  pub name : Text
-  pub line : line_of words ≡ Some (judge perms name)
-  pub perms_row : first_of (codes "PERMS") rows ≡ Some perms
-  pub name_row : first_of (codes "NAME") rows ≡ Some name
+-- the line of the words, and the matches of its command
+pub record HasLine (words : List Text) (command : Text) (rows : List Row) : Type 0 where
+  pub line : LineValue
+  pub line_is : line_of words ≡ Some line
+  pub matches : HasMatches command rows line
 
-line_entered : (words : List Text) (rows : List Row) (line : Option LineValue) → line_of words ≡ line → ReadsAs words line
-    → fault_of program_app words ≡ [] → option_map (λ p. p.1) (subcommand_of program_app words) ≡ Some rows → HasLine words rows
-line_entered words rows None e h quiet entered = absurd (h quiet)
-line_entered words rows (Some (judge perms name)) e h quiet entered =
-    let same : h.1.0 ≡ rows = cc (rw h.1.1 at entered) in
-    record { perms = perms; name = name; line = e; perms_row = rw (← same) h.1.2.0; name_row = rw (← same) h.1.2.1 }
+same_pair : (o : Option (Text × List Row)) (name command : Text) (found rows : List Row) → o ≡ Some (name, found) → o ≡ Some (command, rows)
+    → (name ≡ command) × (found ≡ rows)
+same_pair o name command found rows e h =
+    let same : Some (name, found) ≡ Some (command, rows) = sym e ∙ h in
+    (ap (λ (o : Option (Text × List Row)). (unwrap_or o (name, found)).0) same, ap (λ (o : Option (Text × List Row)). (unwrap_or o (name, found)).1) same)
+
+line_entered : (words : List Text) (command : Text) (rows : List Row) (line : Option LineValue) → line_of words ≡ line → ReadsAs words line
+    → fault_of program_app words ≡ [] → subcommand_of program_app words ≡ Some (command, rows) → HasLine words command rows
+line_entered words command rows None e h quiet entered = absurd (h quiet)
+line_entered words command rows (Some line) e h quiet entered =
+    let same = same_pair (subcommand_of program_app words) h.1.0 command h.1.1 rows h.1.2 entered in
+    record { line = line; line_is = e; matches = subst (λ found. HasMatches command found line) same.1 (subst (λ name. HasMatches name h.1.1 line) same.0 h.1.3) }
 
 -- the program's commands are of those whose matches clap states
 is_exact : is_simple_and_free program_app ≡ true
@@ -54,14 +64,74 @@ is_exact = refl
 is_plain : is_simple program_app ≡ true
 is_plain = refl
 
+abbrev paired : {B : Type 0} → (B → Text) → (B → List Row) → B → Text × List Row
+paired name_of rows_in b = (name_of b, rows_in b)
+
+-- the name of a command and its matches, from each of them
+pair_of : {B : Type 0} (o : Option B) (name_of : B → Text) (rows_in : B → List Row) (command : Text) (rows : List Row) → Some command ≡ option_map name_of o
+    → Some rows ≡ option_map (λ p. p.1) (option_map (paired name_of rows_in) o) → option_map (paired name_of rows_in) o ≡ Some (command, rows)
+pair_of None name_of rows_in command rows name found = absurd (cc name)
+pair_of (Some b) name_of rows_in command rows name found =
+    let same_name : name_of b ≡ command = cc name in
+    let same_rows : rows_in b ≡ rows = cc found in
+    rw (same_name, same_rows) refl
+
+command_rows : (m : ArgMatches) (command : Text) (rows : List Row) → Some command ≡ subcommand_name_of m
+    → Some rows ≡ option_map (λ p. p.1) (subcommand_rows_of m) → subcommand_rows_of m ≡ Some (command, rows)
+command_rows m command rows name found =
+    pair_of (out-ArgMatches m).subcommand (λ b. (out-SubCommand (box_value b)).name.now) (λ b. rows_of (found_of (out-SubCommand (box_value b)).matches))
+    command rows name found
+
 -- what a parse that succeeded says of the words
-pub entered_line : (app : App) (words : List Text) (m : ArgMatches) (rows : List Row) → app ≡ program_app
+pub entered_line : (app : App) (words : List Text) (m : ArgMatches) (command : Text) (rows : List Row) → app ≡ program_app
     → (is_simple_and_free app ≡ true → fault_of app words ≡ []) → HasMatchesOf app words m
-    → Some rows ≡ option_map (λ p. p.1) (subcommand_rows_of m) → HasLine words rows
-entered_line app words m rows e quiet matches entered =
+    → Some command ≡ subcommand_name_of m → Some rows ≡ option_map (λ p. p.1) (subcommand_rows_of m) → HasLine words command rows
+entered_line app words m command rows e quiet matches name found =
     let none : fault_of program_app words ≡ [] = sym (ap (λ (a : App). fault_of a words) e) ∙ quiet (rw e is_exact) in
     let sub : subcommand_rows_of m ≡ subcommand_of program_app words = (matches (rw e is_plain)).1 ∙ ap (λ (a : App). subcommand_of a words) e in
-    line_entered words rows (line_of words) refl (words_read words) none (ap (option_map (λ p. p.1)) (sym sub) ∙ sym entered)
+    line_entered words command rows (line_of words) refl (words_read words) none (sym sub ∙ command_rows m command rows name found)
+
+-- ---- the line, by the name of its command
+
+pub record HasJudge (words : List Text) (rows : List Row) : Type 0 where
+  pub perms : Text
+  pub name : Text
+  pub line : line_of words ≡ Some (judge perms name)
+  pub perms_row : first_of (codes "PERMS") rows ≡ Some perms
+  pub name_row : first_of (codes "NAME") rows ≡ Some name
+
+pub record HasRun (words : List Text) (rows : List Row) : Type 0 where
+  pub capacity : ℕ
+  pub line : line_of words ≡ Some (run capacity)
+  pub text : Text
+  pub text_row : one_of (codes "capacity") rows ≡ Some text
+  pub number : number_of text ≡ Some capacity
+
+judge_from : (words : List Text) (command : Text) (rows : List Row) (line : LineValue) → line_of words ≡ Some line → HasMatches command rows line
+    → command ≡ codes "judge" → HasJudge words rows
+judge_from words command rows (judge perms name) is h _ = record { perms = perms; name = name; line = is; perms_row = h.1; name_row = h.2 }
+judge_from words command rows (run capacity) is h e = absurd (cc (h.0, e))
+
+pub judge_line : (words : List Text) (command : Text) (rows : List Row) → HasLine words command rows → command ≡ codes "judge" → HasJudge words rows
+judge_line words command rows h e = judge_from words command rows h.line h.line_is h.matches e
+
+run_from : (words : List Text) (command : Text) (rows : List Row) (line : LineValue) → line_of words ≡ Some line → HasMatches command rows line
+    → command ≡ codes "run" → HasRun words rows
+run_from words command rows (judge perms name) is h e = absurd (cc (h.0, e))
+run_from words command rows (run capacity) is h _ =
+    record { capacity = capacity; line = is; text = h.1.0; text_row = h.1.1; number = h.1.2 }
+
+pub run_line : (words : List Text) (command : Text) (rows : List Row) → HasLine words command rows → command ≡ codes "run" → HasRun words rows
+run_line words command rows h e = run_from words command rows h.line h.line_is h.matches e
+
+known_from : (command : Text) (rows : List Row) (line : LineValue) → HasMatches command rows line → (command ≡ codes "judge" → ⊥) → (command ≡ codes "run" → ⊥) → ⊥
+known_from command rows (judge perms name) h no_judge no_run = no_judge h.0
+known_from command rows (run capacity) h no_judge no_run = no_run h.0
+
+-- there is no third command
+pub known_command : (words : List Text) (command : Text) (rows : List Row) → HasLine words command rows
+    → (command ≡ codes "judge" → ⊥) → (command ≡ codes "run" → ⊥) → ⊥
+known_command words command rows h no_judge no_run = known_from command rows h.line h.matches no_judge no_run
 
 -- what a parse that failed says of the words
 pub refused_line : (app : App) (words : List Text) (e : Error) (r : Result Line LineFault) → app ≡ program_app
@@ -79,3 +149,11 @@ value_in (Some s) value e = (s, refl, cc e)
 pub value_given : (f : Found) (id value : Text) (r : Option (Bor Text)) → option_map (λ s. s.now) r ≡ first_value f id → first_of id (rows_of f) ≡ Some value
     → (s : Bor Text) × (r ≡ Some s) × (s.now ≡ value)
 value_given f id value r e row = value_in r value (e ∙ first_value-rows f id ∙ row)
+
+-- the number that `get_one` gives
+pub capacity_given : (f : Found) (text : Text) (n : ℕ) (r : Option ℕ) → one_of (codes "capacity") (rows_of f) ≡ Some text → number_of text ≡ Some n
+    → ((t : Text) → one_text f (codes "capacity") ≡ Some t
+    → ReadsOne (λ bs x. ParsesUnsigned 32 10 bs x × ExplainsUnsignedError 10 bs x × HasUnsignedDigitsIfOk bs x) t r) → r ≡ Some n
+capacity_given f text n r row number reads =
+    reads_number (λ bs x. ParsesUnsigned 32 10 bs x × ExplainsUnsignedError 10 bs x × HasUnsignedDigitsIfOk bs x) text n r (λ u x h. h.0) number
+    (reads text (one_text-rows f (codes "capacity") ∙ row))

@@ -46,7 +46,7 @@ unread perms name text ask f e (inl h) = rw h (good_arguments perms name text as
 unread perms name text ask f e (inr h) = rw h (good_arguments perms name text ask e)
 
 -- nothing more was written
-appends_nothing : (known : Option (List ℕ)) → Appends known known []
+pub appends_nothing : (known : Option (List ℕ)) → Appends known known []
 appends_nothing None = tt
 appends_nothing (Some xs) = search rules
 

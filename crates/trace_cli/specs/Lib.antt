@@ -4,3 +4,14 @@ pub mod Streams
 pub mod Fault
 pub mod CommandLine
 pub mod Program
+pub mod Script
+pub mod Published
+pub mod Opening
+pub mod RunOutput
+pub mod Bench
+pub mod Deeds
+pub mod PolicyChanges
+pub mod Policy
+pub mod Judging
+pub mod Line
+pub mod Following

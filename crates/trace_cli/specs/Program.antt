@@ -1,8 +1,9 @@
 -- What a run of the program comes to, by its words and the text on standard input.
-use Rattle.std.specs.Prelude.{◌≡◌, ◌⊎◌, ℕ, Bool, true, List, Option, Some, None, codes, is_err, ⊤}
+use Rattle.std.specs.Prelude.{◌≡◌, ◌⊎◌, ℕ, Bool, true, false, List, Option, Some, None, codes, is_err, ⊤}
 use Rattle.std.specs.Io.KnownBytes.{Keeps, Appends}
-use Rattle.trace_cli.specs.CommandLine.{LineValue, judge}
+use Rattle.trace_cli.specs.CommandLine.{LineValue, judge, run}
 use Rattle.trace_cli.specs.Output.{ask_of, judge_output, line}
+use Rattle.trace_cli.specs.RunOutput.{RunEnds}
 use Rattle.trace_cli.specs.Streams.{Ends, Streams}
 use Rattle.trace_cli.specs.declared.status.Status.{Status}
 use Rattle.trace_cli.specs.declared.status.Status.TheVariants.{BadArguments, FaultsFailed, NoMemory}
@@ -24,13 +25,16 @@ pub record UsageEnds (streams : Streams) (status : Status) : Type 0 where
   pub answers : Keeps streams.answers_before streams.answers_after
   pub faults : TellsUsage streams.faults_before streams.faults_after status
 
--- How the program ends: as its command does, or for want of memory to read the words.
-abbrev pub ProgramEnds : Option LineValue → List ℕ → Streams → Status → Type 0
-ProgramEnds None text streams status = UsageEnds streams status
-ProgramEnds (Some (judge perms name)) text streams status =
+-- How the program ends: as its command does, or for want of memory to read the words. `left_before` and `left_after` are
+-- the reader's bytes.
+abbrev pub ProgramEnds : Option LineValue → List ℕ → Streams → Option (List ℕ) → Option (List ℕ) → Status → Type 0
+ProgramEnds None text streams left_before left_after status = UsageEnds streams status
+ProgramEnds (Some (judge perms name)) text streams left_before left_after status =
     Ends streams (judge_output perms name text) status ⊎ ((status ≡ NoMemory) × IsOutOfMemory streams)
+ProgramEnds (Some (run capacity)) text streams left_before left_after status = RunEnds streams left_before left_after capacity text status
 
 -- whether the words say that nothing is to be read
 abbrev pub reads_nothing : Option LineValue → Bool
 reads_nothing None = true
 reads_nothing (Some (judge perms name)) = is_err (ask_of perms name)
+reads_nothing (Some (run capacity)) = false

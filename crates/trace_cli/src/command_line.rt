@@ -1,10 +1,10 @@
 //! What the words of a command line ask for.
 ghost use Rattle.std.specs.Prelude.{◌≡◌, ◌↔◌, IfOk, IfErr, is_some, true, map};
 ghost use Rattle.clap.specs.Words.{app_of, kind_of};
-ghost use Rattle.trace_cli.specs.CommandLine.{line_of, line_value, IsLineFaultOf, line_fault_number, program_app};
+ghost use Rattle.trace_cli.specs.CommandLine.{line_of, line_value, IsLineFaultOf, line_fault_number, judge_app, run_app, program_app};
 
 use clap::error::ErrorKind;
-use clap::{Arg, Command};
+use clap::{Arg, Command, value_parser};
 use std::alloc::{AllocError, Global};
 use std::convert::AsStr;
 use thiserror::Error;
@@ -14,6 +14,8 @@ use thiserror::Error;
 pub enum Line<'a> {
     /// `judge PERMS NAME`
     Judge { perms: &'a str, name: &'a str },
+    /// `run --capacity N`
+    Run { capacity: u32 },
 }
 
 /// Why a command line can't be followed.
@@ -68,15 +70,37 @@ pub fn command_line<'a, S: AsStr>(alloc: Global, words: &'a [S]) -> Result<Line<
         is_some (line_of (map S.text words.now)) ≡ true → fault ≡ LineFault.NoMemory) }
 {
     let matches = program(alloc)?.try_get_matches_from(words)?;
-    let (_, arguments) = matches.subcommand().unwrap();
-    let perms = arguments.get_str("PERMS").unwrap();
-    let name = arguments.get_str("NAME").unwrap();
-    Ok(Line::Judge { perms, name })
+    let (command, arguments) = matches.subcommand().unwrap();
+    match command {
+        "judge" => {
+            let perms = arguments.get_str("PERMS").unwrap();
+            let name = arguments.get_str("NAME").unwrap();
+            Ok(Line::Judge { perms, name })
+        }
+        "run" => {
+            let capacity = arguments.get_one::<u32>("capacity").unwrap();
+            Ok(Line::Run { capacity })
+        }
+        _ => unreachable!(),
+    }
 }
 
-/// The commands of the program, and what they take.
+/// The commands of the program.
 fn program<'a>(alloc: Global) -> Result<Command<'a>, AllocError>
     ensures { IfOk result (λ command. app_of command ≡ program_app) }
+{
+    let judge = judge_command(alloc)?;
+    let run = run_command(alloc)?;
+    Command::new(alloc, "aa-trace")
+        .about("Judges names by profiles of file rules")
+        .subcommand_required(true)
+        .subcommand(judge)?
+        .subcommand(run)
+}
+
+/// What `judge` takes.
+fn judge_command<'a>(alloc: Global) -> Result<Command<'a>, AllocError>
+    ensures { IfOk result (λ command. app_of command ≡ judge_app) }
 {
     let perms = Arg::new(alloc, "PERMS").required(true).help(
         "The permissions that are asked, by their letters: r, w, l, k, m",
@@ -84,12 +108,23 @@ fn program<'a>(alloc: Global) -> Result<Command<'a>, AllocError>
     let name = Arg::new(alloc, "NAME")
         .required(true)
         .help("The name that is judged, from its first slash on");
-    let judge = Command::new(alloc, "judge")
+    Command::new(alloc, "judge")
         .about("Judges a name by the profile on standard input")
         .arg(perms)?
-        .arg(name)?;
-    Command::new(alloc, "aa-trace")
-        .about("Judges names by profiles of file rules")
-        .subcommand_required(true)
-        .subcommand(judge)
+        .arg(name)
+}
+
+/// What `run` takes.
+fn run_command<'a>(alloc: Global) -> Result<Command<'a>, AllocError>
+    ensures { IfOk result (λ command. app_of command ≡ run_app) }
+{
+    let capacity = Arg::new(alloc, "capacity")
+        .long("capacity")
+        .value_name("N")
+        .value_parser(value_parser!(u32).range(1..=16384))
+        .default_value("1024")
+        .help("The number of entries that the tree has room for, 1 to 16384");
+    Command::new(alloc, "run")
+        .about("Runs a script of tree changes, policies and opens on standard input")
+        .arg(capacity)
 }

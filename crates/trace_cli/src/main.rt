@@ -1,20 +1,29 @@
-//! `aa-trace`: reads a profile of file rules on standard input and says what it makes of a question.
+//! `aa-trace`: says what profiles of file rules make of names, and of opens in a directory tree.
 //!
-//! `aa-trace judge PERMS NAME` judges a name: it writes `allowed`, `denied by rule K` or `no rule for LETTERS`. Faults
-//! go to standard error, and the exit status is 0 for an answer, 2 for a bad command line, 3 for a refused text or
-//! stream, and 4 for want of memory.
+//! `aa-trace judge PERMS NAME` judges a name by the profile on standard input: it writes `allowed`, `denied by rule K` or
+//! `no rule for LETTERS`. `aa-trace run --capacity N` answers the script on standard input line by line: changes of a
+//! tree, profiles, and judged opens. Faults go to standard error, and the exit status is 0 for answers, 2 for a bad
+//! command line, 3 for a refused text or stream, and 4 for want of memory.
 #![tactic(auto)]
 
+mod bench;
 mod command_line;
+mod deeds;
 mod fault;
 mod judge;
+mod laws;
+mod opening;
+mod plain_bench;
+mod policy;
 mod program;
+mod rows;
+mod run;
 mod status;
 mod telling;
 
 use program::run_words;
 use status::Status;
-use std::io::ErrorKind;
+use std::io::{BufReader, ErrorKind, Input, Print, Write};
 use std::process::ExitCode;
 use std::rt::Env;
 use std::{env, io};
@@ -23,13 +32,7 @@ use telling::fail;
 fn main(rt: HostRuntime) -> ExitCode {
     let mut faults = rt.stderr();
     let status = match words(&rt) {
-        Ok(words) => run_words(
-            rt.alloc(),
-            &words,
-            &mut rt.reader(),
-            &mut io::writer(&rt),
-            &mut faults,
-        ),
+        Ok(words) => run_on_streams(&rt, &words, &mut faults),
         Err(error) if error.kind() == ErrorKind::OutOfMemory => {
             fail(&mut faults, "no memory", Status::NoMemory)
         }
@@ -40,6 +43,18 @@ fn main(rt: HostRuntime) -> ExitCode {
         ),
     };
     ExitCode::from(status.code())
+}
+
+/// Does what the words ask for, on standard input and output.
+fn run_on_streams<R: Input + Print + AllocGlobal, F: Write>(
+    rt: &R,
+    words: &[String],
+    faults: &mut F,
+) -> Status {
+    match BufReader::new(rt.alloc(), rt.reader()) {
+        Ok(mut input) => run_words(rt.alloc(), words, &mut input, &mut io::writer(rt), faults),
+        Err(_) => fail(faults, "no memory", Status::NoMemory),
+    }
 }
 
 /// The words of the command line, the program's name first.

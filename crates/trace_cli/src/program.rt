@@ -7,14 +7,15 @@ ghost use Rattle.trace_cli.specs.Streams.{IsTextOf};
 
 use crate::command_line::{Line, LineFault, command_line};
 use crate::judge::judge;
+use crate::run::run;
 use crate::status::Status;
 use crate::telling::fail;
 use std::alloc::Global;
 use std::convert::AsStr;
-use std::io::{Read, Write};
+use std::io::{BufRead, Write};
 
 /// Does what the words ask for, of which the first is the program's name. A fault is told on `faults`.
-pub fn run_words<S: AsStr, R: Read, A: Write, F: Write>(
+pub fn run_words<S: AsStr, R: BufRead, A: Write, F: Write>(
     alloc: Global,
     words: &[S],
     input: &mut R,
@@ -28,12 +29,13 @@ pub fn run_words<S: AsStr, R: Read, A: Write, F: Write>(
           answers_after = A.contents answers.new;
           faults_before = F.contents faults.old;
           faults_after = F.contents faults.new;
-        }) result }
+        }) (R.remaining input.old) (R.remaining input.new) result }
     ensures unread { reads_nothing (line_of (map S.text words.now)) ≡ true
         → Keeps (R.remaining input.old) (R.remaining input.new) }
 {
     match command_line(alloc, words) {
         Ok(Line::Judge { perms, name }) => judge(alloc, perms, name, input, answers, faults),
+        Ok(Line::Run { capacity }) => run(alloc, capacity, input, answers, faults),
         Err(LineFault::Usage(error)) => tell_usage(alloc, faults, &error),
         Err(LineFault::NoMemory) => fail(faults, "no memory", Status::NoMemory),
     }

@@ -3,8 +3,11 @@ use crate::program::run_words;
 use crate::status::Status;
 use std::alloc::Global;
 use std::io;
-use std::io::{ErrorKind, Read, Write};
+use std::io::{BufReader, ErrorKind, Read, Write};
 use std::test::Fail;
+
+mod benches;
+mod scripts;
 
 const PASSWD: &str = "profile passwd {\n  /etc/passwd r,\n}\n";
 
@@ -107,7 +110,7 @@ fn verdicts_and_refusals(rt: HostRuntime) {
 }
 
 #[test]
-fn readers_that_fail(rt: HostRuntime) {
+fn readers_that_fail(rt: HostRuntime) -> Result<(), Fail> {
     let words = ["aa-trace", "judge", "r", "/etc/passwd"];
     let broken = ErrorKind::BrokenPipe;
     let cases = [
@@ -118,12 +121,13 @@ fn readers_that_fail(rt: HostRuntime) {
     ];
     for (piece, reads, error, code, answer, fault) in cases {
         let left = PASSWD.as_bytes();
-        let mut input = Pieces {
+        let pieces = Pieces {
             left,
             piece,
             reads,
             error,
         };
+        let mut input = BufReader::new(rt.alloc(), pieces)?;
         let mut answers = Vec::new(rt.alloc());
         let mut faults = Vec::new(rt.alloc());
         let status = run_words(rt.alloc(), &words, &mut input, &mut answers, &mut faults);
@@ -131,6 +135,7 @@ fn readers_that_fail(rt: HostRuntime) {
         assert!(rt; answers.as_slice() == answer.as_bytes(), "{piece} {reads}");
         assert!(rt; faults.as_slice() == fault.as_bytes(), "{piece} {reads}");
     }
+    Ok(())
 }
 
 #[test]
@@ -211,6 +216,84 @@ fn lines_that_are_followed(rt: HostRuntime) -> Result<(), Fail> {
     };
     let words = ["aa-trace", "judge", "--", "-r", "--"];
     assert_eq!(rt; command_line(rt.alloc(), &words).ok(), Some(escaped));
+    Ok(())
+}
+
+#[test]
+fn run_lines_that_are_followed(rt: HostRuntime) {
+    let cases: [(&[&str], u32); 13] = [
+        (&[], 1024),
+        (&["--"], 1024),
+        (&["--capacity", "1"], 1),
+        (&["--capacity=1"], 1),
+        (&["--capacity", "16384"], 16384),
+        (&["--capacity=16384"], 16384),
+        (&["--capacity", "5", "--"], 5),
+        (&["--capacity=5", "--"], 5),
+        (&["--capacity", "+5"], 5),
+        (&["--capacity=+5"], 5),
+        (&["--capacity", "007"], 7),
+        (&["--capacity=007"], 7),
+        (&["--capacity", "+0000000000000000000000016384"], 16384),
+    ];
+    for (options, capacity) in cases {
+        let mut words = Vec::new(rt.alloc());
+        words.push("aa-trace").expect(&rt, "memory");
+        words.push("run").expect(&rt, "memory");
+        words.extend_from_slice(options).expect(&rt, "memory");
+        let line = command_line(rt.alloc(), words.as_slice()).ok();
+        assert_eq!(rt; line, Some(Line::Run { capacity }), "{capacity}");
+    }
+}
+
+#[test]
+fn run_lines_that_are_not_followed(rt: HostRuntime) -> Result<(), Fail> {
+    let cases: [&[&str]; 32] = [
+        &["--capacity"],
+        &["--capacity="],
+        &["--capacity", ""],
+        &["--capacity", "--"],
+        &["--capacity", "--", "5"],
+        &["--capacity", "0"],
+        &["--capacity=0"],
+        &["--capacity=+0"],
+        &["--capacity=00"],
+        &["--capacity", "16385"],
+        &["--capacity=16385"],
+        &["--capacity=4294967297"],
+        &["--capacity=18446744073709551617"],
+        &["--capacity", "-5"],
+        &["--capacity=-5"],
+        &["--capacity=++5"],
+        &["--capacity=+"],
+        &["--capacity", "-"],
+        &["--capacity=five"],
+        &["--capacity=0x5"],
+        &["--capacity=5 "],
+        &["--capacity==5"],
+        &["--capacity=5", "--capacity=5"],
+        &["--capacity", "5", "--capacity", "5"],
+        &["--capacity=5", "--capacity"],
+        &["--capacit=5"],
+        &["-c", "5"],
+        &["-"],
+        &["5"],
+        &["--capacity=5", "/x"],
+        &["--", "--"],
+        &["--help"],
+    ];
+    for options in cases {
+        let mut words = Vec::new(rt.alloc());
+        words.push("aa-trace")?;
+        words.push("run")?;
+        words.extend_from_slice(options)?;
+        let line = command_line(rt.alloc(), words.as_slice());
+        let count = options.len();
+        assert!(rt; matches!(&line, Err(LineFault::Usage(_))), "{count}");
+        let (status, answers, _) = run(rt.alloc(), words.as_slice(), "");
+        assert_eq!(rt; status, Status::BadArguments, "{count}");
+        assert!(rt; answers.is_empty());
+    }
     Ok(())
 }
 
@@ -323,6 +406,22 @@ fn usage_and_help(rt: HostRuntime) {
         <NAME>   The name that is judged, from its first slash on\n\nOptions:\n  \
         -h, --help  Print help\n";
     let (status, answers, faults) = run(rt.alloc(), &["aa-trace", "judge", "--help"], PASSWD);
+    assert_eq!(rt; status, Status::BadArguments);
+    assert!(rt; answers.is_empty() && faults.as_slice() == help.as_bytes());
+}
+
+#[test]
+fn usage_and_help_of_run(rt: HostRuntime) {
+    let usage = "error: invalid value '0' for '--capacity <N>': 0 is not in 1..=16384\n\n\
+        For more information, try '--help'.\n";
+    let (status, answers, faults) = run(rt.alloc(), &["aa-trace", "run", "--capacity=0"], "");
+    assert_eq!(rt; status, Status::BadArguments);
+    assert!(rt; answers.is_empty() && faults.as_slice() == usage.as_bytes());
+    let help = "Runs a script of tree changes, policies and opens on standard input\n\n\
+        Usage: aa-trace run [OPTIONS]\n\nOptions:\n      \
+        --capacity <N>  The number of entries that the tree has room for, 1 to 16384 [default: 1024]\n  \
+        -h, --help          Print help\n";
+    let (status, answers, faults) = run(rt.alloc(), &["aa-trace", "run", "--help"], "");
     assert_eq!(rt; status, Status::BadArguments);
     assert!(rt; answers.is_empty() && faults.as_slice() == help.as_bytes());
 }

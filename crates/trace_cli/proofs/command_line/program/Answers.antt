@@ -1,22 +1,37 @@
-use Rattle.std.proofs.Common.{◌≡◌, ◌∙◌, ap, ap₂, rules, codes, true}
+use Rattle.std.proofs.Common.{◌≡◌, ◌∙◌, Bool, ap, ap₂, codes, true, false, not, refl, sym}
 use Rattle.std.proofs.lemmas.Result.{IfOk-weaker}
-use Rattle.clap.specs.Words.{App, app_of, new_app, rule_of, with_rule, with_subcommand}
+use Rattle.clap.proofs.WalkLemmas.{both}
+use Rattle.clap.specs.Words.{App, app_of, new_app, with_subcommand}
 use Rattle.clap.specs.Simple.{app_of_fields}
-use Rattle.trace_cli.specs.CommandLine.{judge_app, required_rule}
+use Rattle.clap.specs.declared.builder.command.Command.{Command}
+use Rattle.clap.specs.declared.builder.command.Command.TheViews.{out-Command}
+use Rattle.trace_cli.specs.CommandLine.{judge_app, run_app}
 use Rattle.trace_cli.proofs.command_line.program.Goals as goal
 
--- of a program with a subcommand, that it has to be given
+-- of a program with subcommands, that one of them has to be given
 abbrev subcommand_wanted : App → App
 subcommand_wanted a = record a { top = record a.top { subcommand_required = true } }
 
+is_false : (b : Bool) → not b ≡ true → b ≡ false
+is_false true e = sym e
+is_false false e = refl
+
+-- a plain command has no global argument
+is_local : (c : Command) (a : App) → app_of c ≡ a → a.top.is_plain ≡ true → (out-Command c).has_globals ≡ false
+is_local c a is plain =
+    let plain_too : (app_of c).top.is_plain ≡ true = ap (λ (x : App). x.top.is_plain) is ∙ plain in
+    let behind_groups = both _ _ plain_too in
+    let behind_external = both _ _ behind_groups.1 in
+    is_false _ (both _ _ behind_external.1).0
+
 pub returns : goal.returns
 returns c =
-    let perms_is : rule_of c.help-perms.result ≡ required_rule (codes "PERMS") = search rules in
-    let name_is : rule_of c.help-name.result ≡ required_rule (codes "NAME") = search rules in
-    let bare : app_of c.about.result ≡ new_app (codes "judge") = ap app_of_fields c.about.ensures ∙ c.new-3.ensures.app in
-    let judge_is : app_of c.in_ok-judge.judge ≡ judge_app = c.in_ok-judge.ensures.shape (search rules)
-    ∙ ap₂ with_rule (c.in_ok-arg.ensures.shape (search rules) ∙ ap₂ with_rule bare perms_is) name_is in
-    let bare_program : app_of c.about-2.result ≡ new_app (codes "aa-trace") = ap app_of_fields c.about-2.ensures ∙ c.new-4.ensures.app in
-    let program : app_of c.subcommand_required.result ≡ subcommand_wanted (new_app (codes "aa-trace")) =
-    ap app_of_fields c.subcommand_required.ensures ∙ ap subcommand_wanted bare_program in
-    IfOk-weaker c.subcommand.result _ _ (λ command h. h.shape (search rules) ∙ ap₂ with_subcommand program (ap (λ (a : App). a.top) judge_is)) c.subcommand.ensures
+    let judge_is : app_of c.in_ok-judge.judge ≡ judge_app = c.in_ok-judge.ensures in
+    let run_is : app_of c.in_ok-run.run' ≡ run_app = c.in_ok-run.ensures in
+    let bare : app_of c.about.result ≡ new_app (codes "aa-trace") = ap app_of_fields c.about.ensures ∙ c.new.ensures.app in
+    let wanted : app_of c.subcommand_required.result ≡ subcommand_wanted (new_app (codes "aa-trace")) =
+    ap app_of_fields c.subcommand_required.ensures ∙ ap subcommand_wanted bare in
+    let with_judge : app_of c.in_ok-subcommand.field-0 ≡ with_subcommand (subcommand_wanted (new_app (codes "aa-trace"))) judge_app.top =
+    c.in_ok-subcommand.ensures.shape (is_local _ judge_app judge_is refl) ∙ ap₂ with_subcommand wanted (ap (λ (a : App). a.top) judge_is) in
+    IfOk-weaker c.subcommand-2.result _ _
+    (λ command h. h.shape (is_local _ run_app run_is refl) ∙ ap₂ with_subcommand with_judge (ap (λ (a : App). a.top) run_is)) c.subcommand-2.ensures

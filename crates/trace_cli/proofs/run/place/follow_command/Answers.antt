@@ -1,0 +1,34 @@
+use Rattle.std.proofs.Common.{◌≡◌, [], Err, refl, rules}
+use Rattle.trace_cli.proofs.Judging.{appends_nothing}
+use Rattle.trace_cli.proofs.Following.{outside_says, answered_whole, printed_stop}
+use Rattle.trace_cli.specs.Following.{silent_line, printed_line}
+use Rattle.trace_cli.specs.RunOutput.{printed}
+use Rattle.trace_cli.specs.Script.{outside, within, nothing, opens_policy, command}
+use Rattle.trace_cli.specs.Line.{command_value}
+use Rattle.trace_cli.proofs.run.place.follow_command.Goals as goal
+
+pub returns-in-Nothing : goal.returns-in-Nothing
+returns-in-Nothing g c =
+    let known = g.B.Bench.known c.args.bench.now in
+    (silent_line known outside, outside_says known c.args.number c.args.line.now nothing c.in-Nothing.ensures, refl, refl, appends_nothing (g.A.Write.contents c.args.answers.now))
+
+pub returns-in-OpensPolicy : goal.returns-in-OpensPolicy
+returns-in-OpensPolicy g c =
+    let known = g.B.Bench.known c.args.bench.now in
+    (silent_line known (within c.args.number []), outside_says known c.args.number c.args.line.now opens_policy c.in-OpensPolicy.ensures, rw c.new.ensures.items refl, refl, appends_nothing (g.A.Write.contents c.args.answers.now))
+
+pub returns-in_ok-answer_command-in-Command : goal.returns-in_ok-answer_command-in-Command
+returns-in_ok-answer_command-in-Command g c =
+    let known = g.B.Bench.known c.args.bench.now in
+    let p = printed known (command_value c.in-Command.command) in
+    let done = c.in_ok-answer_command-in-Command.ensures in
+    let whole = answered_whole p _ _ _ done.0 done.1 in
+    (printed_line p, outside_says known c.args.number c.args.line.now (command (command_value c.in-Command.command)) c.in-Command.ensures, refl, whole.0, whole.1)
+
+pub returns-in_err-answer_command-in-Command : goal.returns-in_err-answer_command-in-Command
+returns-in_err-answer_command-in-Command g c =
+    let known = g.B.Bench.known c.args.bench.now in
+    let p = printed known (command_value c.in-Command.command) in
+    let told : c.from_residual.result ≡ Err c.in_err-answer_command-in-Command.field-0.0 = search rules in
+    let says = outside_says known c.args.number c.args.line.now (command (command_value c.in-Command.command)) c.in-Command.ensures in
+    rw told (printed_stop p (g.B.Bench.known c.answer_command.new.bench) _ _ _ c.in_err-answer_command-in-Command.field-0.0 says c.in_err-answer_command-in-Command.ensures)

@@ -1,0 +1,8 @@
+-- What was judged.
+use Rattle.std.specs.Prelude.{ℕ, List, take}
+use Rattle.trace_cli.specs.declared.opening.Judged as code
+use Rattle.trace_cli.specs.Opening.{Judged}
+
+-- a file that was judged, with its name at the front of a room
+abbrev pub judged_of : List ℕ → code.Judged → Judged
+judged_of room j = record { name = take j.name_length room; node = j.node; verdict = j.verdict }

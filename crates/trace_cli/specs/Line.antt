@@ -1,0 +1,24 @@
+-- What the parts of a line that was read stand for.
+use Rattle.trace_cli.specs.declared.run.line.Said.{Said as SaidHere}
+use Rattle.trace_cli.specs.declared.run.line.Said.TheVariants as here
+use Rattle.trace_cli.specs.declared.run.line.Command.{Command as CommandHere}
+use Rattle.trace_cli.specs.declared.run.line.Command.TheVariants.{Remove, Alter, JudgeOpen}
+use Rattle.trace_cli.specs.declared.run.line.ChangeWords.{ChangeWords as ChangeWordsHere}
+use Rattle.trace_cli.specs.declared.run.line.ChangeWords.TheVariants.{Mkdir, Create, Rename}
+use Rattle.trace_cli.specs.Script.{ChangeWords, Command, Said, mkdir, create, rename, remove, alter, judge_open, nothing, opens_policy, command, no_command}
+
+abbrev pub change_words : ChangeWordsHere → ChangeWords
+change_words (Mkdir path) = mkdir path.now
+change_words (Create path) = create path.now
+change_words (Rename old new) = rename old.now new.now
+
+abbrev pub command_value : CommandHere → Command
+command_value (Remove name) = remove name.now
+command_value (Alter words) = alter (change_words words)
+command_value (JudgeOpen profile path ask) = judge_open profile.now path.now ask
+
+abbrev pub said_value : SaidHere → Said
+said_value here.Nothing = nothing
+said_value here.OpensPolicy = opens_policy
+said_value (here.Command c) = command (command_value c)
+said_value here.NoCommand = no_command

@@ -1,0 +1,146 @@
+-- What `run` writes, memory and failures of the streams aside: a line for each command of the script.
+use Rattle.std.specs.Prelude.{ℕ, ◌+◌, ◌≤◌, Option, List, [], ◌∷◌, ◌++◌, map, take, length, codes, decimal, Some, None, Result, Ok, Err}
+use Rattle.std.specs.List.{concat}
+use Rattle.std.specs.Io.KnownBytes.{Appends, Consumes}
+use Rattle.names.specs.declared.errors.Errno.{Errno}
+use Rattle.names.specs.Errors.{errno_text}
+use Rattle.path_walk.specs.declared.change.Change.{Change}
+use Rattle.path_walk.specs.declared.change.Change.TheVariants as tree
+use Rattle.path_walk.specs.Plain.{Plain, new_plain, tree_of, changed, outcome}
+use Rattle.path_walk.specs.Apply.{and_then}
+use Rattle.rule_text.specs.declared.fault.ReadFault.{ReadFault}
+use Rattle.rule_text.specs.Profile.{ProfileValue}
+use Rattle.rule_text.specs.Reading.{outcome_of}
+use Rattle.trace_cli.specs.declared.status.Status.{Status}
+use Rattle.trace_cli.specs.declared.status.Status.TheVariants.{Done, BadArguments, Refused, InputFailed, OutputFailed, FaultsFailed, NoMemory}
+use Rattle.trace_cli.specs.Output.{Output, line, refusal}
+use Rattle.trace_cli.specs.Streams.{Streams, IsWritten, AppendsFront}
+use Rattle.trace_cli.specs.Script.{ChangeWords, Command, Script, mkdir, create, rename, publish, remove, alter, judge_open, script_of}
+use Rattle.trace_cli.specs.Published.{Deed, published, removed, policy_after}
+use Rattle.trace_cli.specs.Opening.{path_of, answered_by, answered_text}
+
+-- What a script has done so far: accepted changes of the tree, with its capacity, and changes of the policy.
+pub record Known : Type 0 where
+  pub tree : Plain
+  pub deeds : List Deed
+
+abbrev pub new_known : ℕ → Known
+new_known capacity = record { tree = new_plain capacity; deeds = [] }
+
+abbrev pub with_deed : Known → Deed → Known
+with_deed known deed = record known { deeds = known.deeds ++ deed ∷ [] }
+
+abbrev pub with_change : Known → Change → Known
+with_change known c = record known { tree = changed known.tree c }
+
+-- the versions: how many changes there were, of the tree and of the policy
+abbrev pub tree_version : Known → ℕ
+tree_version known = length known.tree.history
+
+abbrev pub policy_version : Known → ℕ
+policy_version known = length known.deeds
+
+-- a line that is printed, and what is known then
+pub record Printed : Type 0 where
+  pub text : List ℕ
+  pub known : Known
+
+-- a change with checked paths, or the first fault of a path, the old one's before the new one's
+abbrev pub change_of : ChangeWords → Result Change Errno
+change_of (mkdir path) = and_then (path_of path) (λ p. Ok (tree.Mkdir p))
+change_of (create path) = and_then (path_of path) (λ p. Ok (tree.Create p))
+change_of (rename old new) = and_then (path_of old) (λ a. and_then (path_of new) (λ b. Ok (tree.Rename a b)))
+
+-- `ok V`, with the tree's new version, or why the change is refused
+abbrev pub change_printed : Known → Result Change Errno → Printed
+change_printed known (Err errno) = record { text = errno_text errno; known = known }
+change_printed known (Ok c) = elim (outcome known.tree c) [
+  | Ok t ↦ record { text = codes "ok " ++ decimal (tree_version known + 1); known = with_change known c }
+  | Err errno ↦ record { text = errno_text errno; known = known }
+]
+
+-- `policy NAME version V`, with the policy's new version, or `policy refused: read N at OFFSET`
+abbrev pub policy_printed : Known → Result ProfileValue ReadFault → Printed
+policy_printed known (Ok profile) = record {
+  text = codes "policy " ++ profile.name ++ codes " version " ++ decimal (policy_version known + 1);
+  known = with_deed known (published profile);
+}
+policy_printed known (Err fault) = record { text = codes "policy " ++ refusal fault; known = known }
+
+-- `policy NAME removed version V`, whether or not there was such a profile
+abbrev pub drop_printed : Known → List ℕ → Printed
+drop_printed known name = record {
+  text = codes "policy " ++ name ++ codes " removed version " ++ decimal (policy_version known + 1);
+  known = with_deed known (removed name);
+}
+
+abbrev pub printed : Known → Command → Printed
+printed known (publish text) = policy_printed known (outcome_of text)
+printed known (remove name) = drop_printed known name
+printed known (alter words) = change_printed known (change_of words)
+printed known (judge_open profile path ask) = record {
+  text = answered_text (answered_by (tree_of known.tree) (tree_version known) (policy_version known) path ask (policy_after known.deeds profile));
+  known = known;
+}
+
+-- one line for each command, by what the commands before it have done
+abbrev pub printed_lines : Known → List Command → List (List ℕ)
+printed_lines known [] = []
+printed_lines known (c ∷ cs) = (printed known c).text ∷ printed_lines (printed known c).known cs
+
+-- the bytes of lines, each with its line feed
+abbrev pub text_of_lines : List (List ℕ) → List ℕ
+text_of_lines lines = concat (map line lines)
+
+-- a script that runs to its end, or to a line that is no command
+abbrev pub script_output : Known → Script → Output
+script_output known script = elim (script.stopped) [
+  | None ↦ record { answers = text_of_lines (printed_lines known script.commands); faults = []; status = Done }
+  | Some number ↦ record {
+    answers = text_of_lines (printed_lines known script.commands);
+    faults = line (codes "line " ++ decimal number ++ codes ": not a command");
+    status = Refused;
+  }
+]
+
+abbrev pub run_output : ℕ → List ℕ → Output
+run_output capacity text = script_output (new_known capacity) (script_of text)
+
+-- the lines of all commands of a script
+abbrev pub run_lines : ℕ → List ℕ → List (List ℕ)
+run_lines capacity text = printed_lines (new_known capacity) (script_of text).commands
+
+-- Of what was taken from the reader, where that is known, all commands are answered but for the last one at most, if so
+-- many answers stand.
+abbrev pub AnswersRead : Option (List ℕ) → Option (List ℕ) → ℕ → Type 0
+AnswersRead left_before left_after count =
+    (read : List ℕ) × Consumes left_before left_after read × (length (script_of read).commands ≤ count + 1)
+
+-- the first lines stand whole, those of all commands that were read but the last, and why there are no more is told
+pub record IsBrokenOff (streams : Streams) (left_before left_after : Option (List ℕ)) (lines : List (List ℕ)) (told : List ℕ) : Type 0 where
+  pub count : ℕ
+  pub read : AnswersRead left_before left_after count
+  pub answers : Appends streams.answers_before streams.answers_after (text_of_lines (take count lines))
+  pub faults : Appends streams.faults_before streams.faults_after (line told)
+
+-- a line that couldn't be written whole: a front part of the answers stands
+pub record IsCut (streams : Streams) (output : Output) : Type 0 where
+  pub answers : AppendsFront streams.answers_before streams.answers_after output.answers
+  pub faults : Appends streams.faults_before streams.faults_after (line (codes "refused: output"))
+
+-- How a script ends that is answered when this is known. `left_before` and `left_after` are the reader's bytes.
+abbrev pub ScriptEnds : Streams → Option (List ℕ) → Option (List ℕ) → Known → List ℕ → Status → Type 0
+ScriptEnds streams left_before left_after known text Done = IsWritten streams (script_output known (script_of text)) Done
+ScriptEnds streams left_before left_after known text BadArguments = ⊥
+ScriptEnds streams left_before left_after known text Refused = IsWritten streams (script_output known (script_of text)) Refused
+ScriptEnds streams left_before left_after known text InputFailed =
+    IsBrokenOff streams left_before left_after (printed_lines known (script_of text).commands) (codes "refused: input")
+ScriptEnds streams left_before left_after known text NoMemory =
+    IsBrokenOff streams left_before left_after (printed_lines known (script_of text).commands) (codes "no memory")
+ScriptEnds streams left_before left_after known text OutputFailed = IsCut streams (script_output known (script_of text))
+ScriptEnds streams left_before left_after known text FaultsFailed =
+    AppendsFront streams.answers_before streams.answers_after (script_output known (script_of text)).answers
+
+-- How `run` ends. Bad arguments are found before.
+abbrev pub RunEnds : Streams → Option (List ℕ) → Option (List ℕ) → ℕ → List ℕ → Status → Type 0
+RunEnds streams left_before left_after capacity text status = ScriptEnds streams left_before left_after (new_known capacity) text status

@@ -1,0 +1,127 @@
+-- What a script says: its lines, their words, and the commands that they are. The grammar is our own.
+use Rattle.std.specs.Prelude.{ℕ, ◌+◌, ◌==◌, ◌||◌, Bool, not, List, [], ◌∷◌, ◌++◌, filter, length, slice_index, codes, Option, Some, None, bytes_eq, if◌then◌else◌}
+use Rattle.std.specs.List.{slice_split}
+use Rattle.names.specs.declared.permissions.Perms.{Perms}
+use Rattle.names.specs.Permissions.{perms_of}
+
+abbrev pub line_feed : ℕ
+line_feed = 10
+
+-- a byte more at the front of the first line
+abbrev pub onto_first_line : ℕ → List (List ℕ) → List (List ℕ)
+onto_first_line b [] = (b ∷ []) ∷ []
+onto_first_line b (line ∷ lines) = (b ∷ line) ∷ lines
+
+-- the lines of a text, without their line feeds; the last line may lack its line feed
+abbrev pub lines_of : List ℕ → List (List ℕ)
+lines_of [] = []
+lines_of (b ∷ text) = if b == line_feed then [] ∷ lines_of text else onto_first_line b (lines_of text)
+
+-- space and tab part words
+abbrev pub is_blank : ℕ → Bool
+is_blank b = (b == 32) || (b == 9)
+
+abbrev pub words_of : List ℕ → List (List ℕ)
+words_of line = filter (λ word. not (length word == 0)) (slice_split is_blank line)
+
+-- a change of the tree, by the words of its paths
+pub data ChangeWords : Type 0 where
+  mkdir : List ℕ → ChangeWords
+  create : List ℕ → ChangeWords
+  rename : List ℕ → List ℕ → ChangeWords
+
+pub data Command : Type 0 where
+  -- the text of a profile, which is published under the profile's name
+  publish : List ℕ → Command
+  -- the name of a profile that goes
+  remove : List ℕ → Command
+  -- a change of the tree
+  alter : ChangeWords → Command
+  -- a profile, the path that is opened, and what is asked
+  judge_open : List ℕ → List ℕ → Perms → Command
+
+-- what a line is, by itself
+pub data Said : Type 0 where
+  -- an empty line, or a comment
+  nothing : Said
+  -- `policy`: the lines from the next one on are a profile's text
+  opens_policy : Said
+  command : Command → Said
+  no_command : Said
+
+abbrev pub said_by_one : List ℕ → Said
+said_by_one word = if bytes_eq (codes "policy") word then opens_policy else no_command
+
+abbrev pub said_by_two : List ℕ → List ℕ → Said
+said_by_two word first =
+    if bytes_eq (codes "drop") word then command (remove first)
+    else (if bytes_eq (codes "mkdir") word then command (alter (mkdir first))
+    else (if bytes_eq (codes "create") word then command (alter (create first))
+    else no_command))
+
+abbrev pub said_by_three : List ℕ → List ℕ → List ℕ → Said
+said_by_three word first second = if bytes_eq (codes "rename") word then command (alter (rename first second)) else no_command
+
+abbrev pub opening : List ℕ → List ℕ → Option Perms → Said
+opening profile path None = no_command
+opening profile path (Some ask) = command (judge_open profile path ask)
+
+abbrev pub said_by_four : List ℕ → List ℕ → List ℕ → List ℕ → Said
+said_by_four word first second third = if bytes_eq (codes "open") word then opening first second (perms_of third) else no_command
+
+-- the first word begins with `#`
+abbrev pub is_comment : List ℕ → Bool
+is_comment word = slice_index word 0 == 35
+
+abbrev pub said_by : List (List ℕ) → Said
+said_by (a ∷ []) = said_by_one a
+said_by (a ∷ b ∷ []) = said_by_two a b
+said_by (a ∷ b ∷ c ∷ []) = said_by_three a b c
+said_by (a ∷ b ∷ c ∷ d ∷ []) = said_by_four a b c d
+said_by _ = no_command
+
+abbrev pub said : List (List ℕ) → Said
+said [] = nothing
+said (word ∷ words) = if is_comment word then nothing else said_by (word ∷ words)
+
+-- The commands of a script, up to its end or to a line that is no command, whose number then stands there. Lines are
+-- counted from 1.
+pub record Script : Type 0 where
+  pub commands : List Command
+  pub stopped : Option ℕ
+
+abbrev pub whole : Script
+whole = record { commands = []; stopped = None }
+
+abbrev pub stops_at : ℕ → Script
+stops_at number = record { commands = []; stopped = Some number }
+
+abbrev pub first_command : Command → Script → Script
+first_command c script = record { commands = c ∷ script.commands; stopped = script.stopped }
+
+-- Where reading stands between two lines: outside a policy, or within one that began at a line, with its text so far.
+pub data Place : Type 0 where
+  outside : Place
+  within : ℕ → List ℕ → Place
+
+-- a policy's text ends before a line of a dot alone
+abbrev pub is_end : List ℕ → Bool
+is_end line = bytes_eq line (codes ".")
+
+-- a script's lines from a place on, the lines before being so many
+abbrev pub script_from : Place → ℕ → List (List ℕ) → Script
+script_from outside before [] = whole
+script_from (within start text) before [] = stops_at start
+script_from outside before (line ∷ lines) = elim (said (words_of line)) [
+  | nothing ↦ script_from outside (before + 1) lines
+  | opens_policy ↦ script_from (within (before + 1) []) (before + 1) lines
+  | command c ↦ first_command c (script_from outside (before + 1) lines)
+  | no_command ↦ stops_at (before + 1)
+]
+script_from (within start text) before (line ∷ lines) =
+    if is_end line
+    then first_command (publish text) (script_from outside (before + 1) lines)
+    else script_from (within start (text ++ line ++ line_feed ∷ [])) (before + 1) lines
+
+abbrev pub script_of : List ℕ → Script
+script_of text = script_from outside 0 (lines_of text)

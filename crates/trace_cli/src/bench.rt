@@ -1,0 +1,74 @@
+//! What `run` works on: a tree and the published profiles.
+ghost use Rattle.std.specs.Prelude.{◌+◌, ◌≡◌, ◌⊎◌, ◌^◌, ◌<◌, ℕ, List, IfOk, IfErr, OnErr, IsOk, Err};
+ghost use Rattle.rule_text.specs.Profile.{profile_value};
+ghost use Rattle.path_walk.specs.Plain.{tree_of, outcome};
+ghost use Rattle.trace_cli.specs.Published.{Deed, published, removed, policy_after};
+ghost use Rattle.trace_cli.specs.Opening.{answered_by};
+ghost use Rattle.trace_cli.specs.RunOutput.{Known, with_change, with_deed, tree_version, policy_version};
+ghost use Rattle.trace_cli.specs.Bench.{answered};
+
+use names::{Errno, NoMemory, Perms};
+use path_walk::Change;
+use rule_text::{Profile, Verdict};
+
+/// What an open comes to. The name that was judged stands in the bench.
+#[derive(Clone, Copy, Debug, PartialEq, Eq)]
+pub(crate) enum Answer {
+    /// The verdict on the name of the file that was reached.
+    Judged {
+        verdict: Verdict,
+        node: u64,
+        tree_version: u64,
+        policy_version: u64,
+    },
+    /// No file was reached, or none that can be judged.
+    Failed {
+        errno: Errno,
+        tree_version: u64,
+    },
+    /// The profile isn't published.
+    NoProfile {
+        policy_version: u64,
+    },
+}
+
+/// A tree, and the profiles that are published.
+pub(crate) trait Bench {
+    // What was done to both.
+    ghost known: { Self → Known };
+
+    // The name that the last open judged.
+    ghost judged_name: { Self → List ℕ };
+
+    /// Makes a change of the tree, and answers the version that it makes, or tells why not.
+    fn change(&mut self, change: &Change<'_>) -> Result<u64, Errno>
+        ensures ok { IfOk result (λ version. (known self.new ≡ with_change (known self.old) change.now)
+            × IsOk (outcome (known self.old).tree change.now) × (version ≡ tree_version (known self.new))) }
+        ensures err { IfErr result (λ errno. (known self.new ≡ known self.old)
+            × (errno ≡ Errno.ENOMEM ⊎ outcome (known self.old).tree change.now ≡ Err errno)) };
+
+    /// Judges the file that a path leads to by a published profile.
+    fn open(&mut self, profile: &[u8], path: &[u8], ask: Perms) -> Answer
+        ensures known { known self.new ≡ known self.old }
+        ensures answer { answered (judged_name self.new) result
+            ≡ answered_by (tree_of (known self.old).tree) (tree_version (known self.old)) (policy_version (known self.old))
+            path.now ask (policy_after (known self.old).deeds profile.now) };
+
+    /// The name that the last open judged.
+    fn name(&self) -> &[u8]
+        ensures { result.now ≡ judged_name self.now };
+
+    /// Publishes a profile under its name, and answers the policy's new version.
+    fn publish(&mut self, profile: Profile) -> Result<u64, NoMemory>
+        requires { policy_version (known self.old) + 1 < 2 ^ 60 }
+        ensures ok { IfOk result (λ version. (known self.new ≡ with_deed (known self.old) (published (profile_value profile)))
+            × (version ≡ policy_version (known self.new))) }
+        ensures err { OnErr result (known self.new ≡ known self.old) };
+
+    /// Takes the profile of a name away, and answers the policy's new version.
+    fn remove(&mut self, name: &[u8]) -> Result<u64, NoMemory>
+        requires { policy_version (known self.old) + 1 < 2 ^ 60 }
+        ensures ok { IfOk result (λ version. (known self.new ≡ with_deed (known self.old) (removed name.now))
+            × (version ≡ policy_version (known self.new))) }
+        ensures err { OnErr result (known self.new ≡ known self.old) };
+}

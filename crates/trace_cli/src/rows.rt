@@ -1,0 +1,54 @@
+//! Worked rows: what the definitions of `specs/` make of short scripts. The functions do nothing: each stands for its
+//! contract.
+ghost use Rattle.std.specs.Prelude.{◌≡◌, List, [], ◌∷◌, ◌++◌, codes, decimal, Some, None};
+ghost use Rattle.names.specs.declared.errors.Errno.TheVariants.{ENOENT, EEXIST, EINVAL, ENOSPC};
+ghost use Rattle.names.specs.Errors.{errno_text};
+ghost use Rattle.trace_cli.specs.RunOutput.{new_known, printed_lines, run_lines, with_deed};
+ghost use Rattle.trace_cli.specs.Published.{published};
+ghost use Rattle.trace_cli.specs.Script.{script_of, publish, remove};
+
+/// Lines that are printed for commands, and for nothing else.
+pub(crate) fn commands_are_answered()
+    ensures changes { run_lines 9 (codes "mkdir /a\ncreate /a/f\nrename /a /b\n")
+        ≡ (codes "ok " ++ decimal 1) ∷ (codes "ok " ++ decimal 2) ∷ (codes "ok " ++ decimal 3) ∷ [] }
+    ensures comments { run_lines 9 (codes "# a tree\n\nmkdir /a\n \t\n  #mkdir /c\nmkdir /b\n")
+        ≡ (codes "ok " ++ decimal 1) ∷ (codes "ok " ++ decimal 2) ∷ [] }
+    ensures blanks { run_lines 9 (codes "\tmkdir  /a \n mkdir\t/b\t") ≡ (codes "ok " ++ decimal 1) ∷ (codes "ok " ++ decimal 2) ∷ [] }
+    ensures refused { run_lines 9 (codes "mkdir /a\nmkdir /a\nmkdir a\ncreate /b/f\nmkdir /b")
+        ≡ (codes "ok " ++ decimal 1) ∷ errno_text EEXIST ∷ errno_text EINVAL ∷ errno_text ENOENT ∷ (codes "ok " ++ decimal 2) ∷ [] }
+    ensures full { run_lines 1 (codes "mkdir /a\nmkdir /b\n") ≡ (codes "ok " ++ decimal 1) ∷ errno_text ENOSPC ∷ [] }
+    ensures unpublished { run_lines 9 (codes "open q / r\ndrop q\nopen q / r\n")
+        ≡ (codes "no profile policy " ++ decimal 0) ∷ (codes "policy q removed version " ++ decimal 1)
+        ∷ (codes "no profile policy " ++ decimal 1) ∷ [] }
+{}
+
+/// Opens, where a profile without rules is published.
+pub(crate) fn opens_are_answered()
+    ensures { let known = with_deed (new_known 9) (published (record { name = codes "q"; rules = [] })) in
+        printed_lines known (script_of (codes "mkdir /a\ncreate /a/f\nopen q /a/./f r\nopen q /a rw\nopen q /a/g l\nopen q /a/g r\nopen p /a/g l\n")).commands
+        ≡ (codes "ok " ++ decimal 1) ∷ (codes "ok " ++ decimal 2)
+        ∷ (codes "no rule for r /a/f node " ++ decimal 3 ++ codes " tree " ++ decimal 2 ++ codes " policy " ++ decimal 1)
+        ∷ (codes "no rule for rw /a/ node " ++ decimal 2 ++ codes " tree " ++ decimal 2 ++ codes " policy " ++ decimal 1)
+        ∷ (errno_text EINVAL ++ codes " tree " ++ decimal 2)
+        ∷ (errno_text ENOENT ++ codes " tree " ++ decimal 2)
+        ∷ (codes "no profile policy " ++ decimal 1) ∷ [] }
+{}
+
+/// Lines at which a script stops.
+pub(crate) fn scripts_stop()
+    ensures unknown { (script_of (codes "mkdir /a\nlook /a\nmkdir /b\n")).stopped ≡ Some 2 }
+    ensures unknown_lines { run_lines 9 (codes "mkdir /a\nlook /a\nmkdir /b\n") ≡ (codes "ok " ++ decimal 1) ∷ [] }
+    ensures word_too_many { (script_of (codes "mkdir /a # a directory")).stopped ≡ Some 1 }
+    ensures bad_permissions { (script_of (codes "\n\nopen q / x\n")).stopped ≡ Some 3 }
+    ensures carriage_return { (script_of (codes "policy\r\n.\r\n")).stopped ≡ Some 1 }
+    ensures no_dot { (script_of (codes "mkdir /a\npolicy\nprofile p {\n}\n")).stopped ≡ Some 2 }
+    ensures empty { (script_of []).stopped ≡ None }
+{}
+
+/// Policies, whose lines are taken as they stand.
+pub(crate) fn policies_are_gathered()
+    ensures gathered { (script_of (codes "policy\nprofile p {\n#x\n . \n}\n.\ndrop p")).commands
+        ≡ publish (codes "profile p {\n#x\n . \n}\n") ∷ remove (codes "p") ∷ [] }
+    ensures none { (script_of (codes "policy \n.\n")).commands ≡ publish [] ∷ [] }
+    ensures last_dot { (script_of (codes "policy\n.")).stopped ≡ None }
+{}

@@ -1,0 +1,58 @@
+//! The commands of a script, done on a bench, and their answers.
+ghost use Rattle.std.specs.Prelude.{◌+◌, ◌<◌, ◌^◌};
+ghost use Rattle.trace_cli.specs.Following.{IsPrinted, IsPut};
+ghost use Rattle.trace_cli.specs.Line.{command_value};
+ghost use Rattle.trace_cli.specs.RunOutput.{policy_version, printed};
+ghost use Rattle.trace_cli.specs.Script.{publish};
+
+use crate::bench::Bench;
+use crate::run::compose::{change_line, drop_line, open_line, policy_line};
+use crate::run::line::Command;
+use crate::run::stop::Stop;
+use crate::telling::write_through;
+use std::alloc::Global;
+use std::io::Write;
+
+/// Does a command and writes its answer as a line.
+pub(crate) fn answer_command<B: Bench, A: Write>(
+    alloc: Global,
+    bench: &mut B,
+    command: Command<'_>,
+    answers: &mut A,
+) -> Result<(), Stop>
+    requires { policy_version (B.known bench.old) + 1 < 2 ^ 60 }
+    ensures { IsPrinted (printed (B.known bench.old) (command_value command.entry)) (B.known bench.new)
+        (A.contents answers.old) (A.contents answers.new) result }
+{
+    let line = match command {
+        Command::Remove(name) => drop_line(alloc, bench, name)?,
+        Command::Alter(words) => change_line(alloc, bench, words)?,
+        Command::JudgeOpen { profile, path, ask } => open_line(alloc, bench, profile, path, ask)?,
+    };
+    print_line(answers, &line)
+}
+
+/// Publishes the profile of a text, if it is one, and writes the answer as a line.
+pub(crate) fn answer_policy<B: Bench, A: Write>(
+    alloc: Global,
+    bench: &mut B,
+    text: &[u8],
+    answers: &mut A,
+) -> Result<(), Stop>
+    requires { policy_version (B.known bench.old) + 1 < 2 ^ 60 }
+    ensures { IsPrinted (printed (B.known bench.old) (publish text.now)) (B.known bench.new)
+        (A.contents answers.old) (A.contents answers.new) result }
+{
+    let line = policy_line(alloc, bench, text)?;
+    print_line(answers, &line)
+}
+
+/// Writes a line that is composed.
+fn print_line<A: Write>(answers: &mut A, line: &[u8]) -> Result<(), Stop>
+    ensures { IsPut (A.contents answers.old) (A.contents answers.new) line.now result }
+{
+    match write_through(answers, line) {
+        Ok(()) => Ok(()),
+        Err(_) => Err(Stop::Output),
+    }
+}

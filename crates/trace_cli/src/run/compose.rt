@@ -1,0 +1,161 @@
+//! The lines that answer commands, each composed whole before it is written.
+ghost use Rattle.std.specs.Prelude.{◌+◌, ◌≡◌, ◌<◌, ◌^◌, ◌++◌, IfOk};
+ghost use Rattle.trace_cli.specs.Following.{IsComposed, IsText};
+ghost use Rattle.names.specs.Errors.{errno_text};
+ghost use Rattle.trace_cli.specs.Line.{change_words};
+ghost use Rattle.trace_cli.specs.RunOutput.{policy_version, printed, change_of, change_printed};
+ghost use Rattle.trace_cli.specs.Script.{publish, remove, alter, judge_open};
+
+use crate::bench::{Answer, Bench};
+use crate::fault::Fault;
+use crate::run::line::ChangeWords;
+use crate::run::stop::Stop;
+use names::{Errno, Path, Perms};
+use path_walk::Change;
+use rule_text::{ReadFault, read};
+use std::alloc::{AllocError, Global};
+
+/// Publishes the profile of a text, if it is one.
+pub(crate) fn policy_line<B: Bench>(
+    alloc: Global,
+    bench: &mut B,
+    text: &[u8],
+) -> Result<Vec<u8>, Stop>
+    requires { policy_version (B.known bench.old) + 1 < 2 ^ 60 }
+    ensures { IsComposed (printed (B.known bench.old) (publish text.now)) (B.known bench.new) result }
+{
+    match read(alloc, text) {
+        Ok(profile) => {
+            let mut line = joined(alloc, "policy ", profile.name(), " version ")?;
+            let version = bench.publish(profile)?;
+            let end = format!(in alloc; "{version}\n")?;
+            line.extend_from_slice(end.as_bytes())?;
+            Ok(line)
+        }
+        Err(ReadFault::NoMemory) => Err(Stop::Memory),
+        Err(fault) => {
+            let refusal = Fault::Text(fault);
+            let line = format!(in alloc; "policy {refusal}\n")?;
+            Ok(line.into_bytes())
+        }
+    }
+}
+
+/// Takes the profile of a name away.
+pub(crate) fn drop_line<B: Bench>(
+    alloc: Global,
+    bench: &mut B,
+    name: &[u8],
+) -> Result<Vec<u8>, Stop>
+    requires { policy_version (B.known bench.old) + 1 < 2 ^ 60 }
+    ensures { IsComposed (printed (B.known bench.old) (remove name.now)) (B.known bench.new) result }
+{
+    let version = bench.remove(name)?;
+    let end = format!(in alloc; " removed version {version}\n")?;
+    let line = joined(alloc, "policy ", name, &end)?;
+    Ok(line)
+}
+
+/// Makes a change of the tree.
+pub(crate) fn change_line<B: Bench>(
+    alloc: Global,
+    bench: &mut B,
+    words: ChangeWords<'_>,
+) -> Result<Vec<u8>, Stop>
+    ensures { IsComposed (printed (B.known bench.old) (alter (change_words words.entry))) (B.known bench.new) result }
+{
+    match change_of(words) {
+        Ok(change) => accepted_line(alloc, bench, &change),
+        Err(errno) => errno_line(alloc, errno),
+    }
+}
+
+/// Makes a change of the tree whose paths are checked.
+fn accepted_line<B: Bench>(
+    alloc: Global,
+    bench: &mut B,
+    change: &Change<'_>,
+) -> Result<Vec<u8>, Stop>
+    ensures { IsComposed (change_printed (B.known bench.old) (Ok change.now)) (B.known bench.new) result }
+{
+    match bench.change(change) {
+        Ok(version) => {
+            let line = format!(in alloc; "ok {version}\n")?;
+            Ok(line.into_bytes())
+        }
+        Err(Errno::ENOMEM) => Err(Stop::Memory),
+        Err(errno) => errno_line(alloc, errno),
+    }
+}
+
+/// Opens a path, and judges it by a profile.
+pub(crate) fn open_line<B: Bench>(
+    alloc: Global,
+    bench: &mut B,
+    profile: &[u8],
+    path: &[u8],
+    ask: Perms,
+) -> Result<Vec<u8>, Stop>
+    ensures { IsComposed (printed (B.known bench.old) (judge_open profile.now path.now ask)) (B.known bench.new) result }
+{
+    match bench.open(profile, path, ask) {
+        Answer::Judged {
+            verdict,
+            node,
+            tree_version,
+            policy_version,
+        } => {
+            let start = format!(in alloc; "{verdict} ")?;
+            let end = format!(in alloc;
+                " node {node} tree {tree_version} policy {policy_version}\n"
+            )?;
+            let line = joined(alloc, &start, bench.name(), &end)?;
+            Ok(line)
+        }
+        Answer::Failed {
+            errno,
+            tree_version,
+        } => {
+            let line = format!(in alloc; "{errno} tree {tree_version}\n")?;
+            Ok(line.into_bytes())
+        }
+        Answer::NoProfile { policy_version } => {
+            let line = format!(in alloc; "no profile policy {policy_version}\n")?;
+            Ok(line.into_bytes())
+        }
+    }
+}
+
+/// A change with checked paths, or the first fault of a path, the old one's before the new one's.
+fn change_of(words: ChangeWords<'_>) -> Result<Change<'_>, Errno>
+    ensures { result ≡ change_of (change_words words.entry) }
+{
+    match words {
+        ChangeWords::Mkdir(path) => Ok(Change::Mkdir(Path::check(path)?)),
+        ChangeWords::Create(path) => Ok(Change::Create(Path::check(path)?)),
+        ChangeWords::Rename(old, new) => {
+            let old = Path::check(old)?;
+            let new = Path::check(new)?;
+            Ok(Change::Rename(old, new))
+        }
+    }
+}
+
+/// Why a change is refused, as a line.
+fn errno_line(alloc: Global, errno: Errno) -> Result<Vec<u8>, Stop>
+    ensures { IsText (errno_text errno) result }
+{
+    let line = format!(in alloc; "{errno}\n")?;
+    Ok(line.into_bytes())
+}
+
+/// A name between two texts.
+fn joined(alloc: Global, before: &str, name: &[u8], after: &str) -> Result<Vec<u8>, AllocError>
+    ensures { IfOk result (λ line. line.items ≡ before.now ++ name.now ++ after.now) }
+{
+    let mut line = Vec::new(alloc);
+    line.extend_from_slice(before.as_bytes())?;
+    line.extend_from_slice(name)?;
+    line.extend_from_slice(after.as_bytes())?;
+    Ok(line)
+}

@@ -1,0 +1,189 @@
+//! Scripts, on a bench that has no memory for anything new.
+ghost use Rattle.std.specs.Prelude.{[]};
+ghost use Rattle.trace_cli.specs.RunOutput.{new_known};
+
+use crate::bench::{Answer, Bench};
+use crate::run::run_script;
+use crate::status::Status;
+use crate::tests::{Failing, Pieces};
+use names::{Errno, NoMemory, Perms};
+use path_walk::Change;
+use rule_text::Profile;
+use std::alloc::Global;
+use std::io;
+use std::io::{BufReader, ErrorKind};
+use std::test::Fail;
+
+/// The root alone and no profile, and memory for no more.
+#[derive(Drop)]
+struct FullBench;
+
+impl Bench for FullBench {
+    ghost known = { λ _. new_known 0 };
+
+    ghost judged_name = { λ _. [] };
+
+    fn change(&mut self, _change: &Change<'_>) -> Result<u64, Errno> {
+        Err(Errno::ENOMEM)
+    }
+
+    fn open(&mut self, _profile: &[u8], _path: &[u8], _ask: Perms) -> Answer {
+        Answer::NoProfile { policy_version: 0 }
+    }
+
+    fn name(&self) -> &[u8] {
+        &[]
+    }
+
+    fn publish(&mut self, _profile: Profile) -> Result<u64, NoMemory> {
+        Err(NoMemory)
+    }
+
+    fn remove(&mut self, _name: &[u8]) -> Result<u64, NoMemory> {
+        Err(NoMemory)
+    }
+}
+
+/// A run over memory: its status, and what stands on both streams.
+fn run(alloc: Global, text: &str) -> (Status, Vec<u8>, Vec<u8>) {
+    let mut input = text.as_bytes();
+    let mut answers = Vec::new(alloc);
+    let mut faults = Vec::new(alloc);
+    let status = run_script(alloc, &mut FullBench, &mut input, &mut answers, &mut faults);
+    (status, answers, faults)
+}
+
+#[test]
+fn scripts_that_end(rt: HostRuntime) {
+    let cases = [
+        ("", ""),
+        ("# a comment\n\n \t\n  #\n", ""),
+        ("open p /a r\n", "no profile policy 0\n"),
+        ("\topen  p\t/a r ", "no profile policy 0\n"),
+        ("mkdir a\nrename /a b\n", "EINVAL 22\nEINVAL 22\n"),
+        ("policy\n.", "policy refused: read 1 at 0\n"),
+        (
+            "policy\nprofile p {\n  /x ix,\n}\n.\nopen p /x r",
+            "policy refused: read 1 at 17\nno profile policy 0\n",
+        ),
+    ];
+    for (text, wanted) in cases {
+        let (status, answers, faults) = run(rt.alloc(), text);
+        assert_eq!(rt; status, Status::Done, "{text}");
+        assert!(rt; answers.as_slice() == wanted.as_bytes(), "{text}");
+        assert!(rt; faults.is_empty(), "{text}");
+    }
+}
+
+#[test]
+fn scripts_that_stop(rt: HostRuntime) {
+    let answer = "no profile policy 0\n";
+    let cases = [
+        ("look /a\n", 3, "", "line 1: not a command\n"),
+        ("mkdir /a /b\n", 3, "", "line 1: not a command\n"),
+        ("\n\nopen p /a x", 3, "", "line 3: not a command\n"),
+        ("policy\n.\r\n", 3, "", "line 1: not a command\n"),
+        (
+            "open p /a r\nlook /a\nopen p /a r\n",
+            3,
+            answer,
+            "line 2: not a command\n",
+        ),
+        (
+            "open p /a r\npolicy\nprofile p {\n}\n",
+            3,
+            answer,
+            "line 2: not a command\n",
+        ),
+        (
+            "open p /a r\nmkdir /a\nopen p /a r\n",
+            4,
+            answer,
+            "no memory\n",
+        ),
+        ("open p /a r\ndrop p\n", 4, answer, "no memory\n"),
+        (
+            "open p /a r\npolicy\nprofile p {\n}\n.\n",
+            4,
+            answer,
+            "no memory\n",
+        ),
+    ];
+    for (text, code, wanted, told) in cases {
+        let (status, answers, faults) = run(rt.alloc(), text);
+        assert_eq!(rt; status.code(), code, "{text}");
+        assert!(rt; answers.as_slice() == wanted.as_bytes(), "{text}");
+        assert!(rt; faults.as_slice() == told.as_bytes(), "{text}");
+    }
+}
+
+/// A line is answered before the next one is read.
+#[test]
+fn readers_that_fail(rt: HostRuntime) -> Result<(), Fail> {
+    let cases = [
+        (
+            ErrorKind::BrokenPipe,
+            Status::InputFailed,
+            "refused: input\n",
+        ),
+        (ErrorKind::OutOfMemory, Status::NoMemory, "no memory\n"),
+    ];
+    for (error, wanted, told) in cases {
+        for reads in 0..3 {
+            let pieces = Pieces {
+                left: b"open p /a r\nopen p /a r\nopen p /a r\n",
+                piece: 12,
+                reads,
+                error,
+            };
+            let mut input = BufReader::new(rt.alloc(), pieces)?;
+            let mut answers = Vec::new(rt.alloc());
+            let mut faults = Vec::new(rt.alloc());
+            let status = run_script(
+                rt.alloc(),
+                &mut FullBench,
+                &mut input,
+                &mut answers,
+                &mut faults,
+            );
+            assert_eq!(rt; status, wanted, "{reads}");
+            assert_eq!(rt; answers.len(), 20 * reads, "{reads}");
+            assert!(rt; faults.as_slice() == told.as_bytes(), "{reads}");
+        }
+    }
+    Ok(())
+}
+
+#[test]
+fn answers_that_fail(rt: HostRuntime) {
+    let alloc = rt.alloc();
+    // Each line of 20 bytes is written in three parts and flushed.
+    for calls in 0..9 {
+        let mut input = b"open p /a r\nopen p /a r\n".as_slice();
+        let mut answers = Failing::after(alloc, 7, calls);
+        let mut faults = Vec::new(alloc);
+        let status = run_script(alloc, &mut FullBench, &mut input, &mut answers, &mut faults);
+        let (wanted, told) = if calls < 8 {
+            (Status::OutputFailed, "refused: output\n")
+        } else {
+            (Status::Done, "")
+        };
+        assert_eq!(rt; status, wanted, "{calls}");
+        assert!(rt; faults.as_slice() == told.as_bytes(), "{calls}");
+        let written = 20 * (calls / 4) + 20.min(7 * (calls % 4));
+        assert_eq!(rt; answers.taken.len(), written, "{calls}");
+    }
+}
+
+#[test]
+fn messages_that_fail(rt: HostRuntime) {
+    let alloc = rt.alloc();
+    for text in ["look", "mkdir /a"] {
+        let mut input = text.as_bytes();
+        let mut answers = Vec::new(alloc);
+        let mut faults = Failing::after(alloc, 5000, 0);
+        let status = run_script(alloc, &mut FullBench, &mut input, &mut answers, &mut faults);
+        assert_eq!(rt; status, Status::FaultsFailed);
+        assert!(rt; answers.is_empty());
+    }
+}
