@@ -17,13 +17,15 @@ profile_of() {
     awk -v count="$1" -v path="$2" 'BEGIN { print "profile p {"; for (i = 0; i < count; i++) print "  " path " r,"; print "}" }'
 }
 
-# least PERMS NAME FILE: the least time of a judge call, in microseconds
+# least FILE ARGUMENTS..: the least time of `./aa-trace ARGUMENTS < FILE`, in microseconds
 least() {
+    file=$1
+    shift
     best=
     run=0
     while [ "$run" -lt "$RUNS" ]; do
         begin=$(date +%s%N)
-        ./aa-trace judge "$1" "$2" <"$3" >/dev/null
+        ./aa-trace "$@" <"$file" >/dev/null
         end=$(date +%s%N)
         took=$(((end - begin) / 1000))
         if [ -z "$best" ] || [ "$took" -lt "$best" ]; then best=$took; fi
@@ -41,18 +43,46 @@ row() {
 # What the program takes to start and to end.
 start=0
 profile_of 1 / >"$work/smallest"
-start=$(least r / "$work/smallest")
+start=$(least "$work/smallest" judge r /)
 
 # Ten equal rules, so that the time is long enough to be measured.
 name=/$(repeat a 4094)
 profile_of 10 "/$(repeat '**a' 500)" >"$work/stars"
 profile_of 10 "/$(repeat '**a' 250)" >"$work/stars-half"
-row 'judge: 10 rules of 500 times **a, name of 4,095 bytes; half the items' "$(least r "$name" "$work/stars-half")" "$(least r "$name" "$work/stars")"
-row 'judge: the same; half the name' "$(least r "/$(repeat a 2046)" "$work/stars")" "$(least r "$name" "$work/stars")"
+row 'judge: 10 rules of 500 times **a, name of 4,095 bytes; half the items' "$(least "$work/stars-half" judge r "$name")" "$(least "$work/stars" judge r "$name")"
+row 'judge: the same; half the name' "$(least "$work/stars" judge r "/$(repeat a 2046)")" "$(least "$work/stars" judge r "$name")"
 
 # Nothing is matched here, since no rule holds w: the time is that of reading.
 profile_of 1024 "/$(repeat a 1023)" >"$work/text"
 profile_of 512 "/$(repeat a 1023)" >"$work/text-half"
 profile_of 1024 "/$(repeat a 511)" >"$work/items-half"
-row 'read: 1,024 rules of 1,024 items; half the rules' "$(least w /x "$work/text-half")" "$(least w /x "$work/text")"
-row 'read: the same; half the items of each rule' "$(least w /x "$work/items-half")" "$(least w /x "$work/text")"
+row 'read: 1,024 rules of 1,024 items; half the rules' "$(least "$work/text-half" judge w /x)" "$(least "$work/text" judge w /x)"
+row 'read: the same; half the items of each rule' "$(least "$work/items-half" judge w /x)" "$(least "$work/text" judge w /x)"
+
+# script_of LINES ENTRIES: a script of so many lines: a policy, directories of up to 128 files each until so many entries
+# stand, and then by turns an open and a rename to and fro.
+script_of() {
+    awk -v lines="$1" -v entries="$2" 'BEGIN {
+        print "policy\nprofile p {\n  /d*/f* r,\n  deny /d*/g* w,\n}\n."
+        line = 6
+        for (made = 0; made < entries && line < lines; made++) {
+            if (made % 128 == 0) print "mkdir /d" ++d; else print "create /d" d "/f" made % 128
+            line++
+        }
+        for (turn = 0; line < lines; turn++) {
+            k = int(turn / 4) * 7919 % entries
+            if (k % 128 == 0) k++
+            file = "/d" int(k / 128) + 1
+            number = k % 128
+            if (turn % 4 == 0) print "open p " file "/f" number " r"
+            if (turn % 4 == 1) print "rename " file "/f" number " " file "/g" number
+            if (turn % 4 == 2) print "open p " file "/g" number " rw"
+            if (turn % 4 == 3) print "rename " file "/g" number " " file "/f" number
+            line++
+        }
+    }'
+}
+
+script_of 100000 16384 >"$work/script"
+script_of 50000 8192 >"$work/script-half"
+row 'run: 100,000 lines, 16,384 entries; half of both' "$(least "$work/script-half" run --capacity 16384)" "$(least "$work/script" run --capacity 16384)"

@@ -1,8 +1,9 @@
 #!/bin/sh
 # Refuses each allocation of one run of ./aa-trace in turn: the first alone, then the second alone, and so on, until a
-# run has no such allocation. Each refused run must write nothing to standard output and `no memory` to standard error,
-# and end with status 4; or it did without that allocation, and then answers all as the whole run does. Wants a C
-# compiler, for the few lines that stand before malloc and realloc.
+# run has no such allocation. Each refused run must write `no memory` to standard error and end with status 4, with
+# nothing on standard output or, for a script, a front part of the answers in whole lines; or it did without that
+# allocation, and then answers all as the whole run does. Wants a C compiler, for the few lines that stand before malloc
+# and realloc.
 set -eu
 cd "$(dirname "$0")/.."
 [ -x ./aa-trace ] || { echo "./aa-trace is missing: run make" >&2; exit 1; }
@@ -38,6 +39,14 @@ void *realloc(void *old, size_t size) {
 C
 ${CC:-cc} -shared -fPIC -O1 -o "$work/refuse.so" "$work/refuse.c" -ldl
 
+# is_front COMMAND: the answers are a front part, in whole lines, of those of the whole run; of a judge call, nothing
+is_front() {
+    size=$(wc -c <"$work/answers")
+    [ "$size" -eq 0 ] && return 0
+    [ "$1" = run ] || return 1
+    [ "$(tail -c 1 "$work/answers" | wc -l)" -eq 1 ] && head -c "$size" "$work/whole-answers" | cmp -s - "$work/answers"
+}
+
 # refuse_all TEXT ARGUMENTS..: every allocation of the run `./aa-trace ARGUMENTS < TEXT`
 refuse_all() {
     text=$1
@@ -56,7 +65,7 @@ refuse_all() {
         if [ "$status" -eq "$wanted" ] && cmp -s "$work/answers" "$work/whole-answers" \
             && cmp -s "$work/faults" "$work/whole-faults"; then
             spared=$((spared + 1))
-        elif [ "$status" -ne 4 ] || [ -s "$work/answers" ] || [ "$(cat "$work/faults")" != 'no memory' ]; then
+        elif [ "$status" -ne 4 ] || [ "$(cat "$work/faults")" != 'no memory' ] || ! is_front "$1"; then
             echo "allocation $refused of '$*': status $status, $(cat "$work/answers" "$work/faults")" >&2
             exit 1
         fi
@@ -73,3 +82,34 @@ refuse_all "$work/rules" judge r /home/me/.ssh/a/id_39.pub
 refuse_all /dev/null judge r /x
 refuse_all /dev/null judge r
 refuse_all /dev/null --help
+
+# Directories, files, moves onto what stands and what doesn't, policies that are replaced and dropped.
+cat >"$work/script" <<'SCRIPT'
+policy
+profile p {
+  /a/** rw,
+  deny /b/*/key w,
+}
+.
+mkdir /a
+mkdir /a/b
+create /a/b/key
+open p /a/b/key rw
+rename /a/b /c
+create /a/f
+create /a/g
+rename /a/g /a/f
+mkdir /e
+rename /e /a/e
+mkdir /b
+rename /c /b/c
+open p /b/c/key w
+policy
+profile p {
+}
+.
+open p /b/c/key r
+drop p
+open p /b r
+SCRIPT
+refuse_all "$work/script" run --capacity 9
