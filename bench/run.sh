@@ -25,7 +25,7 @@ least() {
     run=0
     while [ "$run" -lt "$RUNS" ]; do
         begin=$(date +%s%N)
-        ./aa-trace "$@" <"$file" >/dev/null
+        ./aa-trace "$@" <"$file" >/dev/null 2>&1 || :
         end=$(date +%s%N)
         took=$(((end - begin) / 1000))
         if [ -z "$best" ] || [ "$took" -lt "$best" ]; then best=$took; fi
@@ -58,6 +58,29 @@ profile_of 512 "/$(repeat a 1023)" >"$work/text-half"
 profile_of 1024 "/$(repeat a 511)" >"$work/items-half"
 row 'read: 1,024 rules of 1,024 items; half the rules' "$(least "$work/text-half" judge w /x)" "$(least "$work/text" judge w /x)"
 row 'read: the same; half the items of each rule' "$(least "$work/items-half" judge w /x)" "$(least "$work/text" judge w /x)"
+
+# Groups within groups, to the depth of 50 again and again: 1,001 items.
+groups=$(repeat '{' 50)$(repeat '}' 50)
+profile_of 1024 "/$(repeat "$groups" 10)" >"$work/groups"
+profile_of 512 "/$(repeat "$groups" 10)" >"$work/groups-half"
+row 'read: 1,024 rules of 10 towers of 50 groups; half the rules' "$(least "$work/groups-half" judge w /x)" "$(least "$work/groups" judge w /x)"
+
+# Parts without a bound of their own: comments, an attachment, and a class that is refused at its end.
+comments_of() {
+    repeat "$(printf '# %098d|' 0)" "$1" | tr '|' '\n'
+    echo 'profile p {}'
+}
+comments_of 10000 >"$work/comments"
+comments_of 5000 >"$work/comments-half"
+row 'read: 1 MB of comments; half' "$(least "$work/comments-half" judge w /x)" "$(least "$work/comments" judge w /x)"
+for part in '/' '"/'; do
+    { printf 'profile p %s' "$part"; repeat a 1000000; } >"$work/attachment"
+    { printf 'profile p %s' "$part"; repeat a 500000; } >"$work/attachment-half"
+    row "read: an attachment $part of 1 MB without an end; half" "$(least "$work/attachment-half" judge w /x)" "$(least "$work/attachment" judge w /x)"
+done
+{ printf 'profile p { /['; repeat a-c 333333; } >"$work/class"
+{ printf 'profile p { /['; repeat a-c 166666; } >"$work/class-half"
+row 'read: a path whose class of 1 MB has no end; half' "$(least "$work/class-half" judge w /x)" "$(least "$work/class" judge w /x)"
 
 # script_of LINES ENTRIES: a script of so many lines: a policy, directories of up to 128 files each until so many entries
 # stand, and then by turns an open and a rename to and fro.

@@ -1,5 +1,5 @@
 -- The computed verdict is right, and what it is to be allowed.
-use Rattle.std.proofs.Common.{◌≡◌, ℕ, ◌+◌, ◌-◌, ◌<◌, ◌≤◌, Bool, true, false, not, ◌&&◌, ◌↔◌, ⊎_elim, List, IsTrue, Option, Some, None, length, get_or, nat_lt, cond, refl, sym, ap, ◌∙◌, subst, arith, if◌then◌else◌, true≢false}
+use Rattle.std.proofs.Common.{[], ◌≡◌, ℕ, ◌+◌, ◌-◌, ◌<◌, ◌≤◌, Bool, true, false, not, ◌&&◌, ◌↔◌, ⊎_elim, List, IsTrue, Option, Some, None, length, get_or, nat_lt, cond, refl, sym, ap, ◌∙◌, subst, arith, if◌then◌else◌, true≢false}
 use Rattle.std.specs.List.{list_any, position, position_or_len}
 use Rattle.std.proofs.lemmas.Bool.{and_parts, and_from, cases_Bool, not-true, not_from_false, ltb-false, cases_lt}
 use Rattle.std.proofs.lemmas.List.{get_or_default}
@@ -9,8 +9,8 @@ use Rattle.std.proofs.lemmas.List.Sums.{fails_before_first}
 use Rattle.names.specs.declared.permissions.Permission.{Permission}
 use Rattle.names.specs.declared.permissions.Perms.{Perms}
 use Rattle.names.specs.Permissions.{has, set_of, all_permissions}
-use Rattle.rule_text.specs.Glob.{none, Takes}
-use Rattle.rule_text.specs.Profile.{RuleValue}
+use Rattle.rule_text.specs.Glob.{Takes}
+use Rattle.rule_text.specs.Profile.{RuleValue, pattern}
 use Rattle.rule_text.specs.Verdict.{IsRuleAt, Hits, Denies, IsLeast, IsMissing, IsVerdict, IsAllowed}
 use Rattle.rule_text.specs.RuleHits.{HitsSome}
 use Rattle.rule_text.specs.PlainVerdict.{is_deny, denies, allows, missing, verdict, takes}
@@ -32,24 +32,24 @@ allow_kind Deny h = let e : ⊥ = cc (h) in absurd e
 denies_says : (name : List ℕ) (ask : Perms) (rule : RuleValue) →
     IsTrue (denies name ask rule) ↔ ((rule.kind ≡ Deny) × HitsSome rule name ask)
 denies_says name ask rule = (
-  λ h. let outer = and_parts (is_deny rule.kind && list_any (λ p. has ask p && has rule.perms p) all_permissions) (takes rule.path name) h in
+  λ h. let outer = and_parts (is_deny rule.kind && list_any (λ p. has ask p && has rule.perms p) all_permissions) (takes (pattern rule) name) h in
       let inner = and_parts (is_deny rule.kind) (list_any (λ p. has ask p && has rule.perms p) all_permissions) outer.0 in
-      (deny_kind rule.kind inner.0, ((shares_by_any ask rule.perms).0 inner.1, (by_cuts rule.path name).0 outer.1)),
-  λ h. and_from (is_deny rule.kind && list_any (λ p. has ask p && has rule.perms p) all_permissions) (takes rule.path name)
+      (deny_kind rule.kind inner.0, ((shares_by_any ask rule.perms).0 inner.1, (by_cuts (pattern rule) name).0 outer.1)),
+  λ h. and_from (is_deny rule.kind && list_any (λ p. has ask p && has rule.perms p) all_permissions) (takes (pattern rule) name)
       (and_from (is_deny rule.kind) (list_any (λ p. has ask p && has rule.perms p) all_permissions) (ap is_deny h.0)
       ((shares_by_any ask rule.perms).1 h.1.0))
-      ((by_cuts rule.path name).1 h.1.1),
+      ((by_cuts (pattern rule) name).1 h.1.1),
 )
 
 allows_says : (name : List ℕ) (p : Permission) (rule : RuleValue) →
-    IsTrue (allows name p rule) ↔ ((rule.kind ≡ Allow) × IsTrue (has rule.perms p) × Takes rule.path name)
+    IsTrue (allows name p rule) ↔ ((rule.kind ≡ Allow) × IsTrue (has rule.perms p) × Takes (pattern rule) name)
 allows_says name p rule = (
-  λ h. let outer = and_parts (not (is_deny rule.kind) && has rule.perms p) (takes rule.path name) h in
+  λ h. let outer = and_parts (not (is_deny rule.kind) && has rule.perms p) (takes (pattern rule) name) h in
       let inner = and_parts (not (is_deny rule.kind)) (has rule.perms p) outer.0 in
-      (allow_kind rule.kind inner.0, inner.1, (by_cuts rule.path name).0 outer.1),
-  λ h. and_from (not (is_deny rule.kind) && has rule.perms p) (takes rule.path name)
+      (allow_kind rule.kind inner.0, inner.1, (by_cuts (pattern rule) name).0 outer.1),
+  λ h. and_from (not (is_deny rule.kind) && has rule.perms p) (takes (pattern rule) name)
       (and_from (not (is_deny rule.kind)) (has rule.perms p) (ap (λ k. not (is_deny k)) h.0) h.1)
-      ((by_cuts rule.path name).1 h.2),
+      ((by_cuts (pattern rule) name).1 h.2),
 )
 
 no_place : (b : Bool) (i : ℕ) → cond b (Some i) None ≡ None → b ≡ false
@@ -58,7 +58,7 @@ no_place false i e = refl
 
 -- a rule that says nothing, which stands where there is none
 nothing : RuleValue
-nothing = record { kind = Allow; perms = set_of (λ p. false); path = none }
+nothing = record { kind = Allow; perms = set_of (λ p. false); items = [] }
 
 module _ (rules : List RuleValue) (name : List ℕ) where
   rule_there : (i : ℕ) → i < length rules → IsRuleAt rules (i + 1) (get_or rules i nothing)

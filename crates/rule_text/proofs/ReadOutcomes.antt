@@ -12,7 +12,8 @@ use Rattle.rule_text.specs.ReadSteps.{fault_at, fault_of, Fails}
 use Rattle.rule_text.specs.Reading.{text_at, outcome_of}
 use Rattle.rule_text.specs.Grammar.{ReadsAs}
 use Rattle.rule_text.specs.ReadFaults.{FaultsAs, HasOutcome}
-use Rattle.rule_text.proofs.ReadTexts.{text_takes, read_again}
+use Rattle.rule_text.proofs.AgainTexts.{read_again}
+use Rattle.rule_text.proofs.TakeTexts.{text_takes}
 
 abbrev Outcome : Type 0
 Outcome = Result ProfileValue ReadFault
@@ -83,6 +84,13 @@ one_fault text f g h k = same_fault f g (sym h ∙ k)
 
 told_not_memory : (kind : StopKind) (offset : ℕ) → fault_at kind offset ≡ faults.NoMemory → ⊥
 told_not_memory kinds.Syntax offset e = cc
+told_not_memory (kinds.LeftOut len) offset e = cc
+told_not_memory kinds.Permission offset e = cc
+told_not_memory kinds.EmptyPermissions offset e = cc
+told_not_memory kinds.NotAbsolute offset e = cc
+told_not_memory kinds.Class offset e = cc
+told_not_memory kinds.Group offset e = cc
+told_not_memory kinds.Depth offset e = cc
 told_not_memory kinds.TooManyRules offset e = cc
 told_not_memory kinds.TooManyItems offset e = cc
 

@@ -2,9 +2,13 @@
 use Rattle.std.proofs.Common.{◌≡◌, ℕ, ◌≤◌, Bool, true, false, cond, eqb, List, [], ◌∷◌, ◌++◌, length, take, drop, refl, sym, ap, subst, ◌∙◌, ◌⊎◌, inl, inr, ◌==◌, arith}
 use Rattle.std.specs.Prelude.{◌||◌}
 use Rattle.std.proofs.lemmas.Bool.{eqb-true, ne_eqb}
-use Rattle.rule_text.specs.Grammar.{AllPass, IsGap}
-use Rattle.rule_text.specs.Reading.{begins, leading, after}
-use Rattle.rule_text.specs.TextBytes.{is_white}
+use Rattle.rule_text.specs.ReadWords.{leading, after}
+use Rattle.rule_text.specs.TextBytes.{begins, is_white}
+
+-- each byte passes the test
+abbrev pub Passes : (ℕ → Bool) → List ℕ → Type 0
+Passes test [] = Unit {0}
+Passes test (b ∷ bytes) = (test b ≡ true) × Passes test bytes
 
 pub leading_take : (test : ℕ → Bool) (bytes : List ℕ) → leading test bytes ≡ take (length (leading test bytes)) bytes
 leading_take test [] = refl
@@ -34,11 +38,11 @@ leading_length test (b ∷ bytes) =
 -- a run is cut off at its length
 pub ruleset leading_cut = (leading_take, after_drop, leading_length)
 
-pub leading_passes : (test : ℕ → Bool) (bytes : List ℕ) → AllPass test (leading test bytes)
+pub leading_passes : (test : ℕ → Bool) (bytes : List ℕ) → Passes test (leading test bytes)
 leading_passes test [] = tt
 leading_passes test (b ∷ bytes) =
     let h = leading_passes test bytes in
-    let P : (t : Bool) → test b ≡ t → AllPass test (cond t (b ∷ leading test bytes) []) = λ t. elim t as (λ t. test b ≡ t → AllPass test (cond t (b ∷ leading test bytes) [])) [ true ↦ λ e. (e, h) | false ↦ λ e. tt ] in
+    let P : (t : Bool) → test b ≡ t → Passes test (cond t (b ∷ leading test bytes) []) = λ t. elim t as (λ t. test b ≡ t → Passes test (cond t (b ∷ leading test bytes) [])) [ true ↦ λ e. (e, h) | false ↦ λ e. tt ] in
     P (test b) refl
 
 pub leading_parts : (test : ℕ → Bool) (bytes : List ℕ) → bytes ≡ leading test bytes ++ after test bytes
@@ -49,12 +53,12 @@ leading_parts test (b ∷ bytes) =
       | false ↦ refl
     ]
 
-pub after_again : (test : ℕ → Bool) (w rest : List ℕ) → AllPass test w → begins test rest ≡ false → after test (w ++ rest) ≡ rest
+pub after_again : (test : ℕ → Bool) (w rest : List ℕ) → Passes test w → begins test rest ≡ false → after test (w ++ rest) ≡ rest
 after_again test [] [] h s = refl
 after_again test [] (b ∷ rest) h s = ap (λ t. cond t (after test rest) (b ∷ rest)) s
 after_again test (b ∷ w) rest h s = ap (λ t. cond t (after test (w ++ rest)) (b ∷ w ++ rest)) h.0 ∙ after_again test w rest h.1 s
 
-pub leading_again : (test : ℕ → Bool) (w rest : List ℕ) → AllPass test w → begins test rest ≡ false → leading test (w ++ rest) ≡ w
+pub leading_again : (test : ℕ → Bool) (w rest : List ℕ) → Passes test w → begins test rest ≡ false → leading test (w ++ rest) ≡ w
 leading_again test [] [] h s = refl
 leading_again test [] (b ∷ rest) h s = ap (λ t. cond t (b ∷ leading test rest) []) s
 leading_again test (b ∷ w) rest h s = ap (λ t. cond t (b ∷ leading test (w ++ rest)) []) h.0 ∙ ap (λ (x : List ℕ). b ∷ x) (leading_again test w rest h.1 s)
@@ -90,10 +94,6 @@ white_stops test b h1 h2 h3 h4 h =
       | inl e ↦ subst P (sym e) h1
       | inr e ↦ elim e [ inl e ↦ subst P (sym e) h2 | inr e ↦ elim e [ inl e ↦ subst P (sym e) h3 | inr e ↦ subst P (sym e) h4 ] ]
     ]
-
-pub gap_stops : (test : ℕ → Bool) (gap rest : List ℕ) → test 32 ≡ false → test 9 ≡ false → test 10 ≡ false → test 13 ≡ false → IsGap gap → begins test (gap ++ rest) ≡ false
-gap_stops test [] rest h1 h2 h3 h4 h = absurd h
-gap_stops test (b ∷ gap) rest h1 h2 h3 h4 h = white_stops test b h1 h2 h3 h4 h.0
 
 -- and what passes it is not white
 pub not_white : (test : ℕ → Bool) (b : ℕ) → test 32 ≡ false → test 9 ≡ false → test 10 ≡ false → test 13 ≡ false → test b ≡ true → is_white b ≡ false

@@ -6,7 +6,7 @@ use Rattle.names.specs.declared.permissions.Permission.{Permission}
 use Rattle.names.specs.declared.permissions.Perms.{Perms}
 use Rattle.names.specs.Permissions.{has, set_of}
 use Rattle.rule_text.specs.Glob.{Takes}
-use Rattle.rule_text.specs.Profile.{RuleValue, rule_value}
+use Rattle.rule_text.specs.Profile.{RuleValue, pattern, rule_value}
 use Rattle.rule_text.specs.Verdict.{IsRuleAt, Hits, Denies, IsLeast, IsMissing}
 use Rattle.rule_text.specs.RuleHits.{HitsSome}
 use Rattle.rule_text.specs.declared.profile.Rule.{Rule}
@@ -36,9 +36,9 @@ rule_at rules values i r lt e same =
 
 -- a hit of that rule is one of its own permissions, asked or not
 hit_of : (rules : List RuleValue) (kind : RuleKind) (p : Permission) (name : List ℕ) (n : ℕ) (r : RuleValue) → IsRuleAt rules n r →
-    Hits rules kind p name n → (r.kind ≡ kind) × IsTrue (has r.perms p) × Takes r.path name
+    Hits rules kind p name n → (r.kind ≡ kind) × IsTrue (has r.perms p) × Takes (pattern r) name
 hit_of rules kind p name n r at h =
-    let P : RuleValue → Type 0 = λ z. (z.kind ≡ kind) × IsTrue (has z.perms p) × Takes z.path name in
+    let P : RuleValue → Type 0 = λ z. (z.kind ≡ kind) × IsTrue (has z.perms p) × Takes (pattern z) name in
     subst P (same_rule rules n h.0 r h.1 at) (h.2, h.3, h.4)
 
 module _ (rules : List RuleValue) (name : List ℕ) (ask : Perms) where

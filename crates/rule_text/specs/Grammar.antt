@@ -1,117 +1,26 @@
 -- The grammar of profile texts: what may be written, as trees; the bytes of a tree; and the profile that it means.
-use Rattle.std.specs.Prelude.{◌≡◌, ℕ, zero, suc, ◌≤◌, ◌<◌, List, [], ◌∷◌, ◌++◌, length, codes, Bool, true, false, ◌&&◌, Some}
+use Rattle.std.specs.Prelude.{◌≡◌, ℕ, ◌≤◌, ◌<◌, List, [], ◌∷◌, ◌++◌, length, codes, Bool, true, false, if◌then◌else◌, Option, Some, None}
 use Rattle.names.specs.declared.permissions.Perms.{Perms}
 use Rattle.names.specs.Permissions.{perms_of}
 use Rattle.rule_text.specs.declared.profile.RuleKind.{RuleKind}
 use Rattle.rule_text.specs.declared.profile.RuleKind.TheVariants.{Allow, Deny}
-use Rattle.rule_text.specs.Glob.{Glob, one, exactly, not_slash, is_slash}
-use Rattle.rule_text.specs.Meaning.{cat_all, stars_glob}
+use Rattle.rule_text.specs.GrammarPaths.{WrittenPath, print_path, IsPath, path_means}
+use Rattle.rule_text.specs.GrammarWords.{Each, Piece, print_blank, IsBlank, IsGap, Stands, print_last, IsLast, WrittenName, print_name, name_means, IsName, IsNameCell, IsFirst, BeginsWithSlash}
 use Rattle.rule_text.specs.Profile.{RuleValue, ProfileValue}
-use Rattle.rule_text.specs.TextBytes.{is_white, is_name_byte, is_plain}
-
--- each byte passes the test
-abbrev pub AllPass : (ℕ → Bool) → List ℕ → Type 0
-AllPass test [] = Unit {0}
-AllPass test (b ∷ bytes) = (test b ≡ true) × AllPass test bytes
-
-abbrev pub IsWhite : List ℕ → Type 0
-IsWhite bytes = AllPass is_white bytes
-
--- white of at least one byte
-abbrev pub IsGap : List ℕ → Type 0
-IsGap [] = ⊥
-IsGap (b ∷ bytes) = AllPass is_white (b ∷ bytes)
-
--- ---- paths (apparmor.d(5), "Globbing")
-
--- an item as it is written
-pub data WrittenItem : Type 0 where
-  byte : ℕ → WrittenItem
-  question : WrittenItem
-  star : WrittenItem
-  -- two stars, and so many more
-  stars : ℕ → WrittenItem
-
--- so many stars (42 is *)
-abbrev pub star_bytes : ℕ → List ℕ
-star_bytes zero = []
-star_bytes (suc n) = 42 ∷ star_bytes n
-
-abbrev pub print_item : WrittenItem → List ℕ
-print_item (byte b) = b ∷ []
-print_item question = codes "?"
-print_item star = codes "*"
-print_item (stars more) = 42 ∷ 42 ∷ star_bytes more
-
-abbrev pub print_items : List WrittenItem → List ℕ
-print_items [] = []
-print_items (i ∷ items) = print_item i ++ print_items items
-
-abbrev pub IsItem : WrittenItem → Type 0
-IsItem (byte b) = is_plain b ≡ true
-IsItem question = Unit {0}
-IsItem star = Unit {0}
-IsItem (stars more) = Unit {0}
-
-abbrev pub is_run : WrittenItem → Bool
-is_run (byte b) = false
-is_run question = false
-is_run star = true
-is_run (stars more) = true
-
-abbrev pub begins_with_run : List WrittenItem → Bool
-begins_with_run [] = false
-begins_with_run (i ∷ items) = is_run i
-
--- a run of stars is one item: no other run stands directly behind it
-abbrev pub AreItems : List WrittenItem → Type 0
-AreItems [] = Unit {0}
-AreItems (i ∷ items) = IsItem i × (is_run i ≡ true → begins_with_run items ≡ false) × AreItems items
-
--- a path begins with a slash, byte 47, and has at most 1,024 items
-abbrev pub IsPath : List WrittenItem → Type 0
-IsPath [] = ⊥
-IsPath (i ∷ items) = (i ≡ byte 47) × AreItems (i ∷ items) × (length (i ∷ items) ≤ 1024)
-
-abbrev pub is_plain_slash : WrittenItem → Bool
-is_plain_slash (byte b) = is_slash b
-is_plain_slash question = false
-is_plain_slash star = false
-is_plain_slash (stars more) = false
-
--- what stands behind an item is a plain slash, or the path's end
-abbrev pub slash_or_end_behind : List WrittenItem → Bool
-slash_or_end_behind [] = true
-slash_or_end_behind (i ∷ items) = is_plain_slash i
-
--- what an item stands for, which is strict only if it is a run
-abbrev pub item_means : Bool → WrittenItem → Glob
-item_means strict (byte b) = one (exactly b)
-item_means strict question = one not_slash
-item_means strict star = stars_glob false strict
-item_means strict (stars more) = stars_glob true strict
-
--- A run is strict directly after a plain slash and directly before a plain slash or the end.
-abbrev pub items_mean : Bool → List WrittenItem → List Glob
-items_mean after_slash [] = []
-items_mean after_slash (i ∷ items) =
-    item_means (after_slash && slash_or_end_behind items) i ∷ items_mean (is_plain_slash i) items
-
-abbrev pub path_means : List WrittenItem → Glob
-path_means items = cat_all (items_mean false items)
+use Rattle.rule_text.specs.TextBytes.{begins, ends_behind_comma}
 
 -- ---- rules (apparmor.d(5), "Access Modes")
 
 pub data Qualifier : Type 0 where
   none : Qualifier
-  -- the word, and the white after it
-  allow : List ℕ → Qualifier
-  deny : List ℕ → Qualifier
+  -- the word, and the gap behind it
+  allow : List Piece → Qualifier
+  deny : List Piece → Qualifier
 
 abbrev pub print_qualifier : Qualifier → List ℕ
 print_qualifier none = []
-print_qualifier (allow gap) = codes "allow" ++ gap
-print_qualifier (deny gap) = codes "deny" ++ gap
+print_qualifier (allow gap) = codes "allow" ++ print_blank gap
+print_qualifier (deny gap) = codes "deny" ++ print_blank gap
 
 abbrev pub IsQualifier : Qualifier → Type 0
 IsQualifier none = Unit {0}
@@ -130,79 +39,138 @@ IsWord letters perms = (0 < length letters) × (perms_of letters ≡ Some perms)
 
 pub record WrittenRule : Type 0 where
   pub qualifier : Qualifier
-  pub path : List WrittenItem
-  -- the white between path and permissions
-  pub gap : List ℕ
+  -- the path stands before the permissions
+  pub path_first : Bool
+  pub path : WrittenPath
+  -- the gap between path and permissions
+  pub gap : List Piece
   pub letters : List ℕ
   -- the set of the letters
   pub perms : Perms
-  -- white, or nothing
-  pub before_comma : List ℕ
-  -- white after the rule, or nothing
-  pub past : List ℕ
+  -- the blank before the comma
+  pub before_comma : List Piece
+  -- the blank after the rule
+  pub past : List Piece
+
+abbrev pub print_body : WrittenRule → List ℕ
+print_body r =
+    if r.path_first then print_path r.path ++ (print_blank r.gap ++ r.letters)
+    else r.letters ++ (print_blank r.gap ++ print_path r.path)
 
 abbrev pub print_rule : WrittenRule → List ℕ
-print_rule r = print_qualifier r.qualifier ++ (print_items r.path ++ (r.gap ++ (r.letters ++ (r.before_comma ++ codes ","))))
+print_rule r = print_qualifier r.qualifier ++ (print_body r ++ (print_blank r.before_comma ++ codes ","))
 
-pub record IsRule (r : WrittenRule) : Type 0 where
+-- The comma directly behind a bare path is the rule's only before certain bytes: it would be one of the path.
+abbrev pub CommaEnds : List Piece → Bool → List ℕ → Type 0
+CommaEnds [] false behind = begins ends_behind_comma behind ≡ true
+CommaEnds [] true behind = Unit {0}
+CommaEnds (p ∷ pieces) quoted behind = Unit {0}
+
+-- what stands behind the path
+abbrev pub PathStands : Bool → WrittenRule → List ℕ → Type 0
+PathStands true r behind = Stands r.path.quoted r.gap
+PathStands false r behind = Stands r.path.quoted r.before_comma × CommaEnds r.before_comma r.path.quoted behind
+
+-- valid with these bytes behind the comma
+pub record IsRule (behind : List ℕ) (r : WrittenRule) : Type 0 where
   pub qualifier : IsQualifier r.qualifier
   pub path : IsPath r.path
   pub gap : IsGap r.gap
   pub word : IsWord r.letters r.perms
-  pub before_comma : IsWhite r.before_comma
-  pub past : IsWhite r.past
+  pub before_comma : IsBlank r.before_comma
+  pub past : IsBlank r.past
+  pub stands : PathStands r.path_first r behind
 
 abbrev pub rule_means : WrittenRule → RuleValue
-rule_means r = record { kind = kind_of r.qualifier; perms = r.perms; path = path_means r.path }
+rule_means r = record { kind = kind_of r.qualifier; perms = r.perms; items = path_means r.path }
 
--- each rule and the white after it
+-- each rule and the blank after it
 abbrev pub print_rules : List WrittenRule → List ℕ
 print_rules [] = []
-print_rules (r ∷ rules) = print_rule r ++ (r.past ++ print_rules rules)
+print_rules (r ∷ rules) = print_rule r ++ (print_blank r.past ++ print_rules rules)
+
+-- what stands behind a rule: a blank, the other rules and the closing brace
+abbrev pub behind_rule : WrittenRule → List WrittenRule → List ℕ
+behind_rule r rules = print_blank r.past ++ (print_rules rules ++ codes "}")
 
 abbrev pub AreRules : List WrittenRule → Type 0
 AreRules [] = Unit {0}
-AreRules (r ∷ rules) = IsRule r × AreRules rules
+AreRules (r ∷ rules) = IsRule (behind_rule r rules) r × AreRules rules
 
 abbrev pub rules_mean : List WrittenRule → List RuleValue
 rules_mean [] = []
 rules_mean (r ∷ rules) = rule_means r ∷ rules_mean rules
 
--- ---- texts (apparmor.d(5), "Format")
+-- ---- headers (apparmor.d(5), "Format")
+
+-- a path's name that the profile is attached to, which is not kept; and the gap behind it
+pub record Attachment : Type 0 where
+  pub name : WrittenName
+  pub gap : List Piece
+
+-- What stands between the word profile, if it is written, and the opening brace.
+pub data WrittenHeader : Type 0 where
+  -- the gap, the name, the gap and perhaps an attachment
+  named : List Piece → WrittenName → List Piece → Option Attachment → WrittenHeader
+  -- the name and the gap, without the word profile
+  by_path : WrittenName → List Piece → WrittenHeader
+
+abbrev pub print_attachment : Option Attachment → List ℕ
+print_attachment None = []
+print_attachment (Some a) = print_name a.name ++ print_blank a.gap
+
+abbrev pub print_header : WrittenHeader → List ℕ
+print_header (named gap name behind attachment) =
+    codes "profile" ++ (print_blank gap ++ (print_name name ++ (print_blank behind ++ print_attachment attachment)))
+print_header (by_path name behind) = print_name name ++ print_blank behind
+
+-- a gap, directly behind a name
+abbrev pub IsGapBehind : WrittenName → List Piece → Type 0
+IsGapBehind name gap = IsGap gap × Stands name.quoted gap
+
+-- an attachment may have any length (our choice)
+abbrev pub IsAttachment : Option Attachment → Type 0
+IsAttachment None = Unit {0}
+IsAttachment (Some a) = Each (IsNameCell a.name.quoted) a.name.cells × BeginsWithSlash a.name.cells × IsGapBehind a.name a.gap
+
+abbrev pub IsHeader : WrittenHeader → Type 0
+IsHeader (named gap name behind attachment) =
+    IsGap gap × IsName name × IsFirst name.quoted name.cells × IsGapBehind name behind × IsAttachment attachment
+IsHeader (by_path name behind) = IsName name × BeginsWithSlash name.cells × IsGapBehind name behind
+
+abbrev pub header_means : WrittenHeader → List ℕ
+header_means (named gap name behind attachment) = name_means name
+header_means (by_path name behind) = name_means name
+
+-- ---- texts
 
 pub record WrittenText : Type 0 where
-  -- white before the text, or nothing
-  pub before : List ℕ
-  -- the white between the word profile and the name
-  pub gap : List ℕ
-  pub name : List ℕ
-  -- the white between the name and the brace
-  pub brace_gap : List ℕ
-  -- white before the first rule, or nothing
-  pub inside : List ℕ
+  -- the blank before the text
+  pub start : List Piece
+  pub header : WrittenHeader
+  -- the blank before the first rule
+  pub inside : List Piece
   pub rules : List WrittenRule
-  -- white after the closing brace, or nothing
-  pub past : List ℕ
+  -- the blank after the closing brace, and a comment that the text's end ends
+  pub past : List Piece
+  pub last : Option (List ℕ)
 
 unfoldable pub print_text : WrittenText → List ℕ
 print_text t =
-    t.before ++ (codes "profile" ++ (t.gap ++ (t.name ++ (t.brace_gap ++ (codes "{"
-    ++ (t.inside ++ (print_rules t.rules ++ (codes "}" ++ t.past))))))))
+    print_blank t.start ++ (print_header t.header ++ (codes "{" ++ (print_blank t.inside
+    ++ (print_rules t.rules ++ (codes "}" ++ (print_blank t.past ++ print_last t.last))))))
 
 pub record IsText (t : WrittenText) : Type 0 where
-  pub before : IsWhite t.before
-  pub gap : IsGap t.gap
-  pub name : AllPass is_name_byte t.name
-  pub name_some : 0 < length t.name
-  pub name_fits : length t.name ≤ 255
-  pub brace_gap : IsGap t.brace_gap
-  pub inside : IsWhite t.inside
+  pub start : IsBlank t.start
+  pub header : IsHeader t.header
+  pub inside : IsBlank t.inside
   pub rules : AreRules t.rules
   pub rules_fit : length t.rules ≤ 1024
-  pub past : IsWhite t.past
+  pub past : IsBlank t.past
+  pub last : IsLast t.last
 
 abbrev pub text_means : WrittenText → ProfileValue
-text_means t = record { name = t.name; rules = rules_mean t.rules }
+text_means t = record { name = header_means t.header; rules = rules_mean t.rules }
 
 -- the text is written in the grammar, and means this profile
 pub record ReadsAs (text : List ℕ) (p : ProfileValue) : Type 0 where

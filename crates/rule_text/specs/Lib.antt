@@ -1,8 +1,10 @@
 pub mod Glob
 pub mod Meaning
+pub mod Tokens
 pub mod LiveSteps
 pub mod Sweep
 pub mod Cursor
+pub mod Rules
 pub mod Profile
 pub mod VerdictText
 pub mod FaultNumber
@@ -11,6 +13,15 @@ pub mod PlainVerdict
 pub mod RuleHits
 pub mod TextBytes
 pub mod ReadSteps
+pub mod ReadWords
+pub mod ReadHeader
+pub mod ReadClasses
+pub mod ReadPaths
 pub mod Reading
+pub mod GrammarWords
+pub mod GrammarPaths
 pub mod Grammar
+pub mod Canonical
+pub mod Readable
 pub mod ReadFaults
+pub mod Building

@@ -5,7 +5,7 @@ use Rattle.names.specs.declared.permissions.Permission.{Permission}
 use Rattle.names.specs.declared.permissions.Perms.{Perms}
 use Rattle.names.specs.Permissions.{has, set_of, all_permissions}
 use Rattle.rule_text.specs.Glob.{Glob, empty, one, run, cat, none, alt, fits}
-use Rattle.rule_text.specs.Profile.{RuleValue, holds}
+use Rattle.rule_text.specs.Profile.{RuleValue, pattern, holds}
 use Rattle.rule_text.specs.declared.profile.RuleKind.{RuleKind}
 use Rattle.rule_text.specs.declared.profile.RuleKind.TheVariants.{Allow, Deny}
 use Rattle.rule_text.specs.declared.verdict.Verdict.{Verdict}
@@ -35,11 +35,11 @@ is_deny Deny = true
 -- the rule denies something that is asked for the name
 abbrev pub denies : List ℕ → Perms → RuleValue → Bool
 denies name ask rule =
-    is_deny rule.kind && list_any (λ p. has ask p && holds rule p) all_permissions && takes rule.path name
+    is_deny rule.kind && list_any (λ p. has ask p && holds rule p) all_permissions && takes (pattern rule) name
 
 -- the rule allows p to the name
 abbrev pub allows : List ℕ → Permission → RuleValue → Bool
-allows name p rule = not (is_deny rule.kind) && holds rule p && takes rule.path name
+allows name p rule = not (is_deny rule.kind) && holds rule p && takes (pattern rule) name
 
 -- what is asked and allowed by no rule
 abbrev pub missing : List RuleValue → List ℕ → Perms → Perms

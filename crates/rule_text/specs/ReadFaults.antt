@@ -1,9 +1,10 @@
 -- The fault at which reading from left to right stops.
-use Rattle.std.specs.Prelude.{◌≡◌, ℕ, ◌⊎◌, List, Err}
+use Rattle.std.specs.Prelude.{◌≡◌, ℕ, ◌⊎◌, List, Err, true}
 use Rattle.rule_text.specs.declared.fault.ReadFault.{ReadFault}
 use Rattle.rule_text.specs.Profile.{ProfileValue}
 use Rattle.rule_text.specs.Grammar.{ReadsAs}
-use Rattle.rule_text.specs.Reading.{outcome_of}
+use Rattle.rule_text.specs.declared.reading.stop.Stop.{Stop}
+use Rattle.rule_text.specs.Reading.{text_at, outcome_of}
 
 -- reading the text stops first with this fault
 abbrev pub FaultsAs : List ℕ → ReadFault → Type 0
@@ -12,3 +13,13 @@ FaultsAs text fault = outcome_of text ≡ Err fault
 -- a profile or a fault
 abbrev pub HasOutcome : List ℕ → Type 0
 HasOutcome text = ((p : ProfileValue) × ReadsAs text p) ⊎ ((fault : ReadFault) × FaultsAs text fault)
+
+-- the text has a fault
+abbrev pub Refused : List ℕ → Type 0
+Refused text = (fault : ReadFault) × FaultsAs text fault
+
+-- The text has a fault that was told without a look at the text's end. Not settled are: a Syntax fault at the end; a word left
+-- out, or told as no permissions, that the end ends; the comma of missing permissions, as the last byte; and an open class or
+-- group where the end ends the path.
+abbrev pub IsSettled : List ℕ → Type 0
+IsSettled text = (s : Stop) × (text_at text ≡ Err s) × (s.settled ≡ true)

@@ -1,5 +1,5 @@
 -- What reading a part of a text answers: a value, or the first fault.
-use Rattle.std.specs.Prelude.{◌≡◌, ℕ, ◌-◌, List, length, Result, Ok, Err}
+use Rattle.std.specs.Prelude.{◌≡◌, ℕ, ◌-◌, Bool, true, false, List, [], ◌∷◌, length, Result, Ok, Err}
 use Rattle.rule_text.specs.declared.fault.ReadFault.{ReadFault}
 use Rattle.rule_text.specs.declared.fault.ReadFault.TheVariants as faults
 use Rattle.rule_text.specs.declared.reading.stop.StopKind.{StopKind}
@@ -14,9 +14,19 @@ abbrev pub ◌>>=◌ : {A B : Type 0} → Result A Stop → (A → Result B Stop
 (Ok x) >>= f = f x
 (Err s) >>= f = Err s
 
--- a fault at the first byte of what is left
+-- the text doesn't end here
+abbrev pub goes_on : List ℕ → Bool
+goes_on [] = false
+goes_on (b ∷ bytes) = true
+
+-- A fault with so many bytes left from its place on, told by what stands at `seen`. It is settled unless the text's end was
+-- looked at there.
+abbrev pub stop_left : {A : Type 0} → StopKind → ℕ → List ℕ → Result A Stop
+stop_left kind left seen = Err (record { kind = kind; left = left; settled = goes_on seen })
+
+-- a fault at the first byte of what is left, told by that byte
 abbrev pub stop : {A : Type 0} → StopKind → List ℕ → Result A Stop
-stop kind rest = Err (record { kind = kind; left = length rest })
+stop kind rest = stop_left kind (length rest) rest
 
 abbrev pub syntax : {A : Type 0} → List ℕ → Result A Stop
 syntax rest = stop kinds.Syntax rest
@@ -24,6 +34,13 @@ syntax rest = stop kinds.Syntax rest
 -- the fault of this kind, with so many bytes before it
 abbrev pub fault_at : StopKind → ℕ → ReadFault
 fault_at kinds.Syntax offset = faults.Syntax offset
+fault_at (kinds.LeftOut len) offset = faults.LeftOut offset len
+fault_at kinds.Permission offset = faults.Permission offset
+fault_at kinds.EmptyPermissions offset = faults.EmptyPermissions offset
+fault_at kinds.NotAbsolute offset = faults.NotAbsolute offset
+fault_at kinds.Class offset = faults.Class offset
+fault_at kinds.Group offset = faults.Group offset
+fault_at kinds.Depth offset = faults.Depth offset
 fault_at kinds.TooManyRules offset = faults.TooManyRules offset
 fault_at kinds.TooManyItems offset = faults.TooManyItems offset
 

@@ -4,8 +4,8 @@ use Rattle.names.specs.declared.permissions.Permission.{Permission}
 use Rattle.names.specs.declared.permissions.Perms.{Perms}
 use Rattle.names.specs.Permissions.{has}
 use Rattle.rule_text.specs.Glob.{Takes}
-use Rattle.rule_text.specs.Profile.{RuleValue, holds}
+use Rattle.rule_text.specs.Profile.{RuleValue, pattern, holds}
 
 -- the rule matches the name and holds something that is asked
 abbrev pub HitsSome : RuleValue → List ℕ → Perms → Type 0
-HitsSome rule name ask = ((p : Permission) × IsTrue (has ask p) × IsTrue (holds rule p)) × Takes rule.path name
+HitsSome rule name ask = ((p : Permission) × IsTrue (has ask p) × IsTrue (holds rule p)) × Takes (pattern rule) name

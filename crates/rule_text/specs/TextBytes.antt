@@ -1,32 +1,68 @@
--- The bytes of a profile text, by what they may be a part of.
-use Rattle.std.specs.Prelude.{ℕ, Bool, ◌||◌, ◌==◌}
-use Rattle.std.specs.Char.{is_ascii_alphanumeric}
-use Rattle.rule_text.specs.Glob.{is_slash}
+-- The bytes of a profile text, by what they may be a part of (ascii(7) has their numbers).
+use Rattle.std.specs.Prelude.{ℕ, Bool, false, List, [], ◌∷◌, codes, not, ◌&&◌, ◌||◌, ◌==◌, drop, nat_eq}
+use Rattle.std.specs.Char.{is_ascii_alphabetic, is_ascii_alphanumeric}
+use Rattle.std.specs.List.{starts_with}
+
+-- the first byte passes the test
+abbrev pub begins : (ℕ → Bool) → List ℕ → Bool
+begins test [] = false
+begins test (b ∷ bytes) = test b
 
 -- space, tab, LF, CR
 abbrev pub is_white : ℕ → Bool
 is_white b = b == 32 || b == 9 || b == 10 || b == 13
 
+-- #
+abbrev pub is_hash : ℕ → Bool
+is_hash b = b == 35
+
+-- white, or the # that opens a comment
+abbrev pub opens_blank : ℕ → Bool
+opens_blank b = is_white b || is_hash b
+
+-- what makes the word #include more than a comment when it stands behind it: space, tab, < or "
+abbrev pub is_include_mark : ℕ → Bool
+is_include_mark b = b == 32 || b == 9 || b == 60 || b == 34
+
+-- #include and such a byte
+abbrev pub is_include : List ℕ → Bool
+is_include bytes = starts_with nat_eq bytes (codes "#include") && begins is_include_mark (drop 8 bytes)
+
+-- a letter begins a word
+abbrev pub is_letter_byte : ℕ → Bool
+is_letter_byte b = is_ascii_alphabetic b
+
 -- an ASCII letter or digit, or _
 abbrev pub is_word_byte : ℕ → Bool
 is_word_byte b = is_ascii_alphanumeric b || b == 95
 
--- an ASCII letter or digit, or one of _ . -
-abbrev pub is_name_byte : ℕ → Bool
-is_name_byte b = is_word_byte b || b == 46 || b == 45
+-- "
+abbrev pub is_quote : ℕ → Bool
+is_quote b = b == 34
 
--- a byte that stands for itself in a path
-abbrev pub is_plain : ℕ → Bool
-is_plain b = is_name_byte b || is_slash b
+abbrev pub is_comma : ℕ → Bool
+is_comma b = b == 44
 
 -- *
 abbrev pub is_star : ℕ → Bool
 is_star b = b == 42
 
--- ?
-abbrev pub is_question : ℕ → Bool
-is_question b = b == 63
+-- {
+abbrev pub is_open_brace : ℕ → Bool
+is_open_brace b = b == 123
 
--- a byte of a path; any other ends it
-abbrev pub is_path_byte : ℕ → Bool
-is_path_byte b = is_plain b || is_star b || is_question b
+-- }
+abbrev pub is_close_brace : ℕ → Bool
+is_close_brace b = b == 125
+
+-- ->
+abbrev pub is_arrow : List ℕ → Bool
+is_arrow bytes = starts_with nat_eq bytes (codes "->")
+
+-- what stands behind a comma that ends a bare path: white, #, }, " or another comma
+abbrev pub ends_behind_comma : ℕ → Bool
+ends_behind_comma b = is_white b || is_hash b || is_close_brace b || is_quote b || is_comma b
+
+-- LF and byte 0 go with no backslash, neither does what else would be a character code in a path: a letter or digit
+abbrev pub is_escapable : ℕ → Bool
+is_escapable b = not (b == 0 || b == 10 || is_ascii_alphanumeric b)

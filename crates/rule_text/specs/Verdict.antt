@@ -5,7 +5,7 @@ use Rattle.names.specs.declared.permissions.Permission.{Permission}
 use Rattle.names.specs.declared.permissions.Perms.{Perms}
 use Rattle.names.specs.Permissions.{has, only}
 use Rattle.rule_text.specs.Glob.{Takes}
-use Rattle.rule_text.specs.Profile.{RuleValue, holds}
+use Rattle.rule_text.specs.Profile.{RuleValue, pattern, holds}
 use Rattle.rule_text.specs.declared.profile.RuleKind.{RuleKind}
 use Rattle.rule_text.specs.declared.profile.RuleKind.TheVariants.{Allow, Deny}
 use Rattle.rule_text.specs.declared.verdict.Verdict.{Verdict}
@@ -18,7 +18,7 @@ IsRuleAt rules n rule = (1 ≤ n) × (n ≤ length rules) × (rule ≡ slice_ind
 -- n is in the set of hits: the rule with the number n is of this kind, holds p and matches the name
 abbrev pub Hits : List RuleValue → RuleKind → Permission → List ℕ → ℕ → Type 0
 Hits rules kind p name n = (rule : RuleValue) × IsRuleAt rules n rule × (rule.kind ≡ kind)
-    × IsTrue (holds rule p) × Takes rule.path name
+    × IsTrue (holds rule p) × Takes (pattern rule) name
 
 -- n is in the union of the deny hits over what is asked
 abbrev pub Denies : List RuleValue → List ℕ → Perms → ℕ → Type 0

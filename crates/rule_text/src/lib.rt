@@ -10,6 +10,7 @@ mod path;
 mod profile;
 mod reading;
 mod verdict;
+mod writing;
 
 pub use fault::ReadFault;
 pub use items::{ByteRange, Class, Item, Stars};
@@ -19,5 +20,6 @@ pub use laws::{
     takes_by_cuts,
 };
 pub use profile::{Profile, Rule, RuleKind};
-pub use reading::{one_outcome, read};
+pub use reading::{canonical_texts_are_read, one_outcome, read, settled_faults_stay};
 pub use verdict::Verdict;
+pub use writing::write;

@@ -1,6 +1,7 @@
-ghost use Rattle.std.specs.Prelude.{◌≡◌, ◌≤◌};
+ghost use Rattle.std.specs.Prelude.{◌≡◌, ◌≤◌, IsTrue};
 ghost use Rattle.rule_text.specs.Glob.{places};
 ghost use Rattle.rule_text.specs.Meaning.{meaning_of};
+ghost use Rattle.rule_text.specs.Tokens.{all_full};
 
 use crate::items::Item;
 
@@ -11,12 +12,14 @@ pub(crate) const MAX_PLACES: usize = 2048;
 #[derive(Debug, Drop)]
 pub(crate) struct RulePath {
     items: Vec<Item>,
+    ghost full: { IsTrue (all_full items.items) },
     ghost room: { places (meaning_of items.items) ≤ 2048 },
 }
 
 impl RulePath {
     pub(crate) fn new(items: Vec<Item>) -> RulePath
-        requires { places (meaning_of items.items) ≤ 2048 }
+        requires full { IsTrue (all_full items.items) }
+        requires room { places (meaning_of items.items) ≤ 2048 }
         ensures { result.items ≡ items }
     {
         RulePath { items }

@@ -1,4 +1,6 @@
-ghost use Rattle.std.specs.Prelude.{◌≡◌, ◌≤◌, length};
+ghost use Rattle.std.specs.Prelude.{◌≡◌, ◌≤◌, IsTrue, length, map};
+ghost use Rattle.rule_text.specs.Rules.{rule_value};
+ghost use Rattle.rule_text.specs.Readable.{is_profile};
 
 use crate::items::Item;
 use crate::path::RulePath;
@@ -25,7 +27,8 @@ pub struct Rule {
 
 impl Rule {
     ghost use Rattle.std.specs.Prelude.{map};
-    ghost use Rattle.rule_text.specs.Profile.{rule_value};
+    ghost use Rattle.rule_text.specs.Profile.{rule_value, pattern};
+    ghost use Rattle.rule_text.specs.Tokens.{tokens_of};
     ghost use Rattle.rule_text.specs.Meaning.{meaning_of};
     ghost use Rattle.rule_text.specs.Glob.{places};
 
@@ -45,7 +48,8 @@ impl Rule {
 
     /// The items of the rule's path, in the order written.
     pub fn items(&self) -> &[Item]
-        ensures items { meaning_of result.now ≡ (rule_value self.now).path }
+        ensures items { tokens_of result.now ≡ (rule_value self.now).items }
+        ensures pattern { meaning_of result.now ≡ pattern (rule_value self.now) }
         // At most two places for each of 1,024 items.
         ensures room { places (meaning_of result.now) ≤ 2048 }
     {
@@ -59,6 +63,7 @@ pub struct Profile {
     pub(crate) name: Vec<u8>,
     pub(crate) rules: Vec<Rule>,
     ghost few_rules: { length rules.items ≤ 1024 },
+    ghost readable: { IsTrue (is_profile (record { name = name.items; rules = map rule_value rules.items })) },
 }
 
 impl Profile {

@@ -6,7 +6,12 @@ ghost use Rattle.rule_text.specs.ReadSteps.{fault_of};
 ghost use Rattle.rule_text.specs.Reading.{outcome_of};
 ghost use Rattle.rule_text.specs.ReadFaults.{FaultsAs};
 
+mod builder;
+mod bytes;
+mod class;
+mod header;
 mod laws;
+mod name;
 mod path;
 mod rules;
 mod stop;
@@ -19,7 +24,7 @@ use self::stop::{Failure, Stop, StopKind};
 use self::text::text_of;
 use crate::fault::ReadFault;
 use crate::profile::Profile;
-pub use laws::one_outcome;
+pub use laws::{canonical_texts_are_read, one_outcome, settled_faults_stay};
 use std::alloc::Global;
 
 /// The fault that a stop is of a text of so many bytes.
@@ -29,6 +34,13 @@ fn fault_of(len: usize, stop: Stop) -> ReadFault
     let offset = len.saturating_sub(stop.left);
     match stop.kind {
         StopKind::Syntax => ReadFault::Syntax { offset },
+        StopKind::LeftOut(len) => ReadFault::LeftOut { offset, len },
+        StopKind::Permission => ReadFault::Permission { offset },
+        StopKind::EmptyPermissions => ReadFault::EmptyPermissions { offset },
+        StopKind::NotAbsolute => ReadFault::NotAbsolute { offset },
+        StopKind::Class => ReadFault::Class { offset },
+        StopKind::Group => ReadFault::Group { offset },
+        StopKind::Depth => ReadFault::Depth { offset },
         StopKind::TooManyRules => ReadFault::TooManyRules { offset },
         StopKind::TooManyItems => ReadFault::TooManyItems { offset },
     }

@@ -12,6 +12,10 @@ mod scripts;
 const PASSWD: &str = "profile passwd {\n  /etc/passwd r,\n}\n";
 
 const SUFFIXED: &str = "profile p {\n  /x ix,\n}\n";
+const INCLUDING: &str = "profile p {\n  #include <a>\n}\n";
+const CUT_OFF: &str = "profile p {\n  /x r";
+const GLOBBING: &str =
+    "# c\n\"/bin/x\" { /usr{,/local}/bin/[^a-c]? r,deny w \"/a b/{c,}d\" , #d\n}";
 
 /// Gives its bytes a few at a time, and fails once it has been read from often enough.
 #[derive(Drop)]
@@ -96,7 +100,12 @@ fn verdicts_and_refusals(rt: HostRuntime) {
         ("rx", "x", "", 2, "bad permissions\n"),
         ("r", "x", PASSWD, 2, "bad name\n"),
         ("r", "", "", 2, "bad name\n"),
-        ("r", "/x", SUFFIXED, 3, "refused: read 1 at 17\n"),
+        ("r", "/x", SUFFIXED, 3, "refused: read 2 at 17\n"),
+        ("r", "/x", INCLUDING, 3, "refused: read 2 at 14\n"),
+        ("r", "/x", CUT_OFF, 3, "refused: read 1 at 18\n"),
+        ("r", "/usr/bin/dx", GLOBBING, 0, "allowed\n"),
+        ("r", "/usr/local/bin/ax", GLOBBING, 0, "no rule for r\n"),
+        ("w", "/a b/cd", GLOBBING, 0, "denied by rule 2\n"),
         ("r", "/x", "", 3, "refused: read 1 at 0\n"),
     ];
     for (perms, name, text, code, told) in cases {

@@ -1,10 +1,12 @@
 //! Laws of the grammar and of reading. The functions do nothing: each stands for its contract.
-ghost use Rattle.std.specs.Prelude.{◌≡◌, ◌↔◌, ℕ, List, Ok, Err};
+ghost use Rattle.std.specs.Prelude.{◌≡◌, ◌↔◌, ◌++◌, ℕ, List, Ok, Err, IsTrue};
 ghost use Rattle.rule_text.specs.declared.fault.ReadFault.{ReadFault};
 ghost use Rattle.rule_text.specs.Profile.{ProfileValue};
 ghost use Rattle.rule_text.specs.Grammar.{ReadsAs};
 ghost use Rattle.rule_text.specs.Reading.{outcome_of};
-ghost use Rattle.rule_text.specs.ReadFaults.{FaultsAs, HasOutcome};
+ghost use Rattle.rule_text.specs.Canonical.{canonical, CanBeRead};
+ghost use Rattle.rule_text.specs.Readable.{is_profile};
+ghost use Rattle.rule_text.specs.ReadFaults.{FaultsAs, HasOutcome, Refused, IsSettled};
 
 /// Each text has one profile or one fault.
 pub fn one_outcome()
@@ -20,4 +22,16 @@ pub fn one_outcome()
         → ReadsAs text p ↔ (outcome_of text ≡ Ok p) }
     // Want of memory is never a text's own fault.
     ensures never_memory { (text : List ℕ) → FaultsAs text ReadFault.NoMemory → ⊥ }
+{}
+
+/// A fault that was told without a look at the text's end is one of each text that begins so: no bytes behind it cure it.
+pub fn settled_faults_stay()
+    ensures { (text more : List ℕ) → IsSettled text → Refused (text ++ more) }
+{}
+
+/// Which profiles can be read, and that the canonical text of each is read as it and as no other.
+pub fn canonical_texts_are_read()
+    ensures again { (p : ProfileValue) → CanBeRead p → ReadsAs (canonical p) p }
+    ensures apart { (p q : ProfileValue) → CanBeRead p → CanBeRead q → canonical p ≡ canonical q → p ≡ q }
+    ensures readable { (p : ProfileValue) → CanBeRead p ↔ IsTrue (is_profile p) }
 {}

@@ -1,48 +1,106 @@
 //! The path of a rule.
-ghost use Rattle.std.specs.Prelude.{◌≡◌, ℕ, List, map, false, option_map};
-ghost use Rattle.rule_text.specs.Glob.{is_slash};
-ghost use Rattle.rule_text.specs.Meaning.{meaning, meaning_of, stars_glob};
+ghost use Rattle.std.specs.Prelude.{◌≡◌, ◌∷◌, ◌++◌, [], ℕ, List, map, false, option_map, length, drop, IfOk, IfErr, IsTrue, ◌≤◌};
+ghost use Rattle.rule_text.specs.Building.{tokens_in, braces_in, token_value, StandsIn};
+ghost use Rattle.rule_text.specs.Meaning.{meaning_of, stars_glob};
 ghost use Rattle.rule_text.specs.ReadSteps.{Gives};
-ghost use Rattle.rule_text.specs.Reading.{after, slash_at, slash_or_end, stars_at, item_at, items_at, path_at};
-ghost use Rattle.rule_text.specs.TextBytes.{is_plain, is_star, is_path_byte};
+ghost use Rattle.rule_text.specs.ReadWords.{after};
+ghost use Rattle.rule_text.specs.Tokens.{tokens_of, all_full};
+ghost use Rattle.rule_text.specs.ReadPaths.{braces_behind, is_plain_slash, path_ends, escaped_at, goes_on_at, slash_or_end, token_at, tokens_at, path_in, path_at};
+ghost use Rattle.rule_text.specs.TextBytes.{is_star};
 
-use super::stop::{Failure, StopKind, stop_at};
-use super::words::is_name_byte;
-use crate::items::{Item, Stars};
+use super::builder::Builder;
+use super::bytes::{ends_behind_comma, is_white};
+use super::class::class_of;
+use super::stop::{Failure, StopKind, stop_at, stop_left};
+use super::words::after_literal;
+use crate::items::{Class, Item, Stars};
 use crate::path::RulePath;
 use std::alloc::Global;
 
 /// The most items of a path.
 const MAX_ITEMS: usize = 1024;
 
-/// Whether the byte stands for itself in a path.
-fn is_plain(byte: u8) -> bool
-    ensures { result ≡ is_plain byte }
-{
-    is_name_byte(byte) || byte == b'/'
+/// How deep groups may nest.
+const MAX_DEPTH: usize = 50;
+
+/// An item, or a brace or comma of a group.
+#[derive(Debug, Drop)]
+pub(crate) enum Token {
+    Byte(u8),
+    AnyByte,
+    Class(Class),
+    Stars(Stars),
+    Opening,
+    Between,
+    Closing,
 }
 
-fn is_path_byte(byte: u8) -> bool
-    ensures { result ≡ is_path_byte byte }
-{
-    is_plain(byte) || byte == b'*' || byte == b'?'
+impl Token {
+    /// A slash that stands for itself.
+    fn is_plain_slash(&self) -> bool
+        ensures { result ≡ is_plain_slash (token_value self.now) }
+    {
+        matches!(self, Token::Byte(b'/'))
+    }
 }
 
-/// Whether a plain slash stands here.
-fn slash_at(bytes: &[u8]) -> bool
-    ensures { result ≡ slash_at bytes.now }
-{
-    matches!(bytes, [b'/', ..])
-}
-
-/// Whether a plain slash stands here, or the path ends.
-fn slash_or_end(bytes: &[u8]) -> bool
-    ensures { result ≡ slash_or_end bytes.now }
+/// Whether the path ends before these bytes, in quotes or not, so deep in groups.
+fn path_ends(quoted: bool, depth: usize, bytes: &[u8]) -> bool
+    ensures { result ≡ path_ends quoted depth bytes.now }
 {
     match bytes {
-        [byte, ..] => *byte == b'/' || !is_path_byte(*byte),
-        [] => true,
+        [] => !quoted,
+        [b'"', ..] => true,
+        [b',', behind @ ..] if !quoted && depth == 0 => match behind {
+            [] => true,
+            [byte, ..] => ends_behind_comma(*byte),
+        },
+        [byte, ..] => !quoted && is_white(*byte),
     }
+}
+
+/// The byte behind the backslash that `bytes` begin with, and what is left after it.
+fn escaped_of(bytes: &[u8]) -> Result<(u8, &[u8]), Failure>
+    ensures { Gives (λ x. (x.0, x.1.now)) result (escaped_at (drop 1 bytes.now)) }
+{
+    match bytes {
+        [_, byte, ..] if byte.is_ascii_alphanumeric() => Err(stop_left(
+            StopKind::LeftOut(2),
+            bytes.len(),
+            bytes,
+        )),
+        [_, byte, rest @ ..] if *byte != 0 && *byte != b'\n' => Ok((*byte, rest)),
+        [_, rest @ ..] => Err(stop_at(StopKind::Syntax, rest)),
+        [] => Err(stop_at(StopKind::Syntax, bytes)),
+    }
+}
+
+/// Whether an item, a brace or a comma begins here, or the path ends. Else it is a fault for itself.
+#[tactic(auto, unfolding(crate::specs::ReadPaths::goes_on_at))]
+fn goes_on(quoted: bool, depth: usize, bytes: &[u8]) -> Result<bool, Failure>
+    ensures { Gives (λ x. x) result (goes_on_at quoted depth bytes.now) }
+{
+    match bytes {
+        [] if quoted => Err(stop_at(StopKind::Syntax, bytes)),
+        [0, ..] => Err(stop_at(StopKind::Syntax, bytes)),
+        [b'\n', ..] if quoted => Err(stop_at(StopKind::Syntax, bytes)),
+        _ if path_ends(quoted, depth, bytes) => Ok(false),
+        [b'{', ..] if depth >= MAX_DEPTH => Err(stop_at(StopKind::Depth, bytes)),
+        [b'}', ..] if depth == 0 => Err(stop_at(StopKind::Group, bytes)),
+        [b'@', b'{', ..] => Err(stop_at(StopKind::LeftOut(2), bytes)),
+        [b'\\', ..] => {
+            escaped_of(bytes)?;
+            Ok(true)
+        }
+        _ => Ok(true),
+    }
+}
+
+/// Whether a plain slash stands here, by itself or behind a backslash, or the path ends.
+fn slash_or_end(quoted: bool, depth: usize, bytes: &[u8]) -> bool
+    ensures { result ≡ slash_or_end quoted depth bytes.now }
+{
+    matches!(bytes, [b'/', ..] | [b'\\', b'/', ..]) || path_ends(quoted, depth, bytes)
 }
 
 fn after_stars(bytes: &[u8]) -> &[u8]
@@ -55,60 +113,113 @@ fn after_stars(bytes: &[u8]) -> &[u8]
     rest
 }
 
-/// The run of stars whose first star stands before `bytes`, and what is left after it.
-fn stars_of(after_slash: bool, bytes: &[u8]) -> (Stars, &[u8])
-    ensures { (stars_glob result.0.crosses_slashes result.0.strict, result.1.now)
-        ≡ stars_at after_slash bytes.now }
-{
-    let rest = after_stars(bytes);
-    let stars = Stars {
-        crosses_slashes: matches!(bytes, [b'*', ..]),
-        strict: after_slash && slash_or_end(rest),
-    };
-    (stars, rest)
-}
-
-/// The item at the front, and what is left after it. None where the path ends.
-fn item_of(after_slash: bool, bytes: &[u8]) -> Option<(Item, &[u8])>
-    ensures { option_map (λ x. (meaning x.0, x.1.now)) result ≡ item_at after_slash bytes.now }
+/// What begins here, and what is left after it. A run of stars is strict between a plain slash and another or the path's end.
+#[tactic(auto, unfolding(crate::specs::ReadPaths::token_at))]
+fn token_of(
+    alloc: Global,
+    quoted: bool,
+    depth: usize,
+    after_slash: bool,
+    bytes: &[u8],
+) -> Result<(Token, &[u8]), Failure>
+    ensures { Gives (λ x. (token_value x.0, x.1.now)) result (token_at quoted depth after_slash bytes.now) }
 {
     match bytes {
         [b'*', more @ ..] => {
-            let (stars, rest) = stars_of(after_slash, more);
-            Some((Item::Stars(stars), rest))
+            let rest = after_stars(more);
+            let stars = Stars {
+                crosses_slashes: matches!(more, [b'*', ..]),
+                strict: after_slash && slash_or_end(quoted, depth, rest),
+            };
+            Ok((Token::Stars(stars), rest))
         }
-        [b'?', rest @ ..] => Some((Item::AnyByte, rest)),
-        [byte, rest @ ..] if is_plain(*byte) => Some((Item::Byte(*byte), rest)),
-        _ => None,
+        [b'?', rest @ ..] => Ok((Token::AnyByte, rest)),
+        [b'[', members @ ..] => {
+            let (class, rest) = class_of(alloc, quoted, bytes.len(), members)?;
+            Ok((Token::Class(class), rest))
+        }
+        [b'{', rest @ ..] => Ok((Token::Opening, rest)),
+        [b'}', rest @ ..] => Ok((Token::Closing, rest)),
+        [b',', rest @ ..] if depth > 0 => Ok((Token::Between, rest)),
+        [b'\\', ..] => {
+            let (byte, rest) = escaped_of(bytes)?;
+            Ok((Token::Byte(byte), rest))
+        }
+        [byte, rest @ ..] => Ok((Token::Byte(*byte), rest)),
+        [] => Err(stop_at(StopKind::Syntax, bytes)),
     }
 }
 
-/// The items up to the path's end.
-fn items_of(alloc: Global, bytes: &[u8]) -> Result<(Vec<Item>, &[u8]), Failure>
-    ensures { Gives (λ x. (map meaning x.0.items, x.1.now)) result (items_at 1024 false bytes.now) }
+/// One token more of a path, with so many bytes left from it on.
+fn add(builder: &mut Builder, alloc: Global, token: Token, left: usize) -> Result<(), Failure>
+    ensures tokens { IfOk result (λ _. StandsIn (braces_in builder.old) (token_value token) →
+        tokens_in builder.new ≡ tokens_in builder.old ++ (token_value token ∷ [])) }
+    ensures braces { IfOk result (λ _. braces_in builder.new ≡ braces_behind (token_value token) left (braces_in builder.old)) }
+    ensures memory { IfErr result (λ e. e ≡ Failure.NoMemory) }
 {
-    let mut items = Vec::new(alloc);
-    let mut rest = bytes;
+    match token {
+        Token::Byte(byte) => builder.push(Item::Byte(byte))?,
+        Token::AnyByte => builder.push(Item::AnyByte)?,
+        Token::Class(class) => builder.push(Item::Class(class))?,
+        Token::Stars(stars) => builder.push(Item::Stars(stars))?,
+        Token::Opening => builder.open_group(alloc, left)?,
+        Token::Between => builder.next_alternative(alloc)?,
+        Token::Closing => builder.close_group()?,
+    }
+    Ok(())
+}
+
+/// The items up to the path's end, and what is left after them.
+fn items_of(alloc: Global, quoted: bool, bytes: &[u8]) -> Result<(Vec<Item>, &[u8]), Failure>
+    ensures gives { Gives (λ x. (tokens_of x.0.items, x.1.now)) result (tokens_at quoted 1024 [] false bytes.now) }
+    ensures full { IfOk result (λ x. IsTrue (all_full x.0.items)) }
+    ensures few { IfOk result (λ x. length (tokens_of x.0.items) ≤ 1024) }
+{
+    let mut builder = Builder::new(alloc);
+    let mut count = 0;
     let mut after_slash = false;
-    while let Some((item, more)) = item_of(after_slash, rest) {
-        if items.len() == MAX_ITEMS {
+    let mut rest = bytes;
+    while goes_on(quoted, builder.depth(), rest)? {
+        if count == MAX_ITEMS {
             return Err(stop_at(StopKind::TooManyItems, rest));
         }
-        items.push(item)?;
-        after_slash = slash_at(rest);
+        let (token, more) = token_of(alloc, quoted, builder.depth(), after_slash, rest)?;
+        after_slash = token.is_plain_slash();
+        add(&mut builder, alloc, token, rest.len())?;
+        count += 1;
         rest = more;
     }
+    let items = builder.finish(rest)?;
     Ok((items, rest))
 }
 
-/// A path, and what is left after it.
-#[tactic(auto, unfolding(crate::specs::Reading::path_at))]
-pub(crate) fn path_of(alloc: Global, bytes: &[u8]) -> Result<(RulePath, &[u8]), Failure>
-    ensures { Gives (λ x. (meaning_of x.0.items.items, x.1.now)) result (path_at bytes.now) }
+/// A path without its quotes, and what is left after it.
+#[tactic(auto, using(crate::proofs::TokenLaws::room_of), unfolding(crate::specs::ReadPaths::path_in))]
+fn path_in(alloc: Global, quoted: bool, bytes: &[u8]) -> Result<(RulePath, &[u8]), Failure>
+    ensures { Gives (λ x. (tokens_of x.0.items.items, x.1.now)) result (path_in quoted bytes.now) }
 {
-    if !slash_at(bytes) {
-        return Err(stop_at(StopKind::Syntax, bytes));
+    match bytes {
+        [b'/', ..] => {
+            let (items, rest) = items_of(alloc, quoted, bytes)?;
+            Ok((RulePath::new(items), rest))
+        }
+        [] | [0, ..] => Err(stop_at(StopKind::Syntax, bytes)),
+        [b'\n', ..] if quoted => Err(stop_at(StopKind::Syntax, bytes)),
+        _ => Err(stop_at(StopKind::NotAbsolute, bytes)),
     }
-    let (items, rest) = items_of(alloc, bytes)?;
-    Ok((RulePath::new(items), rest))
+}
+
+/// A path, and what is left after it.
+#[tactic(auto, unfolding(crate::specs::ReadPaths::path_at))]
+pub(crate) fn path_of(alloc: Global, bytes: &[u8]) -> Result<(RulePath, &[u8]), Failure>
+    ensures { Gives (λ x. (tokens_of x.0.items.items, x.1.now)) result (path_at bytes.now) }
+{
+    match bytes {
+        [b'"', inside @ ..] => {
+            let (path, rest) = path_in(alloc, true, inside)?;
+            let rest = after_literal(b"\"", rest)?;
+            Ok((path, rest))
+        }
+        _ => path_in(alloc, false, bytes),
+    }
 }

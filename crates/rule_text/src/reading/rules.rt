@@ -1,63 +1,134 @@
 //! Rules.
-ghost use Rattle.std.specs.Prelude.{◌≡◌, ◌≤◌, ℕ, List, length, map, codes, option_map, IfOk};
-ghost use Rattle.names.specs.Permissions.{is_letter};
+ghost use Rattle.std.specs.Prelude.{◌≡◌, ◌≤◌, ℕ, List, length, map, drop, option_map, IfOk, Some, None, if◌then◌else◌, codes};
+ghost use Rattle.rule_text.specs.ReadWords.{is_word, after_word};
+ghost use Rattle.std.specs.List.{list_all};
 ghost use Rattle.rule_text.specs.Profile.{rule_value};
 ghost use Rattle.rule_text.specs.ReadSteps.{Gives};
-ghost use Rattle.rule_text.specs.Reading.{leading, white, perms_at, qualifier_at, rule_at, rule_begins, closing, rules_at};
+ghost use Rattle.rule_text.specs.Reading.{is_mode, perms_at, perms_behind, qualifier_at, start_at, comma_at, body_at, rule_at, rule_begins, rules_at};
+ghost use Rattle.rule_text.specs.TextBytes.{begins, is_close_brace};
+ghost use Rattle.rule_text.specs.Tokens.{tokens_of};
 
 use super::path::path_of;
-use super::stop::{Failure, StopKind, stop_at};
-use super::words::{after_gap, after_keyword, after_literal, after_white};
+use super::stop::{Failure, StopKind, stop_at, stop_left};
+use super::words::{after_blank, after_gap, word_left_out, word_of};
+use crate::path::RulePath;
 use crate::profile::{MAX_RULES, Rule, RuleKind};
-use names::{Permission, Perms};
+use names::Perms;
 use std::alloc::Global;
 
-/// How many letters of permissions stand at the front.
-fn letters_length(bytes: &[u8]) -> usize
-    ensures { result ≡ length (leading is_letter bytes.now) }
+/// A letter of the access modes that file rules have, those that are not supported among them.
+fn is_mode(byte: u8) -> bool
+    ensures { result ≡ is_mode byte }
 {
-    let mut length = 0;
-    while length < bytes.len() && Permission::from_letter(bytes[length]).is_some() {
-        length += 1;
-    }
-    length
+    b"rwlkmaxipcuPCU".contains(&byte)
 }
 
-/// The set of one letter or more, and what is left after them.
-#[tactic(auto, using(crate::proofs::ReadRuns::leading_cut), unfolding(crate::specs::Reading::perms_at))]
+fn has_only_modes(word: &[u8]) -> bool
+    ensures { result ≡ list_all is_mode word.now }
+{
+    word.iter().all(|byte| is_mode(*byte))
+}
+
+/// The permissions that stand behind a path, and what is left after them.
+#[tactic(auto, unfolding(crate::specs::Reading::perms_at))]
 fn perms_of(bytes: &[u8]) -> Result<(Perms, &[u8]), Failure>
     ensures { Gives (λ x. (x.0, x.1.now)) result (perms_at bytes.now) }
 {
-    let length = letters_length(bytes);
-    if length == 0 {
-        return Err(stop_at(StopKind::Syntax, bytes));
-    }
-    let (word, rest) = bytes.split_at(length);
+    let Some((word, rest)) = word_of(bytes) else {
+        return Err(match bytes {
+            [b',', ..] => stop_at(StopKind::EmptyPermissions, bytes),
+            [b'-', b'>', ..] => stop_at(StopKind::LeftOut(2), bytes),
+            _ => stop_at(StopKind::Syntax, bytes),
+        });
+    };
     match Perms::from_letters(word) {
         Some(perms) => Ok((perms, rest)),
-        // Never: only letters of permissions were counted.
-        None => Err(stop_at(StopKind::Syntax, bytes)),
+        None if has_only_modes(word) => Err(word_left_out(bytes, word, rest)),
+        None => Err(stop_left(StopKind::Permission, bytes.len(), rest)),
     }
 }
 
-/// What a rule does, by the word that stands at the front, and what is left after the white behind it.
-/// A rule without such a word allows.
-#[tactic(auto, unfolding(crate::specs::Reading::qualifier_at))]
+/// The same with the gap before them, directly behind a path.
+#[tactic(auto, unfolding(crate::specs::Reading::perms_behind))]
+fn perms_behind(bytes: &[u8]) -> Result<(Perms, &[u8]), Failure>
+    ensures { Gives (λ x. (x.0, x.1.now)) result (perms_behind bytes.now) }
+{
+    match bytes {
+        [b',', behind @ ..] => Err(stop_left(StopKind::EmptyPermissions, bytes.len(), behind)),
+        _ => perms_of(after_gap(bytes)?),
+    }
+}
+
+/// What the word at the front says that a rule does, if it is a qualifier, and what is left after it.
+fn qualifier_word(bytes: &[u8]) -> Option<(RuleKind, &[u8])>
+    ensures { option_map {U = RuleKind × List ℕ} (λ x. (x.0, x.1.now)) result ≡
+        (if is_word (codes "allow") bytes.now then Some (RuleKind.Allow, after_word bytes.now)
+        else if is_word (codes "deny") bytes.now then Some (RuleKind.Deny, after_word bytes.now) else None) }
+{
+    match word_of(bytes) {
+        Some((word, rest)) if word == b"allow".as_slice() => Some((RuleKind::Allow, rest)),
+        Some((word, rest)) if word == b"deny".as_slice() => Some((RuleKind::Deny, rest)),
+        _ => None,
+    }
+}
+
+/// What a rule does, and what is left after its qualifier and the gap behind that. A rule without qualifier allows.
+#[tactic(auto, using(crate::proofs::ReadCodeRules::qualifier_there), unfolding(crate::specs::Reading::qualifier_at))]
 fn qualifier_of(bytes: &[u8]) -> Result<(RuleKind, &[u8]), Failure>
     ensures { Gives (λ x. (x.0, x.1.now)) result (qualifier_at bytes.now) }
 {
+    match qualifier_word(bytes) {
+        Some((kind, rest)) => Ok((kind, after_gap(rest)?)),
+        None => Ok((RuleKind::Allow, bytes)),
+    }
+}
+
+/// What begins behind the qualifier: permissions, and what is left after them; none for a path.
+#[tactic(auto, unfolding(crate::specs::Reading::start_at))]
+fn start_of(bytes: &[u8]) -> Result<Option<(Perms, &[u8])>, Failure>
+    ensures { Gives (λ o. option_map (λ x. (x.0, x.1.now)) o) result (start_at bytes.now) }
+{
+    if let Some((word, rest)) = word_of(bytes) {
+        return match Perms::from_letters(word) {
+            Some(perms) => Ok(Some((perms, rest))),
+            None => Err(word_left_out(bytes, word, rest)),
+        };
+    }
     match bytes {
-        [b'a', ..] => {
-            let rest = after_keyword(b"allow", bytes)?;
-            let rest = after_gap(rest)?;
-            Ok((RuleKind::Allow, rest))
+        [b'/' | b'"', ..] => Ok(None),
+        [b'@' | b'^' | b'$', ..] => Err(stop_at(StopKind::LeftOut(1), bytes)),
+        _ => Err(stop_at(StopKind::Syntax, bytes)),
+    }
+}
+
+/// What is left after the comma that ends a rule.
+#[tactic(auto, unfolding(crate::specs::Reading::comma_at))]
+fn after_comma(bytes: &[u8]) -> Result<&[u8], Failure>
+    ensures { Gives (λ x. x.now) result (comma_at bytes.now) }
+{
+    let comma = after_blank(bytes)?;
+    match comma {
+        [b',', rest @ ..] => Ok(rest),
+        [b'-', b'>', ..] => Err(stop_at(StopKind::LeftOut(2), comma)),
+        _ => Err(stop_at(StopKind::Syntax, comma)),
+    }
+}
+
+/// A rule's permissions and path, in either order, and what is left after them.
+#[tactic(auto, unfolding(crate::specs::Reading::body_at))]
+fn body_of(alloc: Global, bytes: &[u8]) -> Result<(Perms, RulePath, &[u8]), Failure>
+    ensures { Gives (λ x. ((x.0, tokens_of x.1.items.items), x.2.now)) result (body_at bytes.now) }
+{
+    match start_of(bytes)? {
+        Some((perms, rest)) => {
+            let (path, rest) = path_of(alloc, after_gap(rest)?)?;
+            Ok((perms, path, rest))
         }
-        [b'd', ..] => {
-            let rest = after_keyword(b"deny", bytes)?;
-            let rest = after_gap(rest)?;
-            Ok((RuleKind::Deny, rest))
+        None => {
+            let (path, rest) = path_of(alloc, bytes)?;
+            let (perms, rest) = perms_behind(rest)?;
+            Ok((perms, path, rest))
         }
-        _ => Ok((RuleKind::Allow, bytes)),
     }
 }
 
@@ -67,35 +138,25 @@ fn rule_of(alloc: Global, bytes: &[u8]) -> Result<(Rule, &[u8]), Failure>
     ensures { Gives (λ x. (rule_value x.0, x.1.now)) result (rule_at bytes.now) }
 {
     let (kind, rest) = qualifier_of(bytes)?;
-    let (path, rest) = path_of(alloc, rest)?;
-    let rest = after_gap(rest)?;
-    let (perms, rest) = perms_of(rest)?;
-    let rest = after_literal(b",", after_white(rest))?;
+    let (perms, path, rest) = body_of(alloc, rest)?;
+    let rest = after_comma(rest)?;
     Ok((Rule { kind, perms, path }, rest))
 }
 
-/// Whether a rule begins here, by a slash or by a whole word. The fault is at the first byte that begins none.
+/// Whether a rule begins here. Else it is a fault for itself.
 #[tactic(auto, unfolding(crate::specs::Reading::rule_begins))]
 fn rule_begins(bytes: &[u8]) -> Result<(), Failure>
     ensures { Gives (λ _. tt) result (rule_begins bytes.now) }
 {
-    match bytes {
-        [b'/', ..] => Ok(()),
-        [b'a', ..] => {
-            after_keyword(b"allow", bytes)?;
-            Ok(())
-        }
-        [b'd', ..] => {
-            after_keyword(b"deny", bytes)?;
-            Ok(())
-        }
-        _ => Err(stop_at(StopKind::Syntax, bytes)),
+    if qualifier_word(bytes).is_none() {
+        start_of(bytes)?;
     }
+    Ok(())
 }
 
 /// What is left after a closing brace, if one stands at the front.
 fn after_closing(bytes: &[u8]) -> Option<&[u8]>
-    ensures { option_map (λ x. x.now) result ≡ closing bytes.now }
+    ensures { option_map (λ x. x.now) result ≡ (if begins is_close_brace bytes.now then Some (drop 1 bytes.now) else None) }
 {
     match bytes {
         [b'}', rest @ ..] => Some(rest),
@@ -121,6 +182,6 @@ pub(crate) fn rules_of(alloc: Global, bytes: &[u8]) -> Result<(Vec<Rule>, &[u8])
         }
         let (rule, more) = rule_of(alloc, rest)?;
         rules.push(rule)?;
-        rest = after_white(more);
+        rest = after_blank(more)?;
     }
 }

@@ -1,5 +1,6 @@
 //! Where reading stops.
 ghost use Rattle.std.specs.Prelude.{◌≡◌, length};
+ghost use Rattle.rule_text.specs.ReadSteps.{goes_on};
 ghost use Rattle.rule_text.specs.declared.reading.stop.Failure.TheVariants.{NoMemory};
 
 use std::alloc::{AllocError, AllocFailed};
@@ -9,6 +10,20 @@ use std::alloc::{AllocError, AllocFailed};
 pub(crate) enum StopKind {
     /// The grammar doesn't go on so.
     Syntax,
+    /// So many bytes that are not supported.
+    LeftOut(usize),
+    /// A word that is no permissions.
+    Permission,
+    /// A rule without permissions.
+    EmptyPermissions,
+    /// A path that doesn't begin with a slash.
+    NotAbsolute,
+    /// A class that has no members, a reversed range or no end.
+    Class,
+    /// A brace without its partner.
+    Group,
+    /// Groups that are nested too deep.
+    Depth,
     /// A rule too many begins.
     TooManyRules,
     /// An item too many begins.
@@ -20,6 +35,8 @@ pub(crate) enum StopKind {
 pub(crate) struct Stop {
     pub(crate) kind: StopKind,
     pub(crate) left: usize,
+    /// Whether the fault was told without a look at the text's end, so that no bytes behind the text would cure it.
+    pub(crate) settled: bool,
 }
 
 /// Why a part of a text was not read.
@@ -47,12 +64,20 @@ impl<T: Drop> From<AllocFailed<T>> for Failure {
     }
 }
 
-/// The fault at the first byte of what is left.
-pub(crate) fn stop_at(kind: StopKind, rest: &[u8]) -> Failure
-    ensures { result ≡ Failure.At (record { kind = kind; left = length rest.now }) }
+/// A fault with so many bytes left from its place on, told by what stands at `seen`.
+pub(crate) fn stop_left(kind: StopKind, left: usize, seen: &[u8]) -> Failure
+    ensures { result ≡ Failure.At (record { kind = kind; left = left; settled = goes_on seen.now }) }
 {
     Failure::At(Stop {
         kind,
-        left: rest.len(),
+        left,
+        settled: !seen.is_empty(),
     })
+}
+
+/// The fault at the first byte of what is left, told by that byte.
+pub(crate) fn stop_at(kind: StopKind, rest: &[u8]) -> Failure
+    ensures { result ≡ Failure.At (record { kind = kind; left = length rest.now; settled = goes_on rest.now }) }
+{
+    stop_left(kind, rest.len(), rest)
 }

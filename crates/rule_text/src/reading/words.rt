@@ -1,53 +1,44 @@
-//! White, words and names.
-ghost use Rattle.std.specs.Prelude.{◌≡◌, ℕ, length};
-ghost use Rattle.rule_text.specs.ReadSteps.{Gives};
-ghost use Rattle.rule_text.specs.Reading.{leading, begins, white, white1, literal, keyword, name_at};
-ghost use Rattle.rule_text.specs.TextBytes.{is_white, is_word_byte, is_name_byte};
+//! Blanks and words.
+ghost use Rattle.std.specs.Prelude.{◌≡◌, ◌<◌, length, [], IfSome};
+ghost use Rattle.rule_text.specs.ReadSteps.{Gives, goes_on};
+ghost use Rattle.rule_text.specs.ReadWords.{blank, gap, literal, leading, word, after_word};
+ghost use Rattle.rule_text.specs.TextBytes.{is_word_byte};
 
-use super::stop::{Failure, StopKind, stop_at};
-use std::alloc::Global;
+use super::bytes::{is_include, is_white, is_word_byte};
+use super::stop::{Failure, StopKind, stop_at, stop_left};
 
-/// The most bytes of a profile's name.
-const MAX_NAME: usize = 255;
-
-fn is_white(byte: u8) -> bool
-    ensures { result ≡ is_white byte }
-{
-    matches!(byte, b' ' | b'\t' | b'\n' | b'\r')
-}
-
-fn is_word_byte(byte: u8) -> bool
-    ensures { result ≡ is_word_byte byte }
-{
-    byte.is_ascii_alphanumeric() || byte == b'_'
-}
-
-pub(crate) fn is_name_byte(byte: u8) -> bool
-    ensures { result ≡ is_name_byte byte }
-{
-    is_word_byte(byte) || byte == b'.' || byte == b'-'
-}
-
-/// What is left after any white.
-pub(crate) fn after_white(bytes: &[u8]) -> &[u8]
-    ensures { result.now ≡ white bytes.now }
+/// What is left after any white and comments.
+pub(crate) fn after_blank(bytes: &[u8]) -> Result<&[u8], Failure>
+    ensures { Gives (λ x. x.now) result (blank bytes.now) }
 {
     let mut rest = bytes;
+    let mut comment = false;
     while let [byte, more @ ..] = rest {
-        if !is_white(*byte) {
+        if comment {
+            if *byte == 0 {
+                return Err(stop_at(StopKind::Syntax, rest));
+            }
+            comment = *byte != b'\n';
+        } else if *byte == b'#' {
+            if is_include(rest) {
+                return Err(stop_at(StopKind::LeftOut(8), rest));
+            }
+            comment = true;
+        } else if !is_white(*byte) {
             break;
         }
         rest = more;
     }
-    rest
+    Ok(rest)
 }
 
-/// What is left after white of at least one byte.
+/// The same for a blank of at least one byte.
+#[tactic(auto, unfolding(crate::specs::ReadWords::gap))]
 pub(crate) fn after_gap(bytes: &[u8]) -> Result<&[u8], Failure>
-    ensures { Gives (λ x. x.now) result (white1 bytes.now) }
+    ensures { Gives (λ x. x.now) result (gap bytes.now) }
 {
     match bytes {
-        [byte, more @ ..] if is_white(*byte) => Ok(after_white(more)),
+        [byte, ..] if is_white(*byte) || *byte == b'#' => after_blank(bytes),
         _ => Err(stop_at(StopKind::Syntax, bytes)),
     }
 }
@@ -65,37 +56,32 @@ pub(crate) fn after_literal<'a>(word: &[u8], bytes: &'a [u8]) -> Result<&'a [u8]
     }
 }
 
-/// What is left after a whole word: no byte that would make it longer stands behind it.
-pub(crate) fn after_keyword<'a>(word: &[u8], bytes: &'a [u8]) -> Result<&'a [u8], Failure>
-    ensures { Gives (λ x. x.now) result (keyword word.now bytes.now) }
-{
-    let rest = after_literal(word, bytes)?;
-    match rest {
-        [byte, ..] if is_word_byte(*byte) => Err(stop_at(StopKind::Syntax, rest)),
-        _ => Ok(rest),
-    }
-}
-
-/// How many bytes of a name stand at the front.
-fn name_length(bytes: &[u8]) -> usize
-    ensures { result ≡ length (leading is_name_byte bytes.now) }
+/// How many bytes of a word stand at the front.
+fn word_length(bytes: &[u8]) -> usize
+    ensures { result ≡ length (leading is_word_byte bytes.now) }
 {
     let mut length = 0;
-    while length < bytes.len() && is_name_byte(bytes[length]) {
+    while length < bytes.len() && is_word_byte(bytes[length]) {
         length += 1;
     }
     length
 }
 
-/// A name, and what is left after it. The fault of one that is empty or too long is at its first byte.
-#[tactic(auto, using(crate::proofs::ReadRuns::leading_cut), unfolding(crate::specs::Reading::name_at))]
-pub(crate) fn name_of(alloc: Global, bytes: &[u8]) -> Result<(Vec<u8>, &[u8]), Failure>
-    ensures { Gives (λ x. (x.0.items, x.1.now)) result (name_at bytes.now) }
+/// The word that stands at the front, which is empty where none does, and what is left after it.
+#[tactic(auto, using(crate::proofs::ReadRuns::leading_cut))]
+pub(crate) fn word_of(bytes: &[u8]) -> Option<(&[u8], &[u8])>
+    ensures none { result ≡ None → word bytes.now ≡ [] }
+    ensures some { IfSome result (λ x. (x.0.now ≡ word bytes.now) × (x.1.now ≡ after_word bytes.now) × (0 < length x.0.now)) }
 {
-    let length = name_length(bytes);
-    if length == 0 || length > MAX_NAME {
-        return Err(stop_at(StopKind::Syntax, bytes));
+    match bytes {
+        [byte, ..] if byte.is_ascii_alphabetic() => Some(bytes.split_at(word_length(bytes))),
+        _ => None,
     }
-    let (name, rest) = bytes.split_at(length);
-    Ok((Vec::from_slice(alloc, name)?, rest))
+}
+
+/// The fault of a word that is not supported, where `bytes` begin with it and `rest` is left after it.
+pub(crate) fn word_left_out(bytes: &[u8], word: &[u8], rest: &[u8]) -> Failure
+    ensures { result ≡ Failure.At (record { kind = StopKind.LeftOut (length word.now); left = length bytes.now; settled = goes_on rest.now }) }
+{
+    stop_left(StopKind::LeftOut(word.len()), bytes.len(), rest)
 }

@@ -1,6 +1,6 @@
 use Rattle.std.proofs.Common.{inr}
 use Rattle.rule_text.specs.Profile.{profile_value}
-use Rattle.rule_text.proofs.ReadTexts.{text_takes}
+use Rattle.rule_text.proofs.TakeTexts.{text_takes}
 use Rattle.rule_text.proofs.ReadOutcomes as outcomes
 use Rattle.rule_text.proofs.reading.read.Goals as goal
 

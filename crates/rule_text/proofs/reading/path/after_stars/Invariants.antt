@@ -1,6 +1,6 @@
 -- What the loop has passed is stars.
 use Rattle.std.proofs.Common.{◌≡◌, length}
-use Rattle.rule_text.specs.Reading.{after}
+use Rattle.rule_text.specs.ReadWords.{after}
 use Rattle.rule_text.specs.TextBytes.{is_star}
 use Rattle.rule_text.proofs.reading.path.after_stars.Given as goal
 

@@ -1,15 +1,16 @@
--- The items so far, and what is still read, are the items of the path.
-use Rattle.std.proofs.Common.{◌≡◌, ◌-◌, ◌≤◌, length, map, false}
-use Rattle.rule_text.specs.Meaning.{meaning}
-use Rattle.rule_text.specs.Reading.{items_at}
+-- The tokens so far, and what is still read, are the tokens of the path.
+use Rattle.std.proofs.Common.{◌≡◌, ◌-◌, ◌≤◌, length, [], false}
+use Rattle.rule_text.specs.Building.{tokens_in, braces_in}
+use Rattle.rule_text.specs.ReadPaths.{tokens_at}
 use Rattle.rule_text.proofs.ReadLoops.{with_front}
 use Rattle.rule_text.proofs.reading.path.items_of.Given as goal
 
-abbrev pub invariant-loop-item : goal.invariant-loop-item
-invariant-loop-item l = record {
-  few : length l.items.items ≤ 1024;
-  so_far : with_front (map meaning l.items.items) (items_at (1024 - length l.items.items) l.after_slash l.rest) ≡ items_at 1024 false l.bytes;
+abbrev pub invariant-loop-builder : goal.invariant-loop-builder
+invariant-loop-builder l = record {
+  few : l.count ≤ 1024;
+  counted : length (tokens_in l.builder) ≡ l.count;
+  so_far : with_front (tokens_in l.builder) (tokens_at l.quoted (1024 - l.count) (braces_in l.builder) l.after_slash l.rest) ≡ tokens_at l.quoted 1024 [] false l.bytes;
 }
 
-abbrev pub decreases-loop-item : goal.decreases-loop-item
-decreases-loop-item l = 1024 - length l.items.items
+abbrev pub decreases-loop-builder : goal.decreases-loop-builder
+decreases-loop-builder l = 1024 - l.count
