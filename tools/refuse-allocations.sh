@@ -78,6 +78,7 @@ refuse_all() {
 awk 'BEGIN { print "profile p {"; for (i = 0; i < 40; i++) print "  deny /home/*/.ssh/**/id_" i "*.pub rwklm,"; print "}" }' >"$work/rules"
 
 refuse_all examples/passwd.profile judge rw /etc/passwd
+refuse_all examples/viewer.profile judge w /home/me/.gnupg/keys
 refuse_all "$work/rules" judge r /home/me/.ssh/a/id_39.pub
 refuse_all /dev/null judge r /x
 refuse_all /dev/null judge r

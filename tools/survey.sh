@@ -23,23 +23,35 @@ word_at() {
     tail -c +"$(($2 + 1))" "$1" | head -c 64 | head -n 1 | grep -oE '^([A-Za-z][A-Za-z0-9_]*=?|#include|@\{|->|\\.|.)' | head -n 1
 }
 
-while read -r file; do
-    name=${file#"$folder/"}
-    if ./aa-trace judge r / <"$file" >/dev/null 2>"$work/fault"; then
-        echo "$name: read"
-        echo read >>"$work/first"
+# first_of FILE: the first thing in it that is left out
+first_of() {
+    if ./aa-trace judge r / <"$1" >/dev/null 2>"$work/fault"; then
+        echo 'read'
     else
         number=$(sed -n 's/^refused: read \([0-9]*\) at \([0-9]*\)$/\1/p' "$work/fault")
         offset=$(sed -n 's/^refused: read \([0-9]*\) at \([0-9]*\)$/\2/p' "$work/fault")
-        word=$(word_at "$file" "$offset" || :)
-        echo "$name: fault $number at byte $offset: $word"
-        echo "fault $number: $word" >>"$work/first"
+        echo "fault $number at byte $offset: $(word_at "$1" "$offset" || :)"
     fi
+}
+
+while read -r file; do
+    echo "${file#"$folder/"}: $(first_of "$file")" | tee -a "$work/first"
+    # The same without preambles and includes, which nearly every file begins with.
+    sed -E '/^[[:space:]]*(abi|alias|include|#include)[[:space:]]/d; /^@\{/d' "$file" >"$work/body"
+    echo ": $(first_of "$work/body")" >>"$work/second"
 done <"$work/files"
+
+# counts FILE: how often each first thing stands there
+counts() {
+    sed 's/^.*: fault \([0-9]*\) at byte [0-9]*: /fault \1: /; s/^.*: read$/read/' "$1" | sort | uniq -c | sort -rn
+}
 
 echo
 echo 'The first thing left out, and in how many files:'
-sort "$work/first" | uniq -c | sort -rn
+counts "$work/first"
+echo
+echo 'The same where lines of preambles and includes are taken out:'
+counts "$work/second"
 
 # having PATTERN LABEL: in how many files a line that is no comment matches
 having() {

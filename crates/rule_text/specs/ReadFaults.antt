@@ -18,8 +18,8 @@ HasOutcome text = ((p : ProfileValue) × ReadsAs text p) ⊎ ((fault : ReadFault
 abbrev pub Refused : List ℕ → Type 0
 Refused text = (fault : ReadFault) × FaultsAs text fault
 
--- The text has a fault that was told without a look at the text's end. Not settled are: a Syntax fault at the end; a word left
--- out, or told as no permissions, that the end ends; the comma of missing permissions, as the last byte; and an open class or
--- group where the end ends the path.
+-- The text has a fault that is settled. Not settled are: a Syntax fault at the text's end; a word left out, or told as no
+-- permissions, that the end ends; the comma of missing permissions directly behind a path, as the last byte; and an open class
+-- or group where the end ends the path.
 abbrev pub IsSettled : List ℕ → Type 0
 IsSettled text = (s : Stop) × (text_at text ≡ Err s) × (s.settled ≡ true)

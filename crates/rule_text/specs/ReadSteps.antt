@@ -19,8 +19,8 @@ abbrev pub goes_on : List ℕ → Bool
 goes_on [] = false
 goes_on (b ∷ bytes) = true
 
--- A fault with so many bytes left from its place on, told by what stands at `seen`. It is settled unless the text's end was
--- looked at there.
+-- A fault with so many bytes left from its place on, told by what stands at `seen`. Unless the text ends there, it is settled:
+-- the text stays refused, whatever bytes follow it.
 abbrev pub stop_left : {A : Type 0} → StopKind → ℕ → List ℕ → Result A Stop
 stop_left kind left seen = Err (record { kind = kind; left = left; settled = goes_on seen })
 

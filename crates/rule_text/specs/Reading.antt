@@ -34,7 +34,7 @@ perms_at bytes =
       | None ↦ if list_all is_mode (word bytes) then word_left_out bytes else stop_word kinds.Permission bytes
     ]
 
--- a gap and the permissions, directly behind a path. A comma here ended the path by what stands behind it
+-- a gap and the permissions, directly behind a path. A bare path ended at a comma only by what stands behind that
 unfoldable pub perms_behind : List ℕ → Result (Perms × List ℕ) Stop
 perms_behind bytes =
     if begins is_comma bytes then stop_left kinds.EmptyPermissions (length bytes) (drop 1 bytes)

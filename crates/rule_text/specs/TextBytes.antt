@@ -63,6 +63,6 @@ is_arrow bytes = starts_with nat_eq bytes (codes "->")
 abbrev pub ends_behind_comma : ℕ → Bool
 ends_behind_comma b = is_white b || is_hash b || is_close_brace b || is_quote b || is_comma b
 
--- LF and byte 0 go with no backslash, neither does what else would be a character code in a path: a letter or digit
+-- What may stand behind a backslash in a path: neither LF nor byte 0, and no letter or digit, which would be a character code.
 abbrev pub is_escapable : ℕ → Bool
 is_escapable b = not (b == 0 || b == 10 || is_ascii_alphanumeric b)

@@ -24,7 +24,7 @@ pub fn one_outcome()
     ensures never_memory { (text : List ℕ) → FaultsAs text ReadFault.NoMemory → ⊥ }
 {}
 
-/// A fault that was told without a look at the text's end is one of each text that begins so: no bytes behind it cure it.
+/// Where a text's fault is settled, each text that begins so is refused too, for this fault or another.
 pub fn settled_faults_stay()
     ensures { (text more : List ℕ) → IsSettled text → Refused (text ++ more) }
 {}

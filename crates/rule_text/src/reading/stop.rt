@@ -35,7 +35,7 @@ pub(crate) enum StopKind {
 pub(crate) struct Stop {
     pub(crate) kind: StopKind,
     pub(crate) left: usize,
-    /// Whether the fault was told without a look at the text's end, so that no bytes behind the text would cure it.
+    /// Whether the text stays refused, whatever bytes follow it.
     pub(crate) settled: bool,
 }
 

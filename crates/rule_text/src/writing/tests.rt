@@ -6,7 +6,11 @@ use std::test::Fail;
 #[test]
 fn canonical_texts(rt: HostRuntime) -> Result<(), Fail> {
     let alloc = rt.alloc();
-    let table: [(&[u8], &[u8]); 6] = [
+    let table: [(&[u8], &[u8]); 7] = [
+        (
+            b"profile p {/[+--z][\\--a][\\\\-\\]] r,}",
+            b"profile \"p\" {\n  \"/[+-\\-z][\\--a][\\\\-\\]]\" r,\n}\n",
+        ),
         (b"profile p {}", b"profile \"p\" {\n}\n"),
         (
             b"/bin/x { r \"/a b/{c,}d\" , deny /[-a]* wr, }",

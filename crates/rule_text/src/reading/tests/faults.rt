@@ -82,6 +82,11 @@ fn blanks(rt: HostRuntime) -> Result<(), Fail> {
                 b"#include <\0",
                 Some(LeftOut { offset: 0, len: 8 }),
             ),
+            (
+                "#include where a gap is to stand",
+                b"profile#include <a>",
+                Some(LeftOut { offset: 7, len: 8 }),
+            ),
         ],
     )
 }
@@ -274,6 +279,21 @@ fn quoted_names(rt: HostRuntime) -> Result<(), Fail> {
                 b"profile \"p\"{}",
                 Some(Syntax { offset: 11 }),
             ),
+            (
+                "a comment behind a quoted name",
+                b"profile \"p\"#c\n{}",
+                None,
+            ),
+            (
+                "old flags at once behind a quoted name",
+                b"profile \"p\"(a) {}",
+                Some(Syntax { offset: 11 }),
+            ),
+            (
+                "attributes at once behind a quoted name",
+                b"profile \"p\"xattrs=() {}",
+                Some(Syntax { offset: 11 }),
+            ),
         ],
     )
 }
@@ -362,6 +382,51 @@ fn attachments(rt: HostRuntime) -> Result<(), Fail> {
                 b"profile p \"/a",
                 Some(Syntax { offset: 13 }),
             ),
+            (
+                "attributes behind an attachment",
+                b"profile p /a xattrs=() {}",
+                Some(LeftOut { offset: 13, len: 6 }),
+            ),
+            (
+                "old flags behind an attachment",
+                b"profile p /a (a) {}",
+                Some(LeftOut { offset: 13, len: 1 }),
+            ),
+            (
+                "a quote in an attachment",
+                b"profile p /a\" {}",
+                Some(Syntax { offset: 12 }),
+            ),
+            (
+                "byte 0 in an attachment",
+                b"profile p /a\0 {}",
+                Some(Syntax { offset: 12 }),
+            ),
+            (
+                "LF in a quoted attachment",
+                b"profile p \"/a\n\" {}",
+                Some(Syntax { offset: 13 }),
+            ),
+            (
+                "a backslash before LF in an attachment",
+                b"profile p /a\\\n {}",
+                Some(Syntax { offset: 13 }),
+            ),
+            (
+                "a namespace for an attachment",
+                b"profile p :a {}",
+                Some(Syntax { offset: 10 }),
+            ),
+            (
+                "an escaped slash for an attachment",
+                b"profile p \\/a {}",
+                Some(Syntax { offset: 10 }),
+            ),
+            (
+                "a comment behind an attachment",
+                b"profile p \"/a\"#c\n{}",
+                None,
+            ),
         ],
     )
 }
@@ -428,6 +493,16 @@ fn whole_texts(rt: HostRuntime) -> Result<(), Fail> {
                 b"/bin/x { r \"/a b/{c,}d\" , deny /[-a]* wr, }",
                 None,
             ),
+            (
+                "attributes behind such a name",
+                b"/x xattrs=() {}",
+                Some(LeftOut { offset: 3, len: 6 }),
+            ),
+            (
+                "old flags behind such a name",
+                b"/x (a) {}",
+                Some(LeftOut { offset: 3, len: 1 }),
+            ),
         ],
     )
 }
@@ -491,6 +566,11 @@ fn permissions(rt: HostRuntime) -> Result<(), Fail> {
                 b"/x rwPUx,",
                 Some(LeftOut { offset: 17, len: 5 }),
             ),
+            (
+                "the other modes that are not supported",
+                b"/x pcuC,",
+                Some(LeftOut { offset: 17, len: 4 }),
+            ),
         ],
     )
 }
@@ -543,6 +623,11 @@ fn arrows(rt: HostRuntime) -> Result<(), Fail> {
             ("no comma", b"/x r }", Some(Syntax { offset: 19 })),
             ("white before the comma", b"/x r \t#c\n,", None),
             ("repeated letters", b"/x rrwr,", None),
+            (
+                "an arrow where a rule begins",
+                b"-> /x,",
+                Some(Syntax { offset: 14 }),
+            ),
         ],
     )
 }
@@ -649,6 +734,41 @@ fn qualifiers(rt: HostRuntime) -> Result<(), Fail> {
                 b"denyx /x r,",
                 Some(LeftOut { offset: 14, len: 5 }),
             ),
+            (
+                "a hat behind a qualifier",
+                b"deny ^a,",
+                Some(LeftOut { offset: 19, len: 1 }),
+            ),
+            (
+                "a boolean variable behind a qualifier",
+                b"deny ${A} r,",
+                Some(LeftOut { offset: 19, len: 1 }),
+            ),
+            (
+                "owner behind a qualifier",
+                b"deny owner /x r,",
+                Some(LeftOut { offset: 19, len: 5 }),
+            ),
+            (
+                "a mode behind a qualifier",
+                b"deny rwx /x,",
+                Some(LeftOut { offset: 19, len: 3 }),
+            ),
+            (
+                "a comma behind a qualifier",
+                b"deny ,",
+                Some(Syntax { offset: 19 }),
+            ),
+            (
+                "another byte behind a qualifier",
+                b"deny - r,",
+                Some(Syntax { offset: 19 }),
+            ),
+            (
+                "#include at once behind a qualifier",
+                b"deny#include <a>",
+                Some(LeftOut { offset: 18, len: 8 }),
+            ),
         ],
     )
 }
@@ -701,6 +821,12 @@ fn first_bytes_of_paths(rt: HostRuntime) -> Result<(), Fail> {
                 Some(Syntax { offset: 15 }),
             ),
             ("byte 0 for a path", b"r \0", Some(Syntax { offset: 16 })),
+            ("a brace for a path", b"r", Some(NotAbsolute { offset: 16 })),
+            (
+                "byte 0 for a path in quotes",
+                b"\"\0",
+                Some(Syntax { offset: 15 }),
+            ),
         ],
     )
 }
@@ -729,6 +855,21 @@ fn quotes(rt: HostRuntime) -> Result<(), Fail> {
             ("a comment behind a path in quotes", b"\"/x\"#c\nr,", None),
             ("a hash in a bare path", b"/x#c r,", None),
             ("byte 0 in a path", b"/x\0 r,", Some(Syntax { offset: 16 })),
+            (
+                "byte 0 in quotes",
+                b"\"/a\0\" r,",
+                Some(Syntax { offset: 17 }),
+            ),
+            (
+                "byte 0 in a class in quotes",
+                b"\"/[\0]\" r,",
+                Some(Syntax { offset: 17 }),
+            ),
+            (
+                "byte 0 in a group in quotes",
+                b"\"/{\0}\" r,",
+                Some(Syntax { offset: 17 }),
+            ),
         ],
     )
 }
@@ -761,6 +902,15 @@ fn commas(rt: HostRuntime) -> Result<(), Fail> {
             ),
             ("a comma before a hash", b"r /a,#c", None),
             ("a comma before a quote", b"r /a,\"/b\" r,", None),
+            ("commas in a class", b"/[,,] r,", None),
+            ("a comma before a brace in a class", b"/[,}] r,", None),
+            ("a comma before a hash in a class", b"/[,#] r,", None),
+            (
+                "a comma before a quote in a class",
+                b"/[,\"] r,",
+                Some(Class { offset: 15 }),
+            ),
+            ("escaped white and commas", b"/a\\ b\\, r,", None),
         ],
     )
 }
@@ -802,6 +952,21 @@ fn escapes(rt: HostRuntime) -> Result<(), Fail> {
             ),
             ("an at sign in a path", b"/a@b@ r,", None),
             ("a closing bracket alone", b"/a] r,", None),
+            (
+                "a backslash before LF in quotes",
+                b"\"/a\\\n\" r,",
+                Some(Syntax { offset: 18 }),
+            ),
+            (
+                "a code in quotes",
+                b"\"/a\\x\" r,",
+                Some(LeftOut { offset: 17, len: 2 }),
+            ),
+            (
+                "a variable in quotes",
+                b"\"/a@{B}\" r,",
+                Some(LeftOut { offset: 17, len: 2 }),
+            ),
         ],
     )
 }
@@ -902,6 +1067,33 @@ fn classes(rt: HostRuntime) -> Result<(), Fail> {
                 Some(Class { offset: 15 }),
             ),
             ("odd members of a class", b"/[,{}[@{#^*?] r,", None),
+            ("white in a quoted class", b"\"/[ \t]\" r,", None),
+            ("escaped white in a class", b"/[\\ ] r,", None),
+            (
+                "a backslash before LF in a class",
+                b"/[\\\n] r,",
+                Some(Syntax { offset: 17 }),
+            ),
+            (
+                "a backslash before byte 0 in a class",
+                b"/[\\\0] r,",
+                Some(Syntax { offset: 17 }),
+            ),
+            (
+                "an open class in quotes",
+                b"\"/[a\" r,",
+                Some(Class { offset: 16 }),
+            ),
+            (
+                "a class by a dash reversed before LF",
+                b"/[b--\\\n] r,",
+                Some(Class { offset: 15 }),
+            ),
+            (
+                "a class by a dash reversed before byte 0",
+                b"/[b--\\\0] r,",
+                Some(Class { offset: 15 }),
+            ),
         ],
     )
 }
@@ -960,6 +1152,17 @@ fn ends(rt: HostRuntime) -> Result<(), Fail> {
                 "depth",
                 b"/{{{{{{{{{{{{{{{{{{{{{{{{{{{{{{{{{{{{{{{{{{{{{{{{{{{",
                 Some(Depth { offset: 65 }),
+            ),
+            ("the end for a path", b"r ", Some(Syntax { offset: 16 })),
+            (
+                "the end for a path in quotes",
+                b"\"",
+                Some(Syntax { offset: 15 }),
+            ),
+            (
+                "a backslash behind a dash that would reverse a range",
+                b"/[b--\\",
+                Some(Class { offset: 15 }),
             ),
         ],
     )

@@ -113,7 +113,7 @@ fn rules_1024(rt: HostRuntime) -> Result<(), Fail> {
 fn items_1024(rt: HostRuntime) -> Result<(), Fail> {
     let alloc = rt.alloc();
     // The path begins at 11, and its slash is the first of 1,023 items before these.
-    let table: [(&[u8], Option<ReadFault>); 26] = [
+    let table: [(&[u8], Option<ReadFault>); 28] = [
         (b"a r,}", None),
         (b"*** r,}", None),
         (b"[abc] r,}", None),
@@ -154,6 +154,8 @@ fn items_1024(rt: HostRuntime) -> Result<(), Fail> {
             }),
         ),
         (b"a\\\n", Some(Syntax { offset: 1036 })),
+        (b"a,\0", Some(TooManyItems { offset: 1035 })),
+        (b"a\\", Some(Syntax { offset: 1036 })),
         (b"a\0", Some(Syntax { offset: 1035 })),
     ];
     for (behind, fault) in &table {

@@ -16,7 +16,7 @@ fn first_class(rule: &Rule) -> Option<&Class> {
 fn classes(rt: HostRuntime) -> Result<(), Fail> {
     let alloc = rt.alloc();
     // The members as written, whether the class is negated, and the first and last byte of each range.
-    let table: [(&[u8], bool, &[u8]); 22] = [
+    let table: [(&[u8], bool, &[u8]); 24] = [
         (b"a", false, b"aa"),
         (b"^a", true, b"aa"),
         (b"^^a", true, b"^^aa"),
@@ -33,6 +33,8 @@ fn classes(rt: HostRuntime) -> Result<(), Fail> {
         (b"a--", false, b"aa----"),
         (b"+--", false, b"++----"),
         (b"--a", false, b"----aa"),
+        (b"---a", false, b"---a"),
+        (b"+---", false, b"+---"),
         (b"+--z", false, b"+-zz"),
         (b"a-c--e", false, b"ac----ee"),
         (b"a-c---e", false, b"ac---e"),
