@@ -57,6 +57,10 @@ fn opens(rt: HostRuntime) -> Result<(), Fail> {
             "policy\nprofile p {\n}\n.\nopen p / r\npolicy\nprofile {\n.\nopen p / r\n",
             "policy p version 2\nno rule for r / node 1 tree 0 policy 2\npolicy refused: read 1 at 8\nno rule for r / node 1 tree 0 policy 2\n",
         ),
+        (
+            "policy\n/bin/x { # a path for a name\n/{,a}[^b] r,\n}\n.\ncreate /c\nopen /bin/x /c rw\n",
+            "policy /bin/x version 2\nok 1\nno rule for w /c node 2 tree 1 policy 2\n",
+        ),
     ];
     for (script, wanted) in cases {
         let whole = format!(in rt.alloc(); "{policy}{script}")?;

@@ -66,10 +66,6 @@ fn scripts_that_end(rt: HostRuntime) {
             "policy\nprofile p {\n  /x ix,\n}\n.\nopen p /x r",
             "policy refused: read 2 at 17\nno profile policy 0\n",
         ),
-        (
-            "policy\n/bin/x { # a path for a name\n/{,a}[^b] r,\n}\n.\ncreate /c\nopen /bin/x /c rw\n",
-            "policy /bin/x version 1\nok 1\nno rule for w /c node 2 tree 1 policy 1\n",
-        ),
     ];
     for (text, wanted) in cases {
         let (status, answers, faults) = run(rt.alloc(), text);
