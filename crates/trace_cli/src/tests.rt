@@ -12,8 +12,11 @@ mod scripts;
 const PASSWD: &str = "profile passwd {\n  /etc/passwd r,\n}\n";
 
 const SUFFIXED: &str = "profile p {\n  /x ix,\n}\n";
+
 const INCLUDING: &str = "profile p {\n  #include <a>\n}\n";
+
 const CUT_OFF: &str = "profile p {\n  /x r";
+
 const GLOBBING: &str =
     "# c\n\"/bin/x\" { /usr{,/local}/bin/[^a-c]? r,deny w \"/a b/{c,}d\" , #d\n}";
 
