@@ -22,7 +22,7 @@ use Rattle.path_walk.proofs.Kept.{make_keeps, link_keeps}
 use Rattle.path_walk.proofs.Dropping.{unlink_keeps, rmdir_keeps}
 use Rattle.path_walk.proofs.Renaming.{rename_keeps}
 
-and_then_inv : {X Y : Type 0} (r : Result X Errno) (next : X → Result Y Errno) (y : Y) → and_then r next ≡ Ok y → (x : X) × (r ≡ Ok x) × (next x ≡ Ok y)
+pub and_then_inv : {X Y : Type 0} (r : Result X Errno) (next : X → Result Y Errno) (y : Y) → and_then r next ≡ Ok y → (x : X) × (r ≡ Ok x) × (next x ≡ Ok y)
 and_then_inv (Err e) next y h = absurd (err_is_ok e y h)
 and_then_inv (Ok x) next y h = (x, refl, h)
 
@@ -77,7 +77,7 @@ Good target = (a : Target) → target ≡ Ok a → IsComponent a.last
 directory_good : (path : List ℕ) → Good (directory_target path)
 directory_good path a h = target_good false (filled_parts path) a (filter_plain (slice_split is_slash path) (parts_plain path)) h
 
-other_good : (path : List ℕ) → Good (other_target path)
+pub other_good : (path : List ℕ) → Good (other_target path)
 other_good path a h = target_good (ends_with_slash path) (filled_parts path) a (filter_plain (slice_split is_slash path) (parts_plain path)) h
 
 module _ (t : Tree) (well : WellFormed t) where
@@ -96,7 +96,7 @@ module _ (t : Tree) (well : WellFormed t) where
     | false ↦ λ directory q. absurd (err_is_ok ENOTDIR d q)
   ] refl h
 
-  parent_leads : (a : Target) (d : ℕ) → parent_of t a ≡ Ok d → (n : ℕ) × (leads t.entries n d ≡ true)
+  pub parent_leads : (a : Target) (d : ℕ) → parent_of t a ≡ Ok d → (n : ℕ) × (leads t.entries n d ≡ true)
   parent_leads a d h =
       let (s, is, at) = and_then_inv (resolve t Follow max_links root (map step_of a.before)) directory_at d h in
       directory_leads s d (resolve_stands t Follow well max_links root (map step_of a.before) s is) at

@@ -31,7 +31,8 @@ deep es (suc n) d h =
     not_root : (d : ℕ) → (d == 1) ≡ false → d ≢ 1
     not_root d q e = true_is_false (sym (eq-eqb d 1 e) ∙ q)
 
-one_depth : (es : List Entry) (n m d : ℕ) → Deep es n d → Deep es m d → n ≡ m
+-- no directory is at two depths
+pub one_depth : (es : List Entry) (n m d : ℕ) → Deep es n d → Deep es m d → n ≡ m
 one_depth es zero zero d a b = refl
 one_depth es zero (suc m) d a (e, is, other, up) = absurd (other a)
 one_depth es (suc n) zero d (e, is, other, up) b = absurd (other b)

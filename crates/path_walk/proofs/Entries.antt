@@ -1,9 +1,7 @@
 -- An entry of a plain tree, and what it stands for.
 use Rattle.std.proofs.Common.{◌≡◌, ℕ, ◌≤◌, ◌==◌, Bool, true, false, List, length, Bor, Some, None, Option, sym, refl, ap, ◌∙◌, subst, eqb-true, ne_eqb, arith}
-use Rattle.std.specs.Prelude.{if◌then◌else◌, IsSome, is_some, IfSome, nat_lt, ◌||◌, not, [], ◌∷◌, ◌++◌, Ok, Err}
+use Rattle.std.specs.Prelude.{if◌then◌else◌, IsSome, is_some, IfSome, nat_lt, ◌||◌, not, [], ◌∷◌, ◌++◌}
 use Rattle.names.specs.declared.errors.Errno.TheVariants.{ENOENT, EINVAL, ENAMETOOLONG}
-use Rattle.path_walk.specs.Components.{is_filled}
-use Rattle.path_walk.specs.Apply.{text_of}
 use Rattle.path_walk.proofs.Placing.{root_nowhere}
 use Rattle.std.specs.List.{list_any}
 use Rattle.std.proofs.lemmas.List.Folds.{list_any-append}
@@ -127,25 +125,6 @@ parent_some t d p k well h of component = elim (place t.entries d) as (λ (o : O
         (λ i. spot_from (past i) (is i)) ∙ sym (ap spot_at found),
       )
 ] refl h
-
--- ---- the text of a link
-pub text_bad : (text : List ℕ) → is_filled text ≡ true → list_any (λ b. b == 0) text ≡ false → (nat_lt 1023 (length text) || has_long_component text) ≡ true → text_of text ≡ Err ENAMETOOLONG
-text_bad text filled zero long =
-    (λ i. if not (filled i) then Err ENOENT else (if zero i then Err EINVAL else (if nat_lt 1023 (length text) || list_any (λ c. nat_lt 255 (length c)) (filled_parts text) then Err ENAMETOOLONG else Ok text)))
-    ∙ ap (λ (b : Bool). if nat_lt 1023 (length text) || b then Err ENAMETOOLONG else Ok text) (sym (no_long text))
-    ∙ ap (λ (b : Bool). if b then Err ENAMETOOLONG else Ok text) long
-
-pub text_good : (text : List ℕ) → is_filled text ≡ true → list_any (λ b. b == 0) text ≡ false → (nat_lt 1023 (length text) || has_long_component text) ≡ false → text_of text ≡ Ok text
-text_good text filled zero long =
-    (λ i. if not (filled i) then Err ENOENT else (if zero i then Err EINVAL else (if nat_lt 1023 (length text) || list_any (λ c. nat_lt 255 (length c)) (filled_parts text) then Err ENAMETOOLONG else Ok text)))
-    ∙ ap (λ (b : Bool). if nat_lt 1023 (length text) || b then Err ENAMETOOLONG else Ok text) (sym (no_long text))
-    ∙ ap (λ (b : Bool). if b then Err ENAMETOOLONG else Ok text) long
-
-pub not_longer : (text same : List ℕ) → same ≡ text → (nat_lt 1023 (length text) || has_long_component text) ≡ false → length same ≤ 1023
-not_longer text same is h =
-    let short : nat_lt 1023 (length text) ≡ false = (both_false (nat_lt 1023 (length text)) (has_long_component text) h).0 in
-    let all : length same ≡ length text = ap length is in
-    grind (arith, nat_tests)
 
 -- what passes the tests of a path is short
 last_tests : (a b c d e : Bool) → (if a then Some ENOENT else if b then Some EINVAL else if c then Some EINVAL else if d then Some ENAMETOOLONG else if e then Some ENAMETOOLONG else None) ≡ None → (d ≡ false) × (e ≡ false)

@@ -25,4 +25,15 @@ pub mod Joined
 pub mod Meeting
 pub mod Stepping
 pub mod Naming
+pub mod PlaceNames
+pub mod Reached
+pub mod Linked
 pub mod SmallTree
+pub mod LinkCounts
+pub mod Descent
+pub mod Acting
+pub mod Origins
+pub mod Lives
+pub mod Accepted
+pub mod Fronts
+pub mod Renamed

@@ -33,7 +33,7 @@ down_one t last zero d c xs = refl
 down_one t last (suc links) d c xs = refl
 
 -- a directory from which some climb leads to the root has its own number
-spot_node : (t : Tree) → WellFormed t → (n d : ℕ) → leads t.entries n d ≡ true → node_at (spot_of t d) ≡ d
+pub spot_node : (t : Tree) → WellFormed t → (n d : ℕ) → leads t.entries n d ≡ true → node_at (spot_of t d) ≡ d
 spot_node t well zero d h = let is : d ≡ root = eqb-true d root h in subst (λ (z : ℕ). node_at (spot_of t z) ≡ z) (sym is) refl
 spot_node t well (suc n) d h =
     elim (d == root) as (λ (b : Bool). (d == root) ≡ b → (if b then true else elim (place t.entries d) as (λ _. Bool) [ None ↦ false | Some e ↦ leads t.entries n e.of ]) ≡ true

@@ -27,7 +27,7 @@ name_split t Root = refl
 name_split t (Held e) = sym (append_assoc (directory_name t e.of) (slash ∷ e.component) (closing (Held e)))
 
 -- more steps than lead to the root add nothing
-up_deep : (es : List Entry) (m n d : ℕ) → Deep es m d → m ≤ n → name_up es n d ≡ name_up es m d
+pub up_deep : (es : List Entry) (m n d : ℕ) → Deep es m d → m ≤ n → name_up es n d ≡ name_up es m d
 up_deep es zero zero d h l = refl
 up_deep es zero (suc n) d h l = ap (λ (b : Bool). if b then [] else elim (place es d) as (λ _. List ℕ) [ None ↦ [] | Some e ↦ name_up es n e.of ++ slash ∷ e.component ]) (ap (λ (z : ℕ). z == root) h)
 up_deep es (suc m) zero d h l = absurd (omega arith)
@@ -39,7 +39,7 @@ up_deep es (suc m) (suc n) d (e, is, other, up) l =
     at n ∙ ap (λ (z : List ℕ). z ++ slash ∷ e.component) (up_deep es m n e.of up (omega arith)) ∙ sym (at m)
 
 -- the name of a directory is the stem of its entry
-stem_spot : (t : Tree) (m d : ℕ) → Deep t.entries m d → directory_name t d ≡ stem t (spot_of t d)
+pub stem_spot : (t : Tree) (m d : ℕ) → Deep t.entries m d → directory_name t d ≡ stem t (spot_of t d)
 stem_spot t zero d h =
     up_deep t.entries zero (length t.entries) d h (omega arith)
     ∙ ap (λ (b : Bool). stem t (if b then Root else elim (place t.entries d) as (λ _. Spot) [ None ↦ Root | Some e ↦ Held e ])) (sym (ap (λ (z : ℕ). z == root) h))

@@ -1,7 +1,7 @@
 -- An accepted rename keeps a tree well-formed.
 use Rattle.std.proofs.Common.{◌≡◌, ℕ, zero, suc, ◌==◌, ◌≢◌, ◌&&◌, Bool, true, false, List, length, Some, None, Option, sym, refl, ap, ◌∙◌, subst, eq-eqb}
 use Rattle.std.specs.Prelude.{if◌then◌else◌, Ok, Err}
-use Rattle.names.specs.declared.errors.Errno.TheVariants.{ENOENT, EISDIR, ENOTDIR, ENOTEMPTY, EINVAL}
+use Rattle.names.specs.declared.errors.Errno.TheVariants.{ENOENT, EINVAL}
 use Rattle.path_walk.specs.Components.{IsComponent}
 use Rattle.path_walk.specs.Tree.{Tree, Entry, WellFormed, find, leads, is_directory, is_empty, is_below}
 use Rattle.path_walk.specs.Apply.{without, dropped, placed, moved, goes_below, onto_kind, rename, rename_from, rename_onto}
@@ -10,6 +10,7 @@ use Rattle.path_walk.proofs.Basics.{some_inj, ok_inj, err_is_ok, true_is_false}
 use Rattle.path_walk.proofs.Walks.{place_found}
 use Rattle.path_walk.proofs.Depth.{Deep, deep, shallow}
 use Rattle.path_walk.proofs.Dropping.{HasEntry, place-without, kept_place, drop_keeps}
+use Rattle.path_walk.proofs.Accepted.{gives_way}
 use Rattle.path_walk.proofs.Moving.{Avoids, not_below, move_keeps}
 
 -- no climb meets a node that is no directory
@@ -24,30 +25,14 @@ file_avoids t well d c old is file (suc m) x (e, at, apart, up) =
       file_avoids t well d c old is file m e.of up,
     )
 
-climbs : (t : Tree) → WellFormed t → (d : ℕ) (c : List ℕ) (old : Entry) → find t.entries d c ≡ Some old → (n into : ℕ) → leads t.entries n into ≡ true → goes_below t.entries old into ≡ false → (m : ℕ) × Avoids t.entries old.node m into
+-- no climb from a directory outside of what moves meets what moves
+pub climbs : (t : Tree) → WellFormed t → (d : ℕ) (c : List ℕ) (old : Entry) → find t.entries d c ≡ Some old → (n into : ℕ) → leads t.entries n into ≡ true → goes_below t.entries old into ≡ false → (m : ℕ) × Avoids t.entries old.node m into
 climbs t well d c old is n into up h =
     let (m, low, climb) = deep t.entries n into up in
     elim (is_directory old.kind) as (λ (b : Bool). is_directory old.kind ≡ b → (b && is_below t.entries (length t.entries) old.node into) ≡ false → (m : ℕ) × Avoids t.entries old.node m into) [
       | true ↦ λ q r. (m, not_below t.entries old.node m (length t.entries) into climb (shallow t.entries m into climb) r)
       | false ↦ λ q r. (m, file_avoids t well d c old is q m into climb)
     ] refl h
-
-onto_inv : (es : List Entry) (old new : Entry) (m u : Tree) → onto_kind es old new (Ok m) ≡ Ok u → (m ≡ u) × (is_directory new.kind ≡ true → is_empty es new.node ≡ true)
-onto_inv es old new m u h =
-    elim (is_directory old.kind) as (λ (a : Bool). (if a then (if is_directory new.kind then (if is_empty es new.node then Ok m else Err ENOTEMPTY) else Err ENOTDIR) else (if is_directory new.kind then Err EISDIR else Ok m)) ≡ Ok u
-    → (m ≡ u) × (is_directory new.kind ≡ true → is_empty es new.node ≡ true)) [
-      | true ↦ λ q. elim (is_directory new.kind) as (λ (b : Bool). (if b then (if is_empty es new.node then Ok m else Err ENOTEMPTY) else Err ENOTDIR) ≡ Ok u → (m ≡ u) × (b ≡ true → is_empty es new.node ≡ true)) [
-        | true ↦ λ r. elim (is_empty es new.node) as (λ (k : Bool). (if k then Ok m else Err ENOTEMPTY) ≡ Ok u → (m ≡ u) × (true ≡ true → k ≡ true)) [
-          | true ↦ λ s. (ok_inj m u s, λ p. refl)
-          | false ↦ λ s. absurd (err_is_ok ENOTEMPTY u s)
-        ] r
-        | false ↦ λ r. absurd (err_is_ok ENOTDIR u r)
-      ] q
-      | false ↦ λ q. elim (is_directory new.kind) as (λ (b : Bool). (if b then Err EISDIR else Ok m) ≡ Ok u → (m ≡ u) × (b ≡ true → is_empty es new.node ≡ true)) [
-        | true ↦ λ r. absurd (err_is_ok EISDIR u r)
-        | false ↦ λ r. (ok_inj m u r, λ p. absurd (true_is_false (sym p)))
-      ] q
-    ] h
 
 module _ (t : Tree) (well : WellFormed t) (d : ℕ) (c : List ℕ) (into : ℕ) (name : List ℕ) (proper : IsComponent name) (n : ℕ) (up : leads t.entries n into ≡ true) (old : Entry) (is : find t.entries d c ≡ Some old)
     (above : goes_below t.entries old into ≡ false) where
@@ -89,7 +74,7 @@ rename_keeps t u d c into name n well up proper h =
           | true ↦ λ same s. subst WellFormed (ok_inj t u s) well
           | false ↦ λ same s. elim (goes_below t.entries old into) as (λ (b : Bool). goes_below t.entries old into ≡ b → (if b then Err EINVAL else onto_kind t.entries old new (Ok (moved t d c into name))) ≡ Ok u → WellFormed u) [
             | true ↦ λ below p. absurd (err_is_ok EINVAL u p)
-            | false ↦ λ below p. let k = onto_inv t.entries old new (moved t d c into name) u p in
+            | false ↦ λ below p. let k = gives_way (is_directory old.kind) (is_directory new.kind) (is_empty t.entries new.node) (moved t d c into name) u p in
                 subst WellFormed k.0 (onto_other t well d c into name proper n up old is below new there (λ e. true_is_false (sym (eq-eqb new.node old.node e) ∙ same)) k.1)
           ] refl s
         ] refl r

@@ -3,6 +3,9 @@ pub mod Tree
 pub mod Walk
 pub mod Name
 pub mod Apply
+pub mod Place
+pub mod Moves
+pub mod Followed
 pub mod World
 pub mod Walking
 pub mod Plain

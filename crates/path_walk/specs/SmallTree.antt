@@ -2,7 +2,7 @@
 use Rattle.std.proofs.Common.{◌≡◌, [], ◌∷◌, sym, subst}
 use Rattle.std.specs.Prelude.{codes, Some}
 use Rattle.path_walk.specs.declared.node.NodeKind.TheVariants.{Directory, File, Link}
-use Rattle.path_walk.specs.Tree.{Tree, Entry, WellFormed, find}
+use Rattle.path_walk.specs.Tree.{Tree, Entry, find}
 use Rattle.path_walk.specs.World.{World}
 
 abbrev pub a : Entry

@@ -6,9 +6,10 @@ use Rattle.path_walk.specs.declared.target.EndSlash.TheVariants.{Allowed, Refuse
 use Rattle.path_walk.specs.declared.target.SplitPath.{SplitPath}
 use Rattle.names.specs.Paths.{filled_parts, ends_with_slash}
 use Rattle.path_walk.specs.Components.{step_of, steps_of}
+use Rattle.path_walk.specs.declared.places.OnePlace.{OnePlace}
 use Rattle.path_walk.specs.declared.places.TwoPlaces.{TwoPlaces}
 use Rattle.path_walk.specs.Tree.{Tree}
-use Rattle.path_walk.specs.Apply.{Changed, Target, target_of, at_two}
+use Rattle.path_walk.specs.Apply.{Changed, Target, target_of, at_one, at_two}
 use Rattle.path_walk.specs.Mirror.{stands_at}
 
 abbrev pub is_refused : EndSlash → Bool
@@ -33,6 +34,16 @@ pub record IsSplit (slash : EndSlash) (path : List ℕ) (parts : SplitPath) : Ty
 pub record AreShort (parts : SplitPath) : Type 0 where
   pub before_fits : length parts.before.now ≤ 4095
   pub last_fits : length parts.last.now ≤ 255
+
+-- The place of the entry that a change of one names: it acts on it.
+pub record IsPlace (t : Tree) (target : Result Target Errno) (place : OnePlace) : Type 0 where
+  pub act : (act : ℕ → List ℕ → Changed) → at_one t target act ≡ act place.of place.component.now
+  pub stands : IsSome (stands_at t place.of)
+  pub fits : length place.component.now ≤ 255
+
+-- why there is none: whatever the change, it is refused by this number
+abbrev pub HasNoPlace : Tree → Result Target Errno → Errno → Type 0
+HasNoPlace t target errno = (act : ℕ → List ℕ → Changed) → at_one t target act ≡ Err errno
 
 -- The places of the entries that a change of two names: it acts on them.
 pub record ArePlaces (t : Tree) (old new : List ℕ) (places : TwoPlaces) : Type 0 where

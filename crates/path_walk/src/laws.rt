@@ -13,6 +13,16 @@ ghost use Rattle.path_walk.specs.Name.{name_of};
 ghost use Rattle.path_walk.specs.Plain.{Plain, tree_of};
 ghost use Rattle.path_walk.specs.Apply.{make, link, unlink, rmdir, rename, apply, tree_after};
 
+mod links;
+mod moves;
+mod nodes;
+mod places;
+
+pub use links::at_most_forty_links;
+pub use moves::renames_move_names;
+pub use nodes::{no_directory_is_below_itself, nodes_live_by_their_entries};
+pub use places::links_are_found;
+
 /// The root alone is a well-formed tree.
 pub fn root_alone_is_well_formed()
     ensures { WellFormed root_alone }

@@ -1,4 +1,11 @@
-/// The places of the two entries that a change names: each the number of a directory, and a component there.
+/// The place of the entry that a change names: the number of a directory, and a component there.
+#[derive(Clone, Copy)]
+pub(crate) struct OnePlace<'a> {
+    pub of: u64,
+    pub component: &'a [u8],
+}
+
+/// The places of the two entries that a change names.
 #[derive(Clone, Copy)]
 pub(crate) struct TwoPlaces<'a> {
     pub of: u64,

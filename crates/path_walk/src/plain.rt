@@ -1,40 +1,28 @@
 //! The directory tree in plain memory.
-ghost use Rattle.std.specs.Prelude.{◌≡◌, ◌+◌, ◌<◌, ◌≤◌, ◌⊎◌, true, length, map, Ok, Err, None, IfOk, IfErr, IsSome, IfSome, ◌&&◌, ◌||◌, ◌==◌, nat_lt};
-ghost use Rattle.std.specs.List.{list_any};
+ghost use Rattle.std.specs.Prelude.{◌≡◌, ◌+◌, ◌<◌, ◌≤◌, ◌⊎◌, true, length, Ok, Err, None, IfOk, IfErr, IsSome, IfSome};
 ghost use Rattle.std.specs.Option.{option_map, option_copied};
-ghost use Rattle.names.specs.Paths.{filled_parts, has_long_component};
-ghost use Rattle.path_walk.specs.Components.{step_of, steps_of};
-ghost use Rattle.path_walk.specs.Tree.{find, place, is_directory, is_empty, is_below};
-ghost use Rattle.path_walk.specs.Apply.{entry, with_entry, dropped, moved, make, link, unlink, rmdir, rename, at_one, at_two, parent_of, text_of, directory_at, has_room, max_changes};
+ghost use Rattle.path_walk.specs.Tree.{find, place, is_directory, is_empty};
+ghost use Rattle.path_walk.specs.Apply.{entry, with_entry, dropped, moved, make, link, unlink, rmdir, rename, at_one, at_two, text_of, has_room, max_changes};
 ghost use Rattle.path_walk.specs.Plain.{new_plain, tree_of, outcome, Accepted, Refused};
 ghost use Rattle.path_walk.specs.Mirror.{node_for, place_for, stands_at, IsShort, IsShortText, IsEmptied, AreOther};
-ghost use Rattle.path_walk.specs.Judge.{Judges, file_of};
-ghost use Rattle.path_walk.specs.PlainEntry.{means_in, knows_in};
-ghost use Rattle.path_walk.specs.Target.{target_for, target_from_parts, ArePlaces, HasNoPlaces};
+ghost use Rattle.path_walk.specs.Target.{target_for};
+
+mod testing;
 
 use crate::change::{Change, LinkBytes};
 use crate::directory::{Node, Place};
-use crate::entry::{LONGEST_COMPONENT, PlainEntry};
-use crate::fault::WalkFault;
-use crate::node::{Last, LinkText, NodeKind};
-use crate::places::TwoPlaces;
+use crate::node::{LinkText, NodeKind};
+use crate::places::{OnePlace, TwoPlaces};
 use crate::record::Record;
-use crate::scratch::Scratch;
 use crate::store::Store;
-use crate::target::{EndSlash, SplitPath, split_path};
-use crate::walk::resolve_text;
-use names::{Components, Errno, NoMemory, Path};
+use crate::target::EndSlash;
+use names::{Errno, NoMemory, Path};
 use std::alloc::Global;
 use std::marker::Model;
+use testing::test_text;
 
 /// The number of the root's node.
 pub(crate) const ROOT: u64 = 1;
-
-/// So many changes are counted.
-const MAX_CHANGES: u64 = 1152921504606846975;
-
-/// The longest text of a link, in bytes.
-const LONGEST_TEXT: usize = 1023;
 
 /// A directory tree in plain memory. To contracts it is its capacity and the changes that were accepted.
 #[derive(Drop)]
@@ -92,9 +80,7 @@ impl PlainTree {
         ensures ok { IfOk result (λ version. Accepted self.old self.new change.now version) }
         ensures err { IfErr result (λ errno. Refused self.old self.new change.now errno) }
     {
-        if self.version() >= MAX_CHANGES {
-            return Err(Errno::EOVERFLOW);
-        }
+        self.test_count()?;
         match change {
             Change::Mkdir(path) => {
                 self.make(change, path, EndSlash::Allowed, NodeKind::Directory)
@@ -125,16 +111,9 @@ impl PlainTree {
         ensures ok { IfOk result (λ version. Accepted self.old self.new change.now version) }
         ensures err { IfErr result (λ errno. Refused self.old self.new change.now errno) }
     {
-        let target = split_path(path, slash)?;
-        let of = self.parent(&target)?;
-        if self.node_at(of, target.last).is_some() {
-            return Err(Errno::EEXIST);
-        }
-        if !self.has_room() {
-            return Err(Errno::ENOSPC);
-        }
+        let OnePlace { of, component } = self.free_place(path, slash)?;
         let number = self.next_number();
-        self.add(change, of, target.last, Node { number, kind }, number + 1)
+        self.add(change, of, component, Node { number, kind }, number + 1)
     }
 
     // One more entry of a file (link(2)).
@@ -144,38 +123,10 @@ impl PlainTree {
         ensures ok { IfOk result (λ version. Accepted self.old self.new change.now version) }
         ensures err { IfErr result (λ errno. Refused self.old self.new change.now errno) }
     {
-        let places = self.two_places(old, new)?;
-        let number = self.file_at(places.of, places.component)?;
-        if self.node_at(places.into, places.name).is_some() {
-            return Err(Errno::EEXIST);
-        }
-        if !self.has_room() {
-            return Err(Errno::ENOSPC);
-        }
+        let (number, OnePlace { of, component }) = self.link_place(old, new)?;
         let next = self.next_number();
-        self.add(
-            change,
-            places.into,
-            places.name,
-            Node {
-                number,
-                kind: NodeKind::File,
-            },
-            next,
-        )
-    }
-
-    // The number of a file, which may have one more entry.
-    fn file_at(&self, of: u64, component: &[u8]) -> Result<u64, Errno>
-        ensures { result ≡ file_of (find (tree_of self.now).entries of component.now) }
-    {
-        match self.node_at(of, component) {
-            None => Err(Errno::ENOENT),
-            Some(node) => match node.kind {
-                NodeKind::File => Ok(node.number),
-                _ => Err(Errno::EPERM),
-            },
-        }
+        let kind = NodeKind::File;
+        self.add(change, of, component, Node { number, kind }, next)
     }
 
     // An entry of a file or a link goes (unlink(2)).
@@ -185,17 +136,8 @@ impl PlainTree {
         ensures ok { IfOk result (λ version. Accepted self.old self.new change.now version) }
         ensures err { IfErr result (λ errno. Refused self.old self.new change.now errno) }
     {
-        let target = split_path(path, EndSlash::Refused)?;
-        let of = self.parent(&target)?;
-        match self.node_at(of, target.last) {
-            None => return Err(Errno::ENOENT),
-            Some(node) => {
-                if node.kind.is_directory() {
-                    return Err(Errno::EISDIR);
-                }
-            }
-        }
-        Ok(self.remove(change, of, target.last))
+        let OnePlace { of, component } = self.unlinked_place(path)?;
+        Ok(self.remove(change, of, component))
     }
 
     // An empty directory goes (rmdir(2)).
@@ -205,21 +147,8 @@ impl PlainTree {
         ensures ok { IfOk result (λ version. Accepted self.old self.new change.now version) }
         ensures err { IfErr result (λ errno. Refused self.old self.new change.now errno) }
     {
-        let target = split_path(path, EndSlash::Allowed)?;
-        let of = self.parent(&target)?;
-        let number = match self.node_at(of, target.last) {
-            None => return Err(Errno::ENOENT),
-            Some(node) => {
-                if !node.kind.is_directory() {
-                    return Err(Errno::ENOTDIR);
-                }
-                node.number
-            }
-        };
-        if !self.is_empty(number) {
-            return Err(Errno::ENOTEMPTY);
-        }
-        Ok(self.remove(change, of, target.last))
+        let OnePlace { of, component } = self.emptied_place(path)?;
+        Ok(self.remove(change, of, component))
     }
 
     // An entry moves (rename(2)).
@@ -240,84 +169,6 @@ impl PlainTree {
         } else {
             Ok(self.keep(change))
         }
-    }
-
-    // The places that two paths name. The form of both is tested before the first walk.
-    fn two_places<'a>(&mut self, old: &Path<'a>, new: &Path<'a>) -> Result<TwoPlaces<'a>, Errno>
-        ensures same { self.new ≡ self.old }
-        ensures ok { IfOk result (λ places. ArePlaces (tree_of self.old) old.now new.now places) }
-        ensures err { IfErr result (λ errno. HasNoPlaces (tree_of self.old) old.now new.now errno) }
-    {
-        let from = split_path(old, EndSlash::Refused)?;
-        let to = split_path(new, EndSlash::Refused)?;
-        let of = self.parent(&from)?;
-        let into = self.parent(&to)?;
-        Ok(TwoPlaces {
-            of,
-            component: from.last,
-            into,
-            name: to.last,
-        })
-    }
-
-    // Whether a rename moves the entry (one onto another entry of its node does nothing), or why it may not.
-    fn moves(&self, of: u64, component: &[u8], into: u64, name: &[u8]) -> Result<bool, Errno>
-        ensures { Judges (tree_of self.now) of component.now into name.now result }
-    {
-        let Some(old) = self.node_at(of, component) else {
-            return Err(Errno::ENOENT);
-        };
-        let Some(new) = self.node_at(into, name) else {
-            if self.goes_below(old, into) {
-                return Err(Errno::EINVAL);
-            }
-            return Ok(true);
-        };
-        if new.number == old.number {
-            return Ok(false);
-        }
-        if self.goes_below(old, into) {
-            return Err(Errno::EINVAL);
-        }
-        match (old.kind.is_directory(), new.kind.is_directory()) {
-            (true, true) => {
-                if self.is_empty(new.number) {
-                    Ok(true)
-                } else {
-                    Err(Errno::ENOTEMPTY)
-                }
-            }
-            (true, false) => Err(Errno::ENOTDIR),
-            (false, true) => Err(Errno::EISDIR),
-            (false, false) => Ok(true),
-        }
-    }
-
-    // Whether the directory is the one that moves, or lies below it.
-    fn goes_below(&self, moving: &Node, into: u64) -> bool
-        ensures { result ≡ (is_directory moving.now.kind && is_below (tree_of self.now).entries (length (tree_of self.now).entries) moving.now.number into) }
-    {
-        moving.kind.is_directory() && self.lies_below(moving.number, into)
-    }
-
-    // Whether a directory is another one or lies below it.
-    fn lies_below(&self, top: u64, from: u64) -> bool
-        ensures { result ≡ is_below (tree_of self.now).entries (length (tree_of self.now).entries) top from }
-    {
-        let mut at = from;
-        let steps = self.count();
-        for step in 0..steps {
-            // The steps up that are left: the loop is proved by their number.
-            let _left = steps - step;
-            if at == top {
-                return true;
-            }
-            match self.place_at(at) {
-                None => return false,
-                Some(place) => at = place.of,
-            }
-        }
-        at == top
     }
 
     /// What the entry of a component in a directory stands for.
@@ -450,82 +301,16 @@ impl PlainTree {
         self.version
     }
 
-    // The directory that has the entry of a target, or is to have it.
-    fn parent(&mut self, target: &SplitPath<'_>) -> Result<u64, Errno>
-        requires steps { steps_of target.now.before.now ≡ map step_of (filled_parts target.now.before.now) }
-        requires short { length target.now.before.now ≤ 4095 }
-        ensures same { self.new ≡ self.old }
-        ensures ok { IfOk result (λ d. (parent_of (tree_of self.old) (target_from_parts target.now) ≡ Ok d) × IsSome (stands_at (tree_of self.old) d)) }
-        ensures err { IfErr result (λ errno. parent_of (tree_of self.old) (target_from_parts target.now) ≡ Err errno) }
-    {
-        let mut scratch = Scratch::new();
-        match resolve_text(self, target.before, Last::Follow, &mut scratch) {
-            Ok(entry) => self.directory_at(&entry),
-            Err(WalkFault::Refused(errno)) => Err(errno),
-            Err(WalkFault::Torn) => unreachable!(),
-        }
-    }
-
-    // The directory that an entry of the tree is.
-    fn directory_at(&self, entry: &PlainEntry) -> Result<u64, Errno>
-        requires { knows_in (tree_of self.now) entry.now }
-        ensures ok { IfOk result (λ d. directory_at (means_in (tree_of self.now) entry.now) ≡ Ok d) }
-        ensures err { IfErr result (λ errno. directory_at (means_in (tree_of self.now) entry.now) ≡ Err errno) }
-    {
-        let key = match entry {
-            PlainEntry::Root => return Ok(ROOT),
-            PlainEntry::Held(key) => key,
-        };
-        match self.node_at(key.of, key.component()) {
-            Some(node) => {
-                if node.kind.is_directory() {
-                    return Ok(node.number);
-                }
-                Err(Errno::ENOTDIR)
-            }
-            None => unreachable!(),
-        }
-    }
-
     // The text of a link.
     fn link_text(&self, bytes: &LinkBytes<'_>) -> Result<LinkText, Errno>
         ensures ok { IfOk result (λ text. (text_of bytes.now ≡ Ok text) × (length text ≤ 1023)) }
         ensures err { IfErr result (λ errno. errno ≡ Errno.ENOMEM ⊎ text_of bytes.now ≡ Err errno) }
     {
         let bytes = bytes.as_bytes();
-        if bytes.is_empty() {
-            return Err(Errno::ENOENT);
-        }
-        if has_zero(bytes) {
-            return Err(Errno::EINVAL);
-        }
-        if is_long_text(bytes) {
-            return Err(Errno::ENAMETOOLONG);
-        }
+        test_text(bytes)?;
         match LinkText::copied(self.alloc, bytes) {
             Ok(text) => Ok(text),
             Err(_) => Err(Errno::ENOMEM),
         }
     }
-}
-
-// Whether some byte is 0.
-fn has_zero(text: &[u8]) -> bool
-    ensures { result ≡ list_any (λ b. b == 0) text.now }
-{
-    text.contains(&0)
-}
-
-// Whether a link's text is too long, as a whole or in some component.
-fn is_long_text(text: &[u8]) -> bool
-    ensures { result ≡ (nat_lt 1023 (length text.now) || has_long_component text.now) }
-{
-    text.len() > LONGEST_TEXT || has_long_component(text)
-}
-
-// Whether some component of a text is too long.
-fn has_long_component(text: &[u8]) -> bool
-    ensures { result ≡ has_long_component text.now }
-{
-    Components::of(text).any(|component| component.len() > LONGEST_COMPONENT)
 }

@@ -1,4 +1,7 @@
+mod place;
 mod plain;
+mod refusals;
+mod testing;
 mod toy;
 
 use crate::{Last, Scratch, WalkFault, name_of, resolve};

@@ -4,7 +4,7 @@ use std::alloc::Global;
 use std::process::Abort;
 use std::test::Fail;
 
-fn change<'a>(line: &'a str) -> Option<Change<'a>> {
+pub(super) fn change<'a>(line: &'a str) -> Option<Change<'a>> {
     let bytes = line.as_bytes();
     let space = bytes.iter().position(|b| *b == b' ')?;
     let (verb, rest) = bytes.split_at(space);
@@ -25,7 +25,7 @@ fn change<'a>(line: &'a str) -> Option<Change<'a>> {
 }
 
 // Where memory is refused once, as `rt try --test --fail-alloc N` does it, it is asked for again.
-fn new_tree(alloc: Global, capacity: usize) -> Result<PlainTree, Fail> {
+pub(super) fn new_tree(alloc: Global, capacity: usize) -> Result<PlainTree, Fail> {
     match PlainTree::new(alloc, capacity) {
         Ok(tree) => Ok(tree),
         Err(_) => Ok(PlainTree::new(alloc, capacity).ok().ok_or("memory")?),
@@ -33,7 +33,11 @@ fn new_tree(alloc: Global, capacity: usize) -> Result<PlainTree, Fail> {
 }
 
 // Where memory is refused, nothing is changed, and the change can be made again.
-fn apply(rt: &impl Abort, tree: &mut PlainTree, change: &Change<'_>) -> Result<u64, Errno> {
+pub(super) fn apply(
+    rt: &impl Abort,
+    tree: &mut PlainTree,
+    change: &Change<'_>,
+) -> Result<u64, Errno> {
     let before = tree.version();
     match tree.apply(change) {
         Err(Errno::ENOMEM) => {

@@ -4,7 +4,4 @@ use Rattle.path_walk.proofs.Entries.{next_nowhere}
 use Rattle.path_walk.proofs.plain.PlainTree.make.Goals as goal
 
 pub add-requires-clause-fresh : goal.add-requires-clause-fresh
-add-requires-clause-fresh c = λ directory. next_nowhere (tree_of c.parent.new.self) c.next_number-number.result (plain_well c.parent.new.self) c.next_number-number.ensures.next
-
-pub add-requires-clause-short : goal.add-requires-clause-short
-add-requires-clause-short c = record { component_fits = c.in_ok-target.ensures.ok.1.last_fits; text_fits = c.requires.short }
+add-requires-clause-fresh c = λ directory. next_nowhere (tree_of c.free_place.new.self) c.next_number-number.result (plain_well c.free_place.new.self) c.next_number-number.ensures.next

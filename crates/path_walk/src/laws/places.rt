@@ -1,0 +1,18 @@
+//! What a link makes, and by which name it is found.
+ghost use Rattle.std.specs.Prelude.{◌≡◌, Bool, List, ℕ, Ok};
+ghost use Rattle.path_walk.specs.declared.change.Change.TheVariants.{Link};
+ghost use Rattle.path_walk.specs.declared.node.Last.TheVariants.{Stay};
+ghost use Rattle.path_walk.specs.Tree.{Tree, Entry, WellFormed};
+ghost use Rattle.path_walk.specs.Walk.{walk};
+ghost use Rattle.path_walk.specs.Walk.Spot.{Held};
+ghost use Rattle.path_walk.specs.Name.{judged_name};
+ghost use Rattle.path_walk.specs.Place.{named_place};
+ghost use Rattle.path_walk.specs.Apply.{apply};
+
+/// Where a hard link is made, the old path leads to an entry of the file, and the new path then leads to the new entry, of
+/// the same node and with the name of the place that the new path named before.
+pub fn links_are_found()
+    ensures { (t u : Tree) (room : Bool) (old new : List ℕ) → WellFormed t → apply t room (Link old new) ≡ Ok u →
+        (from to : Entry) × (walk t Stay old ≡ Ok (Held from)) × (walk u Stay new ≡ Ok (Held to)) × (to.node ≡ from.node)
+        × (judged_name u (Held to) ≡ named_place t new) }
+{}
