@@ -45,3 +45,4 @@ pub mod KeptHeader
 pub mod KeptPaths
 pub mod KeptTexts
 pub mod ReadOutcomes
+pub mod LinkLaws

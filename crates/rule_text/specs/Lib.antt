@@ -10,6 +10,7 @@ pub mod VerdictText
 pub mod FaultNumber
 pub mod Verdict
 pub mod PlainVerdict
+pub mod Linking
 pub mod RuleHits
 pub mod TextBytes
 pub mod ReadSteps

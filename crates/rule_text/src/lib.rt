@@ -5,6 +5,7 @@ mod fault;
 mod items;
 mod judging;
 mod laws;
+mod linking;
 mod live;
 mod path;
 mod profile;
@@ -18,6 +19,9 @@ pub use judging::judge_slow;
 pub use laws::{
     allowed_alone, byte_zero_never, end_is_live, live_is_left_first, one_verdict_is_right,
     takes_by_cuts,
+};
+pub use linking::{
+    LinkVerdict, allowed_by_themselves, allowed_perms, fine_links_widen_nothing, judge_link,
 };
 pub use profile::{Profile, Rule, RuleKind};
 pub use reading::{canonical_texts_are_read, one_outcome, read, settled_faults_stay};
