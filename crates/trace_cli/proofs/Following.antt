@@ -20,9 +20,10 @@ use Rattle.trace_cli.specs.declared.run.place.Place.{Place as PlaceHere}
 use Rattle.trace_cli.specs.declared.run.place.Place.TheVariants.{Within}
 use Rattle.trace_cli.specs.Following.{Followed, followed, silent_line, printed_line, place_value, is_open_at, IsClosed, IsFollowed, IsShortOf, IsLineFollowed, IsPrinted, IsPut}
 use Rattle.trace_cli.specs.Output.{line}
-use Rattle.trace_cli.specs.RunOutput.{Known, Printed, printed, printed_lines, text_of_lines, policy_version, policy_printed, change_printed, change_of, with_change, tree_version}
-use Rattle.trace_cli.specs.Published.{published, removed}
-use Rattle.trace_cli.specs.Script.{Place, outside, within, Command, publish, remove, alter, judge_open, Said, nothing, opens_policy, command, no_command, said, words_of, is_end, line_feed, Script, script_of, script_from, first_command, stops_at, lines_of}
+use Rattle.trace_cli.specs.RunOutput.{Known, Printed, printed, printed_lines, text_of_lines, policy_version, policy_printed, change_printed, change_of, with_change, after_link, tree_version}
+use Rattle.trace_cli.specs.Linking.{LinkAnswered, made, not_allowed, failed, no_profile, link_answered}
+use Rattle.trace_cli.specs.Published.{published, removed, policy_after}
+use Rattle.trace_cli.specs.Script.{Place, outside, within, Command, publish, remove, alter, judge_open, judge_link, Said, nothing, opens_policy, command, no_command, said, words_of, is_end, line_feed, Script, script_of, script_from, first_command, stops_at, lines_of}
 use Rattle.trace_cli.specs.Streams.{AppendsFront}
 use Rattle.trace_cli.proofs.Fronts.{Appends-more, Appends-kept}
 
@@ -264,11 +265,18 @@ more_deeds known place number line f e = let h = one_more place in rw e at h
     tried (Ok c) = changed_by c (outcome known.tree c)
     tried (Err errno) = omega arith
 
+    linked_by : (old new : List ℕ) (a : LinkAnswered) → policy_version (after_link known old new a) ≤ policy_version known + 1
+    linked_by old new (made node version policy) = omega arith
+    linked_by old new (not_allowed j version policy) = omega arith
+    linked_by old new (failed errno version) = omega arith
+    linked_by old new (no_profile policy) = omega arith
+
     by : (c : Command) → policy_version (printed known c).known ≤ policy_version known + 1
     by (publish text) = published_by (outcome_of text)
     by (remove name) = omega (arith, length-append known.deeds (removed name ∷ []))
     by (alter words) = tried (change_of words)
     by (judge_open profile path ask) = omega arith
+    by (judge_link profile old new) = linked_by old new (link_answered known.tree (policy_version known) old new (policy_after known.deeds profile))
 
     at_outside : (s : Said) → AtMost (followed_said known number s)
     at_outside nothing = omega arith

@@ -19,3 +19,4 @@ pub mod ByteKeys
 pub mod DeedLaws
 pub mod Asked
 pub mod Answering
+pub mod LinkJudging

@@ -7,6 +7,7 @@ pub mod Program
 pub mod Script
 pub mod Published
 pub mod Opening
+pub mod Linking
 pub mod RunOutput
 pub mod Bench
 pub mod Deeds
@@ -15,3 +16,4 @@ pub mod Policy
 pub mod Judging
 pub mod Line
 pub mod Following
+pub mod Rows

@@ -15,9 +15,10 @@ use Rattle.trace_cli.specs.declared.status.Status.{Status}
 use Rattle.trace_cli.specs.declared.status.Status.TheVariants.{Done, BadArguments, Refused, InputFailed, OutputFailed, FaultsFailed, NoMemory}
 use Rattle.trace_cli.specs.Output.{Output, line, refusal}
 use Rattle.trace_cli.specs.Streams.{Streams, IsWritten, AppendsFront}
-use Rattle.trace_cli.specs.Script.{ChangeWords, Command, Script, mkdir, create, rename, publish, remove, alter, judge_open, script_of}
+use Rattle.trace_cli.specs.Script.{ChangeWords, Command, Script, mkdir, create, symlink, link, unlink, rmdir, rename, publish, remove, alter, judge_open, judge_link, script_of}
 use Rattle.trace_cli.specs.Published.{Deed, published, removed, policy_after}
 use Rattle.trace_cli.specs.Opening.{path_of, answered_by, answered_text}
+use Rattle.trace_cli.specs.Linking.{LinkAnswered, made, not_allowed, failed, no_profile, link_answered, link_answered_text}
 
 -- What a script has done so far: accepted changes of the tree, with its capacity, and changes of the policy.
 pub record Known : Type 0 where
@@ -49,6 +50,10 @@ pub record Printed : Type 0 where
 abbrev pub change_of : ChangeWords → Result Change Errno
 change_of (mkdir path) = and_then (path_of path) (λ p. Ok (tree.Mkdir p))
 change_of (create path) = and_then (path_of path) (λ p. Ok (tree.Create p))
+change_of (symlink text path) = and_then (path_of path) (λ p. Ok (tree.Symlink text p))
+change_of (link old new) = and_then (path_of old) (λ a. and_then (path_of new) (λ b. Ok (tree.Link a b)))
+change_of (unlink path) = and_then (path_of path) (λ p. Ok (tree.Unlink p))
+change_of (rmdir path) = and_then (path_of path) (λ p. Ok (tree.Rmdir p))
 change_of (rename old new) = and_then (path_of old) (λ a. and_then (path_of new) (λ b. Ok (tree.Rename a b)))
 
 -- `ok V`, with the tree's new version, or why the change is refused
@@ -74,6 +79,17 @@ drop_printed known name = record {
   known = with_deed known (removed name);
 }
 
+-- a link that was made is a change of the tree
+abbrev pub after_link : Known → List ℕ → List ℕ → LinkAnswered → Known
+after_link known old new (made node tree_now policy) = with_change known (tree.Link old new)
+after_link known old new (not_allowed j tree_now policy) = known
+after_link known old new (failed errno tree_now) = known
+after_link known old new (no_profile policy) = known
+
+-- an answer to a judged link
+abbrev pub link_printed : Known → List ℕ → List ℕ → LinkAnswered → Printed
+link_printed known old new answer = record { text = link_answered_text answer; known = after_link known old new answer }
+
 abbrev pub printed : Known → Command → Printed
 printed known (publish text) = policy_printed known (outcome_of text)
 printed known (remove name) = drop_printed known name
@@ -82,6 +98,8 @@ printed known (judge_open profile path ask) = record {
   text = answered_text (answered_by (tree_of known.tree) (tree_version known) (policy_version known) path ask (policy_after known.deeds profile));
   known = known;
 }
+printed known (judge_link profile old new) =
+    link_printed known old new (link_answered known.tree (policy_version known) old new (policy_after known.deeds profile))
 
 -- one line for each command, by what the commands before it have done
 abbrev pub printed_lines : Known → List Command → List (List ℕ)

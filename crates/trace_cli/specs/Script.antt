@@ -24,10 +24,14 @@ is_blank b = (b == 32) || (b == 9)
 abbrev pub words_of : List ℕ → List (List ℕ)
 words_of line = filter (λ word. not (length word == 0)) (slice_split is_blank line)
 
--- a change of the tree, by the words of its paths
+-- a change of the tree, by the words of its paths; a symbolic link's text goes before its path
 pub data ChangeWords : Type 0 where
   mkdir : List ℕ → ChangeWords
   create : List ℕ → ChangeWords
+  symlink : List ℕ → List ℕ → ChangeWords
+  link : List ℕ → List ℕ → ChangeWords
+  unlink : List ℕ → ChangeWords
+  rmdir : List ℕ → ChangeWords
   rename : List ℕ → List ℕ → ChangeWords
 
 pub data Command : Type 0 where
@@ -39,6 +43,8 @@ pub data Command : Type 0 where
   alter : ChangeWords → Command
   -- a profile, the path that is opened, and what is asked
   judge_open : List ℕ → List ℕ → Perms → Command
+  -- a profile, the path of a file, and that of one more entry of it
+  judge_link : List ℕ → List ℕ → List ℕ → Command
 
 -- what a line is, by itself
 pub data Said : Type 0 where
@@ -57,17 +63,26 @@ said_by_two word first =
     if bytes_eq (codes "drop") word then command (remove first)
     else (if bytes_eq (codes "mkdir") word then command (alter (mkdir first))
     else (if bytes_eq (codes "create") word then command (alter (create first))
-    else no_command))
+    else (if bytes_eq (codes "unlink") word then command (alter (unlink first))
+    else (if bytes_eq (codes "rmdir") word then command (alter (rmdir first))
+    else no_command))))
 
 abbrev pub said_by_three : List ℕ → List ℕ → List ℕ → Said
-said_by_three word first second = if bytes_eq (codes "rename") word then command (alter (rename first second)) else no_command
+said_by_three word first second =
+    if bytes_eq (codes "symlink") word then command (alter (symlink first second))
+    else (if bytes_eq (codes "link") word then command (alter (link first second))
+    else (if bytes_eq (codes "rename") word then command (alter (rename first second))
+    else no_command))
 
 abbrev pub opening : List ℕ → List ℕ → Option Perms → Said
 opening profile path None = no_command
 opening profile path (Some ask) = command (judge_open profile path ask)
 
 abbrev pub said_by_four : List ℕ → List ℕ → List ℕ → List ℕ → Said
-said_by_four word first second third = if bytes_eq (codes "open") word then opening first second (perms_of third) else no_command
+said_by_four word first second third =
+    if bytes_eq (codes "open") word then opening first second (perms_of third)
+    else (if bytes_eq (codes "judged-link") word then command (judge_link first second third)
+    else no_command)
 
 -- the first word begins with `#`
 abbrev pub is_comment : List ℕ → Bool

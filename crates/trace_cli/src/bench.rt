@@ -4,12 +4,13 @@ ghost use Rattle.rule_text.specs.Profile.{profile_value};
 ghost use Rattle.path_walk.specs.Plain.{tree_of, outcome};
 ghost use Rattle.trace_cli.specs.Published.{Deed, published, removed, policy_after};
 ghost use Rattle.trace_cli.specs.Opening.{answered_by};
-ghost use Rattle.trace_cli.specs.RunOutput.{Known, with_change, with_deed, tree_version, policy_version};
-ghost use Rattle.trace_cli.specs.Bench.{answered};
+ghost use Rattle.trace_cli.specs.RunOutput.{Known, with_change, with_deed, after_link, tree_version, policy_version};
+ghost use Rattle.trace_cli.specs.Bench.{answered, link_answer};
+ghost use Rattle.trace_cli.specs.Linking.{link_answered};
 
 use names::{Errno, NoMemory, Perms};
 use path_walk::Change;
-use rule_text::{Profile, Verdict};
+use rule_text::{LinkVerdict, Profile, Verdict};
 
 /// What an open comes to. The name that was judged stands in the bench.
 #[derive(Clone, Copy, Debug, PartialEq, Eq)]
@@ -32,12 +33,39 @@ pub(crate) enum Answer {
     },
 }
 
+/// What a judged link comes to. The name of the new entry stands in the bench.
+#[derive(Clone, Copy, Debug, PartialEq, Eq)]
+pub(crate) enum LinkAnswer {
+    /// The link was made: the node of the file, and the tree's new version.
+    Linked {
+        node: u64,
+        tree_version: u64,
+        policy_version: u64,
+    },
+    /// The rules don't allow the link, which wasn't made.
+    NotAllowed {
+        verdict: LinkVerdict,
+        node: u64,
+        tree_version: u64,
+        policy_version: u64,
+    },
+    /// The link can't be made, or a name can't be judged.
+    Failed {
+        errno: Errno,
+        tree_version: u64,
+    },
+    /// The profile isn't published.
+    NoProfile {
+        policy_version: u64,
+    },
+}
+
 /// A tree, and the profiles that are published.
 pub(crate) trait Bench {
     // What was done to both.
     ghost known: { Self → Known };
 
-    // The name that the last open judged.
+    // The name that was judged last.
     ghost judged_name: { Self → List ℕ };
 
     /// Makes a change of the tree, and answers the version that it makes, or tells why not.
@@ -54,7 +82,16 @@ pub(crate) trait Bench {
             ≡ answered_by (tree_of (known self.old).tree) (tree_version (known self.old)) (policy_version (known self.old))
             path.now ask (policy_after (known self.old).deeds profile.now) };
 
-    /// The name that the last open judged.
+    /// Makes one more entry of a file, where a published profile allows it.
+    fn link(&mut self, profile: &[u8], old: &[u8], new: &[u8]) -> Result<LinkAnswer, NoMemory>
+        ensures ok { IfOk result (λ answer. link_answer (judged_name self.new) answer
+            ≡ link_answered (known self.old).tree (policy_version (known self.old)) old.now new.now
+            (policy_after (known self.old).deeds profile.now)) }
+        ensures known { IfOk result (λ answer. known self.new
+            ≡ after_link (known self.old) old.now new.now (link_answer (judged_name self.new) answer)) }
+        ensures err { OnErr result (known self.new ≡ known self.old) };
+
+    /// The name that the last open judged, or that of the new entry of the last judged link.
     fn name(&self) -> &[u8]
         ensures { result.now ≡ judged_name self.now };
 

@@ -12,6 +12,7 @@ mod deeds;
 mod fault;
 mod judge;
 mod laws;
+mod linking;
 mod opening;
 mod plain_bench;
 mod policy;

@@ -1,14 +1,22 @@
 //! A bench in plain memory.
-ghost use Rattle.std.specs.Prelude.{◌≡◌, ◌≤◌, IfOk, take, map, []};
+ghost use Rattle.std.specs.Prelude.{◌≡◌, ◌≤◌, IfOk, IfErr, IsOk, Ok, Err, take, map, []};
+ghost use Rattle.path_walk.specs.declared.change.Change.TheVariants.{Link};
+ghost use Rattle.path_walk.specs.Plain.{outcome};
+ghost use Rattle.rule_text.specs.Profile.{profile_value};
+ghost use Rattle.trace_cli.specs.Judging.{link_of};
+ghost use Rattle.trace_cli.specs.Linking.{link_judged};
 ghost use Rattle.trace_cli.specs.RunOutput.{new_known};
 ghost use Rattle.trace_cli.specs.Deeds.{deed_value};
 
-use crate::bench::{Answer, Bench};
+use crate::bench::{Answer, Bench, LinkAnswer};
+use crate::linking::{JudgedLink, judge_names};
 use crate::opening::judge_file;
 use crate::policy::Policy;
-use names::{Errno, NoMemory, Perms};
-use path_walk::{Change, PlainTree, Scratch, WalkFault, plain_trees_are_well_formed};
-use rule_text::Profile;
+use names::{Errno, NoMemory, Path, Perms};
+use path_walk::{
+    Change, PlainTree, Scratch, WalkFault, links_are_found, plain_trees_are_well_formed,
+};
+use rule_text::{LinkVerdict, Profile};
 use std::alloc::Global;
 
 /// A tree and the published profiles, with the room that walks and names need.
@@ -34,6 +42,41 @@ impl PlainBench {
             name: [0; 4096],
             name_length: 0,
         })
+    }
+}
+
+/// Judges a link that the tree would take, or tells why it fails. Nothing is changed. The name of the new entry goes to the
+/// front of `room`.
+fn judge_tested<'a>(
+    tree: &mut PlainTree,
+    profile: &Profile,
+    old: &'a [u8],
+    new: &'a [u8],
+    scratch: &mut Scratch,
+    room: &mut [u8; 4096],
+) -> Result<(Change<'a>, JudgedLink), Errno>
+    ensures same { tree.new ≡ tree.old }
+    ensures fits { IfOk result (λ tested. tested.1.name_length ≤ 4095) }
+    ensures change { IfOk result (λ tested. (tested.0 ≡ Link old.now new.now) × IsOk (outcome tree.old tested.0)) }
+    ensures answer { IfOk result (λ tested. link_judged tree.old (profile_value profile.now) old.now new.now ≡ Ok (link_of room.new tested.1)) }
+    ensures fault { IfErr result (λ errno. link_judged tree.old (profile_value profile.now) old.now new.now ≡ Err errno) }
+{
+    plain_trees_are_well_formed();
+    links_are_found();
+    let old = Path::check(old)?;
+    let new = Path::check(new)?;
+    let change = Change::Link(old, new);
+    tree.test(&change)?;
+    let Change::Link(old, new) = &change else {
+        unreachable!();
+    };
+    match judge_names(tree, profile, old, new, scratch, room) {
+        Ok(judged) => Ok((change, judged)),
+        Err(fault) => match fault {
+            WalkFault::Refused(errno) => Err(errno),
+            // A plain tree always sees its tree, and knows all of it.
+            WalkFault::Torn => unreachable!(),
+        },
     }
 }
 
@@ -79,6 +122,49 @@ impl Bench for PlainBench {
                 // A plain tree always sees its tree, and knows all of it.
                 WalkFault::Torn => unreachable!(),
             },
+        }
+    }
+
+    fn link(&mut self, profile: &[u8], old: &[u8], new: &[u8]) -> Result<LinkAnswer, NoMemory> {
+        let policy_version = self.policy.version();
+        let tree_version = self.tree.version();
+        let Some(profile) = self.policy.get(profile) else {
+            return Ok(LinkAnswer::NoProfile { policy_version });
+        };
+        let tested = judge_tested(
+            &mut self.tree,
+            profile,
+            old,
+            new,
+            &mut self.scratch,
+            &mut self.name,
+        );
+        let (change, judged) = match tested {
+            Ok(tested) => tested,
+            Err(errno) => {
+                return Ok(LinkAnswer::Failed {
+                    errno,
+                    tree_version,
+                });
+            }
+        };
+        self.name_length = judged.name_length;
+        if judged.verdict != LinkVerdict::Fine {
+            return Ok(LinkAnswer::NotAllowed {
+                verdict: judged.verdict,
+                node: judged.node,
+                tree_version,
+                policy_version,
+            });
+        }
+        match self.tree.apply(&change) {
+            Ok(tree_version) => Ok(LinkAnswer::Linked {
+                node: judged.node,
+                tree_version,
+                policy_version,
+            }),
+            // The link was tested, so that only memory can be wanting.
+            Err(_) => Err(NoMemory),
         }
     }
 

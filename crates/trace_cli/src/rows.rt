@@ -1,10 +1,11 @@
 //! Worked rows: what the definitions of `specs/` make of short scripts. The functions do nothing: each stands for its
 //! contract.
 ghost use Rattle.std.specs.Prelude.{◌≡◌, List, [], ◌∷◌, ◌++◌, codes, decimal, Some, None};
-ghost use Rattle.names.specs.declared.errors.Errno.TheVariants.{ENOENT, EEXIST, EINVAL, ENOSPC};
+ghost use Rattle.names.specs.declared.errors.Errno.TheVariants.{ENOENT, EEXIST, ENOTDIR, EINVAL, ENOSPC};
 ghost use Rattle.names.specs.Errors.{errno_text};
 ghost use Rattle.trace_cli.specs.RunOutput.{new_known, printed_lines, run_lines, with_deed};
 ghost use Rattle.trace_cli.specs.Published.{published};
+ghost use Rattle.trace_cli.specs.Rows.{allow_rule};
 ghost use Rattle.trace_cli.specs.Script.{script_of, publish, remove};
 
 /// Lines that are printed for commands, and for nothing else.
@@ -17,6 +18,10 @@ pub(crate) fn commands_are_answered()
     ensures refused { run_lines 9 (codes "mkdir /a\nmkdir /a\nmkdir a\ncreate /b/f\nmkdir /b")
         ≡ (codes "ok " ++ decimal 1) ∷ errno_text EEXIST ∷ errno_text EINVAL ∷ errno_text ENOENT ∷ (codes "ok " ++ decimal 2) ∷ [] }
     ensures full { run_lines 1 (codes "mkdir /a\nmkdir /b\n") ≡ (codes "ok " ++ decimal 1) ∷ errno_text ENOSPC ∷ [] }
+    ensures links { run_lines 9 (codes "mkdir /a\nsymlink a /l\ncreate /l/f\nlink /l/f /g\nunlink /a/f\nrmdir /l\nrmdir /a\ncreate /l/f\nunlink /l\nlink /g /g\n")
+        ≡ (codes "ok " ++ decimal 1) ∷ (codes "ok " ++ decimal 2) ∷ (codes "ok " ++ decimal 3) ∷ (codes "ok " ++ decimal 4)
+        ∷ (codes "ok " ++ decimal 5) ∷ errno_text ENOTDIR ∷ (codes "ok " ++ decimal 6) ∷ errno_text ENOENT ∷ (codes "ok " ++ decimal 7)
+        ∷ errno_text EEXIST ∷ [] }
     ensures unpublished { run_lines 9 (codes "open q / r\ndrop q\nopen q / r\n")
         ≡ (codes "no profile policy " ++ decimal 0) ∷ (codes "policy q removed version " ++ decimal 1)
         ∷ (codes "no profile policy " ++ decimal 1) ∷ [] }
@@ -34,11 +39,27 @@ pub(crate) fn opens_are_answered()
         ∷ (codes "no profile policy " ++ decimal 1) ∷ [] }
 {}
 
+/// Judged links, where a profile of three rules is published.
+pub(crate) fn links_are_answered()
+    ensures { let rules = allow_rule (codes "/f") (codes "rk") ∷ allow_rule (codes "/g") (codes "wrlm") ∷ allow_rule (codes "/h") (codes "rl") ∷ [] in
+        let known = with_deed (new_known 9) (published (record { name = codes "q"; rules = rules })) in
+        printed_lines known (script_of (codes "create /f\njudged-link q /f /x\njudged-link q /f /g\njudged-link q /f /h\njudged-link q /f /h\njudged-link p f /h\njudged-link q /f h\nunlink /f\n")).commands
+        ≡ (codes "ok " ++ decimal 1)
+        ∷ (codes "no rule for l /x node " ++ decimal 2 ++ codes " tree " ++ decimal 1 ++ codes " policy " ++ decimal 1)
+        ∷ (codes "wider by wm /g node " ++ decimal 2 ++ codes " tree " ++ decimal 1 ++ codes " policy " ++ decimal 1)
+        ∷ (codes "linked node " ++ decimal 2 ++ codes " tree " ++ decimal 2 ++ codes " policy " ++ decimal 1)
+        ∷ (errno_text EEXIST ++ codes " tree " ++ decimal 2)
+        ∷ (codes "no profile policy " ++ decimal 1)
+        ∷ (errno_text EINVAL ++ codes " tree " ++ decimal 2)
+        ∷ (codes "ok " ++ decimal 3) ∷ [] }
+{}
+
 /// Lines at which a script stops.
 pub(crate) fn scripts_stop()
     ensures unknown { (script_of (codes "mkdir /a\nlook /a\nmkdir /b\n")).stopped ≡ Some 2 }
     ensures unknown_lines { run_lines 9 (codes "mkdir /a\nlook /a\nmkdir /b\n") ≡ (codes "ok " ++ decimal 1) ∷ [] }
     ensures word_too_many { (script_of (codes "mkdir /a # a directory")).stopped ≡ Some 1 }
+    ensures word_too_few { (script_of (codes "symlink a")).stopped ≡ Some 1 }
     ensures bad_permissions { (script_of (codes "\n\nopen q / x\n")).stopped ≡ Some 3 }
     ensures carriage_return { (script_of (codes "policy\r\n.\r\n")).stopped ≡ Some 1 }
     ensures no_dot { (script_of (codes "mkdir /a\npolicy\nprofile p {\n}\n")).stopped ≡ Some 2 }

@@ -7,6 +7,7 @@ use std::io::{BufReader, ErrorKind, Read, Write};
 use std::test::Fail;
 
 mod benches;
+mod links;
 mod scripts;
 
 const PASSWD: &str = "profile passwd {\n  /etc/passwd r,\n}\n";

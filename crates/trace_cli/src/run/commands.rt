@@ -6,7 +6,7 @@ ghost use Rattle.trace_cli.specs.RunOutput.{policy_version, printed};
 ghost use Rattle.trace_cli.specs.Script.{publish};
 
 use crate::bench::Bench;
-use crate::run::compose::{change_line, drop_line, open_line, policy_line};
+use crate::run::compose::{change_line, drop_line, link_line, open_line, policy_line};
 use crate::run::line::Command;
 use crate::run::stop::Stop;
 use crate::telling::write_through;
@@ -28,6 +28,7 @@ pub(crate) fn answer_command<B: Bench, A: Write>(
         Command::Remove(name) => drop_line(alloc, bench, name)?,
         Command::Alter(words) => change_line(alloc, bench, words)?,
         Command::JudgeOpen { profile, path, ask } => open_line(alloc, bench, profile, path, ask)?,
+        Command::JudgeLink { profile, old, new } => link_line(alloc, bench, profile, old, new)?,
     };
     print_line(answers, &line)
 }

@@ -4,14 +4,14 @@ ghost use Rattle.trace_cli.specs.Following.{IsComposed, IsText};
 ghost use Rattle.names.specs.Errors.{errno_text};
 ghost use Rattle.trace_cli.specs.Line.{change_words};
 ghost use Rattle.trace_cli.specs.RunOutput.{policy_version, printed, change_of, change_printed};
-ghost use Rattle.trace_cli.specs.Script.{publish, remove, alter, judge_open};
+ghost use Rattle.trace_cli.specs.Script.{publish, remove, alter, judge_open, judge_link};
 
-use crate::bench::{Answer, Bench};
+use crate::bench::{Answer, Bench, LinkAnswer};
 use crate::fault::Fault;
 use crate::run::line::ChangeWords;
 use crate::run::stop::Stop;
 use names::{Errno, Path, Perms};
-use path_walk::Change;
+use path_walk::{Change, LinkBytes};
 use rule_text::{ReadFault, read};
 use std::alloc::{AllocError, Global};
 
@@ -126,6 +126,54 @@ pub(crate) fn open_line<B: Bench>(
     }
 }
 
+/// Makes one more entry of a file, if a profile allows it.
+pub(crate) fn link_line<B: Bench>(
+    alloc: Global,
+    bench: &mut B,
+    profile: &[u8],
+    old: &[u8],
+    new: &[u8],
+) -> Result<Vec<u8>, Stop>
+    ensures { IsComposed (printed (B.known bench.old) (judge_link profile.now old.now new.now)) (B.known bench.new) result }
+{
+    match bench.link(profile, old, new)? {
+        LinkAnswer::Linked {
+            node,
+            tree_version,
+            policy_version,
+        } => {
+            let line = format!(in alloc;
+                "linked node {node} tree {tree_version} policy {policy_version}\n"
+            )?;
+            Ok(line.into_bytes())
+        }
+        LinkAnswer::NotAllowed {
+            verdict,
+            node,
+            tree_version,
+            policy_version,
+        } => {
+            let start = format!(in alloc; "{verdict} ")?;
+            let end = format!(in alloc;
+                " node {node} tree {tree_version} policy {policy_version}\n"
+            )?;
+            let line = joined(alloc, &start, bench.name(), &end)?;
+            Ok(line)
+        }
+        LinkAnswer::Failed {
+            errno,
+            tree_version,
+        } => {
+            let line = format!(in alloc; "{errno} tree {tree_version}\n")?;
+            Ok(line.into_bytes())
+        }
+        LinkAnswer::NoProfile { policy_version } => {
+            let line = format!(in alloc; "no profile policy {policy_version}\n")?;
+            Ok(line.into_bytes())
+        }
+    }
+}
+
 /// A change with checked paths, or the first fault of a path, the old one's before the new one's.
 fn change_of(words: ChangeWords<'_>) -> Result<Change<'_>, Errno>
     ensures { result ≡ change_of (change_words words.entry) }
@@ -133,6 +181,17 @@ fn change_of(words: ChangeWords<'_>) -> Result<Change<'_>, Errno>
     match words {
         ChangeWords::Mkdir(path) => Ok(Change::Mkdir(Path::check(path)?)),
         ChangeWords::Create(path) => Ok(Change::Create(Path::check(path)?)),
+        ChangeWords::Symlink(text, path) => {
+            let path = Path::check(path)?;
+            Ok(Change::Symlink(LinkBytes::new(text), path))
+        }
+        ChangeWords::Link(old, new) => {
+            let old = Path::check(old)?;
+            let new = Path::check(new)?;
+            Ok(Change::Link(old, new))
+        }
+        ChangeWords::Unlink(path) => Ok(Change::Unlink(Path::check(path)?)),
+        ChangeWords::Rmdir(path) => Ok(Change::Rmdir(Path::check(path)?)),
         ChangeWords::Rename(old, new) => {
             let old = Path::check(old)?;
             let new = Path::check(new)?;

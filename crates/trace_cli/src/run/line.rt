@@ -1,6 +1,7 @@
 //! What a line of a script says by itself.
 ghost use Rattle.std.specs.Prelude.{◌≡◌, bytes_eq};
-ghost use Rattle.trace_cli.specs.Script.{words_of, said, is_comment, said_by_one, said_by_two, said_by_three, said_by_four};
+ghost use Rattle.names.specs.Permissions.{perms_of};
+ghost use Rattle.trace_cli.specs.Script.{words_of, said, is_comment, said_by_one, said_by_two, said_by_three, said_by_four, opening};
 ghost use Rattle.trace_cli.specs.Line.{said_value};
 
 use crate::run::words::Words;
@@ -32,13 +33,23 @@ pub(crate) enum Command<'a> {
         path: &'a [u8],
         ask: Perms,
     },
+    /// One more entry of a file, if a profile allows it.
+    JudgeLink {
+        profile: &'a [u8],
+        old: &'a [u8],
+        new: &'a [u8],
+    },
 }
 
-/// A change of the tree, by the words of its paths.
+/// A change of the tree, by the words of its paths. A symbolic link's text goes before its path.
 #[derive(Clone, Copy, Debug, PartialEq, Eq)]
 pub(crate) enum ChangeWords<'a> {
     Mkdir(&'a [u8]),
     Create(&'a [u8]),
+    Symlink(&'a [u8], &'a [u8]),
+    Link(&'a [u8], &'a [u8]),
+    Unlink(&'a [u8]),
+    Rmdir(&'a [u8]),
     Rename(&'a [u8], &'a [u8]),
 }
 
@@ -106,6 +117,12 @@ fn said_by_two<'a>(word: &[u8], first: &'a [u8]) -> Said<'a>
     if is_word("create", word) {
         return Said::Command(Command::Alter(ChangeWords::Create(first)));
     }
+    if is_word("unlink", word) {
+        return Said::Command(Command::Alter(ChangeWords::Unlink(first)));
+    }
+    if is_word("rmdir", word) {
+        return Said::Command(Command::Alter(ChangeWords::Rmdir(first)));
+    }
     Said::NoCommand
 }
 
@@ -113,6 +130,12 @@ fn said_by_two<'a>(word: &[u8], first: &'a [u8]) -> Said<'a>
 fn said_by_three<'a>(word: &[u8], first: &'a [u8], second: &'a [u8]) -> Said<'a>
     ensures { said_value result ≡ said_by_three word.now first.now second.now }
 {
+    if is_word("symlink", word) {
+        return Said::Command(Command::Alter(ChangeWords::Symlink(first, second)));
+    }
+    if is_word("link", word) {
+        return Said::Command(Command::Alter(ChangeWords::Link(first, second)));
+    }
     if is_word("rename", word) {
         return Said::Command(Command::Alter(ChangeWords::Rename(first, second)));
     }
@@ -120,12 +143,26 @@ fn said_by_three<'a>(word: &[u8], first: &'a [u8], second: &'a [u8]) -> Said<'a>
 }
 
 /// What four words say.
-fn said_by_four<'a>(word: &[u8], profile: &'a [u8], path: &'a [u8], letters: &[u8]) -> Said<'a>
-    ensures { said_value result ≡ said_by_four word.now profile.now path.now letters.now }
+fn said_by_four<'a>(word: &[u8], profile: &'a [u8], second: &'a [u8], third: &'a [u8]) -> Said<'a>
+    ensures { said_value result ≡ said_by_four word.now profile.now second.now third.now }
 {
-    if !is_word("open", word) {
-        return Said::NoCommand;
+    if is_word("open", word) {
+        return opening(profile, second, third);
     }
+    if is_word("judged-link", word) {
+        return Said::Command(Command::JudgeLink {
+            profile,
+            old: second,
+            new: third,
+        });
+    }
+    Said::NoCommand
+}
+
+/// What an open says, whose permissions are given by letters.
+fn opening<'a>(profile: &'a [u8], path: &'a [u8], letters: &[u8]) -> Said<'a>
+    ensures { said_value result ≡ opening profile.now path.now (perms_of letters.now) }
+{
     match Perms::from_letters(letters) {
         Some(ask) => Said::Command(Command::JudgeOpen { profile, path, ask }),
         None => Said::NoCommand,

@@ -5,7 +5,7 @@ use std::alloc::Global;
 use std::test::Fail;
 
 /// A script that goes to its end: what stands on standard output.
-fn answers_to(alloc: Global, capacity: &str, script: &str) -> Result<Vec<u8>, Fail> {
+pub(super) fn answers_to(alloc: Global, capacity: &str, script: &str) -> Result<Vec<u8>, Fail> {
     let words = ["aa-trace", "run", "--capacity", capacity];
     let (status, answers, faults) = run(alloc, &words, script);
     if status == Status::Done && faults.is_empty() {
@@ -72,7 +72,11 @@ fn opens(rt: HostRuntime) -> Result<(), Fail> {
 }
 
 /// Scripts that go to their ends, and what they print.
-fn all_answers(alloc: Global, capacity: &str, cases: &[(&str, &str)]) -> Result<(), Fail> {
+pub(super) fn all_answers(
+    alloc: Global,
+    capacity: &str,
+    cases: &[(&str, &str)],
+) -> Result<(), Fail> {
     for (script, wanted) in cases {
         let answers = answers_to(alloc, capacity, script)?;
         if answers.as_slice() != wanted.as_bytes() {

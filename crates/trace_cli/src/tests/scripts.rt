@@ -2,7 +2,7 @@
 ghost use Rattle.std.specs.Prelude.{[]};
 ghost use Rattle.trace_cli.specs.RunOutput.{new_known};
 
-use crate::bench::{Answer, Bench};
+use crate::bench::{Answer, Bench, LinkAnswer};
 use crate::run::run_script;
 use crate::status::Status;
 use crate::tests::{Failing, Pieces};
@@ -29,6 +29,10 @@ impl Bench for FullBench {
 
     fn open(&mut self, _profile: &[u8], _path: &[u8], _ask: Perms) -> Answer {
         Answer::NoProfile { policy_version: 0 }
+    }
+
+    fn link(&mut self, _profile: &[u8], _old: &[u8], _new: &[u8]) -> Result<LinkAnswer, NoMemory> {
+        Err(NoMemory)
     }
 
     fn name(&self) -> &[u8] {
