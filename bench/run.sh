@@ -1,5 +1,6 @@
 #!/bin/sh
-# Times ./aa-trace on large inputs, and prints for each the ratio to an input of half the size.
+# Times ./aa-trace on large inputs, and prints for each the ratio to an input of half the size (in the last row, to a
+# directory with nothing below it).
 # Each time is the least of RUNS runs of the whole program, less that of a run on the smallest input, in milliseconds.
 set -eu
 cd "$(dirname "$0")/.."
@@ -109,3 +110,66 @@ script_of() {
 script_of 100000 16384 >"$work/script"
 script_of 50000 8192 >"$work/script-half"
 row 'run: 100,000 lines, 16,384 entries; half of both' "$(least "$work/script-half" run --capacity 16384)" "$(least "$work/script" run --capacity 16384)"
+
+# The scripts below publish one profile that allows every open. Where a script first lays out a tree that is no part of
+# what is timed, a run that only does that is taken off.
+publish() {
+    printf 'policy\nprofile p {\n  /** r,\n}\n.\n'
+}
+
+# lines COUNT LINE: the line again and again
+lines() {
+    awk -v count="$1" -v line="$2" 'BEGIN { for (i = 0; i < count; i++) print line }'
+}
+
+# Each link's text is the name of the one before it.
+links_of() {
+    publish
+    echo 'mkdir /l0'
+    awk 'BEGIN { for (i = 1; i <= 40; i++) print "symlink l" i - 1 " /l" i }'
+    lines "$1" 'open p /l40 r'
+}
+links_of 5000 >"$work/links"
+links_of 2500 >"$work/links-half"
+row 'run: 5,000 opens through 40 links; half the opens' "$(least "$work/links-half" run)" "$(least "$work/links" run)"
+
+# Directories one in the other, laid out from the lowest up.
+chain_of() {
+    awk -v depth="$1" 'BEGIN { print "mkdir /a"; for (i = 1; i < depth; i++) print "mkdir /b\nrename /a /b/a\nrename /b /a" }'
+}
+chain_of 2000 >"$work/laid-out"
+for count in 2000 1000; do
+    { publish; chain_of 2000; lines 50 "open p $(repeat /a "$count") r"; } >"$work/deep-$count"
+done
+laid_out=$(least "$work/laid-out" run --capacity 16384)
+row 'run: 50 opens of a path of 2,000 directories; half of them' $(($(least "$work/deep-1000" run --capacity 16384) - laid_out)) $(($(least "$work/deep-2000" run --capacity 16384) - laid_out))
+for count in 584 292; do
+    { publish; chain_of 2000; lines 50 "open p $(repeat /a/a/.. "$count") r"; } >"$work/up-$count"
+done
+row 'run: 50 opens of a path of 584 times /a/a/..; half of it' $(($(least "$work/up-292" run --capacity 16384) - laid_out)) $(($(least "$work/up-584" run --capacity 16384) - laid_out))
+
+# One directory of many files.
+files_of() {
+    awk -v count="$1" 'BEGIN { print "mkdir /d"; for (i = 0; i < count; i++) print "create /d/f" i * 7919 % count }'
+}
+wide_of() {
+    publish
+    files_of "$1"
+    awk -v count="$1" 'BEGIN { for (i = 0; i < count; i++) print "open p /d/f" i * 4001 % count " r" }'
+}
+wide_of 16000 >"$work/wide"
+wide_of 8000 >"$work/wide-half"
+row 'run: 16,000 creates in one directory and opens of them; half of both' "$(least "$work/wide-half" run --capacity 16384)" "$(least "$work/wide" run --capacity 16384)"
+
+# What lies below a directory doesn't slow its rename: here 14,000 files and 2,000 directories one in the other.
+below() {
+    files_of 14000
+    chain_of 2000
+    printf 'rename /a /d/a\nmkdir /e\n'
+}
+below >"$work/below"
+for name in d e; do
+    { below; lines 15000 "$(printf 'rename /%s /g\nrename /g /%s' "$name" "$name")"; } >"$work/moved-$name"
+done
+laid_out=$(least "$work/below" run --capacity 16384)
+row 'run: 30,000 renames of a directory with 16,000 below it; an empty one' $(($(least "$work/moved-e" run --capacity 16384) - laid_out)) $(($(least "$work/moved-d" run --capacity 16384) - laid_out))
