@@ -1,5 +1,5 @@
 # make        builds ./aa-trace, the proved program
-# make run    builds it, judges a name by examples/passwd.profile, and runs the script examples/move.script
+# make run    builds it, judges a name by examples/passwd.profile, and runs two scripts of examples/
 # make test   the gate: every proof from nothing, must-fail edits, tests, programs
 # make bench  times on large inputs, each with the ratio to half the size
 # make refusals  refuses each allocation of the program in turn
@@ -20,6 +20,7 @@ aa-trace: $(SOURCES) | need-rt
 run: aa-trace
 	./aa-trace judge rw /etc/passwd < examples/passwd.profile
 	./aa-trace run < examples/move.script
+	./aa-trace run < examples/links.script
 
 test: need-rt
 	rt ci
