@@ -111,8 +111,8 @@ script_of 100000 16384 >"$work/script"
 script_of 50000 8192 >"$work/script-half"
 row 'run: 100,000 lines, 16,384 entries; half of both' "$(least "$work/script-half" run --capacity 16384)" "$(least "$work/script" run --capacity 16384)"
 
-# The scripts below publish one profile that allows every open. Where a script first lays out a tree that is no part of
-# what is timed, a run that only does that is taken off.
+# The scripts below that open paths publish one profile that allows it. Where a script first lays out a tree that is no part
+# of what is timed, a run that only does that is taken off.
 publish() {
     printf 'policy\nprofile p {\n  /** r,\n}\n.\n'
 }

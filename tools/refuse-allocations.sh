@@ -114,3 +114,32 @@ drop p
 open p /b r
 SCRIPT
 refuse_all "$work/script" run --capacity 9
+
+# Links of both kinds, opens through them, removals, and judged links that are made, refused and can't be made.
+cat >"$work/links" <<'SCRIPT'
+policy
+profile p {
+  /a/* rl,
+  /b/* rwl,
+}
+.
+mkdir /a
+mkdir /b
+create /a/f
+symlink a/f /s
+symlink s /t
+open p /t r
+link /t /b/x
+link /a/f /a/g
+symlink x /t
+judged-link p /a/f /a/h
+judged-link p /a/f /b/h
+judged-link p /a/f /c/h
+judged-link q /a/f /a/i
+unlink /a/g
+unlink /t
+rmdir /a
+rmdir /b
+open p /s w
+SCRIPT
+refuse_all "$work/links" run --capacity 9

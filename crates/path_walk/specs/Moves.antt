@@ -6,7 +6,7 @@ use Rattle.path_walk.specs.Tree.{Tree, Entry, find, is_directory, is_below}
 abbrev pub IsWithin : Tree → Entry → Entry → Type 0
 IsWithin t old e = (e ≡ old) ⊎ ((is_directory old.kind ≡ true) × (is_below t.entries (length t.entries) old.node e.of ≡ true))
 
--- no other entry of the same node stands at the new place
+-- no entry of the node that moves stands at the new place: there a rename does nothing
 abbrev pub IsMove : Tree → Entry → ℕ → List ℕ → Type 0
 IsMove t old into name = IfSome (find t.entries into name) (λ new. new.node ≢ old.node)
 

@@ -1,5 +1,5 @@
 -- The tree in plain memory: what it is worth to contracts, and what a change makes of it.
-use Rattle.std.specs.Prelude.{◌≡◌, ◌⊎◌, ℕ, List, [], ◌∷◌, ◌++◌, length, Ok, Err}
+use Rattle.std.specs.Prelude.{◌≡◌, ◌⊎◌, ℕ, List, [], ◌∷◌, ◌++◌, length, Ok, Err, IsOk}
 use Rattle.names.specs.declared.errors.Errno.{Errno}
 use Rattle.names.specs.declared.errors.Errno.TheVariants.{ENOMEM}
 use Rattle.path_walk.specs.declared.change.Change.{Change}
@@ -30,6 +30,6 @@ outcome p change = apply_counted p.capacity (length p.history) (tree_of p) chang
 abbrev pub Accepted : Plain → Plain → Change → ℕ → Type 0
 Accepted old new change version = (new ≡ changed old change) × (outcome old change ≡ Ok (tree_of new)) × (version ≡ length new.history)
 
--- nothing was changed: memory was refused, or the definition refuses the change by this number
+-- nothing was changed: the definition refuses the change by this number, or accepts it and memory was refused
 abbrev pub Refused : Plain → Plain → Change → Errno → Type 0
-Refused old new change errno = (new ≡ old) × (errno ≡ ENOMEM ⊎ outcome old change ≡ Err errno)
+Refused old new change errno = (new ≡ old) × (((errno ≡ ENOMEM) × IsOk (outcome old change)) ⊎ (outcome old change ≡ Err errno))

@@ -1,3 +1,5 @@
+//! Places in a tree at which a change acts.
+
 /// The place of the entry that a change names: the number of a directory, and a component there.
 #[derive(Clone, Copy)]
 pub(crate) struct OnePlace<'a> {

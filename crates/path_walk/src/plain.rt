@@ -1,11 +1,12 @@
 //! The directory tree in plain memory.
-ghost use Rattle.std.specs.Prelude.{◌≡◌, ◌+◌, ◌<◌, ◌≤◌, ◌⊎◌, true, length, Ok, Err, None, IfOk, IfErr, IsSome, IfSome};
+ghost use Rattle.std.specs.Prelude.{◌≡◌, ◌+◌, ◌<◌, ◌≤◌, true, length, Ok, Err, None, IfOk, IfErr, IsSome, IfSome};
 ghost use Rattle.std.specs.Option.{option_map, option_copied};
 ghost use Rattle.path_walk.specs.Tree.{find, place, is_directory, is_empty};
-ghost use Rattle.path_walk.specs.Apply.{entry, with_entry, dropped, moved, make, link, unlink, rmdir, rename, at_one, at_two, text_of, has_room, max_changes};
+ghost use Rattle.path_walk.specs.Apply.{entry, with_entry, dropped, moved, make, link, unlink, rmdir, rename, and_then, at_one, at_two, text_of, has_room, max_changes};
 ghost use Rattle.path_walk.specs.Plain.{new_plain, tree_of, outcome, Accepted, Refused};
 ghost use Rattle.path_walk.specs.Mirror.{node_for, place_for, stands_at, IsShort, IsShortText, IsEmptied, AreOther};
 ghost use Rattle.path_walk.specs.Target.{target_for};
+ghost use Rattle.path_walk.specs.declared.node.NodeKind.TheVariants.{Link};
 
 mod testing;
 
@@ -86,10 +87,7 @@ impl PlainTree {
                 self.make(change, path, EndSlash::Allowed, NodeKind::Directory)
             }
             Change::Create(path) => self.make(change, path, EndSlash::Refused, NodeKind::File),
-            Change::Symlink(text, path) => {
-                let text = self.link_text(text)?;
-                self.make(change, path, EndSlash::Refused, NodeKind::Link(text))
-            }
+            Change::Symlink(text, path) => self.symlink(change, text, path),
             Change::Link(old, new) => self.link(change, old, new),
             Change::Unlink(path) => self.unlink(change, path),
             Change::Rmdir(path) => self.rmdir(change, path),
@@ -97,7 +95,7 @@ impl PlainTree {
         }
     }
 
-    // A new entry of a new node (mkdir(2), open(2), symlink(2)).
+    // A new entry of a new directory or file (mkdir(2), open(2)).
     fn make(
         &mut self,
         change: &Change<'_>,
@@ -113,6 +111,29 @@ impl PlainTree {
     {
         let OnePlace { of, component } = self.free_place(path, slash)?;
         let number = self.next_number();
+        self.add(change, of, component, Node { number, kind }, number + 1)
+    }
+
+    // A new symbolic link (symlink(2)). Its text is copied last, since want of memory goes behind all other refusals.
+    fn symlink(
+        &mut self,
+        change: &Change<'_>,
+        text: &LinkBytes<'_>,
+        path: &Path<'_>,
+    ) -> Result<u64, Errno>
+        requires outcome { outcome self.old change.now ≡ and_then (text_of text.now) (λ bytes. at_one (tree_of self.old) (target_for EndSlash.Refused path.now) (make (tree_of self.old) (has_room self.old.capacity (tree_of self.old)) (Link bytes))) }
+        requires counted { length self.old.history < max_changes }
+        ensures ok { IfOk result (λ version. Accepted self.old self.new change.now version) }
+        ensures err { IfErr result (λ errno. Refused self.old self.new change.now errno) }
+    {
+        let text = text.as_bytes();
+        test_text(text)?;
+        let OnePlace { of, component } = self.free_place(path, EndSlash::Refused)?;
+        let Ok(text) = LinkText::copied(self.alloc, text) else {
+            return Err(Errno::ENOMEM);
+        };
+        let number = self.next_number();
+        let kind = NodeKind::Link(text);
         self.add(change, of, component, Node { number, kind }, number + 1)
     }
 
@@ -299,18 +320,5 @@ impl PlainTree {
         self.history = self.history.and(change);
         self.version += 1;
         self.version
-    }
-
-    // The text of a link.
-    fn link_text(&self, bytes: &LinkBytes<'_>) -> Result<LinkText, Errno>
-        ensures ok { IfOk result (λ text. (text_of bytes.now ≡ Ok text) × (length text ≤ 1023)) }
-        ensures err { IfErr result (λ errno. errno ≡ Errno.ENOMEM ⊎ text_of bytes.now ≡ Err errno) }
-    {
-        let bytes = bytes.as_bytes();
-        test_text(bytes)?;
-        match LinkText::copied(self.alloc, bytes) {
-            Ok(text) => Ok(text),
-            Err(_) => Err(Errno::ENOMEM),
-        }
     }
 }

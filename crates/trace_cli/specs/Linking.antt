@@ -17,7 +17,7 @@ use Rattle.rule_text.specs.declared.linking.LinkVerdict.TheVariants.{Refused, Wi
 use Rattle.rule_text.specs.Linking.{allowed, link_verdict, link_verdict_text}
 use Rattle.rule_text.specs.PlainVerdict.{verdict}
 use Rattle.rule_text.specs.Profile.{ProfileValue}
-use Rattle.trace_cli.specs.Opening.{path_of}
+use Rattle.trace_cli.specs.Opening.{path_of, versions_text}
 
 -- a link that is judged: the name of its new entry, the node of its file and the verdict
 pub record JudgedLink : Type 0 where
@@ -69,9 +69,7 @@ link_answered plain policy old new (Some profile) = elim (link_judged plain prof
 ]
 
 abbrev pub link_answered_text : LinkAnswered → List ℕ
-link_answered_text (made node tree policy) =
-    codes "linked node " ++ decimal node ++ codes " tree " ++ decimal tree ++ codes " policy " ++ decimal policy
-link_answered_text (not_allowed j tree policy) =
-    link_verdict_text j.verdict ++ codes " " ++ j.name ++ codes " node " ++ decimal j.node ++ codes " tree " ++ decimal tree ++ codes " policy " ++ decimal policy
+link_answered_text (made node tree policy) = codes "linked" ++ versions_text node tree policy
+link_answered_text (not_allowed j tree policy) = link_verdict_text j.verdict ++ codes " " ++ j.name ++ versions_text j.node tree policy
 link_answered_text (failed errno tree) = errno_text errno ++ codes " tree " ++ decimal tree
 link_answered_text (no_profile policy) = codes "no profile policy " ++ decimal policy

@@ -58,8 +58,11 @@ abbrev pub answered_by : Tree → ℕ → ℕ → List ℕ → Perms → Option 
 answered_by t tree policy text ask None = no_profile policy
 answered_by t tree policy text ask (Some profile) = elim (opened t profile text ask) [ Ok j ↦ judged j tree policy | Err errno ↦ failed errno tree ]
 
+-- the end of an answer line: the node, and both versions
+abbrev pub versions_text : ℕ → ℕ → ℕ → List ℕ
+versions_text node tree policy = codes " node " ++ decimal node ++ codes " tree " ++ decimal tree ++ codes " policy " ++ decimal policy
+
 abbrev pub answered_text : Answered → List ℕ
-answered_text (judged j tree policy) =
-    verdict_text j.verdict ++ codes " " ++ j.name ++ codes " node " ++ decimal j.node ++ codes " tree " ++ decimal tree ++ codes " policy " ++ decimal policy
+answered_text (judged j tree policy) = verdict_text j.verdict ++ codes " " ++ j.name ++ versions_text j.node tree policy
 answered_text (failed errno tree) = errno_text errno ++ codes " tree " ++ decimal tree
 answered_text (no_profile policy) = codes "no profile policy " ++ decimal policy

@@ -91,7 +91,8 @@ pub(crate) trait Bench {
             ≡ after_link (known self.old) old.now new.now (link_answer (judged_name self.new) answer)) }
         ensures err { OnErr result (known self.new ≡ known self.old) };
 
-    /// The name that the last open judged, or that of the new entry of the last judged link.
+    /// The name that was judged, or the new entry's name of a link that was judged, if the last answer was a verdict or a
+    /// link that was made.
     fn name(&self) -> &[u8]
         ensures { result.now ≡ judged_name self.now };
 

@@ -5,8 +5,8 @@ ghost use Rattle.path_walk.specs.declared.change.Change.{Change};
 ghost use Rattle.path_walk.specs.Tree.{Tree, Entry, Has, WellFormed, root, kind_of, is_directory, is_below};
 ghost use Rattle.path_walk.specs.Apply.{apply};
 
-/// A node is gone exactly with its last entry. As long as it stands it is what it was, and a new one has a number that no
-/// node had before.
+/// A node is gone exactly with its last entry. A change leaves each node what it was, or takes it away; one that it makes
+/// has the tree's next number, which is then one more, and which no change makes less.
 pub fn nodes_live_by_their_entries()
     ensures gone { (t : Tree) (n : ℕ) → WellFormed t →
         (kind_of t n ≡ None) ↔ ((n ≢ root) × ((d : ℕ) (c : List ℕ) (e : Entry) → Has t d c e → e.node ≢ n)) }

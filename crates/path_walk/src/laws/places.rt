@@ -9,8 +9,8 @@ ghost use Rattle.path_walk.specs.Name.{judged_name};
 ghost use Rattle.path_walk.specs.Place.{named_place};
 ghost use Rattle.path_walk.specs.Apply.{apply};
 
-/// Where a hard link is made, the old path leads to an entry of the file, and the new path then leads to the new entry, of
-/// the same node and with the name of the place that the new path named before.
+/// Where a hard link is made, the old path led to an entry, and the new path then leads to one of the same node, whose name
+/// is that of the place that the new path named before.
 pub fn links_are_found()
     ensures { (t u : Tree) (room : Bool) (old new : List ℕ) → WellFormed t → apply t room (Link old new) ≡ Ok u →
         (from to : Entry) × (walk t Stay old ≡ Ok (Held from)) × (walk u Stay new ≡ Ok (Held to)) × (to.node ≡ from.node)

@@ -23,7 +23,7 @@ use crate::target::{EndSlash, SplitPath, split_path};
 use crate::walk::resolve_text;
 use names::{Components, Errno, Path};
 
-/// So many changes are counted.
+/// The most changes: 2^60 - 1.
 const MAX_CHANGES: u64 = 1152921504606846975;
 
 /// The longest text of a link, in bytes.
@@ -288,6 +288,7 @@ impl PlainTree {
         match resolve_text(self, target.before, Last::Follow, &mut scratch) {
             Ok(entry) => self.directory_at(&entry),
             Err(WalkFault::Refused(errno)) => Err(errno),
+            // A plain tree always sees its tree, and knows all of it.
             Err(WalkFault::Torn) => unreachable!(),
         }
     }

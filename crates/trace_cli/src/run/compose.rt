@@ -1,5 +1,6 @@
 //! The lines that answer commands, each composed whole before it is written.
-ghost use Rattle.std.specs.Prelude.{◌+◌, ◌≡◌, ◌<◌, ◌^◌, ◌++◌, IfOk};
+ghost use Rattle.std.specs.Prelude.{◌+◌, ◌≡◌, ◌<◌, ◌^◌, ◌++◌, IfOk, codes, decimal};
+ghost use Rattle.trace_cli.specs.Opening.{versions_text};
 ghost use Rattle.trace_cli.specs.Following.{IsComposed, IsText};
 ghost use Rattle.names.specs.Errors.{errno_text};
 ghost use Rattle.trace_cli.specs.Line.{change_words};
@@ -105,24 +106,15 @@ pub(crate) fn open_line<B: Bench>(
             tree_version,
             policy_version,
         } => {
-            let start = format!(in alloc; "{verdict} ")?;
-            let end = format!(in alloc;
-                " node {node} tree {tree_version} policy {policy_version}\n"
-            )?;
-            let line = joined(alloc, &start, bench.name(), &end)?;
-            Ok(line)
+            let told = format!(in alloc; "{verdict}")?;
+            let name = bench.name();
+            named_line(alloc, &told, name, node, tree_version, policy_version)
         }
         Answer::Failed {
             errno,
             tree_version,
-        } => {
-            let line = format!(in alloc; "{errno} tree {tree_version}\n")?;
-            Ok(line.into_bytes())
-        }
-        Answer::NoProfile { policy_version } => {
-            let line = format!(in alloc; "no profile policy {policy_version}\n")?;
-            Ok(line.into_bytes())
-        }
+        } => failed_line(alloc, errno, tree_version),
+        Answer::NoProfile { policy_version } => unpublished_line(alloc, policy_version),
     }
 }
 
@@ -153,24 +145,15 @@ pub(crate) fn link_line<B: Bench>(
             tree_version,
             policy_version,
         } => {
-            let start = format!(in alloc; "{verdict} ")?;
-            let end = format!(in alloc;
-                " node {node} tree {tree_version} policy {policy_version}\n"
-            )?;
-            let line = joined(alloc, &start, bench.name(), &end)?;
-            Ok(line)
+            let told = format!(in alloc; "{verdict}")?;
+            let name = bench.name();
+            named_line(alloc, &told, name, node, tree_version, policy_version)
         }
         LinkAnswer::Failed {
             errno,
             tree_version,
-        } => {
-            let line = format!(in alloc; "{errno} tree {tree_version}\n")?;
-            Ok(line.into_bytes())
-        }
-        LinkAnswer::NoProfile { policy_version } => {
-            let line = format!(in alloc; "no profile policy {policy_version}\n")?;
-            Ok(line.into_bytes())
-        }
+        } => failed_line(alloc, errno, tree_version),
+        LinkAnswer::NoProfile { policy_version } => unpublished_line(alloc, policy_version),
     }
 }
 
@@ -198,6 +181,39 @@ fn change_of(words: ChangeWords<'_>) -> Result<Change<'_>, Errno>
             Ok(Change::Rename(old, new))
         }
     }
+}
+
+/// What is told of a name, with the node and both versions, as a line.
+fn named_line(
+    alloc: Global,
+    told: &str,
+    name: &[u8],
+    node: u64,
+    tree_version: u64,
+    policy_version: u64,
+) -> Result<Vec<u8>, Stop>
+    ensures { IsText (told.now ++ codes " " ++ name.now ++ versions_text node tree_version policy_version) result }
+{
+    let start = format!(in alloc; "{told} ")?;
+    let end = format!(in alloc; " node {node} tree {tree_version} policy {policy_version}\n")?;
+    let line = joined(alloc, &start, name, &end)?;
+    Ok(line)
+}
+
+/// Why there is no verdict, as a line.
+fn failed_line(alloc: Global, errno: Errno, tree_version: u64) -> Result<Vec<u8>, Stop>
+    ensures { IsText (errno_text errno ++ codes " tree " ++ decimal tree_version) result }
+{
+    let line = format!(in alloc; "{errno} tree {tree_version}\n")?;
+    Ok(line.into_bytes())
+}
+
+/// That a profile isn't published, as a line.
+fn unpublished_line(alloc: Global, policy_version: u64) -> Result<Vec<u8>, Stop>
+    ensures { IsText (codes "no profile policy " ++ decimal policy_version) result }
+{
+    let line = format!(in alloc; "no profile policy {policy_version}\n")?;
+    Ok(line.into_bytes())
 }
 
 /// Why a change is refused, as a line.

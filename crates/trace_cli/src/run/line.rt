@@ -93,7 +93,7 @@ fn is_word(text: &str, word: &[u8]) -> bool
     text.as_bytes() == word
 }
 
-/// What one word say.
+/// What one word says.
 fn said_by_one(word: &[u8]) -> Said<'static>
     ensures { said_value result ≡ said_by_one word.now }
 {

@@ -107,6 +107,12 @@ fn scripts_that_stop(rt: HostRuntime) {
         ),
         ("open p /a r\ndrop p\n", 4, answer, "no memory\n"),
         (
+            "open p /a r\njudged-link p /a /b\nopen p /a r\n",
+            4,
+            answer,
+            "no memory\n",
+        ),
+        (
             "open p /a r\npolicy\nprofile p {\n}\n.\n",
             4,
             answer,
