@@ -42,7 +42,7 @@ split_last (f ∷ front) back (b ∷ x) c e =
     (λ h. inr (h.0, h.1, cc (h.2)))
     (split_last front back x c e2)
 
-last_alone : (x : List ℕ) (c d : ℕ) → x ++ (c ∷ []) ≡ d ∷ [] → (x ≡ []) × (c ≡ d)
+pub last_alone : (x : List ℕ) (c d : ℕ) → x ++ (c ∷ []) ≡ d ∷ [] → (x ≡ []) × (c ≡ d)
 last_alone [] c d e = (refl, cc)
 last_alone (f ∷ x) c d e =
     let e2 : [] ≡ x ++ (c ∷ []) = cc in

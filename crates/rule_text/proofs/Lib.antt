@@ -5,6 +5,7 @@ pub mod MeaningLaws
 pub mod Weight
 pub mod PassLaws
 pub mod StepLaws
+pub mod FollowLaws
 pub mod Cuts
 pub mod PermsLaws
 pub mod OneVerdict

@@ -2,6 +2,7 @@ pub mod Glob
 pub mod Meaning
 pub mod Tokens
 pub mod LiveSteps
+pub mod Follow
 pub mod Sweep
 pub mod Cursor
 pub mod Rules

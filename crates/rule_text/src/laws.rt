@@ -1,9 +1,10 @@
 //! Laws that show the definitions of `specs/` sane. The functions do nothing: each stands for its contract.
-ghost use Rattle.std.specs.Prelude.{◌≡◌, ◌≢◌, ◌↔◌, List, ℕ, All, IsTrue};
+ghost use Rattle.std.specs.Prelude.{◌≡◌, ◌≢◌, ◌↔◌, ◌+◌, ◌-◌, ◌≤◌, ◌<◌, ◌∷◌, ◌++◌, [], List, ℕ, All, IsTrue};
 ghost use Rattle.names.specs.declared.permissions.Permission.{Permission};
 ghost use Rattle.names.specs.declared.permissions.Perms.{Perms};
 ghost use Rattle.rule_text.specs.Glob.{Glob, Takes, LiveOrEnd, places};
 ghost use Rattle.rule_text.specs.LiveSteps.{IsLeftFirst};
+ghost use Rattle.rule_text.specs.Follow.{Starts, TakesAt, Goes};
 ghost use Rattle.rule_text.specs.PlainVerdict.{takes, verdict};
 ghost use Rattle.rule_text.specs.Profile.{RuleValue};
 ghost use Rattle.rule_text.specs.Verdict.{IsVerdict, IsAllowed, Hits};
@@ -20,6 +21,17 @@ pub fn end_is_live()
 pub fn live_is_left_first()
     ensures { (pattern : Glob) (bytes : List ℕ) (place : ℕ) →
         IsLeftFirst pattern bytes place ↔ LiveOrEnd pattern bytes place }
+{}
+
+/// Which places are live at first, and which after one byte more. A pattern's end has the number `end` here, and the place
+/// `p`, counted from 0 in the order written, the number `end + (places pattern - p)`.
+pub fn live_places_go_on()
+    ensures begin { (pattern : Glob) (end p : ℕ) → p ≤ places pattern →
+        LiveOrEnd pattern [] p ↔ Starts pattern (end + 1) (λ q. q ≡ end) (end + (places pattern - p)) }
+    ensures step { (pattern : Glob) (end p : ℕ) (bytes : List ℕ) (b : ℕ) → p ≤ places pattern →
+        LiveOrEnd pattern (bytes ++ b ∷ []) p
+        ↔ ((r : ℕ) × (r < places pattern) × LiveOrEnd pattern bytes r × TakesAt pattern (end + 1) (end + (places pattern - r)) b
+        × Goes pattern (end + 1) (λ q. q ≡ end) (end + (places pattern - r)) (end + (places pattern - p))) }
 {}
 
 /// Trying each way to cut the bytes finds out whether a pattern takes them.

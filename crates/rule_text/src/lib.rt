@@ -17,8 +17,8 @@ pub use fault::ReadFault;
 pub use items::{ByteRange, Class, Item, Stars};
 pub use judging::judge_slow;
 pub use laws::{
-    allowed_alone, byte_zero_never, end_is_live, live_is_left_first, one_verdict_is_right,
-    takes_by_cuts,
+    allowed_alone, byte_zero_never, end_is_live, live_is_left_first, live_places_go_on,
+    one_verdict_is_right, takes_by_cuts,
 };
 pub use linking::{
     LinkVerdict, allowed_by_themselves, allowed_perms, fine_links_widen_nothing, judge_link,
