@@ -1,0 +1,172 @@
+-- The states that are built so far: one for each set, in the order of the sets.
+use Rattle.std.proofs.Common.{◌≡◌, inr, ⊎_elim, ℕ, ◌+◌, ◌<◌, ◌≤◌, ◌↔◌, Bool, IsTrue, false, true≢false, List, [], ◌∷◌, ◌++◌, length, slice_index_or, Contains, refl, sym, ap, ◌∙◌, subst, subst₂, arith}
+use Rattle.std.proofs.Math.Seq.{get_or-append_seam}
+use Rattle.std.proofs.lemmas.List.{length-append, get_or_append_left}
+use Rattle.std.proofs.lemmas.Bool.{cases_lt}
+use Rattle.glob_automaton.specs.declared.chart.Chart.{Chart}
+use Rattle.glob_automaton.specs.declared.record.Record.{Record}
+use Rattle.glob_automaton.specs.Automata.{Automaton}
+use Rattle.glob_automaton.specs.Building.{IsStartOf, IsStepOf, begins, IsRecordOf, IsBuilt}
+use Rattle.glob_automaton.specs.Gathering.{IsAscending}
+use Rattle.glob_automaton.specs.States.{IsNumbered, AreFewSets, Keeps, IsTargetOf, IsRowOf}
+use Rattle.glob_automaton.proofs.LiveNumbers.{reached_ascends}
+use Rattle.glob_automaton.proofs.SetSteps.{set_there, set_from, numbered_sets}
+
+-- The first states have their rows and records. The sets may be more.
+pub record AreStates (chart : Chart) (sets rows : List (List ℕ)) (records : List Record) (start state : ℕ) : Type 0 where
+  pub sets_few : AreFewSets chart sets
+  pub start_there : start < length sets
+  pub start_first : start ≤ 1
+  pub begun : IsStartOf chart (slice_index_or sets start [])
+  pub within : state ≤ length sets
+  pub each_row : length rows ≡ state
+  pub each_record : length records ≡ state
+  pub row : (s : ℕ) → s < state → IsRowOf chart sets (slice_index_or sets s []) (slice_index_or rows s [])
+  pub recorded : (s : ℕ) (none : Record) → s < state → IsRecordOf chart (slice_index_or sets s []) (slice_index_or records s none)
+
+abbrev pub tables : List (List ℕ) → List Record → ℕ → Automaton
+tables rows records start = record { rows = rows; records = records; start = start }
+
+-- the empty set alone, which is one set
+pub empty_set_alone : (chart : Chart) (old new : List (List ℕ)) (number : ℕ) → old ≡ [] → IsNumbered old new [] number →
+    AreFewSets chart new × (length new ≡ 1)
+empty_set_alone chart old new number none is = ⊎_elim
+    (λ same. absurd (omega (arith, is.there, ap length same, ap length none)))
+    (λ more. subst (λ z. AreFewSets chart z × (length z ≡ 1)) (sym (more.0 ∙ ap (λ z. z ++ [] ∷ []) none)) (alone, refl))
+    is.grows
+  where
+    alone : AreFewSets chart ([] ∷ [])
+    alone = (
+      record {
+        some = omega arith;
+        empty = refl;
+        different = λ i j lt within. absurd (omega (arith, lt, within));
+        reached = λ i positive within. absurd (omega (arith, positive, within));
+      },
+      omega arith,
+    )
+
+-- no state yet, once the set that is live at first has its number
+pub no_states : (chart : Chart) (old new : List (List ℕ)) (set : List ℕ) (start : ℕ) → AreFewSets chart old → length old ≡ 1 → IsStartOf chart set →
+    IsNumbered old new set start → AreStates chart new [] [] start 0
+no_states chart old new set start are one begun is =
+    let w = numbered_sets chart old new set start are (inr ([], begins chart set begun)) is in
+    record {
+      sets_few = w.0;
+      start_there = is.there;
+      start_first = ⊎_elim
+          (λ same. omega (arith, is.there, ap length same, one))
+          (λ more. omega (arith, is.there, ap length more.0, length-append old (set ∷ []), one))
+          is.grows;
+      begun = subst (λ z. IsStartOf chart z) (sym is.at) begun;
+      within = omega arith;
+      each_row = refl;
+      each_record = refl;
+      row = λ s lt. absurd (omega (arith, lt));
+      recorded = λ s none lt. absurd (omega (arith, lt));
+    }
+
+-- the set of a state is one of the sets
+pub set_read : (sets : List (List ℕ)) (set : List ℕ) (state : ℕ) → state < length sets → set ≡ slice_index_or sets state [] → Contains sets set
+set_read sets set state lt is = subst (λ z. Contains sets z) (sym is) (set_there sets state lt)
+
+-- and it ascends
+pub set_ascends : (chart : Chart) (sets : List (List ℕ)) (set : List ℕ) → AreFewSets chart sets → Contains sets set → IsAscending set
+set_ascends chart sets set are there = ⊎_elim
+    (λ empty. λ i j lt within. absurd (omega (arith, within, ap length empty)))
+    (λ h. reached_ascends chart h.0 set h.1)
+    (set_from chart sets set are.0 there)
+
+-- the sets that were there are what they were
+kept_at : (old new : List (List ℕ)) (i : ℕ) → Keeps old new → i < length old → slice_index_or new i [] ≡ slice_index_or old i []
+kept_at old new i kept lt = ap (λ z. slice_index_or z i []) kept.1 ∙ get_or_append_left old kept.0 [] i lt
+
+kept_long : (old new : List (List ℕ)) → Keeps old new → length old ≤ length new
+kept_long old new kept = omega (arith, ap length kept.1, length-append old kept.0)
+
+kept_row : (chart : Chart) (old new : List (List ℕ)) (set row : List ℕ) → Keeps old new → IsRowOf chart old set row → IsRowOf chart new set row
+kept_row chart old new set row kept is = record {
+  long = is.long;
+  targets = λ b small.
+      let t = is.targets b small in (
+        omega (arith, t.0, kept_long old new kept),
+        subst (λ z. IsStepOf chart set b z) (sym (kept_at old new (slice_index_or row b 0) kept t.0)) t.1,
+      );
+}
+
+-- what stands in a list with one element more
+module _ {X : Type 0} (xs : List X) (x d : X) where
+  earlier : (i : ℕ) → i < length xs → slice_index_or (xs ++ x ∷ []) i d ≡ slice_index_or xs i d
+  earlier i lt = get_or_append_left xs (x ∷ []) d i lt
+
+  newest : (i : ℕ) → i ≡ length xs → slice_index_or (xs ++ x ∷ []) i d ≡ x
+  newest i at = ap (λ z. slice_index_or (xs ++ x ∷ []) z d) at ∙ get_or-append_seam xs x [] d
+
+-- one state more
+pub one_state_more : (chart : Chart) (sets new rows : List (List ℕ)) (records : List Record) (start state : ℕ) (set row : List ℕ) (r : Record) →
+    AreStates chart sets rows records start state → state < length sets → set ≡ slice_index_or sets state [] → AreFewSets chart new → Keeps sets new →
+    IsRowOf chart new set row → IsRecordOf chart set r → AreStates chart new (rows ++ row ∷ []) (records ++ r ∷ []) start (state + 1)
+one_state_more chart sets new rows records start state set row r are lt is few kept its_row its_record = record {
+  sets_few = few;
+  start_there = omega (arith, are.start_there, kept_long sets new kept);
+  start_first = are.start_first;
+  begun = subst (λ z. IsStartOf chart z) (sym (kept_at sets new start kept are.start_there)) are.begun;
+  within = omega (arith, lt, kept_long sets new kept);
+  each_row = omega (arith, are.each_row, length-append rows (row ∷ []));
+  each_record = omega (arith, are.each_record, length-append records (r ∷ []));
+  row = λ s below. ⊎_elim
+      (λ old. subst₂ (λ x y. IsRowOf chart new x y) (sym (there s old)) (sym (earlier rows row [] s (omega (arith, old, are.each_row))))
+      (kept_row chart sets new (slice_index_or sets s []) (slice_index_or rows s []) kept (are.row s old)))
+      (λ le. let at : s ≡ state = omega (arith, below, le) in
+      subst₂ (λ x y. IsRowOf chart new x y) (its_set s at) (sym (newest rows row [] s (omega (arith, at, are.each_row)))) its_row)
+      (cases_lt s state);
+  recorded = λ s none below. ⊎_elim
+      (λ old. subst₂ (λ x y. IsRecordOf chart x y) (sym (there s old)) (sym (earlier records r none s (omega (arith, old, are.each_record))))
+      (are.recorded s none old))
+      (λ le. let at : s ≡ state = omega (arith, below, le) in
+      subst₂ (λ x y. IsRecordOf chart x y) (its_set s at) (sym (newest records r none s (omega (arith, at, are.each_record)))) its_record)
+      (cases_lt s state);
+}
+  where
+    there : (s : ℕ) → s < state → slice_index_or new s [] ≡ slice_index_or sets s []
+    there s old = kept_at sets new s kept (omega (arith, old, lt))
+
+    its_set : (s : ℕ) → s ≡ state → set ≡ slice_index_or new s []
+    its_set s at = is ∙ sym (kept_at sets new state kept lt) ∙ ap (λ z. slice_index_or new z []) (sym at)
+
+-- all states, once there is one for each set
+module _ (chart : Chart) (sets rows : List (List ℕ)) (records : List Record) (start state : ℕ) (are : AreStates chart sets rows records start state)
+    (all : length sets ≤ state) where
+  count : state ≡ length sets
+  count = omega (arith, all, are.within)
+
+  target_of : (s b : ℕ) → s < length sets → b < 256 → IsTargetOf chart sets (slice_index_or sets s []) b (slice_index_or (slice_index_or rows s []) b 0)
+  target_of s b lt small = (are.row s (omega (arith, lt, count))).targets b small
+
+  each : length rows ≡ length sets
+  each = omega (arith, are.each_row, count)
+
+  pub built_states : IsBuilt chart (tables rows records start)
+  built_states = record {
+    sets = sets;
+    are_sets = are.sets_few.0;
+    each_row = each;
+    whole = record {
+      rows_long = λ s lt. (are.row s (omega (arith, lt, are.each_row))).long;
+      targets = λ s b lt small. omega (arith, (target_of s b (omega (arith, lt, each)) small).0, each);
+      each_record = omega (arith, are.each_row, are.each_record);
+      start_there = omega (arith, are.start_there, each);
+      few = omega (arith, are.sets_few.1, each);
+    };
+    start_first = are.start_first;
+    begins = are.begun;
+    steps = λ s b lt small. (target_of s b lt small).1;
+    records = λ s none lt. are.recorded s none (omega (arith, lt, count));
+  }
+
+-- where there is no set of a number, the sets are no more
+pub no_more : (found : Bool) (i n : ℕ) → (IsTrue found ↔ (i < n)) → found ≡ false → n ≤ i
+no_more found i n is none = ⊎_elim
+    (λ lt. absurd (true≢false (sym (is.1 lt) ∙ none)))
+    (λ le. le)
+    (cases_lt i n)

@@ -1,0 +1,239 @@
+-- What is built on the chart of some rules is their automaton.
+use Rattle.std.proofs.Common.{◌≡◌, ◌≢◌, ℕ, zero, suc, ◌+◌, ◌-◌, ◌<◌, ◌≤◌, ◌↔◌, ◌⊎◌, inl, inr, ⊎_elim, List, [], ◌∷◌, ◌++◌, length, Some, slice_get, slice_index_or, IsTrue, append_assoc, append-nil, refl, sym, ap, ◌∙◌, subst, arith}
+use Rattle.std.specs.List.{Contains}
+use Rattle.std.specs.Prelude.{Result, Ok, Err, IfErr}
+use Rattle.std.specs.Result.{IsErrAnd}
+use Rattle.names.specs.declared.permissions.Permission.{Permission}
+use Rattle.names.specs.Permissions.{has}
+use Rattle.rule_text.specs.Glob.{Glob, places}
+use Rattle.rule_text.specs.Profile.{RuleValue, pattern}
+use Rattle.rule_text.specs.Verdict.{Hits, IsRuleAt}
+use Rattle.rule_text.specs.declared.profile.RuleKind.{RuleKind}
+use Rattle.rule_text.specs.declared.profile.RuleKind.TheVariants.{Allow, Deny}
+use Rattle.glob_automaton.specs.declared.chart.Chart.{Chart}
+use Rattle.glob_automaton.specs.declared.chart.Drawn.{Drawn}
+use Rattle.glob_automaton.specs.declared.fault.CompileFault.{CompileFault}
+use Rattle.glob_automaton.specs.declared.fault.CompileFault.TheVariants.{TooManyStates, NoMemory}
+use Rattle.glob_automaton.specs.declared.record.Record.{Record}
+use Rattle.glob_automaton.specs.Automata.{Automaton, target, goes_to, state_after, most_sets, IsAutomatonOf, IsCompileFault}
+use Rattle.glob_automaton.specs.Building.{IsStartOf, IsStepOf, IsReached, begins, goes_on, EndsIn, IsRecordOf, IsBuilt, IsBuildFault}
+use Rattle.glob_automaton.specs.Drawing.{HasRule, IsChartOf}
+use Rattle.glob_automaton.specs.Least.{hits_of, IsLeastOrNone, IsLeastRecord}
+use Rattle.glob_automaton.specs.Sets.{SameSet, NoneLive, are_bytes, AreDifferent, AreMoreThan, IsPrefixOfName}
+use Rattle.glob_automaton.specs.Hits.{no_hits}
+use Rattle.glob_automaton.proofs.EmptySets.{empty_record, all_empty}
+use Rattle.glob_automaton.proofs.SetSteps.{step_empty}
+use Rattle.std.proofs.lemmas.Bool.{cases_lt}
+use Rattle.std.proofs.lemmas.Option.{slice_get-get_or}
+use Rattle.glob_automaton.proofs.Counting.{few_values, each_counted}
+use Rattle.glob_automaton.proofs.LiveByParts.{LeftFirst}
+use Rattle.glob_automaton.proofs.LiveNumbers.{LiveAtFirst, LiveAfterByte}
+use Rattle.glob_automaton.proofs.NamePrefixes.{EachWithSlash}
+use Rattle.glob_automaton.proofs.PatternPlaces.{end_live}
+use Rattle.glob_automaton.proofs.ReachedSets.{at_index, has_number, number_there, equal_sets, empty_set}
+use Rattle.glob_automaton.proofs.RuleNumbers.{rule_stands, drawn_of, rule_of, neither_less}
+
+-- the least member, of sets with the same members
+same_least : (S T : ℕ → Type 0) (n : ℕ) → ((m : ℕ) → S m ↔ T m) → IsLeastOrNone S n → IsLeastOrNone T n
+same_least S T n same (inl h) = inl (h.0, λ m t. h.1 m ((same m).1 t))
+same_least S T n same (inr h) = inr ((same n).0 h.0, λ m t. h.1 m ((same m).1 t))
+
+prefix_bytes : (bytes : List ℕ) → IsPrefixOfName bytes → are_bytes bytes
+prefix_bytes [] h = λ k d lt. absurd (omega (arith, lt))
+prefix_bytes (b ∷ bytes) h = λ k d lt. each k d lt
+  where
+    each : (k d : ℕ) → k < length (b ∷ bytes) → slice_index_or (b ∷ bytes) k d < 256
+    each zero d lt = omega (arith, h.0)
+    each (suc k) d lt = (h.1 k d (omega (arith, lt))).1
+
+module _ (first : LiveAtFirst) (after : LiveAfterByte) (by_steps : LeftFirst) (rules : List RuleValue) (chart : Chart)
+    (is : IsChartOf rules chart) where
+  -- a rule's end is in the set exactly where the rule hits
+  end_hits : (bytes set : List ℕ) → IsReached chart bytes set → (kind : RuleKind) (p : Permission) (n : ℕ) →
+      EndsIn chart set kind p n ↔ Hits rules kind p bytes n
+  end_hits bytes set reached kind p n = (
+    λ h.
+        let d : Drawn = h.1 in
+        let r = rule_of chart rules chart.rules.items 0 is.drawn h.0 d h.3 in
+        let g : Glob = pattern r.0 in
+        let has_it : HasRule chart r.0 d = rule_stands chart rules chart.rules.items 0 is.drawn h.0 r.0 d r.1 h.3 in
+        let last : d.end ≡ d.end + (places g - places g) = omega arith in (
+          r.0,
+          subst (λ z. IsRuleAt rules z r.0) (sym h.2) (has_number rules h.0 r.0 r.1),
+          sym has_it.kind ∙ h.4,
+          subst (λ z. IsTrue (has z p)) has_it.perms h.5,
+          end_live g bytes ((number_there first after rules chart is bytes set reached h.0 r.0 d (places g) r.1 h.3 (omega arith)).0
+              (subst (λ z. Contains set z) last h.6)),
+        ),
+    λ h.
+        let g : Glob = pattern h.0 in
+        let stands = at_index rules n h.0 h.1 in
+        let w = drawn_of chart rules chart.rules.items 0 is.drawn (n - 1) h.0 stands in
+        let d : Drawn = w.0 in
+        let has_it : HasRule chart h.0 d = rule_stands chart rules chart.rules.items 0 is.drawn (n - 1) h.0 d stands w.1 in
+        let last : d.end + (places g - places g) ≡ d.end = omega arith in (
+          n - 1,
+          d,
+          omega (arith, h.1.0),
+          w.1,
+          has_it.kind ∙ h.2,
+          subst (λ z. IsTrue (has z p)) (sym has_it.perms) h.3,
+          subst (λ z. Contains set z) last ((number_there first after rules chart is bytes set reached (n - 1) h.0 d (places g) stands w.1 (omega arith)).1 (inr (refl, h.4))),
+        ),
+  )
+
+  -- a set's record is that of the least hits
+  record_least : (bytes set : List ℕ) (r : Record) → IsReached chart bytes set → IsRecordOf chart set r → IsLeastRecord rules bytes r
+  record_least bytes set r reached h p = (
+    same_least (EndsIn chart set Allow p) (Hits rules Allow p bytes) (hits_of r p).allow (end_hits bytes set reached Allow p) (h p).0,
+    same_least (EndsIn chart set Deny p) (Hits rules Deny p bytes) (hits_of r p).deny (end_hits bytes set reached Deny p) (h p).1,
+  )
+
+  module _ (a : Automaton) (b : IsBuilt chart a) where
+    start_there : a.start < length b.sets
+    start_there = omega (arith, b.whole.start_there, b.each_row)
+
+    target_there : (s c : ℕ) → s < length b.sets → c < 256 → target a s c < length b.sets
+    target_there s c lt small = omega (arith, b.whole.targets s c (omega (arith, lt, b.each_row)) small, b.each_row)
+
+    -- the state after more bytes is that of the set that they reach
+    followed : (s : ℕ) (front bytes : List ℕ) → s < length b.sets → IsReached chart front (slice_index_or b.sets s []) → are_bytes bytes →
+        (goes_to a s bytes < length b.sets) × IsReached chart (front ++ bytes) (slice_index_or b.sets (goes_to a s bytes) [])
+    followed s front [] lt reached small = (lt, subst (λ z. IsReached chart z (slice_index_or b.sets s [])) (sym (append-nil front)) reached)
+    followed s front (c ∷ bytes) lt reached small =
+        let one : c < 256 = small 0 0 (omega arith) in
+        let next : ℕ = target a s c in
+        let w = followed next (front ++ c ∷ []) bytes (target_there s c lt one)
+        (goes_on chart front (slice_index_or b.sets s []) (slice_index_or b.sets next []) c reached one (b.steps s c lt one))
+        (λ k d within. small (suc k) d (omega (arith, within))) in
+        (w.0, subst (λ z. IsReached chart z (slice_index_or b.sets (goes_to a next bytes) [])) (append_assoc front (c ∷ []) bytes) w.1)
+
+    state_there : (bytes : List ℕ) → are_bytes bytes → state_after a bytes < length b.sets
+    state_there bytes small =
+        (followed a.start [] bytes start_there (begins chart (slice_index_or b.sets a.start []) b.begins) small).0
+
+    state_set : (bytes : List ℕ) → are_bytes bytes → IsReached chart bytes (slice_index_or b.sets (state_after a bytes) [])
+    state_set bytes small =
+        (followed a.start [] bytes start_there (begins chart (slice_index_or b.sets a.start []) b.begins) small).1
+
+    -- one state for each set
+    same_state : (i j : ℕ) → i < length b.sets → j < length b.sets → slice_index_or b.sets i [] ≡ slice_index_or b.sets j [] → i ≡ j
+    same_state i j low high e =
+        neither_less i j (λ lt. b.are_sets.different i j lt high e) (λ lt. b.are_sets.different j i lt low (sym e))
+
+    state_same : (x y : List ℕ) → are_bytes x → are_bytes y → (state_after a x ≡ state_after a y) ↔ SameSet rules x y
+    state_same x y one two =
+        let equal = equal_sets first after by_steps rules chart is x y (slice_index_or b.sets (state_after a x) []) (slice_index_or b.sets (state_after a y) [])
+        (state_set x one) (state_set y two) in (
+          λ e. equal.0 (ap (λ s. slice_index_or b.sets s []) e),
+          λ same. same_state (state_after a x) (state_after a y) (state_there x one) (state_there y two) (equal.1 same),
+        )
+
+    state_dead : (bytes : List ℕ) → are_bytes bytes → (state_after a bytes ≡ 0) ↔ NoneLive rules bytes
+    state_dead bytes small =
+        let none = empty_set first after by_steps rules chart is bytes (slice_index_or b.sets (state_after a bytes) []) (state_set bytes small) in (
+          λ e. none.0 (ap (λ s. slice_index_or b.sets s []) e ∙ b.are_sets.empty),
+          λ h. same_state (state_after a bytes) 0 (state_there bytes small) b.are_sets.some (none.1 h ∙ sym b.are_sets.empty),
+        )
+
+    -- the dead state, and then the states of the prefixes
+    state_of : List (List ℕ) → ℕ → ℕ
+    state_of prefixes zero = 0
+    state_of prefixes (suc i) = state_after a (slice_index_or prefixes i [])
+
+    few_prefixes : (prefixes : List (List ℕ)) → AreDifferent rules prefixes → length prefixes + 1 ≤ length b.sets
+    unfolding state_of
+    few_prefixes prefixes h = few_values (state_of prefixes) (length prefixes + 1) (length b.sets) differ below
+      where
+        small : (i : ℕ) → i < length prefixes → are_bytes (slice_index_or prefixes i [])
+        small i lt = prefix_bytes (slice_index_or prefixes i []) (h.prefixes_of_names i [] lt)
+
+        differ : (i j : ℕ) → i < j → j < length prefixes + 1 → state_of prefixes i ≢ state_of prefixes j
+        differ i zero lt within e = omega (arith, lt)
+        differ zero (suc j) lt within e =
+            let inside : j < length prefixes = omega (arith, within) in
+            h.some_live j [] inside ((state_dead (slice_index_or prefixes j []) (small j inside)).0 (sym e))
+        differ (suc i) (suc j) lt within e =
+            let inside : j < length prefixes = omega (arith, within) in
+            let low : i < j = omega (arith, lt) in
+            h.different i j low inside
+            ((state_same (slice_index_or prefixes i []) (slice_index_or prefixes j []) (small i (omega (arith, low, inside))) (small j inside)).0 e)
+
+        below : (i : ℕ) → i < length prefixes + 1 → state_of prefixes i < length b.sets
+        below zero lt = b.are_sets.some
+        below (suc i) lt = let inside : i < length prefixes = omega (arith, lt) in state_there (slice_index_or prefixes i []) (small i inside)
+
+    -- what is dead stays dead
+    stays : (c : ℕ) → c < 256 → target a 0 c ≡ 0
+    stays c small =
+        let step : IsStepOf chart [] c (slice_index_or b.sets (target a 0 c) []) =
+        subst (λ z. IsStepOf chart z c (slice_index_or b.sets (target a 0 c) [])) b.are_sets.empty (b.steps 0 c b.are_sets.some small) in
+        same_state (target a 0 c) 0 (target_there 0 c b.are_sets.some small) b.are_sets.some
+        (step_empty chart c (slice_index_or b.sets (target a 0 c) []) step ∙ sym b.are_sets.empty)
+
+    -- the record of a state
+    record_there : (s : ℕ) → s < length b.sets → (r : Record) × (slice_get a.records s ≡ Some r) × IsRecordOf chart (slice_index_or b.sets s []) r
+    record_there s lt =
+        let r : Record = slice_index_or a.records s no_hits in
+        (r, slice_get-get_or a.records s no_hits (omega (arith, lt, b.each_row, b.whole.each_record)), b.records s no_hits lt)
+
+    -- that of the empty set has no hits
+    none_there : slice_get a.records 0 ≡ Some no_hits
+    none_there =
+        let w = record_there 0 b.are_sets.some in
+        w.1 ∙ ap Some (empty_record chart w.0 (subst (λ z. IsRecordOf chart z w.0) b.are_sets.empty w.2))
+
+    -- where the start is dead, nothing else is
+    dead_start : a.start ≡ 0 → length a.rows ≡ 1
+    dead_start e =
+        let none : slice_index_or b.sets a.start [] ≡ [] = ap (λ z. slice_index_or b.sets z []) e ∙ b.are_sets.empty in
+        let begun : IsStartOf chart [] = subst (λ z. IsStartOf chart z) none b.begins in
+        ⊎_elim
+        (λ lt.
+        let more : 1 < length b.sets = omega (arith, lt, b.each_row) in
+        let reached = b.are_sets.reached 1 (omega arith) more in
+        absurd (b.are_sets.different 0 1 (omega arith) more (b.are_sets.empty ∙ sym (all_empty chart begun reached.0 (slice_index_or b.sets 1 []) reached.1))))
+        (λ le. omega (arith, le, b.are_sets.some, b.each_row))
+        (cases_lt 1 (length a.rows))
+
+    start_is : (a.start ≡ 1) ⊎ ((a.start ≡ 0) × (length a.rows ≡ 1))
+    start_is = ⊎_elim
+        (λ lt. let e : a.start ≡ 0 = omega (arith, lt) in inr (e, dead_start e))
+        (λ le. inl (omega (arith, le, b.start_first)))
+        (cases_lt a.start 1)
+
+    -- what is built on a chart of rules whose paths begin with a slash is their automaton
+    pub built : EachWithSlash rules → IsAutomatonOf rules a
+    built slashes =
+        let counted = each_counted first after by_steps rules chart is slashes b.sets b.are_sets in
+        record {
+          whole = b.whole;
+          least = λ bytes small.
+              let w = record_there (state_after a bytes) (state_there bytes small) in
+              (w.0, w.1, record_least bytes (slice_index_or b.sets (state_after a bytes) []) w.0 (state_set bytes small) w.2);
+          one_each = state_same;
+          dead = state_dead;
+          stays_dead = stays;
+          hits_nothing = none_there;
+          begins = start_is;
+          count = (
+            λ prefixes h. omega (arith, few_prefixes prefixes h, b.each_row),
+            (counted.0, counted.1, omega (arith, counted.2, b.each_row)),
+          );
+        }
+
+  -- more sets than are built on are more than the rules may have
+  pub too_many : EachWithSlash rules → IsBuildFault chart TooManyStates → AreMoreThan most_sets rules
+  too_many slashes h =
+      let counted = each_counted first after by_steps rules chart is slashes h.0 h.1 in
+      (counted.0, counted.1, omega (arith, counted.2, h.2))
+
+  -- why nothing was built is why there is no automaton
+  pub not_built : EachWithSlash rules → (fault : CompileFault) → IsBuildFault chart fault → IsCompileFault rules fault
+  not_built slashes TooManyStates h = too_many slashes h
+  not_built slashes NoMemory h = tt
+
+-- want of memory says nothing of the rules
+pub no_memory : {T : Type 0} (rules : List RuleValue) (r : Result T CompileFault) → IsErrAnd r (λ fault. fault ≡ NoMemory) → IfErr r (IsCompileFault rules)
+no_memory rules (Ok x) h = tt
+no_memory rules (Err fault) h = subst (IsCompileFault rules) (sym h) tt

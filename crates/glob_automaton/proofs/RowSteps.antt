@@ -1,0 +1,133 @@
+-- The row of a set, one byte after another. Bytes that are alike and that no place takes alone have one target.
+use Rattle.std.proofs.Common.{◌≡◌, ◌≢◌, ⊎_elim, ℕ, zero, suc, ◌+◌, ◌<◌, ◌&&◌, Bool, false, true≢false, nat_lt, List, [], length, Option, Some, None, slice_get, slice_index_or, Contains, refl, sym, ap, ◌∙◌, subst, arith}
+use Rattle.std.proofs.Math.Bool.{and-false}
+use Rattle.std.proofs.Math.ListN.{set, replicate}
+use Rattle.std.proofs.lemmas.Bool.Decides.{eqb_tells}
+use Rattle.std.proofs.lemmas.Grind.{get_or-set_at}
+use Rattle.std.proofs.lemmas.List.{get_or-set_other, length-set, length-replicate}
+use Rattle.std.proofs.lemmas.Option.{same_Some, none-some}
+use Rattle.glob_automaton.specs.declared.chart.Chart.{Chart}
+use Rattle.glob_automaton.specs.declared.chart.Place.{Place}
+use Rattle.glob_automaton.specs.declared.chart.Takes.{Takes}
+use Rattle.glob_automaton.specs.declared.chart.Takes.TheVariants as takes
+use Rattle.glob_automaton.specs.Alike.{least_of, AreAlike, AreNamed, NamesNone}
+use Rattle.glob_automaton.specs.Building.{IsStepOf}
+use Rattle.glob_automaton.specs.Chart.{takes_byte}
+use Rattle.glob_automaton.specs.Drawing.{IsKnown, IsPartOfChart}
+use Rattle.glob_automaton.specs.States.{Keeps, IsTargetOf}
+use Rattle.glob_automaton.proofs.SetSteps.{still_target}
+
+-- where each is absent, none is there
+none_at : (n o : ℕ) → slice_index_or (replicate {A = Option ℕ} n None) o None ≡ None
+none_at zero o = refl
+none_at (suc n) zero = refl
+none_at (suc n) (suc o) = none_at n o
+
+-- another byte than its own is not taken
+other_byte : (classes : List (List Bool)) (a b : ℕ) → a ≢ b → takes_byte classes (takes.Byte a) b ≡ false
+other_byte classes a b other = ⊎_elim
+    (λ same. absurd (other same.1))
+    (λ apart. ap (λ z. nat_lt 0 b && z) apart.0 ∙ and-false (nat_lt 0 b))
+    (eqb_tells a b)
+
+module _ (chart : Chart) (least : List ℕ) (part : IsPartOfChart chart) (alike : AreAlike chart least) where
+  -- what doesn't take one byte alone takes both or none of two that are alike
+  both_or_none : (by : Takes) (b c : ℕ) → b < 256 → c < 256 → least_of least b ≡ least_of least c → IsKnown chart by → NamesNone by →
+      takes_byte chart.classes.items by b ≡ takes_byte chart.classes.items by c
+  both_or_none by b c small other same known none =
+      sym (alike.taken_alike b by small known none) ∙ ap (λ z. takes_byte chart.classes.items by z) same ∙ alike.taken_alike c by other known none
+
+  -- so does what takes a third byte alone
+  unnamed_alike : (by : Takes) (b c : ℕ) → b < 256 → c < 256 → least_of least b ≡ least_of least c → IsKnown chart by →
+      by ≢ takes.Byte b → by ≢ takes.Byte c → takes_byte chart.classes.items by b ≡ takes_byte chart.classes.items by c
+  unnamed_alike (takes.Byte a) b c small other same known one two =
+      other_byte chart.classes.items a b (λ e. one (ap takes.Byte e)) ∙ sym (other_byte chart.classes.items a c (λ e. two (ap takes.Byte e)))
+  unnamed_alike takes.InComponent b c small other same known one two = both_or_none takes.InComponent b c small other same known tt
+  unnamed_alike takes.Any b c small other same known one two = both_or_none takes.Any b c small other same known tt
+  unnamed_alike (takes.Class n) b c small other same known one two = both_or_none (takes.Class n) b c small other same known tt
+  unnamed_alike takes.Nothing b c small other same known one two = both_or_none takes.Nothing b c small other same known tt
+
+  module _ (places : List ℕ) (named : List Bool) (marks : AreNamed chart places named) where
+    -- a byte that isn't marked is taken alone by no place of the set
+    not_alone : (p b : ℕ) (place : Place) → Contains places p → slice_get chart.places.items p ≡ Some place → b < 256 →
+        slice_index_or named b false ≡ false → place.takes ≢ takes.Byte b
+    not_alone p b place there at small unmarked alone = true≢false (sym (marks.each p b place there at alone small) ∙ unmarked)
+
+    -- two bytes that are alike and aren't marked lead to the same set
+    pub same_step : (b c : ℕ) (next : List ℕ) → b < 256 → c < 256 → least_of least b ≡ least_of least c →
+        slice_index_or named b false ≡ false → slice_index_or named c false ≡ false → IsStepOf chart places b next → IsStepOf chart places c next
+    same_step b c next small other same one two step = record {
+      ascending = step.ascending;
+      live = λ q. (
+        λ h. let w = (step.live q).0 h in (w.0, w.1, w.2, w.3, sym (taken_alike w.0 w.1 w.2 w.3) ∙ w.4, w.5),
+        λ w. (step.live q).1 (w.0, w.1, w.2, w.3, taken_alike w.0 w.1 w.2 w.3 ∙ w.4, w.5),
+      );
+    }
+      where
+        taken_alike : (p : ℕ) (place : Place) → Contains places p → slice_get chart.places.items p ≡ Some place →
+            takes_byte chart.classes.items place.takes b ≡ takes_byte chart.classes.items place.takes c
+        taken_alike p place there at = unnamed_alike place.takes b c small other same (part.1.there p place at).1
+            (not_alone p b place there at small one) (not_alone p c place there at other two)
+
+-- The bytes before k have their targets, and each target that is kept for a least byte is that of all bytes alike to it that
+-- no place takes alone.
+pub record RowBefore (chart : Chart) (least : List ℕ) (named : List Bool) (sets : List (List ℕ)) (places : List ℕ) (others : List (Option ℕ)) (row : List ℕ) (k : ℕ) : Type 0 where
+  pub long : length row ≡ 256
+  pub wide : length others ≡ 256
+  pub targets : (b : ℕ) → b < k → IsTargetOf chart sets places b (slice_index_or row b 0)
+  pub shared : (o b target : ℕ) → slice_index_or others o None ≡ Some target → b < 256 → least_of least b ≡ o → slice_index_or named b false ≡ false →
+      IsTargetOf chart sets places b target
+
+module _ (chart : Chart) (least : List ℕ) (named : List Bool) (places : List ℕ) where
+  -- at first none is there
+  pub row_none : (n m : ℕ) (sets : List (List ℕ)) → n ≡ 256 → m ≡ 256 →
+      RowBefore chart least named sets places (replicate {A = Option ℕ} n None) (replicate {A = ℕ} m 0) 0
+  row_none n m sets wide long = record {
+    long = length-replicate m 0 ∙ long;
+    wide = length-replicate n None ∙ wide;
+    targets = λ b lt. absurd (omega (arith, lt));
+    shared = λ o b target there small same unmarked. absurd (none-some target (sym (none_at n o) ∙ there));
+  }
+
+  module _ (old new : List (List ℕ)) (others : List (Option ℕ)) (row : List ℕ) (k target : ℕ) (kept : Keeps old new) (room : k < 256)
+      (is : RowBefore chart least named old places others row k) (found : IsTargetOf chart new places k target) where
+    -- the row with one target more
+    more_targets : (b : ℕ) → b < k + 1 → IsTargetOf chart new places b (slice_index_or (set row k target) b 0)
+    more_targets b lt = ⊎_elim
+        (λ same. subst (λ z. IsTargetOf chart new places b z) (sym (get_or-set_at row k b target 0 same.1 (omega (arith, room, is.long))))
+        (subst (λ z. IsTargetOf chart new places z target) (sym same.1) found))
+        (λ apart. subst (λ z. IsTargetOf chart new places b z) (sym (get_or-set_other row k b target 0 apart.1))
+        (still_target chart old new places b (slice_index_or row b 0) kept (is.targets b (less apart.1))))
+        (eqb_tells b k)
+      where
+        less : b ≢ k → b < k
+        less apart = omega (arith, lt, apart)
+
+    -- the target of a byte alone
+    pub row_named : RowBefore chart least named new places others (set row k target) (k + 1)
+    row_named = record {
+      long = length-set row k target ∙ is.long;
+      wide = is.wide;
+      targets = more_targets;
+      shared = λ o b t there small same unmarked. still_target chart old new places b t kept (is.shared o b t there small same unmarked);
+    }
+
+    -- the target of all that are alike to the byte
+    pub row_shared : (o : ℕ) → IsPartOfChart chart → AreAlike chart least → AreNamed chart places named → least_of least k ≡ o →
+        slice_index_or named k false ≡ false → RowBefore chart least named new places (set others o (Some target)) (set row k target) (k + 1)
+    row_shared o part alike marks at free = record {
+      long = length-set row k target ∙ is.long;
+      wide = length-set others o (Some target) ∙ is.wide;
+      targets = more_targets;
+      shared = λ x b t there small same unmarked. ⊎_elim
+          (λ here.
+          let one : target ≡ t = same_Some target t (sym (get_or-set_at others o x (Some target) None here.1 fits_in) ∙ there) in
+          subst (λ z. IsTargetOf chart new places b z) one
+          (found.0, same_step chart least part alike places named marks k b (slice_index_or new target []) room small (at ∙ sym here.1 ∙ sym same) free unmarked found.1))
+          (λ apart. still_target chart old new places b t kept
+          (is.shared x b t (sym (get_or-set_other others o x (Some target) None apart.1) ∙ there) small same unmarked))
+          (eqb_tells x o);
+    }
+      where
+        fits_in : o < length others
+        fits_in = omega (arith, at, alike.alike.below k room, room, is.wide)

@@ -1,0 +1,5 @@
+-- An entry refers to entries before it alone.
+use Rattle.glob_automaton.proofs.sets.Gathering.+enter.Given as goal
+
+abbrev pub decreases-enter : goal.decreases-enter
+decreases-enter l = l.entry

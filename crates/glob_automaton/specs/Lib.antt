@@ -1,0 +1,12 @@
+pub mod Least
+pub mod Hits
+pub mod Records
+pub mod Sets
+pub mod Automata
+pub mod Chart
+pub mod Drawing
+pub mod Alike
+pub mod Gathering
+pub mod Building
+pub mod States
+pub mod Faults

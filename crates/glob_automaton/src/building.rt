@@ -1,0 +1,250 @@
+//! The subset construction: a state for each set of places that is live after some bytes.
+ghost use Rattle.std.specs.Prelude.{◌≡◌, ◌↔◌, ◌<◌, ◌≤◌, ◌++◌, ◌∷◌, [], IfOk, IfErr, IsTrue, OnOk, Contains, length, map, slice_index_or};
+ghost use Rattle.glob_automaton.specs.Alike.{AreAlike, AreNamed};
+ghost use Rattle.glob_automaton.specs.Automata.{most_sets};
+ghost use Rattle.glob_automaton.specs.Building.{ArePlaces, IsStartOf, IsStepOf, IsRecordOf, IsBuilt, IsBuildFault};
+ghost use Rattle.glob_automaton.specs.Drawing.{IsPartOfChart};
+ghost use Rattle.glob_automaton.specs.Gathering.{IsGathering, IsAscending};
+ghost use Rattle.glob_automaton.specs.States.{lists_of, AreFewSets, Keeps, IsNumbered, IsNumberFault, IsTargetOf, IsRowOf};
+
+use crate::automaton::Dfa;
+use crate::bytes::Alike;
+use crate::chart::{Chart, Takes};
+use crate::fault::CompileFault;
+use crate::record::Record;
+use crate::sets::Gathering;
+use indexmap::IndexSet;
+use std::alloc::{AllocError, Global};
+
+/// The most different sets of live places, the empty set among them.
+const MOST_SETS: usize = 16384;
+
+/// The sets so far, each with its number.
+#[derive(Drop)]
+struct Sets {
+    alloc: Global,
+    sets: IndexSet<Vec<usize>>,
+}
+
+/// Builds the automaton of a chart.
+pub(crate) fn build(alloc: Global, chart: &Chart) -> Result<Dfa, CompileFault>
+    requires chart { IsPartOfChart chart.now }
+    requires few { length chart.now.rules.items ≤ 1024 }
+    ensures ok { IfOk result (IsBuilt chart.now) }
+    ensures err { IfErr result (IsBuildFault chart.now) }
+{
+    let alike = Alike::of(chart);
+    let ends = ends_of(alloc, chart)?;
+    let mut gathering = Gathering::new(alloc, chart)?;
+    let mut sets = Sets {
+        alloc,
+        sets: IndexSet::new(alloc),
+    };
+    sets.number(&[])?;
+    gather_start(chart, &mut gathering)?;
+    let start = sets.number(gathering.places())?;
+    let mut rows = Vec::new(alloc);
+    let mut records = Vec::new(alloc);
+    let mut set = Vec::new(alloc);
+    for state in 0..MOST_SETS {
+        if !sets.copy(state, &mut set)? {
+            break;
+        }
+        let row = row_of(chart, &alike, &set, &mut gathering, &mut sets)?;
+        keep(&mut rows, row)?;
+        keep(&mut records, record_of(chart, &ends, &set))?;
+    }
+    Ok(Dfa {
+        rows,
+        records,
+        start,
+    })
+}
+
+impl Sets {
+    // The number of a set: the next one, if it is new.
+    fn number(&mut self, set: &[usize]) -> Result<u32, CompileFault>
+        requires { length (lists_of self.old) ≤ most_sets }
+        ensures ok { IfOk result (IsNumbered (lists_of self.old) (lists_of self.new) set.now) }
+        ensures err { IfErr result (IsNumberFault (lists_of self.old) set.now) }
+    {
+        let count = self.sets.len();
+        if let Some(number) = self.sets.get_index_of(set) {
+            return Ok(number as u32);
+        }
+        if count == MOST_SETS {
+            return Err(CompileFault::TooManyStates);
+        }
+        let set = Vec::from_slice(self.alloc, set)?;
+        match self.sets.insert_full(set) {
+            Ok((number, _)) => Ok(number as u32),
+            Err(_) => Err(CompileFault::NoMemory),
+        }
+    }
+
+    // Copies the set of a number, if there is one.
+    fn copy(&self, number: usize, set: &mut Vec<usize>) -> Result<bool, AllocError>
+        ensures there { IfOk result (λ found. IsTrue found ↔ (number < length (lists_of self.now))) }
+        ensures set { IfOk result (λ found. IsTrue found → set.new.items ≡ slice_index_or (lists_of self.now) number []) }
+    {
+        let Some(found) = self.sets.get_index(number) else {
+            return Ok(false);
+        };
+        set.clear();
+        set.extend_from_slice(found)?;
+        Ok(true)
+    }
+}
+
+// One more at the end of a list; with its own contract, so that rows and records go the same way.
+fn keep<T: Drop>(list: &mut Vec<T>, value: T) -> Result<(), AllocError>
+    ensures { OnOk result (list.new.items ≡ list.old.items ++ value ∷ []) }
+{
+    list.push(value)?;
+    Ok(())
+}
+
+// Gathers what is live before the first byte.
+fn gather_start(chart: &Chart, gathering: &mut Gathering) -> Result<(), AllocError>
+    requires chart { IsPartOfChart chart.now }
+    requires gathering { IsGathering chart.now gathering.old }
+    ensures gathering { OnOk result (IsGathering chart.now gathering.new) }
+    ensures start { OnOk result (IsStartOf chart.now gathering.new.places.items) }
+{
+    gathering.clear(chart);
+    for rule in &chart.rules {
+        gathering.enter(chart, rule.start)?;
+    }
+    gathering.sort(chart);
+    Ok(())
+}
+
+// Gathers what is live after a byte more.
+fn gather_step(
+    chart: &Chart,
+    set: &[usize],
+    byte: u8,
+    gathering: &mut Gathering,
+) -> Result<(), AllocError>
+    requires chart { IsPartOfChart chart.now }
+    requires set { ArePlaces chart.now set.now }
+    requires gathering { IsGathering chart.now gathering.old }
+    ensures gathering { OnOk result (IsGathering chart.now gathering.new) }
+    ensures step { OnOk result (IsStepOf chart.now set.now byte gathering.new.places.items) }
+{
+    gathering.clear(chart);
+    for place in set {
+        let place = chart.places[*place];
+        if chart.takes(place.takes, byte) {
+            gathering.enter(chart, place.behind)?;
+        }
+    }
+    gathering.sort(chart);
+    Ok(())
+}
+
+// The bytes that places of a set take alone.
+fn named_by(chart: &Chart, set: &[usize]) -> [bool; 256]
+    requires set { ArePlaces chart.now set.now }
+    ensures { AreNamed chart.now set.now result }
+{
+    let mut named = [false; 256];
+    for place in set {
+        if let Takes::Byte(byte) = chart.places[*place].takes {
+            named[byte as usize] = true;
+        }
+    }
+    named
+}
+
+// The target of a set and a byte.
+fn target_of(
+    chart: &Chart,
+    set: &[usize],
+    byte: u8,
+    gathering: &mut Gathering,
+    sets: &mut Sets,
+) -> Result<u32, CompileFault>
+    requires chart { IsPartOfChart chart.now }
+    requires gathering { IsGathering chart.now gathering.old }
+    requires sets { AreFewSets chart.now (lists_of sets.old) }
+    requires set { Contains (lists_of sets.old) set.now }
+    ensures gathering { OnOk result (IsGathering chart.now gathering.new) }
+    ensures sets { OnOk result (AreFewSets chart.now (lists_of sets.new)) }
+    ensures kept { OnOk result (Keeps (lists_of sets.old) (lists_of sets.new)) }
+    ensures target { IfOk result (IsTargetOf chart.now (lists_of sets.new) set.now byte) }
+    ensures err { IfErr result (IsBuildFault chart.now) }
+{
+    gather_step(chart, set, byte, gathering)?;
+    sets.number(gathering.places())
+}
+
+// The targets of a set. Bytes that are alike and that no place of the set takes alone have one target, which is found once.
+fn row_of(
+    chart: &Chart,
+    alike: &Alike,
+    set: &[usize],
+    gathering: &mut Gathering,
+    sets: &mut Sets,
+) -> Result<[u32; 256], CompileFault>
+    requires chart { IsPartOfChart chart.now }
+    requires alike { AreAlike chart.now alike.now.least }
+    requires gathering { IsGathering chart.now gathering.old }
+    requires sets { AreFewSets chart.now (lists_of sets.old) }
+    requires set { Contains (lists_of sets.old) set.now }
+    ensures gathering { OnOk result (IsGathering chart.now gathering.new) }
+    ensures sets { OnOk result (AreFewSets chart.now (lists_of sets.new)) }
+    ensures kept { OnOk result (Keeps (lists_of sets.old) (lists_of sets.new)) }
+    ensures row { IfOk result (IsRowOf chart.now (lists_of sets.new) set.now) }
+    ensures err { IfErr result (IsBuildFault chart.now) }
+{
+    let named = named_by(chart, set);
+    // For each least byte the target of those alike to it that no place of the set takes alone.
+    let mut others: [Option<u32>; 256] = [None; 256];
+    let mut row = [0; 256];
+    for byte in 0..256 {
+        let least = alike.least[byte] as usize;
+        if named[byte] {
+            row[byte] = target_of(chart, set, byte as u8, gathering, sets)?;
+            continue;
+        }
+        let target = match others[least] {
+            Some(target) => target,
+            None => target_of(chart, set, byte as u8, gathering, sets)?,
+        };
+        others[least] = Some(target);
+        row[byte] = target;
+    }
+    Ok(row)
+}
+
+// The ends of the rules, in their order; taken once, so that each set can be sought in them.
+fn ends_of(alloc: Global, chart: &Chart) -> Result<Vec<usize>, AllocError>
+    ensures { IfOk result (λ ends. ends.items ≡ map (λ d. d.end) chart.now.rules.items) }
+{
+    let mut ends = Vec::new(alloc);
+    for rule in &chart.rules {
+        ends.push(rule.end)?;
+    }
+    Ok(ends)
+}
+
+// The least hits of a set: those of the rules whose ends are in it. The set is gone over, not the rules, since there may be
+// far more rules than places. The ends ascend, so the rule of a place is found by halving; the set ascends too, so the hits
+// come in the order of their numbers.
+fn record_of(chart: &Chart, ends: &[usize], set: &[usize]) -> Record
+    requires chart { IsPartOfChart chart.now }
+    requires few { length chart.now.rules.items ≤ 1024 }
+    requires ends { ends.now ≡ map (λ d. d.end) chart.now.rules.items }
+    requires ascending { IsAscending set.now }
+    ensures { IsRecordOf chart.now set.now result }
+{
+    let mut record = Record::NONE;
+    for place in set {
+        if let Ok(number) = ends.binary_search(place) {
+            let rule = chart.rules[number];
+            record = record.with(rule.kind, rule.perms, number as u16 + 1);
+        }
+    }
+    record
+}

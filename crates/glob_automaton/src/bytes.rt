@@ -1,0 +1,57 @@
+//! Classes of bytes that all places take alike, places that take one byte alone aside.
+ghost use Rattle.std.specs.Prelude.{◌≡◌, ◌==◌, ◌<◌, ℕ, false, slice_index_or};
+ghost use Rattle.glob_automaton.specs.Alike.{IsAlike, AreAlike, IsSplit};
+
+use crate::chart::Chart;
+
+/// For each byte the least of its class: each place takes both or neither, places that take one byte alone aside.
+#[derive(Clone, Copy)]
+pub(crate) struct Alike {
+    pub least: [u8; 256],
+}
+
+impl Alike {
+    /// The least alike byte of each, by the places of a chart.
+    pub(crate) fn of(chart: &Chart) -> Alike
+        ensures { AreAlike chart.now result.least }
+    {
+        let mut least = [0; 256];
+        split(&mut least, &only(0));
+        split(&mut least, &only(b'/'));
+        for taken in &chart.classes {
+            split(&mut least, taken);
+        }
+        Alike { least }
+    }
+}
+
+// That byte alone.
+fn only(byte: u8) -> [bool; 256]
+    ensures { (b : ℕ) → b < 256 → slice_index_or result b false ≡ (b == byte) }
+{
+    let mut taken = [false; 256];
+    taken[byte as usize] = true;
+    taken
+}
+
+// Parts the bytes that are taken from those that aren't.
+fn split(least: &mut [u8; 256], taken: &[bool; 256])
+    requires { IsAlike least.old }
+    ensures { IsSplit least.old taken.now least.new }
+{
+    // For each least byte the first of its class of which `taken` says something else.
+    let mut other: [Option<u8>; 256] = [None; 256];
+    for byte in 0..256 {
+        let old = least[byte] as usize;
+        if taken[byte] == taken[old] {
+            continue;
+        }
+        match other[old] {
+            Some(first) => least[byte] = first,
+            None => {
+                other[old] = Some(byte as u8);
+                least[byte] = byte as u8;
+            }
+        }
+    }
+}

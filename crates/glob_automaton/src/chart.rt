@@ -1,0 +1,237 @@
+//! The places of all rules, and how a match goes from one to the next: a nondeterministic automaton whose empty moves are
+//! entries.
+ghost use Rattle.std.specs.Prelude.{◌≡◌, ◌≤◌, ◌++◌, ◌∷◌, [], IfOk, OnOk, length};
+ghost use Rattle.rule_text.specs.Glob.{ByteSet, one, run};
+ghost use Rattle.rule_text.specs.Meaning.{meaning, meaning_of, stars_glob, alternatives_meaning};
+ghost use Rattle.rule_text.specs.Profile.{profile_value, rule_value};
+ghost use Rattle.glob_automaton.specs.Chart.{takes_byte};
+ghost use Rattle.glob_automaton.specs.Drawing.{IsReady, IsDrawn, IsPartOfChart, HasOneMore, IsChartOf, IsKnown, TakesSet};
+
+use names::Perms;
+use rule_text::{Class, Item, Profile, Rule, RuleKind, Stars};
+use std::alloc::{AllocError, Global};
+
+/// Which bytes a place takes.
+#[derive(Clone, Copy, Debug, PartialEq, Eq)]
+pub(crate) enum Takes {
+    /// That byte.
+    Byte(u8),
+    /// Any byte but a slash.
+    InComponent,
+    /// Any byte.
+    Any,
+    /// The bytes of the class of this number.
+    Class(usize),
+    /// None: the end of a rule.
+    Nothing,
+}
+
+/// A point that a match can come to, by what is live there. An entry refers to entries before it alone.
+#[derive(Clone, Copy, Debug)]
+pub(crate) enum Entry {
+    /// Nothing.
+    Nothing,
+    /// This place.
+    Place(usize),
+    /// This place, that of a run, and what is live behind it.
+    Run { place: usize, behind: usize },
+    /// What is live at one point or at the other.
+    Either(usize, usize),
+}
+
+/// A place: the bytes that it takes, and the entry behind it.
+#[derive(Clone, Copy, Debug)]
+pub(crate) struct Place {
+    pub takes: Takes,
+    pub behind: usize,
+}
+
+/// A rule: the place of its end, the entry at its beginning, and what it says.
+#[derive(Clone, Copy, Debug)]
+pub(crate) struct Drawn {
+    pub end: usize,
+    pub start: usize,
+    pub kind: RuleKind,
+    pub perms: Perms,
+}
+
+/// The places of all rules, rule after rule: each rule's end, and then its places from the last to the first.
+#[derive(Drop)]
+pub(crate) struct Chart {
+    pub places: Vec<Place>,
+    pub entries: Vec<Entry>,
+    /// Which bytes each class takes.
+    pub classes: Vec<[bool; 256]>,
+    pub rules: Vec<Drawn>,
+}
+
+impl Chart {
+    /// The chart of a profile's rules.
+    pub(crate) fn of(alloc: Global, profile: &Profile) -> Result<Chart, AllocError>
+        ensures chart { IfOk result (IsChartOf (profile_value profile.now).rules) }
+        ensures few { IfOk result (λ chart. length chart.rules.items ≤ 1024) }
+    {
+        let mut chart = Chart {
+            places: Vec::new(alloc),
+            entries: Vec::new(alloc),
+            classes: Vec::new(alloc),
+            rules: Vec::new(alloc),
+        };
+        for rule in profile.rules() {
+            chart.draw_rule(rule)?;
+        }
+        Ok(chart)
+    }
+
+    // Draws one rule more.
+    fn draw_rule(&mut self, rule: &Rule) -> Result<(), AllocError>
+        requires { IsPartOfChart self.old }
+        ensures { OnOk result (HasOneMore self.old self.new (rule_value rule.now)) }
+    {
+        let end = self.places.len();
+        // An end takes nothing, so nothing goes on from it, whatever stands behind.
+        self.places.push(Place {
+            takes: Takes::Nothing,
+            behind: 0,
+        })?;
+        let last = self.entry(Entry::Place(end))?;
+        let start = self.draw_items(rule.items(), last)?;
+        self.rules.push(Drawn {
+            end,
+            start,
+            kind: rule.kind(),
+            perms: rule.perms(),
+        })?;
+        Ok(())
+    }
+
+    // Draws items before an entry, and answers the entry before them.
+    #[cycle(draw)]
+    fn draw_items(&mut self, items: &[Item], behind: usize) -> Result<usize, AllocError>
+        requires { IsReady self.old behind }
+        ensures { IfOk result (IsDrawn self.old self.new (meaning_of items.now) behind) }
+    {
+        let mut entry = behind;
+        for item in items.iter().rev() {
+            entry = self.draw_item(item, entry)?;
+        }
+        Ok(entry)
+    }
+
+    #[cycle(draw)]
+    fn draw_item(&mut self, item: &Item, behind: usize) -> Result<usize, AllocError>
+        requires { IsReady self.old behind }
+        ensures { IfOk result (IsDrawn self.old self.new (meaning item.now) behind) }
+    {
+        match item {
+            Item::Byte(byte) => self.draw_one(Takes::Byte(*byte), behind),
+            Item::AnyByte => self.draw_one(Takes::InComponent, behind),
+            Item::Class(class) => self.draw_class(class, behind),
+            Item::Stars(stars) => self.draw_stars(*stars, behind),
+            Item::Group(alternatives) => self.draw_alternatives(alternatives, behind),
+        }
+    }
+
+    // Draws alternatives, each before the same entry.
+    #[cycle(draw)]
+    fn draw_alternatives(
+        &mut self,
+        alternatives: &[Vec<Item>],
+        behind: usize,
+    ) -> Result<usize, AllocError>
+        requires { IsReady self.old behind }
+        ensures { IfOk result (IsDrawn self.old self.new (alternatives_meaning alternatives.now) behind) }
+    {
+        let mut entry = self.entry(Entry::Nothing)?;
+        for items in alternatives.iter().rev() {
+            let one = self.draw_items(items, behind)?;
+            entry = self.entry(Entry::Either(one, entry))?;
+        }
+        Ok(entry)
+    }
+
+    // Draws a class.
+    fn draw_class(&mut self, class: &Class, behind: usize) -> Result<usize, AllocError>
+        requires { IsReady self.old behind }
+        ensures { IfOk result (IsDrawn self.old self.new (one (ByteSet.class class.now.negated class.now.ranges.items)) behind) }
+    {
+        let mut taken = [false; 256];
+        for byte in 0..256 {
+            taken[byte] = class.takes(byte as u8);
+        }
+        let number = self.classes.len();
+        self.classes.push(taken)?;
+        self.draw_one(Takes::Class(number), behind)
+    }
+
+    // Draws a run of stars.
+    fn draw_stars(&mut self, stars: Stars, behind: usize) -> Result<usize, AllocError>
+        requires { IsReady self.old behind }
+        ensures { IfOk result (IsDrawn self.old self.new (stars_glob stars.crosses_slashes stars.strict) behind) }
+    {
+        let takes = if stars.crosses_slashes {
+            Takes::Any
+        } else {
+            Takes::InComponent
+        };
+        let run = self.draw_run(takes, behind)?;
+        if stars.strict {
+            self.draw_one(Takes::InComponent, run)
+        } else {
+            Ok(run)
+        }
+    }
+
+    // Draws a place that takes one byte.
+    fn draw_one(&mut self, takes: Takes, behind: usize) -> Result<usize, AllocError>
+        requires { IsReady self.old behind }
+        ensures drawn { IfOk result (λ start. (set : ByteSet) → IsKnown self.old takes → TakesSet self.old takes set → IsDrawn self.old self.new (one set) behind start) }
+        ensures classes { self.new.classes ≡ self.old.classes }
+    {
+        let place = self.places.len();
+        self.places.push(Place { takes, behind })?;
+        self.entry(Entry::Place(place))
+    }
+
+    // Draws a place that takes any number of bytes.
+    fn draw_run(&mut self, takes: Takes, behind: usize) -> Result<usize, AllocError>
+        requires { IsReady self.old behind }
+        ensures drawn { IfOk result (λ start. (set : ByteSet) → IsKnown self.old takes → TakesSet self.old takes set → IsDrawn self.old self.new (run set) behind start) }
+        ensures classes { self.new.classes ≡ self.old.classes }
+    {
+        let place = self.places.len();
+        let entry = self.entry(Entry::Run { place, behind })?;
+        self.places.push(Place {
+            takes,
+            behind: entry,
+        })?;
+        Ok(entry)
+    }
+
+    /// Whether a byte is one of those.
+    pub(crate) fn takes(&self, takes: Takes, byte: u8) -> bool
+        requires { IsKnown self.now takes }
+        ensures { result ≡ takes_byte self.now.classes.items takes byte }
+    {
+        match takes {
+            Takes::Byte(taken) => byte == taken && byte != 0,
+            Takes::InComponent => byte != b'/' && byte != 0,
+            Takes::Any => byte != 0,
+            Takes::Class(class) => self.classes[class][byte as usize],
+            Takes::Nothing => false,
+        }
+    }
+
+    // One entry more.
+    fn entry(&mut self, entry: Entry) -> Result<usize, AllocError>
+        ensures number { IfOk result (λ number. number ≡ length self.old.entries.items) }
+        ensures entries { IfOk result (λ _. self.new.entries.items ≡ self.old.entries.items ++ entry ∷ []) }
+        ensures places { self.new.places ≡ self.old.places }
+        ensures classes { self.new.classes ≡ self.old.classes }
+        ensures rules { self.new.rules ≡ self.old.rules }
+    {
+        let number = self.entries.len();
+        self.entries.push(entry)?;
+        Ok(number)
+    }
+}

@@ -1,0 +1,44 @@
+//! Laws of least hits and of the count of states.
+ghost use Rattle.std.specs.Prelude.{◌≡◌, ◌↔◌, ◌<◌, List, ℕ};
+ghost use Rattle.names.specs.declared.permissions.Perms.{Perms};
+ghost use Rattle.rule_text.specs.Profile.{RuleValue};
+ghost use Rattle.rule_text.specs.Verdict.{IsVerdict};
+ghost use Rattle.rule_text.specs.declared.verdict.Verdict.{Verdict};
+ghost use Rattle.glob_automaton.specs.declared.record.Record.{Record};
+ghost use Rattle.glob_automaton.specs.Automata.{StateLimit};
+ghost use Rattle.glob_automaton.specs.Least.{IsLeastRecord};
+ghost use Rattle.glob_automaton.specs.Records.{IsTold};
+ghost use Rattle.glob_automaton.specs.Sets.{IsCount, AreMoreThan};
+
+use rule_text::{live_is_left_first, live_places_go_on, takes_by_cuts};
+
+/// A record tells one verdict, and one of least hits tells that of the rules.
+pub fn least_hits_tell_the_verdict()
+    ensures one { (r : Record) (ask : Perms) (first second : Verdict) → IsTold r ask first → IsTold r ask second → first ≡ second }
+    ensures right { (rules : List RuleValue) (name : List ℕ) (r : Record) (ask : Perms) (v : Verdict) →
+        IsLeastRecord rules name r → IsTold r ask v → IsVerdict rules name ask v }
+{}
+
+/// Each list of bytes has exactly one record of least hits.
+pub fn names_have_one_least_record()
+    ensures one { (rules : List RuleValue) (name : List ℕ) (first second : Record) →
+        IsLeastRecord rules name first → IsLeastRecord rules name second → first ≡ second }
+    ensures some { (rules : List RuleValue) (name : List ℕ) → (r : Record) × IsLeastRecord rules name r }
+{
+    takes_by_cuts();
+}
+
+/// Rules have one count at most, and there are more sets than a number exactly where the count is greater.
+pub fn rules_have_one_count()
+    ensures one { (rules : List RuleValue) (m n : ℕ) → IsCount rules m → IsCount rules n → m ≡ n }
+    ensures more { (rules : List RuleValue) (n limit : ℕ) → IsCount rules n → AreMoreThan limit rules ↔ (limit < n) }
+{}
+
+/// There is a test of rules for too many states.
+pub fn too_many_states_can_be_told()
+    ensures { StateLimit }
+{
+    takes_by_cuts();
+    live_places_go_on();
+    live_is_left_first();
+}
