@@ -15,7 +15,7 @@ quietly() {
     fi
 }
 
-for crate in names rule_text path_walk; do
+for crate in names rule_text path_walk glob_automaton; do
     quietly "proving $crate" sh -c "cd crates/$crate && rt check"
 done
 # rt run proves the program, builds it and runs it once.

@@ -2,7 +2,6 @@
 use Rattle.std.proofs.Common.{◌≡◌, ℕ, Bool, true, false, List, [], ◌∷◌, ◌++◌, map, Option, Some, None, refl, ap, ◌∙◌, sym, length, length-append, ◌+◌}
 use Rattle.std.specs.Prelude.{bytes_eq, if◌then◌else◌}
 use Rattle.std.specs.Option.{option_map}
-use Rattle.rule_text.specs.declared.profile.Profile.{Profile}
 use Rattle.rule_text.specs.Profile.{profile_value}
 use Rattle.trace_cli.specs.Published as value
 use Rattle.trace_cli.specs.Published.{Policy, policy_after}
@@ -16,13 +15,13 @@ one_more stored (d ∷ ds) deed = one_more (after_deed stored d) ds deed
 abbrev worth : Stored → Policy
 worth stored name = option_map profile_value (stored name)
 
-worth_if : (b : Bool) (x y : Option Profile) → option_map profile_value (if b then x else y) ≡ (if b then option_map profile_value x else option_map profile_value y)
-worth_if true x y = refl
-worth_if false x y = refl
+pub mapped_if : {X Y : Type 0} (f : X → Y) (b : Bool) (x y : Option X) → option_map f (if b then x else y) ≡ (if b then option_map f x else option_map f y)
+mapped_if f true x y = refl
+mapped_if f false x y = refl
 
 one_worth : (stored : Stored) (deed : PolicyDeed) → worth (after_deed stored deed) ≡ value.after_deed (worth stored) (deed_value deed)
-one_worth stored (replaced profile) = λ i name. worth_if (bytes_eq profile.name.items name) (Some profile) (stored name) i
-one_worth stored (gone old) = λ i name. worth_if (bytes_eq old name) None (stored name) i
+one_worth stored (replaced profile) = λ i name. mapped_if profile_value (bytes_eq profile.name.items name) (Some profile) (stored name) i
+one_worth stored (gone old) = λ i name. mapped_if profile_value (bytes_eq old name) None (stored name) i
 
 all_worth : (stored : Stored) (deeds : List PolicyDeed) → worth (after_deeds stored deeds) ≡ value.after_deeds (worth stored) (map deed_value deeds)
 all_worth stored [] = refl

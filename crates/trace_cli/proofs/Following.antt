@@ -6,42 +6,41 @@ use Rattle.std.specs.Io.KnownBytes.{Appends, Consumes}
 use Rattle.std.proofs.lemmas.List.{append-nil, map-append}
 use Rattle.std.proofs.Math.Seq.{take-append_seam}
 use Rattle.std.proofs.lemmas.List.Folds.{concat-append}
+use Rattle.glob_automaton.specs.Automata.{StateLimit}
 use Rattle.names.specs.declared.errors.Errno.{Errno}
 use Rattle.names.specs.Errors.{errno_text}
 use Rattle.path_walk.specs.declared.change.Change.{Change}
 use Rattle.path_walk.specs.Apply.{Changed}
 use Rattle.path_walk.specs.Plain.{outcome}
 use Rattle.rule_text.specs.Profile.{ProfileValue}
-use Rattle.rule_text.specs.Reading.{outcome_of}
-use Rattle.rule_text.specs.declared.fault.ReadFault.{ReadFault}
 use Rattle.trace_cli.specs.declared.run.stop.Stop.{Stop}
 use Rattle.trace_cli.specs.declared.run.stop.Stop.TheVariants.{NoCommand, Input, Memory, Output}
 use Rattle.trace_cli.specs.declared.run.place.Place.{Place as PlaceHere}
 use Rattle.trace_cli.specs.declared.run.place.Place.TheVariants.{Within}
 use Rattle.trace_cli.specs.Following.{Followed, followed, silent_line, printed_line, place_value, is_open_at, IsClosed, IsFollowed, IsShortOf, IsLineFollowed, IsPrinted, IsPut}
 use Rattle.trace_cli.specs.Output.{line}
-use Rattle.trace_cli.specs.RunOutput.{Known, Printed, printed, printed_lines, text_of_lines, policy_version, policy_printed, change_printed, change_of, with_change, after_link, tree_version}
-use Rattle.trace_cli.specs.Linking.{LinkAnswered, made, not_allowed, failed, no_profile, link_answered}
-use Rattle.trace_cli.specs.Published.{published, removed, policy_after}
-use Rattle.trace_cli.specs.Script.{Place, outside, within, Command, publish, remove, alter, judge_open, judge_link, Said, nothing, opens_policy, command, no_command, said, words_of, is_end, line_feed, Script, script_of, script_from, first_command, stops_at, lines_of}
+use Rattle.trace_cli.specs.RunOutput.{Known, Printed, printed, printed_lines, text_of_lines, policy_version, drop_printed, change_printed, with_change, with_deed, after_link, tree_version}
+use Rattle.trace_cli.specs.Linking.{LinkAnswered, made, not_allowed, failed, no_profile}
+use Rattle.trace_cli.specs.Published.{published, removed}
+use Rattle.trace_cli.specs.Script.{Place, outside, within, Command, publish, Said, nothing, opens_policy, command, no_command, said, words_of, is_end, line_feed, Script, script_of, script_from, first_command, stops_at, lines_of}
 use Rattle.trace_cli.specs.Streams.{AppendsFront}
 use Rattle.trace_cli.proofs.Fronts.{Appends-more, Appends-kept}
 
 -- what a line outside a policy comes to, by what it says
-abbrev pub followed_said : Known → ℕ → Said → Result Followed ℕ
-followed_said known number s = elim s [
+abbrev pub followed_said : StateLimit → Known → ℕ → Said → Result Followed ℕ
+followed_said limit known number s = elim s [
   | nothing ↦ Ok (silent_line known outside)
   | opens_policy ↦ Ok (silent_line known (within number []))
-  | command c ↦ Ok (printed_line (printed known c))
+  | command c ↦ Ok (printed_line (printed limit known c))
   | no_command ↦ Err number
 ]
 
-pub outside_says : (known : Known) (number : ℕ) (line : List ℕ) (s : Said) → s ≡ said (words_of line) → followed known outside number line ≡ followed_said known number s
-outside_says known number line s e = ap (followed_said known number) (sym e)
+pub outside_says : (limit : StateLimit) (known : Known) (number : ℕ) (line : List ℕ) (s : Said) → s ≡ said (words_of line) → followed limit known outside number line ≡ followed_said limit known number s
+outside_says limit known number line s e = ap (followed_said limit known number) (sym e)
 
 -- what a line of a policy comes to
-abbrev pub followed_within : Known → ℕ → List ℕ → List ℕ → Bool → Result Followed ℕ
-followed_within known start text line ends = cond ends (Ok (printed_line (printed known (publish text)))) (Ok (silent_line known (within start (text ++ line ++ line_feed ∷ []))))
+abbrev pub followed_within : StateLimit → Known → ℕ → List ℕ → List ℕ → Bool → Result Followed ℕ
+followed_within limit known start text line ends = cond ends (Ok (printed_line (printed limit known (publish text)))) (Ok (silent_line known (within start (text ++ line ++ line_feed ∷ []))))
 
 -- one line is the text of its list
 pub one_line : (text : List ℕ) → line text ≡ text_of_lines (text ∷ [])
@@ -87,20 +86,20 @@ accepted known after c version ok e v = by (outcome known.tree c) ok
     by (Err errno) h = cc
 
 -- a line within a policy
-pub within_ends : (known : Known) (place : PlaceHere) (start : ℕ) (text : Vec ℕ Global) (number : ℕ) (line : List ℕ) → place ≡ Within start text → is_end line ≡ true
-    → followed known (place_value place) number line ≡ Ok (printed_line (printed known (publish text.items)))
-within_ends known place start text number line e ends = ap (λ p. followed known (place_value p) number line) e ∙ ap (followed_within known start text.items line) ends
+pub within_ends : (limit : StateLimit) (known : Known) (place : PlaceHere) (start : ℕ) (text : Vec ℕ Global) (number : ℕ) (line : List ℕ) → place ≡ Within start text → is_end line ≡ true
+    → followed limit known (place_value place) number line ≡ Ok (printed_line (printed limit known (publish text.items)))
+within_ends limit known place start text number line e ends = ap (λ p. followed limit known (place_value p) number line) e ∙ ap (followed_within limit known start text.items line) ends
 
-pub within_goes_on : (known : Known) (place : PlaceHere) (start : ℕ) (text : Vec ℕ Global) (number : ℕ) (line : List ℕ) → place ≡ Within start text → is_end line ≡ false
-    → followed known (place_value place) number line ≡ Ok (silent_line known (within start (text.items ++ line ++ line_feed ∷ [])))
-within_goes_on known place start text number line e ends = ap (λ p. followed known (place_value p) number line) e ∙ ap (followed_within known start text.items line) ends
+pub within_goes_on : (limit : StateLimit) (known : Known) (place : PlaceHere) (start : ℕ) (text : Vec ℕ Global) (number : ℕ) (line : List ℕ) → place ≡ Within start text → is_end line ≡ false
+    → followed limit known (place_value place) number line ≡ Ok (silent_line known (within start (text.items ++ line ++ line_feed ∷ [])))
+within_goes_on limit known place start text number line e ends = ap (λ p. followed limit known (place_value p) number line) e ∙ ap (followed_within limit known start text.items line) ends
 
 -- a script, by what its next line comes to
-abbrev Agrees : Known → Script → ℕ → List (List ℕ) → Result Followed ℕ → Type 0
-Agrees known script number left (Ok f) =
-    (printed_lines known script.commands ≡ f.lines ++ printed_lines f.known (script_from f.place number left).commands)
+abbrev Agrees : StateLimit → Known → Script → ℕ → List (List ℕ) → Result Followed ℕ → Type 0
+Agrees limit known script number left (Ok f) =
+    (printed_lines limit known script.commands ≡ f.lines ++ printed_lines limit f.known (script_from f.place number left).commands)
     × (script.stopped ≡ (script_from f.place number left).stopped)
-Agrees known script number left (Err stopped) = (script.commands ≡ []) × (script.stopped ≡ Some stopped)
+Agrees limit known script number left (Err stopped) = (script.commands ≡ []) × (script.stopped ≡ Some stopped)
 
 abbrev script_said : ℕ → List (List ℕ) → Said → Script
 script_said before left s = elim s [
@@ -113,36 +112,36 @@ script_said before left s = elim s [
 abbrev script_within : ℕ → List ℕ → ℕ → List ℕ → List (List ℕ) → Bool → Script
 script_within start text before line left ends = cond ends (first_command (publish text) (script_from outside (before + 1) left)) (script_from (within start (text ++ line ++ line_feed ∷ [])) (before + 1) left)
 
-next_line : (known : Known) (place : Place) (before : ℕ) (line : List ℕ) (left : List (List ℕ))
-    → Agrees known (script_from place before (line ∷ left)) (before + 1) left (followed known place (before + 1) line)
-next_line known outside before line left = by (said (words_of line))
+next_line : (limit : StateLimit) (known : Known) (place : Place) (before : ℕ) (line : List ℕ) (left : List (List ℕ))
+    → Agrees limit known (script_from place before (line ∷ left)) (before + 1) left (followed limit known place (before + 1) line)
+next_line limit known outside before line left = by (said (words_of line))
   where
-    by : (s : Said) → Agrees known (script_said before left s) (before + 1) left (followed_said known (before + 1) s)
+    by : (s : Said) → Agrees limit known (script_said before left s) (before + 1) left (followed_said limit known (before + 1) s)
     by nothing = (refl, refl)
     by opens_policy = (refl, refl)
     by (command c) = (refl, refl)
     by no_command = (refl, refl)
-next_line known (within start text) before line left = by (is_end line)
+next_line limit known (within start text) before line left = by (is_end line)
   where
-    by : (b : Bool) → Agrees known (script_within start text before line left b) (before + 1) left (followed_within known start text line b)
+    by : (b : Bool) → Agrees limit known (script_within start text before line left b) (before + 1) left (followed_within limit known start text line b)
     by true = (refl, refl)
     by false = (refl, refl)
 
 -- The lines that a text prints: these, and then those of the lines that are left.
-pub record IsAhead (known : Known) (text : List ℕ) (now : Known) (place : Place) (before : ℕ) (lines left : List (List ℕ)) : Type 0 where
-  pub printed : printed_lines known (script_of text).commands ≡ lines ++ printed_lines now (script_from place before left).commands
+pub record IsAhead (limit : StateLimit) (known : Known) (text : List ℕ) (now : Known) (place : Place) (before : ℕ) (lines left : List (List ℕ)) : Type 0 where
+  pub printed : printed_lines limit known (script_of text).commands ≡ lines ++ printed_lines limit now (script_from place before left).commands
   pub stopped : (script_of text).stopped ≡ (script_from place before left).stopped
 
-pub ahead_start : (known : Known) (text : List ℕ) → IsAhead known text known outside 0 [] (lines_of text)
-ahead_start known text = record { printed = refl; stopped = refl }
+pub ahead_start : (limit : StateLimit) (known : Known) (text : List ℕ) → IsAhead limit known text known outside 0 [] (lines_of text)
+ahead_start limit known text = record { printed = refl; stopped = refl }
 
-pub ahead_next : (known : Known) (text : List ℕ) (now : Known) (place : Place) (before : ℕ) (lines : List (List ℕ)) (line : List ℕ) (left : List (List ℕ)) (f : Followed)
-    → IsAhead known text now place before lines (line ∷ left) → followed now place (before + 1) line ≡ Ok f
-    → IsAhead known text f.known f.place (before + 1) (lines ++ f.lines) left
-ahead_next known text now place before lines line left f ahead e =
-    let next = rw e at (next_line now place before line left) in
+pub ahead_next : (limit : StateLimit) (known : Known) (text : List ℕ) (now : Known) (place : Place) (before : ℕ) (lines : List (List ℕ)) (line : List ℕ) (left : List (List ℕ)) (f : Followed)
+    → IsAhead limit known text now place before lines (line ∷ left) → followed limit now place (before + 1) line ≡ Ok f
+    → IsAhead limit known text f.known f.place (before + 1) (lines ++ f.lines) left
+ahead_next limit known text now place before lines line left f ahead e =
+    let next = rw e at (next_line limit now place before line left) in
     record {
-      printed = ahead.printed ∙ ap (λ l. lines ++ l) next.0 ∙ sym (append_assoc lines f.lines (printed_lines f.known (script_from f.place (before + 1) left).commands));
+      printed = ahead.printed ∙ ap (λ l. lines ++ l) next.0 ∙ sym (append_assoc lines f.lines (printed_lines limit f.known (script_from f.place (before + 1) left).commands));
       stopped = ahead.stopped ∙ next.1;
     }
 
@@ -154,9 +153,9 @@ pub wrote_more : (a b c : Option (List ℕ)) (xs ys : List (List ℕ)) → Appen
 wrote_more a b c xs ys p q = rw (text_of_lines-append xs ys) (Appends-more a b c (text_of_lines xs) (text_of_lines ys) p q)
 
 -- each command has one line
-one_each : (known : Known) (cs : List Command) → length (printed_lines known cs) ≡ length cs
-one_each known [] = refl
-one_each known (c ∷ cs) = ap suc (one_each (printed known c).known cs)
+one_each : (limit : StateLimit) (known : Known) (cs : List Command) → length (printed_lines limit known cs) ≡ length cs
+one_each limit known [] = refl
+one_each limit known (c ∷ cs) = ap suc (one_each limit (printed limit known c).known cs)
 
 -- a line has one command at most
 abbrev FewLeft : ℕ → List (List ℕ) → Type 0
@@ -180,13 +179,13 @@ few_commands before (line ∷ left) outside = few_said before line left (few_com
 few_commands before (line ∷ left) (within start text) = few_within start text before line left (few_commands (before + 1) left) (is_end line)
 
 -- of a text all commands are answered but those of the lines that are left
-pub still_few : (known : Known) (text : List ℕ) (now : Known) (place : Place) (before : ℕ) (lines left : List (List ℕ))
-    → IsAhead known text now place before lines left → length left ≤ 1 → length (script_of text).commands ≤ length lines + 1
-still_few known text now place before lines left ahead one =
-    let all = one_each known (script_of text).commands in
+pub still_few : (limit : StateLimit) (known : Known) (text : List ℕ) (now : Known) (place : Place) (before : ℕ) (lines left : List (List ℕ))
+    → IsAhead limit known text now place before lines left → length left ≤ 1 → length (script_of text).commands ≤ length lines + 1
+still_few limit known text now place before lines left ahead one =
+    let all = one_each limit known (script_of text).commands in
     let joined = ap length ahead.printed in
-    let sum = length-append lines (printed_lines now (script_from place before left).commands) in
-    let more = one_each now (script_from place before left).commands in
+    let sum = length-append lines (printed_lines limit now (script_from place before left).commands) in
+    let more = one_each limit now (script_from place before left).commands in
     omega (arith, all, joined, sum, more, few_commands before left place, one)
 
 -- the first lines stand, and no more
@@ -206,23 +205,23 @@ cut_at a b c all lines some more e h (front, back, split, appended) = (
 )
 
 -- no line is left
-pub ahead_closed : {T : Type 0} (first after : Option (List ℕ)) (known : Known) (text : List ℕ) (now : Known) (place : Place) (before : ℕ) (lines : List (List ℕ)) (a b : Option (List ℕ)) (result : Result T Stop)
-    → IsAhead known text now place before lines [] → IsClosed place result → Appends a b (text_of_lines lines)
-    → IsFollowed first after (printed_lines known (script_of text).commands) (script_of text).stopped a b result
-ahead_closed first after known text now place before lines a b result ahead closed h = by result closed
+pub ahead_closed : {T : Type 0} (limit : StateLimit) (first after : Option (List ℕ)) (known : Known) (text : List ℕ) (now : Known) (place : Place) (before : ℕ) (lines : List (List ℕ)) (a b : Option (List ℕ)) (result : Result T Stop)
+    → IsAhead limit known text now place before lines [] → IsClosed place result → Appends a b (text_of_lines lines)
+    → IsFollowed first after (printed_lines limit known (script_of text).commands) (script_of text).stopped a b result
+ahead_closed limit first after known text now place before lines a b result ahead closed h = by result closed
   where
     over : (place : Place) → (script_from place before []).stopped ≡ is_open_at place
     over outside = refl
     over (within start text) = refl
 
-    none : (place : Place) → lines ++ printed_lines now (script_from place before []).commands ≡ lines
+    none : (place : Place) → lines ++ printed_lines limit now (script_from place before []).commands ≡ lines
     none outside = append-nil lines
     none (within start text) = append-nil lines
 
-    all : Appends a b (text_of_lines (printed_lines known (script_of text).commands))
+    all : Appends a b (text_of_lines (printed_lines limit known (script_of text).commands))
     all = rw (ahead.printed ∙ none place) h
 
-    by : {T : Type 0} (result : Result T Stop) → IsClosed place result → IsFollowed first after (printed_lines known (script_of text).commands) (script_of text).stopped a b result
+    by : {T : Type 0} (result : Result T Stop) → IsClosed place result → IsFollowed first after (printed_lines limit known (script_of text).commands) (script_of text).stopped a b result
     by (Ok done) closed = (ahead.stopped ∙ over place ∙ closed, all)
     by (Err (NoCommand number)) closed = (ahead.stopped ∙ over place ∙ closed, all)
     by (Err Input) closed = absurd closed
@@ -230,64 +229,50 @@ ahead_closed first after known text now place before lines a b result ahead clos
     by (Err Output) closed = absurd closed
 
 -- following stopped at a line
-pub ahead_stopped : (first taken : Option (List ℕ)) (read : List ℕ) (known : Known) (text : List ℕ) (now after : Known) (place : Place) (before : ℕ) (lines : List (List ℕ)) (line : List ℕ) (left : List (List ℕ)) (a b c : Option (List ℕ)) (stop : Stop)
+pub ahead_stopped : (limit : StateLimit) (first taken : Option (List ℕ)) (read : List ℕ) (known : Known) (text : List ℕ) (now after : Known) (place : Place) (before : ℕ) (lines : List (List ℕ)) (line : List ℕ) (left : List (List ℕ)) (a b c : Option (List ℕ)) (stop : Stop)
     → Consumes first taken read → length (script_of read).commands ≤ length lines + 1
-    → IsAhead known text now place before lines (line ∷ left) → IsLineFollowed (followed now place (before + 1) line) after b c (Err stop) → Appends a b (text_of_lines lines)
-    → IsFollowed {T = Unit {0}} first taken (printed_lines known (script_of text).commands) (script_of text).stopped a c (Err stop)
-ahead_stopped first taken read known text now after place before lines line left a b c (NoCommand number) consumed few ahead (e, kept) h =
-    let next = rw e at (next_line now place before line left) in
-    let none : printed_lines known (script_of text).commands ≡ lines = ahead.printed ∙ ap (λ cs. lines ++ printed_lines now cs) next.0 ∙ append-nil lines in
+    → IsAhead limit known text now place before lines (line ∷ left) → IsLineFollowed (followed limit now place (before + 1) line) after b c (Err stop) → Appends a b (text_of_lines lines)
+    → IsFollowed {T = Unit {0}} first taken (printed_lines limit known (script_of text).commands) (script_of text).stopped a c (Err stop)
+ahead_stopped limit first taken read known text now after place before lines line left a b c (NoCommand number) consumed few ahead (e, kept) h =
+    let next = rw e at (next_line limit now place before line left) in
+    let none : printed_lines limit known (script_of text).commands ≡ lines = ahead.printed ∙ ap (λ cs. lines ++ printed_lines limit now cs) next.0 ∙ append-nil lines in
     (ahead.stopped ∙ next.1, rw none (Appends-kept a b c (text_of_lines lines) h kept))
-ahead_stopped first taken read known text now after place before lines line left a b c Input consumed few ahead stopped h = absurd stopped
-ahead_stopped first taken read known text now after place before lines line left a b c Memory consumed few ahead kept h =
+ahead_stopped limit first taken read known text now after place before lines line left a b c Input consumed few ahead stopped h = absurd stopped
+ahead_stopped limit first taken read known text now after place before lines line left a b c Memory consumed few ahead kept h =
     short_of first taken read a c _ lines _ consumed few ahead.printed (Appends-kept a b c (text_of_lines lines) h kept)
-ahead_stopped first taken read known text now after place before lines line left a b c Output consumed few ahead (f, e, front) h =
-    let next = rw e at (next_line now place before line left) in
+ahead_stopped limit first taken read known text now after place before lines line left a b c Output consumed few ahead (f, e, front) h =
+    let next = rw e at (next_line limit now place before line left) in
     cut_at a b c _ lines f.lines _ (ahead.printed ∙ ap (λ l. lines ++ l) next.0) h front
 
--- each line makes one version of the policy at most
-pub more_deeds : (known : Known) (place : Place) (number : ℕ) (line : List ℕ) (f : Followed) → followed known place number line ≡ Ok f → policy_version f.known ≤ policy_version known + 1
-more_deeds known place number line f e = let h = one_more place in rw e at h
+-- each command makes one version of the policy at most
+abbrev pub AtMostOneMore : Known → Known → Type 0
+AtMostOneMore known after = policy_version after ≤ policy_version known + 1
+
+pub drop_few : (known after : Known) (name : List ℕ) → after ≡ (drop_printed known name).known → AtMostOneMore known after
+drop_few known after name e = rw e (omega (arith, length-append known.deeds (removed name ∷ [])))
+
+pub publish_few : (known after : Known) (profile : ProfileValue) → after ≡ with_deed known (published profile) → AtMostOneMore known after
+publish_few known after profile e = rw e (omega (arith, length-append known.deeds (published profile ∷ [])))
+
+pub same_few : (known after : Known) → after ≡ known → AtMostOneMore known after
+same_few known after e = rw e (omega arith)
+
+pub change_few : (known after : Known) (r : Result Change Errno) → after ≡ (change_printed known r).known → AtMostOneMore known after
+change_few known after r e = rw e (tried r)
   where
-    AtMost : Result Followed ℕ → Type 0
-    AtMost (Ok f) = policy_version f.known ≤ policy_version known + 1
-    AtMost (Err n) = Unit {0}
-
-    published_by : (o : Result ProfileValue ReadFault) → policy_version (policy_printed known o).known ≤ policy_version known + 1
-    published_by (Ok profile) = omega (arith, length-append known.deeds (published profile ∷ []))
-    published_by (Err fault) = omega arith
-
-    changed_by : (c : Change) (o : Changed) → policy_version (changed_printed known c o).known ≤ policy_version known + 1
+    changed_by : (c : Change) (o : Changed) → AtMostOneMore known (changed_printed known c o).known
     changed_by c (Ok t) = omega arith
     changed_by c (Err errno) = omega arith
 
-    tried : (r : Result Change Errno) → policy_version (change_printed known r).known ≤ policy_version known + 1
+    tried : (r : Result Change Errno) → AtMostOneMore known (change_printed known r).known
     tried (Ok c) = changed_by c (outcome known.tree c)
     tried (Err errno) = omega arith
 
-    linked_by : (old new : List ℕ) (a : LinkAnswered) → policy_version (after_link known old new a) ≤ policy_version known + 1
-    linked_by old new (made node version policy) = omega arith
-    linked_by old new (not_allowed j version policy) = omega arith
-    linked_by old new (failed errno version) = omega arith
-    linked_by old new (no_profile policy) = omega arith
-
-    by : (c : Command) → policy_version (printed known c).known ≤ policy_version known + 1
-    by (publish text) = published_by (outcome_of text)
-    by (remove name) = omega (arith, length-append known.deeds (removed name ∷ []))
-    by (alter words) = tried (change_of words)
-    by (judge_open profile path ask) = omega arith
-    by (judge_link profile old new) = linked_by old new (link_answered known.tree (policy_version known) old new (policy_after known.deeds profile))
-
-    at_outside : (s : Said) → AtMost (followed_said known number s)
-    at_outside nothing = omega arith
-    at_outside opens_policy = omega arith
-    at_outside (command c) = by c
-    at_outside no_command = tt
-
-    at_within : (start : ℕ) (text : List ℕ) (b : Bool) → AtMost (followed_within known start text line b)
-    at_within start text true = by (publish text)
-    at_within start text false = omega arith
-
-    one_more : (place : Place) → AtMost (followed known place number line)
-    one_more outside = at_outside (said (words_of line))
-    one_more (within start text) = at_within start text (is_end line)
+pub link_few : (known after : Known) (old new : List ℕ) (a : LinkAnswered) → after ≡ after_link known old new a → AtMostOneMore known after
+link_few known after old new a e = rw e (by a)
+  where
+    by : (a : LinkAnswered) → AtMostOneMore known (after_link known old new a)
+    by (made node version policy) = omega arith
+    by (not_allowed j version policy) = omega arith
+    by (failed errno version) = omega arith
+    by (no_profile policy) = omega arith

@@ -9,7 +9,7 @@ use Rattle.rule_text.specs.Reading.{outcome_of}
 use Rattle.trace_cli.specs.declared.status.Status.{Status}
 use Rattle.trace_cli.specs.declared.status.Status.TheVariants.{Done, BadArguments, Refused, OutputFailed}
 use Rattle.trace_cli.specs.declared.fault.Fault.{Fault}
-use Rattle.trace_cli.specs.declared.fault.Fault.TheVariants.{Permissions, Name, Text, Input, Memory}
+use Rattle.trace_cli.specs.declared.fault.Fault.TheVariants.{Permissions, Name, Text, Compiling, Input, Memory}
 use Rattle.trace_cli.specs.Fault.{fault_text, fault_status, IsFaultOf}
 use Rattle.trace_cli.specs.Output.{Output, ask_of, fault, verdict_output, judge_output, line}
 use Rattle.trace_cli.specs.Streams.{Streams, IsTextOf, IsTold, IsWritten, IsCutShort, AppendsFront, Ends}
@@ -30,6 +30,8 @@ asked_in_vain perms name text Memory e (inl p) = cc
 asked_in_vain perms name text Memory e (inr p) = cc
 asked_in_vain perms name text (Text f) e (inl p) = cc
 asked_in_vain perms name text (Text f) e (inr p) = cc
+asked_in_vain perms name text (Compiling f) e (inl p) = cc
+asked_in_vain perms name text (Compiling f) e (inr p) = cc
 
 -- good arguments aren't told as bad ones
 judged_status : (ask : Perms) (name : List ℕ) (outcome : Result ProfileValue ReadFault) → (verdict_output ask name outcome).status ≢ BadArguments
@@ -84,6 +86,8 @@ ends_told answers before after output Name status of (inr h) =
     rw h.0 (written answers before after output (fault_text Name) BadArguments of h.1)
 ends_told answers before after output (Text f) status of (inr h) =
     rw h.0 (written answers before after output (fault_text (Text f)) Refused of h.1)
+ends_told answers before after output (Compiling f) status of (inr h) =
+    rw h.0 (written answers before after output (fault_text (Compiling f)) Refused of h.1)
 ends_told answers before after output Input status of (inr h) =
     rw h.0 (cut_short answers before after output (fault_text Input) of h.1)
 ends_told answers before after output Memory status of (inr h) =

@@ -20,3 +20,5 @@ pub mod DeedLaws
 pub mod Asked
 pub mod Answering
 pub mod LinkJudging
+pub mod Told
+pub mod Publishing

@@ -10,13 +10,14 @@ use Rattle.rule_text.specs.VerdictText.{verdict_text}
 use Rattle.trace_cli.specs.declared.status.Status.{Status}
 use Rattle.trace_cli.specs.declared.status.Status.TheVariants.{BadArguments, Refused, InputFailed, NoMemory}
 use Rattle.trace_cli.specs.declared.fault.Fault.{Fault}
-use Rattle.trace_cli.specs.declared.fault.Fault.TheVariants.{Permissions, Name, Text, Input, Memory}
-use Rattle.trace_cli.specs.Output.{Output, answer, fault, refusal}
+use Rattle.trace_cli.specs.declared.fault.Fault.TheVariants.{Permissions, Name, Text, Compiling, Input, Memory}
+use Rattle.trace_cli.specs.Output.{Output, answer, fault, refusal, compile_refusal}
 
 abbrev pub fault_text : Fault → List ℕ
 fault_text Permissions = codes "bad permissions"
 fault_text Name = codes "bad name"
 fault_text (Text f) = refusal f
+fault_text (Compiling f) = compile_refusal f
 fault_text Input = codes "refused: input"
 fault_text Memory = codes "no memory"
 
@@ -24,6 +25,7 @@ abbrev pub fault_status : Fault → Status
 fault_status Permissions = BadArguments
 fault_status Name = BadArguments
 fault_status (Text f) = Refused
+fault_status (Compiling f) = Refused
 fault_status Input = InputFailed
 fault_status Memory = NoMemory
 

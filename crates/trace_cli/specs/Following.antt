@@ -5,6 +5,7 @@ use Rattle.std.specs.IoError.{error_kind}
 use Rattle.std.specs.declared.alloc.Global.{Global}
 use Rattle.std.specs.declared.io.Error.{Error}
 use Rattle.std.specs.declared.io.ErrorKind.TheVariants.{OutOfMemory}
+use Rattle.glob_automaton.specs.Automata.{StateLimit}
 use Rattle.trace_cli.specs.declared.status.Status.{Status}
 use Rattle.trace_cli.specs.declared.status.Status.TheVariants.{Refused, InputFailed, OutputFailed, NoMemory}
 use Rattle.trace_cli.specs.declared.run.place.Place.{Place as PlaceHere}
@@ -35,16 +36,16 @@ abbrev pub printed_line : Printed → Followed
 printed_line p = record { place = outside; known = p.known; lines = p.text ∷ [] }
 
 -- what the line of this number comes to, or the number of the line that is no command
-abbrev pub followed : Known → Place → ℕ → List ℕ → Result Followed ℕ
-followed known outside number line = elim (said (words_of line)) [
+abbrev pub followed : StateLimit → Known → Place → ℕ → List ℕ → Result Followed ℕ
+followed limit known outside number line = elim (said (words_of line)) [
   | nothing ↦ Ok (silent_line known outside)
   | opens_policy ↦ Ok (silent_line known (within number []))
-  | command c ↦ Ok (printed_line (printed known c))
+  | command c ↦ Ok (printed_line (printed limit known c))
   | no_command ↦ Err number
 ]
-followed known (within start text) number line =
+followed limit known (within start text) number line =
     if is_end line
-    then Ok (printed_line (printed known (publish text)))
+    then Ok (printed_line (printed limit known (publish text)))
     else Ok (silent_line known (within start (text ++ line ++ line_feed ∷ [])))
 
 -- how it is told that a script isn't followed to its end

@@ -9,6 +9,7 @@ pub mod Published
 pub mod Opening
 pub mod Linking
 pub mod RunOutput
+pub mod Told
 pub mod Bench
 pub mod Deeds
 pub mod PolicyChanges

@@ -1,5 +1,7 @@
 -- What a command writes and how it ends, memory and failures of the streams aside.
 use Rattle.std.specs.Prelude.{ℕ, Bool, false, List, [], ◌∷◌, ◌++◌, ◌==◌, Option, Some, None, Result, Ok, Err, codes, decimal, unwrap_or, if◌then◌else◌}
+use Rattle.glob_automaton.specs.declared.fault.CompileFault.{CompileFault}
+use Rattle.glob_automaton.specs.Faults.{fault_number as compile_number}
 use Rattle.names.specs.declared.permissions.Perms.{Perms}
 use Rattle.names.specs.Permissions.{perms_of}
 use Rattle.rule_text.specs.declared.fault.ReadFault.{ReadFault}
@@ -47,6 +49,10 @@ ask_of perms name = elim (asked_by perms) [
 -- `refused: read N at OFFSET`, with the number and the place of the fault
 abbrev pub refusal : ReadFault → List ℕ
 refusal f = codes "refused: read " ++ decimal (fault_number f) ++ codes " at " ++ decimal (unwrap_or (fault_offset f) 0)
+
+-- `refused: compile N`, with the number of the fault
+abbrev pub compile_refusal : CompileFault → List ℕ
+compile_refusal f = codes "refused: compile " ++ decimal (compile_number f)
 
 -- the verdict on the name by the profile that was read, or why there is none
 abbrev pub verdict_output : Perms → List ℕ → Result ProfileValue ReadFault → Output

@@ -3,14 +3,15 @@ use Rattle.std.specs.Prelude.{◌≡◌, ℕ, List, length, Vec}
 use Rattle.std.specs.Ordering.{nat_cmp}
 use Rattle.std.specs.Cmp.Lexicographic.{slice_cmp}
 use Rattle.std.specs.BTreeMap.{BTreeMap, get_by}
+use Rattle.std.specs.Option.{option_map}
 use Rattle.std.specs.declared.alloc.Global.{Global}
-use Rattle.rule_text.specs.declared.profile.Profile.{Profile}
+use Rattle.trace_cli.specs.declared.compiled.Compiled.{Compiled}
 use Rattle.trace_cli.specs.Deeds.{PolicyDeed, Stored, stored_after}
 
 -- the profile that stands under a name
-abbrev pub profile_named : BTreeMap (Vec ℕ Global) Profile → Stored
-profile_named profiles name = get_by (λ key. slice_cmp nat_cmp name key.items) profiles
+abbrev pub profile_named : BTreeMap (Vec ℕ Global) Compiled → Stored
+profile_named profiles name = option_map (λ compiled. compiled.profile) (get_by (λ key. slice_cmp nat_cmp name key.items) profiles)
 
 -- the map holds what is published, and the version counts the changes
-abbrev pub Holds : BTreeMap (Vec ℕ Global) Profile → ℕ → List PolicyDeed → Type 0
+abbrev pub Holds : BTreeMap (Vec ℕ Global) Compiled → ℕ → List PolicyDeed → Type 0
 Holds profiles version deeds = ((name : List ℕ) → profile_named profiles name ≡ stored_after deeds name) × (version ≡ length deeds)

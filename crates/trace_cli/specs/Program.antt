@@ -1,6 +1,7 @@
 -- What a run of the program comes to, by its words and the text on standard input.
 use Rattle.std.specs.Prelude.{◌≡◌, ◌⊎◌, ℕ, Bool, true, false, List, Option, Some, None, codes, is_err, ⊤}
 use Rattle.std.specs.Io.KnownBytes.{Keeps, Appends}
+use Rattle.glob_automaton.specs.Automata.{StateLimit}
 use Rattle.trace_cli.specs.CommandLine.{LineValue, judge, run}
 use Rattle.trace_cli.specs.Output.{ask_of, judge_output, line}
 use Rattle.trace_cli.specs.RunOutput.{RunEnds}
@@ -25,13 +26,13 @@ pub record UsageEnds (streams : Streams) (status : Status) : Type 0 where
   pub answers : Keeps streams.answers_before streams.answers_after
   pub faults : TellsUsage streams.faults_before streams.faults_after status
 
--- How the program ends: as its command does, or for want of memory to read the words. `left_before` and `left_after` are
--- the reader's bytes.
-abbrev pub ProgramEnds : Option LineValue → List ℕ → Streams → Option (List ℕ) → Option (List ℕ) → Status → Type 0
-ProgramEnds None text streams left_before left_after status = UsageEnds streams status
-ProgramEnds (Some (judge perms name)) text streams left_before left_after status =
+-- How the program ends, by a test for too many states: as its command does, or for want of memory to read the words.
+-- `left_before` and `left_after` are the reader's bytes.
+abbrev pub ProgramEnds : StateLimit → Option LineValue → List ℕ → Streams → Option (List ℕ) → Option (List ℕ) → Status → Type 0
+ProgramEnds limit None text streams left_before left_after status = UsageEnds streams status
+ProgramEnds limit (Some (judge perms name)) text streams left_before left_after status =
     Ends streams (judge_output perms name text) status ⊎ ((status ≡ NoMemory) × IsOutOfMemory streams)
-ProgramEnds (Some (run capacity)) text streams left_before left_after status = RunEnds streams left_before left_after capacity text status
+ProgramEnds limit (Some (run capacity)) text streams left_before left_after status = RunEnds limit streams left_before left_after capacity text status
 
 -- whether the words say that nothing is to be read
 abbrev pub reads_nothing : Option LineValue → Bool

@@ -1,9 +1,13 @@
--- What `run` writes, memory and failures of the streams aside: a line for each command of the script.
-use Rattle.std.specs.Prelude.{ℕ, ◌+◌, ◌≤◌, Option, List, [], ◌∷◌, ◌++◌, map, take, length, codes, decimal, Some, None, Result, Ok, Err}
+-- What `run` writes, memory and failures of the streams aside: a line for each command of the script. Which profiles have
+-- too many states is told by a test, `limit`: there is one, and any two answer alike.
+use Rattle.std.specs.Prelude.{ℕ, Bool, ◌+◌, ◌≤◌, Option, List, [], ◌∷◌, ◌++◌, map, take, length, codes, decimal, Some, None, Result, Ok, Err, if◌then◌else◌}
 use Rattle.std.specs.List.{concat}
 use Rattle.std.specs.Io.KnownBytes.{Appends, Consumes}
+use Rattle.glob_automaton.specs.Automata.{StateLimit}
+use Rattle.glob_automaton.specs.declared.fault.CompileFault.TheVariants.{TooManyStates}
 use Rattle.names.specs.declared.errors.Errno.{Errno}
 use Rattle.names.specs.Errors.{errno_text}
+use Rattle.names.specs.declared.permissions.Perms.{Perms}
 use Rattle.path_walk.specs.declared.change.Change.{Change}
 use Rattle.path_walk.specs.declared.change.Change.TheVariants as tree
 use Rattle.path_walk.specs.Plain.{Plain, new_plain, tree_of, changed, outcome}
@@ -13,7 +17,7 @@ use Rattle.rule_text.specs.Profile.{ProfileValue}
 use Rattle.rule_text.specs.Reading.{outcome_of}
 use Rattle.trace_cli.specs.declared.status.Status.{Status}
 use Rattle.trace_cli.specs.declared.status.Status.TheVariants.{Done, BadArguments, Refused, InputFailed, OutputFailed, FaultsFailed, NoMemory}
-use Rattle.trace_cli.specs.Output.{Output, line, refusal}
+use Rattle.trace_cli.specs.Output.{Output, line, refusal, compile_refusal}
 use Rattle.trace_cli.specs.Streams.{Streams, IsWritten, AppendsFront}
 use Rattle.trace_cli.specs.Script.{ChangeWords, Command, Script, mkdir, create, symlink, link, unlink, rmdir, rename, publish, remove, alter, judge_open, judge_link, script_of}
 use Rattle.trace_cli.specs.Published.{Deed, published, removed, policy_after}
@@ -64,13 +68,21 @@ change_printed known (Ok c) = elim (outcome known.tree c) [
   | Err errno ↦ record { text = errno_text errno; known = known }
 ]
 
--- `policy NAME version V`, with the policy's new version, or `policy refused: read N at OFFSET`
-abbrev pub policy_printed : Known → Result ProfileValue ReadFault → Printed
-policy_printed known (Ok profile) = record {
-  text = codes "policy " ++ profile.name ++ codes " version " ++ decimal (policy_version known + 1);
-  known = with_deed known (published profile);
-}
-policy_printed known (Err fault) = record { text = codes "policy " ++ refusal fault; known = known }
+-- a profile that isn't over the limit is published: `policy NAME version V`, with the policy's new version; one that is over
+-- it is refused: `policy refused: compile 1`
+abbrev pub profile_printed : Known → ProfileValue → Bool → Printed
+profile_printed known profile is_over =
+    if is_over
+    then record { text = codes "policy " ++ compile_refusal TooManyStates; known = known }
+    else record {
+      text = codes "policy " ++ profile.name ++ codes " version " ++ decimal (policy_version known + 1);
+      known = with_deed known (published profile);
+    }
+
+-- what is printed of a profile, or `policy refused: read N at OFFSET`; a refusal changes nothing
+abbrev pub policy_printed : StateLimit → Known → Result ProfileValue ReadFault → Printed
+policy_printed limit known (Ok profile) = profile_printed known profile (limit.is_over profile.rules)
+policy_printed limit known (Err fault) = record { text = codes "policy " ++ refusal fault; known = known }
 
 -- `policy NAME removed version V`, whether or not there was such a profile
 abbrev pub drop_printed : Known → List ℕ → Printed
@@ -90,43 +102,51 @@ after_link known old new (no_profile policy) = known
 abbrev pub link_printed : Known → List ℕ → List ℕ → LinkAnswered → Printed
 link_printed known old new answer = record { text = link_answered_text answer; known = after_link known old new answer }
 
-abbrev pub printed : Known → Command → Printed
-printed known (publish text) = policy_printed known (outcome_of text)
-printed known (remove name) = drop_printed known name
-printed known (alter words) = change_printed known (change_of words)
-printed known (judge_open profile path ask) = record {
+-- an answer to an open
+abbrev pub open_printed : Known → List ℕ → List ℕ → Perms → Printed
+open_printed known profile path ask = record {
   text = answered_text (answered_by (tree_of known.tree) (tree_version known) (policy_version known) path ask (policy_after known.deeds profile));
   known = known;
 }
-printed known (judge_link profile old new) =
+
+-- an answer to a judged link, by the profile of a name
+abbrev pub judged_printed : Known → List ℕ → List ℕ → List ℕ → Printed
+judged_printed known profile old new =
     link_printed known old new (link_answered known.tree (policy_version known) old new (policy_after known.deeds profile))
 
+abbrev pub printed : StateLimit → Known → Command → Printed
+printed limit known (publish text) = policy_printed limit known (outcome_of text)
+printed limit known (remove name) = drop_printed known name
+printed limit known (alter words) = change_printed known (change_of words)
+printed limit known (judge_open profile path ask) = open_printed known profile path ask
+printed limit known (judge_link profile old new) = judged_printed known profile old new
+
 -- one line for each command, by what the commands before it have done
-abbrev pub printed_lines : Known → List Command → List (List ℕ)
-printed_lines known [] = []
-printed_lines known (c ∷ cs) = (printed known c).text ∷ printed_lines (printed known c).known cs
+abbrev pub printed_lines : StateLimit → Known → List Command → List (List ℕ)
+printed_lines limit known [] = []
+printed_lines limit known (c ∷ cs) = (printed limit known c).text ∷ printed_lines limit (printed limit known c).known cs
 
 -- the bytes of lines, each with its line feed
 abbrev pub text_of_lines : List (List ℕ) → List ℕ
 text_of_lines lines = concat (map line lines)
 
 -- a script that runs to its end, or to a line that is no command
-abbrev pub script_output : Known → Script → Output
-script_output known script = elim (script.stopped) [
-  | None ↦ record { answers = text_of_lines (printed_lines known script.commands); faults = []; status = Done }
+abbrev pub script_output : StateLimit → Known → Script → Output
+script_output limit known script = elim (script.stopped) [
+  | None ↦ record { answers = text_of_lines (printed_lines limit known script.commands); faults = []; status = Done }
   | Some number ↦ record {
-    answers = text_of_lines (printed_lines known script.commands);
+    answers = text_of_lines (printed_lines limit known script.commands);
     faults = line (codes "line " ++ decimal number ++ codes ": not a command");
     status = Refused;
   }
 ]
 
-abbrev pub run_output : ℕ → List ℕ → Output
-run_output capacity text = script_output (new_known capacity) (script_of text)
+abbrev pub run_output : StateLimit → ℕ → List ℕ → Output
+run_output limit capacity text = script_output limit (new_known capacity) (script_of text)
 
 -- the lines of all commands of a script
-abbrev pub run_lines : ℕ → List ℕ → List (List ℕ)
-run_lines capacity text = printed_lines (new_known capacity) (script_of text).commands
+abbrev pub run_lines : StateLimit → ℕ → List ℕ → List (List ℕ)
+run_lines limit capacity text = printed_lines limit (new_known capacity) (script_of text).commands
 
 -- Of what was taken from the reader, where that is known, all commands are answered but for the last one at most, if so
 -- many answers stand.
@@ -147,18 +167,18 @@ pub record IsCut (streams : Streams) (output : Output) : Type 0 where
   pub faults : Appends streams.faults_before streams.faults_after (line (codes "refused: output"))
 
 -- How a script ends that is answered when this is known. `left_before` and `left_after` are the reader's bytes.
-abbrev pub ScriptEnds : Streams → Option (List ℕ) → Option (List ℕ) → Known → List ℕ → Status → Type 0
-ScriptEnds streams left_before left_after known text Done = IsWritten streams (script_output known (script_of text)) Done
-ScriptEnds streams left_before left_after known text BadArguments = ⊥
-ScriptEnds streams left_before left_after known text Refused = IsWritten streams (script_output known (script_of text)) Refused
-ScriptEnds streams left_before left_after known text InputFailed =
-    IsBrokenOff streams left_before left_after (printed_lines known (script_of text).commands) (codes "refused: input")
-ScriptEnds streams left_before left_after known text NoMemory =
-    IsBrokenOff streams left_before left_after (printed_lines known (script_of text).commands) (codes "no memory")
-ScriptEnds streams left_before left_after known text OutputFailed = IsCut streams (script_output known (script_of text))
-ScriptEnds streams left_before left_after known text FaultsFailed =
-    AppendsFront streams.answers_before streams.answers_after (script_output known (script_of text)).answers
+abbrev pub ScriptEnds : StateLimit → Streams → Option (List ℕ) → Option (List ℕ) → Known → List ℕ → Status → Type 0
+ScriptEnds limit streams left_before left_after known text Done = IsWritten streams (script_output limit known (script_of text)) Done
+ScriptEnds limit streams left_before left_after known text BadArguments = ⊥
+ScriptEnds limit streams left_before left_after known text Refused = IsWritten streams (script_output limit known (script_of text)) Refused
+ScriptEnds limit streams left_before left_after known text InputFailed =
+    IsBrokenOff streams left_before left_after (printed_lines limit known (script_of text).commands) (codes "refused: input")
+ScriptEnds limit streams left_before left_after known text NoMemory =
+    IsBrokenOff streams left_before left_after (printed_lines limit known (script_of text).commands) (codes "no memory")
+ScriptEnds limit streams left_before left_after known text OutputFailed = IsCut streams (script_output limit known (script_of text))
+ScriptEnds limit streams left_before left_after known text FaultsFailed =
+    AppendsFront streams.answers_before streams.answers_after (script_output limit known (script_of text)).answers
 
 -- How `run` ends. Bad arguments are found before.
-abbrev pub RunEnds : Streams → Option (List ℕ) → Option (List ℕ) → ℕ → List ℕ → Status → Type 0
-RunEnds streams left_before left_after capacity text status = ScriptEnds streams left_before left_after (new_known capacity) text status
+abbrev pub RunEnds : StateLimit → Streams → Option (List ℕ) → Option (List ℕ) → ℕ → List ℕ → Status → Type 0
+RunEnds limit streams left_before left_after capacity text status = ScriptEnds limit streams left_before left_after (new_known capacity) text status

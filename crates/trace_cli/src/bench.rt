@@ -1,5 +1,7 @@
 //! What `run` works on: a tree and the published profiles.
 ghost use Rattle.std.specs.Prelude.{◌+◌, ◌≡◌, ◌⊎◌, ◌^◌, ◌<◌, ℕ, List, IfOk, IfErr, OnErr, IsOk, Err};
+ghost use Rattle.glob_automaton.specs.Automata.{IsCompileFault, most_sets};
+ghost use Rattle.glob_automaton.specs.Sets.{AreMoreThan};
 ghost use Rattle.rule_text.specs.Profile.{profile_value};
 ghost use Rattle.path_walk.specs.Plain.{tree_of, outcome};
 ghost use Rattle.trace_cli.specs.Published.{Deed, published, removed, policy_after};
@@ -8,6 +10,7 @@ ghost use Rattle.trace_cli.specs.RunOutput.{Known, with_change, with_deed, after
 ghost use Rattle.trace_cli.specs.Bench.{answered, link_answer};
 ghost use Rattle.trace_cli.specs.Linking.{link_answered};
 
+use glob_automaton::CompileFault;
 use names::{Errno, NoMemory, Perms};
 use path_walk::Change;
 use rule_text::{LinkVerdict, Profile, Verdict};
@@ -96,12 +99,12 @@ pub(crate) trait Bench {
     fn name(&self) -> &[u8]
         ensures { result.now ≡ judged_name self.now };
 
-    /// Publishes a profile under its name, and answers the policy's new version.
-    fn publish(&mut self, profile: Profile) -> Result<u64, NoMemory>
+    /// Publishes a profile under its name, if it can be compiled, and answers the policy's new version.
+    fn publish(&mut self, profile: Profile) -> Result<u64, CompileFault>
         requires { policy_version (known self.old) + 1 < 2 ^ 60 }
         ensures ok { IfOk result (λ version. (known self.new ≡ with_deed (known self.old) (published (profile_value profile)))
-            × (version ≡ policy_version (known self.new))) }
-        ensures err { OnErr result (known self.new ≡ known self.old) };
+            × (version ≡ policy_version (known self.new)) × ¬ (AreMoreThan most_sets (profile_value profile).rules)) }
+        ensures err { IfErr result (λ fault. (known self.new ≡ known self.old) × IsCompileFault (profile_value profile).rules fault) };
 
     /// Takes the profile of a name away, and answers the policy's new version.
     fn remove(&mut self, name: &[u8]) -> Result<u64, NoMemory>

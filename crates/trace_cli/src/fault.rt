@@ -2,6 +2,7 @@ ghost use Rattle.std.specs.Prelude.{◌≡◌, ◌↔◌, Some};
 ghost use Rattle.trace_cli.specs.Fault.{fault_text, fault_status, IsFaultOfReading};
 
 use crate::status::Status;
+use glob_automaton::CompileFault;
 use rule_text::ReadFault;
 use std::io::ErrorKind;
 use std::{fmt, io};
@@ -15,6 +16,8 @@ pub(crate) enum Fault {
     Name,
     /// The text that was read is refused.
     Text(ReadFault),
+    /// The profile that was read is refused.
+    Compiling(CompileFault),
     /// Reading failed.
     Input,
     /// Memory was refused.
@@ -28,7 +31,7 @@ impl Fault {
     {
         match self {
             Fault::Permissions | Fault::Name => Status::BadArguments,
-            Fault::Text(_) => Status::Refused,
+            Fault::Text(_) | Fault::Compiling(_) => Status::Refused,
             Fault::Input => Status::InputFailed,
             Fault::Memory => Status::NoMemory,
         }
@@ -60,6 +63,10 @@ impl fmt::Display for Fault {
                 // Only want of memory has no place, and that is told as such.
                 let offset = fault.offset().unwrap_or(0);
                 write!(f, "refused: read {number} at {offset}")
+            }
+            Fault::Compiling(fault) => {
+                let number = fault.number();
+                write!(f, "refused: compile {number}")
             }
             Fault::Input => write!(f, "refused: input"),
             Fault::Memory => write!(f, "no memory"),

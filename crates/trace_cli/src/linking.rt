@@ -11,9 +11,10 @@ ghost use Rattle.rule_text.specs.Profile.{profile_value};
 ghost use Rattle.trace_cli.specs.Judging.{link_of};
 ghost use Rattle.trace_cli.specs.Linking.{judged_by_name};
 
+use crate::compiled::Compiled;
 use names::{Path, Permission, Perms};
 use path_walk::{Last, Look, Scratch, WalkFault, name_of, name_of_place, resolve};
-use rule_text::{LinkVerdict, Profile, allowed_perms, judge_link, judge_slow};
+use rule_text::{LinkVerdict, judge_link};
 
 /// The verdict on a link, the node of its file, and the length of its new entry's name.
 #[derive(Clone, Copy)]
@@ -27,7 +28,7 @@ pub(crate) struct JudgedLink {
 /// the front of `room`.
 pub(crate) fn judge_names<L: Look>(
     look: &mut L,
-    profile: &Profile,
+    compiled: &Compiled,
     old: &Path<'_>,
     new: &Path<'_>,
     scratch: &mut Scratch,
@@ -36,30 +37,30 @@ pub(crate) fn judge_names<L: Look>(
     ensures kept { L.kept look.new ≡ L.kept look.old }
     ensures fits { IfOk result (λ judged. judged.name_length ≤ 4095) }
     ensures answer { IfOk result (λ judged. (w : World) → L.sees look.new w →
-        judged_by_name (profile_value profile.now) w.tree old.now (named_place w.tree new.now) ≡ Ok (link_of room.new judged)) }
+        judged_by_name (profile_value compiled.now.profile) w.tree old.now (named_place w.tree new.now) ≡ Ok (link_of room.new judged)) }
     ensures fault { IfErr result (IsFault (L.lacks look.new) (L.sees look.new)
-        (λ w. judged_by_name (profile_value profile.now) w.tree old.now (named_place w.tree new.now))) }
+        (λ w. judged_by_name (profile_value compiled.now.profile) w.tree old.now (named_place w.tree new.now))) }
 {
     let file = resolve(look, old, Last::Stay, scratch)?;
     let node = look.node(file)?;
     let old_length = name_of(look, file, room)?;
-    let old_allowed = allowed_perms(profile, &room[..old_length]);
+    let old_allowed = compiled.allowed(&room[..old_length]);
     let name_length = name_of_place(look, new, scratch, room)?;
     Ok(JudgedLink {
-        verdict: judge_new_name(profile, old_allowed, &room[..name_length]),
+        verdict: judge_new_name(compiled, old_allowed, &room[..name_length]),
         node,
         name_length,
     })
 }
 
 /// The verdict on a link's new name, where the old one is allowed so much.
-fn judge_new_name(profile: &Profile, old_allowed: Perms, name: &[u8]) -> LinkVerdict
-    ensures { result ≡ link_verdict old_allowed (allowed (profile_value profile.now).rules name.now) (verdict (profile_value profile.now).rules name.now (only permission.Link)) }
+fn judge_new_name(compiled: &Compiled, old_allowed: Perms, name: &[u8]) -> LinkVerdict
+    ensures { result ≡ link_verdict old_allowed (allowed (profile_value compiled.now.profile).rules name.now) (verdict (profile_value compiled.now.profile).rules name.now (only permission.Link)) }
 {
     let link = Perms::NONE.with(Permission::Link);
     judge_link(
         old_allowed,
-        allowed_perms(profile, name),
-        judge_slow(profile, name, link),
+        compiled.allowed(name),
+        compiled.judge(name, link),
     )
 }

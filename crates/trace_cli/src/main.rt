@@ -8,6 +8,7 @@
 
 mod bench;
 mod command_line;
+mod compiled;
 mod deeds;
 mod fault;
 mod judge;

@@ -6,9 +6,10 @@ ghost use Rattle.rule_text.specs.Profile.{profile_value};
 ghost use Rattle.trace_cli.specs.Opening.{opened, can_be_asked, judged_by_path, judged_at};
 ghost use Rattle.trace_cli.specs.Judging.{judged_of};
 
+use crate::compiled::Compiled;
 use names::{Errno, Path, Permission, Perms};
 use path_walk::{Last, Look, Scratch, WalkFault, name_of, resolve};
-use rule_text::{Profile, Verdict, judge_slow};
+use rule_text::Verdict;
 
 /// The verdict on a file that was reached, its node, and the length of its name.
 #[derive(Clone, Copy)]
@@ -21,7 +22,7 @@ pub(crate) struct Judged {
 /// Judges the file that a path leads to. Its name goes to the front of `room`.
 pub(crate) fn judge_file<L: Look>(
     look: &mut L,
-    profile: &Profile,
+    compiled: &Compiled,
     path: &[u8],
     ask: Perms,
     scratch: &mut Scratch,
@@ -30,15 +31,15 @@ pub(crate) fn judge_file<L: Look>(
     ensures kept { L.kept look.new ≡ L.kept look.old }
     ensures fits { IfOk result (λ judged. judged.name_length ≤ 4095) }
     ensures answer { IfOk result (λ judged. (w : World) → L.sees look.new w →
-        opened w.tree (profile_value profile.now) path.now ask ≡ Ok (judged_of room.new judged)) }
+        opened w.tree (profile_value compiled.now.profile) path.now ask ≡ Ok (judged_of room.new judged)) }
     ensures fault { IfErr result (IsFault (L.lacks look.new) (L.sees look.new)
-        (λ w. opened w.tree (profile_value profile.now) path.now ask)) }
+        (λ w. opened w.tree (profile_value compiled.now.profile) path.now ask)) }
 {
     if !can_be_asked(ask) {
         return Err(WalkFault::Refused(Errno::EINVAL));
     }
     match Path::check(path) {
-        Ok(path) => judge_path(look, profile, &path, ask, scratch, room),
+        Ok(path) => judge_path(look, compiled, &path, ask, scratch, room),
         Err(errno) => Err(WalkFault::Refused(errno)),
     }
 }
@@ -53,7 +54,7 @@ fn can_be_asked(ask: Perms) -> bool
 /// Judges the file that a checked path leads to.
 fn judge_path<L: Look>(
     look: &mut L,
-    profile: &Profile,
+    compiled: &Compiled,
     path: &Path<'_>,
     ask: Perms,
     scratch: &mut Scratch,
@@ -62,19 +63,19 @@ fn judge_path<L: Look>(
     ensures kept { L.kept look.new ≡ L.kept look.old }
     ensures fits { IfOk result (λ judged. judged.name_length ≤ 4095) }
     ensures answer { IfOk result (λ judged. (w : World) → L.sees look.new w →
-        judged_by_path w.tree (profile_value profile.now) ask path.now ≡ Ok (judged_of room.new judged)) }
+        judged_by_path w.tree (profile_value compiled.now.profile) ask path.now ≡ Ok (judged_of room.new judged)) }
     ensures fault { IfErr result (IsFault (L.lacks look.new) (L.sees look.new)
-        (λ w. judged_by_path w.tree (profile_value profile.now) ask path.now)) }
+        (λ w. judged_by_path w.tree (profile_value compiled.now.profile) ask path.now)) }
 {
     let entry = resolve(look, path, Last::Follow, scratch)?;
-    judge_entry(look, entry, profile, ask, room)
+    judge_entry(look, entry, compiled, ask, room)
 }
 
 /// Judges an entry by its name.
 fn judge_entry<L: Look>(
     look: &mut L,
     entry: L::Entry,
-    profile: &Profile,
+    compiled: &Compiled,
     ask: Perms,
     room: &mut [u8; 4096],
 ) -> Result<Judged, WalkFault>
@@ -83,14 +84,14 @@ fn judge_entry<L: Look>(
     ensures narrows { Narrows (L.sees look.old) (L.sees look.new) }
     ensures fits { IfOk result (λ judged. judged.name_length ≤ 4095) }
     ensures answer { IfOk result (λ judged. (w : World) → L.sees look.new w →
-        judged_at w.tree (profile_value profile.now) ask (L.means entry w) ≡ Ok (judged_of room.new judged)) }
+        judged_at w.tree (profile_value compiled.now.profile) ask (L.means entry w) ≡ Ok (judged_of room.new judged)) }
     ensures fault { IfErr result (IsFault (L.lacks look.new) (L.sees look.new)
-        (λ w. judged_at w.tree (profile_value profile.now) ask (L.means entry w))) }
+        (λ w. judged_at w.tree (profile_value compiled.now.profile) ask (L.means entry w))) }
 {
     let name_length = name_of(look, entry, room)?;
     let node = look.node(entry)?;
     Ok(Judged {
-        verdict: judge_slow(profile, &room[..name_length], ask),
+        verdict: compiled.judge(&room[..name_length], ask),
         node,
         name_length,
     })

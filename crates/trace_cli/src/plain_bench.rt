@@ -9,9 +9,11 @@ ghost use Rattle.trace_cli.specs.RunOutput.{new_known};
 ghost use Rattle.trace_cli.specs.Deeds.{deed_value};
 
 use crate::bench::{Answer, Bench, LinkAnswer};
+use crate::compiled::Compiled;
 use crate::linking::{JudgedLink, judge_names};
 use crate::opening::judge_file;
 use crate::policy::Policy;
+use glob_automaton::CompileFault;
 use names::{Errno, NoMemory, Path, Perms};
 use path_walk::{
     Change, PlainTree, Scratch, WalkFault, links_are_found, plain_trees_are_well_formed,
@@ -49,7 +51,7 @@ impl PlainBench {
 /// front of `room`.
 fn judge_tested<'a>(
     tree: &mut PlainTree,
-    profile: &Profile,
+    compiled: &Compiled,
     old: &'a [u8],
     new: &'a [u8],
     scratch: &mut Scratch,
@@ -58,8 +60,8 @@ fn judge_tested<'a>(
     ensures same { tree.new ≡ tree.old }
     ensures fits { IfOk result (λ tested. tested.1.name_length ≤ 4095) }
     ensures change { IfOk result (λ tested. (tested.0 ≡ Link old.now new.now) × IsOk (outcome tree.old tested.0)) }
-    ensures answer { IfOk result (λ tested. link_judged tree.old (profile_value profile.now) old.now new.now ≡ Ok (link_of room.new tested.1)) }
-    ensures fault { IfErr result (λ errno. link_judged tree.old (profile_value profile.now) old.now new.now ≡ Err errno) }
+    ensures answer { IfOk result (λ tested. link_judged tree.old (profile_value compiled.now.profile) old.now new.now ≡ Ok (link_of room.new tested.1)) }
+    ensures fault { IfErr result (λ errno. link_judged tree.old (profile_value compiled.now.profile) old.now new.now ≡ Err errno) }
 {
     plain_trees_are_well_formed();
     links_are_found();
@@ -70,7 +72,7 @@ fn judge_tested<'a>(
     let Change::Link(old, new) = &change else {
         unreachable!();
     };
-    match judge_names(tree, profile, old, new, scratch, room) {
+    match judge_names(tree, compiled, old, new, scratch, room) {
         Ok(judged) => Ok((change, judged)),
         Err(fault) => match fault {
             WalkFault::Refused(errno) => Err(errno),
@@ -93,12 +95,12 @@ impl Bench for PlainBench {
         plain_trees_are_well_formed();
         let policy_version = self.policy.version();
         let tree_version = self.tree.version();
-        let Some(profile) = self.policy.get(profile) else {
+        let Some(compiled) = self.policy.get(profile) else {
             return Answer::NoProfile { policy_version };
         };
         let judged = judge_file(
             &mut self.tree,
-            profile,
+            compiled,
             path,
             ask,
             &mut self.scratch,
@@ -128,12 +130,12 @@ impl Bench for PlainBench {
     fn link(&mut self, profile: &[u8], old: &[u8], new: &[u8]) -> Result<LinkAnswer, NoMemory> {
         let policy_version = self.policy.version();
         let tree_version = self.tree.version();
-        let Some(profile) = self.policy.get(profile) else {
+        let Some(compiled) = self.policy.get(profile) else {
             return Ok(LinkAnswer::NoProfile { policy_version });
         };
         let tested = judge_tested(
             &mut self.tree,
-            profile,
+            compiled,
             old,
             new,
             &mut self.scratch,
@@ -172,7 +174,7 @@ impl Bench for PlainBench {
         &self.name[..self.name_length]
     }
 
-    fn publish(&mut self, profile: Profile) -> Result<u64, NoMemory> {
+    fn publish(&mut self, profile: Profile) -> Result<u64, CompileFault> {
         self.policy.publish(profile)
     }
 

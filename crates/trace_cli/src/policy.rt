@@ -1,14 +1,18 @@
 //! The published profiles, in a map.
-ghost use Rattle.std.specs.Prelude.{◌+◌, ◌≡◌, ◌^◌, ◌<◌, ◌∷◌, [], ◌++◌, List, IfOk, OnErr, map, length};
+ghost use Rattle.std.specs.Prelude.{◌+◌, ◌≡◌, ◌^◌, ◌<◌, ◌∷◌, [], ◌++◌, List, IfOk, IfErr, OnErr, map, length};
 ghost use Rattle.std.specs.Coded.{codes};
 ghost use Rattle.std.specs.Option.{option_map};
+ghost use Rattle.glob_automaton.specs.Automata.{IsCompileFault, most_sets};
+ghost use Rattle.glob_automaton.specs.Sets.{AreMoreThan};
 ghost use Rattle.rule_text.specs.contracts.profile.Profile as profile;
 ghost use Rattle.rule_text.specs.Profile.{profile_value};
 ghost use Rattle.trace_cli.specs.Deeds.{deed_value};
 ghost use Rattle.trace_cli.specs.Published.{published, removed, policy_after};
 ghost use Rattle.trace_cli.specs.Policy.{Holds};
 
+use crate::compiled::Compiled;
 use crate::deeds::{Deeds, PolicyChange};
+use glob_automaton::CompileFault;
 use names::NoMemory;
 use rule_text::Profile;
 use std::alloc::Global;
@@ -18,7 +22,7 @@ use std::collections::BTreeMap;
 #[derive(Drop)]
 pub(crate) struct Policy {
     alloc: Global,
-    profiles: BTreeMap<Vec<u8>, Profile>,
+    profiles: BTreeMap<Vec<u8>, Compiled>,
     // How many changes there were.
     version: u64,
     deeds: Deeds,
@@ -46,24 +50,40 @@ impl Policy {
     }
 
     /// The profile of a name.
-    pub(crate) fn get(&self, name: &[u8]) -> Option<&Profile>
-        ensures { option_map (λ profile. profile_value profile.now) result ≡ policy_after (map deed_value self.now.deeds.list) name.now }
+    pub(crate) fn get(&self, name: &[u8]) -> Option<&Compiled>
+        ensures { option_map (λ compiled. profile_value compiled.now.profile) result ≡ policy_after (map deed_value self.now.deeds.list) name.now }
     {
         self.profiles.get(name)
     }
 
-    /// Publishes a profile under its name, and answers the new version.
-    pub(crate) fn publish(&mut self, profile: Profile) -> Result<u64, NoMemory>
+    /// Publishes a profile under its name, if it can be compiled, and answers the new version.
+    pub(crate) fn publish(&mut self, profile: Profile) -> Result<u64, CompileFault>
         requires { length (map deed_value self.old.deeds.list) + 1 < 2 ^ 60 }
         ensures ok { IfOk result (λ version. (map deed_value self.new.deeds.list ≡ map deed_value self.old.deeds.list ++ published (profile_value profile) ∷ [])
+            × (version ≡ length (map deed_value self.new.deeds.list)) × ¬ (AreMoreThan most_sets (profile_value profile).rules)) }
+        ensures err { IfErr result (λ fault. (map deed_value self.new.deeds.list ≡ map deed_value self.old.deeds.list)
+            × IsCompileFault (profile_value profile).rules fault) }
+    {
+        let compiled = Compiled::make(self.alloc, profile)?;
+        match self.keep(compiled) {
+            Ok(version) => Ok(version),
+            Err(NoMemory) => Err(CompileFault::NoMemory),
+        }
+    }
+
+    // Publishes a compiled profile under its name.
+    fn keep(&mut self, compiled: Compiled) -> Result<u64, NoMemory>
+        requires { length (map deed_value self.old.deeds.list) + 1 < 2 ^ 60 }
+        ensures ok { IfOk result (λ version. (map deed_value self.new.deeds.list ≡ map deed_value self.old.deeds.list ++ published (profile_value compiled.profile) ∷ [])
             × (version ≡ length (map deed_value self.new.deeds.list))) }
         ensures err { OnErr result (map deed_value self.new.deeds.list ≡ map deed_value self.old.deeds.list) }
     {
+        let profile = compiled.profile();
         let Ok(name) = Vec::from_slice(self.alloc, profile.name()) else {
             return Err(NoMemory);
         };
-        let deeds = self.deeds.and(&PolicyChange::Replace(&profile));
-        match self.profiles.insert(name, profile) {
+        let deeds = self.deeds.and(&PolicyChange::Replace(profile));
+        match self.profiles.insert(name, compiled) {
             Ok(_) => {
                 self.deeds = deeds;
                 self.version += 1;

@@ -1,6 +1,7 @@
 //! A run of the program, over any streams.
 ghost use Rattle.std.specs.Prelude.{◌≡◌, ◌⊎◌, ℕ, List, true, map};
 ghost use Rattle.std.specs.Io.KnownBytes.{Keeps};
+ghost use Rattle.glob_automaton.specs.Automata.{StateLimit};
 ghost use Rattle.trace_cli.specs.CommandLine.{line_of};
 ghost use Rattle.trace_cli.specs.Program.{ProgramEnds, TellsUsage, reads_nothing};
 ghost use Rattle.trace_cli.specs.Streams.{IsTextOf};
@@ -22,8 +23,8 @@ pub fn run_words<S: AsStr, R: BufRead, A: Write, F: Write>(
     answers: &mut A,
     faults: &mut F,
 ) -> Status
-    ensures output { (text : List ℕ) × IsTextOf (R.remaining input.old) text
-        × ProgramEnds (line_of (map S.text words.now)) text
+    ensures output { (limit : StateLimit) → (text : List ℕ) × IsTextOf (R.remaining input.old) text
+        × ProgramEnds limit (line_of (map S.text words.now)) text
         (record {
           answers_before = A.contents answers.old;
           answers_after = A.contents answers.new;

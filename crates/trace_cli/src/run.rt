@@ -1,5 +1,6 @@
 //! `run --capacity N`: a script of tree changes, policies and opens, answered line by line.
 ghost use Rattle.std.specs.Prelude.{◌≡◌, ℕ, List};
+ghost use Rattle.glob_automaton.specs.Automata.{StateLimit};
 ghost use Rattle.trace_cli.specs.Following.{IsFollowed};
 ghost use Rattle.trace_cli.specs.RunOutput.{RunEnds, ScriptEnds, policy_version, printed_lines};
 ghost use Rattle.trace_cli.specs.Script.{script_of};
@@ -38,7 +39,7 @@ pub fn run<R: BufRead, A: Write, F: Write>(
     answers: &mut A,
     faults: &mut F,
 ) -> Status
-    ensures { (text : List ℕ) × IsTextOf (R.remaining input.old) text × RunEnds
+    ensures { (limit : StateLimit) → (text : List ℕ) × IsTextOf (R.remaining input.old) text × RunEnds limit
         (record {
           answers_before = A.contents answers.old;
           answers_after = A.contents answers.new;
@@ -62,7 +63,7 @@ pub(crate) fn run_script<B: Bench, R: BufRead, A: Write, F: Write>(
     faults: &mut F,
 ) -> Status
     requires { policy_version (B.known bench.old) ≡ 0 }
-    ensures { (text : List ℕ) × IsTextOf (R.remaining input.old) text × ScriptEnds
+    ensures { (limit : StateLimit) → (text : List ℕ) × IsTextOf (R.remaining input.old) text × ScriptEnds limit
         (record {
           answers_before = A.contents answers.old;
           answers_after = A.contents answers.new;
@@ -85,8 +86,8 @@ fn follow<B: Bench, R: BufRead, A: Write>(
     answers: &mut A,
 ) -> Result<(), Stop>
     requires { policy_version (B.known bench.old) ≡ 0 }
-    ensures { (text : List ℕ) × IsTextOf (R.remaining input.old) text
-        × IsFollowed (R.remaining input.old) (R.remaining input.new) (printed_lines (B.known bench.old) (script_of text).commands) (script_of text).stopped
+    ensures { (limit : StateLimit) → (text : List ℕ) × IsTextOf (R.remaining input.old) text
+        × IsFollowed (R.remaining input.old) (R.remaining input.new) (printed_lines limit (B.known bench.old) (script_of text).commands) (script_of text).stopped
         (A.contents answers.old) (A.contents answers.new) result }
 {
     let mut place = Place::Outside;

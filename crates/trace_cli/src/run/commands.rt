@@ -1,5 +1,6 @@
 //! The commands of a script, done on a bench, and their answers.
-ghost use Rattle.std.specs.Prelude.{◌+◌, ◌<◌, ◌^◌};
+ghost use Rattle.std.specs.Prelude.{◌+◌, ◌<◌, ◌≤◌, ◌^◌, OnOk};
+ghost use Rattle.glob_automaton.specs.Automata.{StateLimit};
 ghost use Rattle.trace_cli.specs.Following.{IsPrinted, IsPut};
 ghost use Rattle.trace_cli.specs.Line.{command_value};
 ghost use Rattle.trace_cli.specs.RunOutput.{policy_version, printed};
@@ -21,8 +22,9 @@ pub(crate) fn answer_command<B: Bench, A: Write>(
     answers: &mut A,
 ) -> Result<(), Stop>
     requires { policy_version (B.known bench.old) + 1 < 2 ^ 60 }
-    ensures { IsPrinted (printed (B.known bench.old) (command_value command.entry)) (B.known bench.new)
+    ensures line { (limit : StateLimit) → IsPrinted (printed limit (B.known bench.old) (command_value command.entry)) (B.known bench.new)
         (A.contents answers.old) (A.contents answers.new) result }
+    ensures few { OnOk result (policy_version (B.known bench.new) ≤ policy_version (B.known bench.old) + 1) }
 {
     let line = match command {
         Command::Remove(name) => drop_line(alloc, bench, name)?,
@@ -41,8 +43,9 @@ pub(crate) fn answer_policy<B: Bench, A: Write>(
     answers: &mut A,
 ) -> Result<(), Stop>
     requires { policy_version (B.known bench.old) + 1 < 2 ^ 60 }
-    ensures { IsPrinted (printed (B.known bench.old) (publish text.now)) (B.known bench.new)
+    ensures line { (limit : StateLimit) → IsPrinted (printed limit (B.known bench.old) (publish text.now)) (B.known bench.new)
         (A.contents answers.old) (A.contents answers.new) result }
+    ensures few { OnOk result (policy_version (B.known bench.new) ≤ policy_version (B.known bench.old) + 1) }
 {
     let line = policy_line(alloc, bench, text)?;
     print_line(answers, &line)

@@ -1,19 +1,23 @@
 //! The lines that answer commands, each composed whole before it is written.
-ghost use Rattle.std.specs.Prelude.{◌+◌, ◌≡◌, ◌<◌, ◌^◌, ◌++◌, IfOk, codes, decimal};
+ghost use Rattle.std.specs.Prelude.{◌+◌, ◌≡◌, ◌<◌, ◌≤◌, ◌^◌, ◌++◌, IfOk, OnOk, Ok, codes, decimal};
 ghost use Rattle.trace_cli.specs.Opening.{versions_text};
 ghost use Rattle.trace_cli.specs.Following.{IsComposed, IsText};
+ghost use Rattle.glob_automaton.specs.Automata.{StateLimit};
 ghost use Rattle.names.specs.Errors.{errno_text};
+ghost use Rattle.rule_text.specs.Profile.{profile_value};
+ghost use Rattle.trace_cli.specs.Fault.{fault_text};
 ghost use Rattle.trace_cli.specs.Line.{change_words};
-ghost use Rattle.trace_cli.specs.RunOutput.{policy_version, printed, change_of, change_printed};
-ghost use Rattle.trace_cli.specs.Script.{publish, remove, alter, judge_open, judge_link};
+ghost use Rattle.trace_cli.specs.RunOutput.{policy_version, printed, policy_printed, drop_printed, change_of, change_printed, open_printed, judged_printed};
+ghost use Rattle.trace_cli.specs.Script.{publish};
 
 use crate::bench::{Answer, Bench, LinkAnswer};
 use crate::fault::Fault;
 use crate::run::line::ChangeWords;
 use crate::run::stop::Stop;
+use glob_automaton::CompileFault;
 use names::{Errno, Path, Perms};
 use path_walk::{Change, LinkBytes};
-use rule_text::{ReadFault, read};
+use rule_text::{Profile, ReadFault, read};
 use std::alloc::{AllocError, Global};
 
 /// Publishes the profile of a text, if it is one.
@@ -23,23 +27,40 @@ pub(crate) fn policy_line<B: Bench>(
     text: &[u8],
 ) -> Result<Vec<u8>, Stop>
     requires { policy_version (B.known bench.old) + 1 < 2 ^ 60 }
-    ensures { IsComposed (printed (B.known bench.old) (publish text.now)) (B.known bench.new) result }
+    ensures line { (limit : StateLimit) → IsComposed (printed limit (B.known bench.old) (publish text.now)) (B.known bench.new) result }
+    ensures few { OnOk result (policy_version (B.known bench.new) ≤ policy_version (B.known bench.old) + 1) }
 {
     match read(alloc, text) {
-        Ok(profile) => {
-            let mut line = joined(alloc, "policy ", profile.name(), " version ")?;
-            let version = bench.publish(profile)?;
+        Ok(profile) => profile_line(alloc, bench, profile),
+        Err(ReadFault::NoMemory) => Err(Stop::Memory),
+        Err(fault) => refusal_line(alloc, Fault::Text(fault)),
+    }
+}
+
+/// Publishes a profile, if it can be compiled. Its line is begun before, so that want of memory for that publishes nothing.
+fn profile_line<B: Bench>(alloc: Global, bench: &mut B, profile: Profile) -> Result<Vec<u8>, Stop>
+    requires { policy_version (B.known bench.old) + 1 < 2 ^ 60 }
+    ensures line { (limit : StateLimit) → IsComposed (policy_printed limit (B.known bench.old) (Ok (profile_value profile))) (B.known bench.new) result }
+    ensures few { OnOk result (policy_version (B.known bench.new) ≤ policy_version (B.known bench.old) + 1) }
+{
+    let mut line = joined(alloc, "policy ", profile.name(), " version ")?;
+    match bench.publish(profile) {
+        Ok(version) => {
             let end = format!(in alloc; "{version}\n")?;
             line.extend_from_slice(end.as_bytes())?;
             Ok(line)
         }
-        Err(ReadFault::NoMemory) => Err(Stop::Memory),
-        Err(fault) => {
-            let refusal = Fault::Text(fault);
-            let line = format!(in alloc; "policy {refusal}\n")?;
-            Ok(line.into_bytes())
-        }
+        Err(CompileFault::NoMemory) => Err(Stop::Memory),
+        Err(fault) => refusal_line(alloc, Fault::Compiling(fault)),
     }
+}
+
+/// Why a profile isn't published, as a line.
+fn refusal_line(alloc: Global, fault: Fault) -> Result<Vec<u8>, Stop>
+    ensures { IsText (codes "policy " ++ fault_text fault) result }
+{
+    let line = format!(in alloc; "policy {fault}\n")?;
+    Ok(line.into_bytes())
 }
 
 /// Takes the profile of a name away.
@@ -49,7 +70,7 @@ pub(crate) fn drop_line<B: Bench>(
     name: &[u8],
 ) -> Result<Vec<u8>, Stop>
     requires { policy_version (B.known bench.old) + 1 < 2 ^ 60 }
-    ensures { IsComposed (printed (B.known bench.old) (remove name.now)) (B.known bench.new) result }
+    ensures { IsComposed (drop_printed (B.known bench.old) name.now) (B.known bench.new) result }
 {
     let version = bench.remove(name)?;
     let end = format!(in alloc; " removed version {version}\n")?;
@@ -63,7 +84,7 @@ pub(crate) fn change_line<B: Bench>(
     bench: &mut B,
     words: ChangeWords<'_>,
 ) -> Result<Vec<u8>, Stop>
-    ensures { IsComposed (printed (B.known bench.old) (alter (change_words words.entry))) (B.known bench.new) result }
+    ensures { IsComposed (change_printed (B.known bench.old) (change_of (change_words words.entry))) (B.known bench.new) result }
 {
     match change_of(words) {
         Ok(change) => accepted_line(alloc, bench, &change),
@@ -97,7 +118,7 @@ pub(crate) fn open_line<B: Bench>(
     path: &[u8],
     ask: Perms,
 ) -> Result<Vec<u8>, Stop>
-    ensures { IsComposed (printed (B.known bench.old) (judge_open profile.now path.now ask)) (B.known bench.new) result }
+    ensures { IsComposed (open_printed (B.known bench.old) profile.now path.now ask) (B.known bench.new) result }
 {
     match bench.open(profile, path, ask) {
         Answer::Judged {
@@ -126,7 +147,7 @@ pub(crate) fn link_line<B: Bench>(
     old: &[u8],
     new: &[u8],
 ) -> Result<Vec<u8>, Stop>
-    ensures { IsComposed (printed (B.known bench.old) (judge_link profile.now old.now new.now)) (B.known bench.new) result }
+    ensures { IsComposed (judged_printed (B.known bench.old) profile.now old.now new.now) (B.known bench.new) result }
 {
     match bench.link(profile, old, new)? {
         LinkAnswer::Linked {

@@ -1,5 +1,6 @@
 //! Where reading stands between two lines, and what the next line does.
-ghost use Rattle.std.specs.Prelude.{◌+◌, ◌≡◌, ◌<◌, ◌^◌, ◌++◌, ◌∷◌, [], IfOk};
+ghost use Rattle.std.specs.Prelude.{◌+◌, ◌≡◌, ◌<◌, ◌≤◌, ◌^◌, ◌++◌, ◌∷◌, [], IfOk, OnOk};
+ghost use Rattle.glob_automaton.specs.Automata.{StateLimit};
 ghost use Rattle.trace_cli.specs.Following.{place_value, followed, IsLineFollowed, IsClosed};
 ghost use Rattle.trace_cli.specs.RunOutput.{policy_version};
 ghost use Rattle.trace_cli.specs.Script.{outside, line_feed};
@@ -30,8 +31,9 @@ pub(crate) fn follow_line<B: Bench, A: Write>(
     answers: &mut A,
 ) -> Result<Place, Stop>
     requires { policy_version (B.known bench.old) + 1 < 2 ^ 60 }
-    ensures { IsLineFollowed (followed (B.known bench.old) (place_value place) number line.now)
+    ensures line { (limit : StateLimit) → IsLineFollowed (followed limit (B.known bench.old) (place_value place) number line.now)
         (B.known bench.new) (A.contents answers.old) (A.contents answers.new) result }
+    ensures few { OnOk result (policy_version (B.known bench.new) ≤ policy_version (B.known bench.old) + 1) }
 {
     match place {
         Place::Outside => follow_command(alloc, bench, number, line, answers),
@@ -55,8 +57,9 @@ fn follow_command<B: Bench, A: Write>(
     answers: &mut A,
 ) -> Result<Place, Stop>
     requires { policy_version (B.known bench.old) + 1 < 2 ^ 60 }
-    ensures { IsLineFollowed (followed (B.known bench.old) outside number line.now)
+    ensures line { (limit : StateLimit) → IsLineFollowed (followed limit (B.known bench.old) outside number line.now)
         (B.known bench.new) (A.contents answers.old) (A.contents answers.new) result }
+    ensures few { OnOk result (policy_version (B.known bench.new) ≤ policy_version (B.known bench.old) + 1) }
 {
     match said_by_line(line) {
         Said::Nothing => Ok(Place::Outside),

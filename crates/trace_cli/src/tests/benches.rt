@@ -71,6 +71,18 @@ fn opens(rt: HostRuntime) -> Result<(), Fail> {
     Ok(())
 }
 
+/// Where a profile has too many states, the one that was published before stays in force.
+#[test]
+fn too_many_states(rt: HostRuntime) -> Result<(), Fail> {
+    let script =
+        "policy\nprofile p {\n  /** r,\n}\n.\ncreate /a\npolicy\nprofile p {\n  /**a????????????? r,\n}\n.\nopen p /a rw\npolicy\nprofile q {\n  /**a????????????? r,\n}\n.\nopen q /a r\npolicy\nprofile p {\n  /**a???????????? r,\n}\n.\nopen p /a r\ncreate /abcdefghijklm\nopen p /abcdefghijklm r\n";
+    let wanted =
+        "policy p version 1\nok 1\npolicy refused: compile 1\nno rule for w /a node 2 tree 1 policy 1\npolicy refused: compile 1\nno profile policy 1\npolicy p version 2\nno rule for r /a node 2 tree 1 policy 2\nok 2\nallowed /abcdefghijklm node 3 tree 2 policy 2\n";
+    let answers = answers_to(rt.alloc(), "9", script)?;
+    assert!(rt; answers.as_slice() == wanted.as_bytes());
+    Ok(())
+}
+
 /// Scripts that go to their ends, and what they print.
 pub(super) fn all_answers(
     alloc: Global,

@@ -6,6 +6,7 @@ use crate::bench::{Answer, Bench, LinkAnswer};
 use crate::run::run_script;
 use crate::status::Status;
 use crate::tests::{Failing, Pieces};
+use glob_automaton::CompileFault;
 use names::{Errno, NoMemory, Perms};
 use path_walk::Change;
 use rule_text::Profile;
@@ -39,8 +40,8 @@ impl Bench for FullBench {
         &[]
     }
 
-    fn publish(&mut self, _profile: Profile) -> Result<u64, NoMemory> {
-        Err(NoMemory)
+    fn publish(&mut self, _profile: Profile) -> Result<u64, CompileFault> {
+        Err(CompileFault::NoMemory)
     }
 
     fn remove(&mut self, _name: &[u8]) -> Result<u64, NoMemory> {

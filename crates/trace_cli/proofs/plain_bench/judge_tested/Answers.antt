@@ -21,7 +21,7 @@ unreachable-requires-in-Torn c =
 pub returns-in-Ok-clause-answer : goal.returns-in-Ok-clause-answer
 returns-in-Ok-clause-answer c =
     let p = c.judge_names.new.look in
-    link_told c.links_are_found.ensures c.args.tree.now p (profile_value c.args.profile.now) c.args.old.now c.args.new.now _ _ _ _ _
+    link_told c.links_are_found.ensures c.args.tree.now p (profile_value c.args.compiled.now.profile) c.args.old.now c.args.new.now _ _ _ _ _
     (c.plain_trees_are_well_formed.ensures c.args.tree.now) (c.in-Ok.ensures.kept ∙ c.test.ensures.same)
     c.in_ok-old.ensures.path.0 c.in_ok-old.ensures.path.1 c.in_ok-new.ensures.path.0 c.in_ok-new.ensures.path.1
     c.in-Link.is c.in_ok-test.ensures.ok
@@ -30,7 +30,7 @@ returns-in-Ok-clause-answer c =
 pub returns-in-Refused-clause-fault : goal.returns-in-Refused-clause-fault
 returns-in-Refused-clause-fault c =
     let p = c.judge_names.new.look in
-    link_told c.links_are_found.ensures c.args.tree.now p (profile_value c.args.profile.now) c.args.old.now c.args.new.now _ _ _ _ _
+    link_told c.links_are_found.ensures c.args.tree.now p (profile_value c.args.compiled.now.profile) c.args.old.now c.args.new.now _ _ _ _ _
     (c.plain_trees_are_well_formed.ensures c.args.tree.now) (c.in-Err.ensures.kept ∙ c.test.ensures.same)
     c.in_ok-old.ensures.path.0 c.in_ok-old.ensures.path.1 c.in_ok-new.ensures.path.0 c.in_ok-new.ensures.path.1
     c.in-Link.is c.in_ok-test.ensures.ok

@@ -6,12 +6,17 @@ use Rattle.trace_cli.proofs.Running.{memory_ends, usage_ends}
 use Rattle.trace_cli.proofs.program.run_words.Goals as goal
 
 pub returns-in-Err-Usage-clause-output : goal.returns-in-Err-Usage-clause-output
-returns-in-Err-Usage-clause-output g c =
+returns-in-Err-Usage-clause-output g c limit =
     let text = text_of (g.R.Read.remaining c.args.input.now) in
     let no_line : is_some (line_of (map g.S.AsStr.text c.args.words.now)) ≡ true → ⊥ = λ some. cc (c.in-Err-Usage.ensures.err some) in
-    (text.0, text.1, usage_ends _ text.0 _ _ _ _ c.tell_usage.result no_line c.tell_usage.ensures)
+    (text.0, text.1, usage_ends limit _ text.0 _ _ _ _ c.tell_usage.result no_line c.tell_usage.ensures)
 
 pub returns-in-Err-NoMemory-clause-output : goal.returns-in-Err-NoMemory-clause-output
-returns-in-Err-NoMemory-clause-output g c =
+returns-in-Err-NoMemory-clause-output g c limit =
     let text = text_of (g.R.Read.remaining c.args.input.now) in
-    (text.0, text.1, memory_ends _ text.0 _ _ _ _ c.fail.result c.fail.ensures)
+    (text.0, text.1, memory_ends limit _ text.0 _ _ _ _ c.fail.result c.fail.ensures)
+
+pub returns-in-Ok-Run-clause-output : goal.returns-in-Ok-Run-clause-output
+returns-in-Ok-Run-clause-output g c limit =
+    let ran = c.run.ensures limit in
+    (ran.0, ran.1, rw (c.in-Ok-Run.ensures.ok, c.in-Ok-Run.field-0-is) ran.2)

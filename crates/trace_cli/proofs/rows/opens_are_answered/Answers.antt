@@ -4,4 +4,4 @@ use Rattle.trace_cli.proofs.rows.opens_are_answered.Goals as goal
 
 pub returns : goal.returns
 unfolding verdict
-returns c = refl
+returns c limit = refl

@@ -24,16 +24,16 @@ pub returns-in-Ok-clause-answer : goal.returns-in-Ok-clause-answer
 returns-in-Ok-clause-answer c =
     let p = c.judge_file-judged.new.look in
     let answer = c.in-Ok.ensures.answer (world c.plain_trees_are_well_formed.ensures p) refl in
-    answered_ok (tree_of c.args.self.now.tree) _ _ _ _ c.args.path.now c.args.ask _ (profile_value c.in-Some.profile.now) _
+    answered_ok (tree_of c.args.self.now.tree) _ _ _ _ c.args.path.now c.args.ask _ (profile_value c.in-Some.compiled.now.profile) _
     c.version-tree_version.ensures c.version-policy_version.ensures
-    (sym c.get.ensures ∙ ap (option_map (λ x. profile_value x.now)) c.in-Some.is)
-    (ap (λ (q : Plain). opened (tree_of q) (profile_value c.in-Some.profile.now) c.args.path.now c.args.ask) (sym c.in-Ok.ensures.kept) ∙ answer)
+    (sym c.get.ensures ∙ ap (option_map (λ x. profile_value x.now.profile)) c.in-Some.is)
+    (ap (λ (q : Plain). opened (tree_of q) (profile_value c.in-Some.compiled.now.profile) c.args.path.now c.args.ask) (sym c.in-Ok.ensures.kept) ∙ answer)
 
 pub returns-in-Refused-clause-answer : goal.returns-in-Refused-clause-answer
 returns-in-Refused-clause-answer c =
     let p = c.judge_file-judged.new.look in
     let fault = (rw c.in-Refused.is at c.in-Err.ensures.fault) (world c.plain_trees_are_well_formed.ensures p) refl in
-    answered_err (tree_of c.args.self.now.tree) _ _ _ c.args.path.now c.args.ask _ (profile_value c.in-Some.profile.now) _
+    answered_err (tree_of c.args.self.now.tree) _ _ _ c.args.path.now c.args.ask _ (profile_value c.in-Some.compiled.now.profile) _
     c.version-tree_version.ensures
-    (sym c.get.ensures ∙ ap (option_map (λ x. profile_value x.now)) c.in-Some.is)
-    (ap (λ (q : Plain). opened (tree_of q) (profile_value c.in-Some.profile.now) c.args.path.now c.args.ask) (sym c.in-Err.ensures.kept) ∙ fault)
+    (sym c.get.ensures ∙ ap (option_map (λ x. profile_value x.now.profile)) c.in-Some.is)
+    (ap (λ (q : Plain). opened (tree_of q) (profile_value c.in-Some.compiled.now.profile) c.args.path.now c.args.ask) (sym c.in-Err.ensures.kept) ∙ fault)

@@ -1,15 +1,16 @@
 use Rattle.std.proofs.Common.{◌≡◌, Some, None, Option, Bor, refl, ap, ◌∙◌}
 use Rattle.std.specs.Option.{option_map, option_copied}
-use Rattle.rule_text.specs.declared.profile.Profile.{Profile}
 use Rattle.rule_text.specs.Profile.{profile_value}
+use Rattle.trace_cli.specs.declared.compiled.Compiled.{Compiled}
 use Rattle.trace_cli.proofs.DeedLaws.{stored_is_published}
 use Rattle.trace_cli.proofs.policy.Policy.get.Goals as goal
 
-copied : (o : Option (Bor Profile)) → option_map (λ p. profile_value p.now) o ≡ option_map profile_value (option_copied o)
+copied : (o : Option (Bor Compiled)) → option_map (λ c. profile_value c.now.profile) o ≡ option_map profile_value (option_map (λ c. c.profile) (option_copied o))
 copied None = refl
-copied (Some p) = refl
+copied (Some c) = refl
 
 pub returns : goal.returns
 returns c =
-    copied c.get.result ∙ ap (option_map profile_value) (c.get.ensures.value ∙ c.args.self.now.holds.0 c.args.name.now)
+    copied c.get.result ∙ ap (λ (o : Option Compiled). option_map profile_value (option_map (λ c. c.profile) o)) c.get.ensures.value
+    ∙ ap (option_map profile_value) (c.args.self.now.holds.0 c.args.name.now)
     ∙ stored_is_published c.args.self.now.deeds.list c.args.name.now

@@ -1,8 +1,10 @@
-use Rattle.std.proofs.Common.{None, ◌∙◌}
+use Rattle.std.proofs.Common.{None, ap, ◌∙◌}
 use Rattle.std.specs.Prelude.{bytes_eq, if◌then◌else◌}
+use Rattle.std.specs.Option.{option_map}
+use Rattle.trace_cli.specs.declared.compiled.Compiled.{Compiled}
 use Rattle.trace_cli.specs.Deeds.{gone}
 use Rattle.trace_cli.proofs.ByteKeys.{updates_bytes}
-use Rattle.trace_cli.proofs.DeedLaws.{then_stored, then_counted}
+use Rattle.trace_cli.proofs.DeedLaws.{mapped_if, then_stored, then_counted}
 use Rattle.trace_cli.proofs.policy.Policy.remove.Goals as goal
 
 pub invariant_of-self : goal.invariant_of-self
@@ -11,7 +13,8 @@ invariant_of-self c =
     let name = c.args.name.now in
     record {
       holds = (
-        (λ other. updates_bytes name old.profiles c.remove.new.self None c.remove.ensures.updates other
+        (λ other. ap (option_map (λ (k : Compiled). k.profile)) (updates_bytes name old.profiles c.remove.new.self None c.remove.ensures.updates other)
+            ∙ mapped_if (λ (k : Compiled). k.profile) (bytes_eq name other) None _
             ∙ (λ i. if bytes_eq name other then None else old.holds.0 other i)
             ∙ then_stored old.deeds.list c.and-self.result.list (gone name) c.and-self.ensures other),
         then_counted old.version old.deeds.list c.and-self.result.list (gone name) c.and-self.ensures old.holds.1,
