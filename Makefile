@@ -1,7 +1,7 @@
 # make        builds ./aa-trace, the proved program
 # make run    builds it, judges a name by examples/passwd.profile, and runs two scripts of examples/
 # make test   the gate: every proof from nothing, must-fail edits, tests, programs
-# make bench  times on large inputs, each with the ratio to half the size or to another input
+# make bench  times on large inputs, each with the ratio to half the size or to another input, and of compiled profiles
 # make refusals  refuses each allocation of the program in turn
 
 RT := $(shell command -v rt 2>/dev/null)
@@ -27,6 +27,7 @@ test: need-rt
 
 bench: aa-trace
 	sh bench/run.sh
+	sh bench/compile.sh
 
 refusals: aa-trace
 	sh tools/refuse-allocations.sh
