@@ -1,5 +1,5 @@
 -- The states that are built so far: one for each set, in the order of the sets.
-use Rattle.std.proofs.Common.{◌≡◌, inr, ⊎_elim, ℕ, ◌+◌, ◌<◌, ◌≤◌, ◌↔◌, Bool, IsTrue, false, true≢false, List, [], ◌∷◌, ◌++◌, length, slice_index_or, Contains, refl, sym, ap, ◌∙◌, subst, subst₂, arith}
+use Rattle.std.proofs.Common.{◌≡◌, ◌⊎◌, inl, inr, ⊎_elim, ℕ, ◌+◌, ◌<◌, ◌≤◌, ◌↔◌, Bool, IsTrue, false, true≢false, List, [], ◌∷◌, ◌++◌, length, slice_index_or, Contains, refl, sym, ap, ◌∙◌, subst, subst₂, arith}
 use Rattle.std.proofs.Math.Seq.{get_or-append_seam}
 use Rattle.std.proofs.lemmas.List.{length-append, get_or_append_left}
 use Rattle.std.proofs.lemmas.Bool.{cases_lt}
@@ -9,8 +9,10 @@ use Rattle.glob_automaton.specs.Automata.{Automaton}
 use Rattle.glob_automaton.specs.Building.{IsStartOf, IsStepOf, begins, IsRecordOf, IsBuilt}
 use Rattle.glob_automaton.specs.Gathering.{IsAscending}
 use Rattle.glob_automaton.specs.States.{IsNumbered, AreFewSets, Keeps, IsTargetOf, IsRowOf}
+use Rattle.glob_automaton.proofs.EmptySets.{all_empty}
 use Rattle.glob_automaton.proofs.LiveNumbers.{reached_ascends}
-use Rattle.glob_automaton.proofs.SetSteps.{set_there, set_from, numbered_sets}
+use Rattle.glob_automaton.proofs.RuleNumbers.{neither_less}
+use Rattle.glob_automaton.proofs.SetSteps.{set_there, set_from, numbered_sets, step_empty}
 
 -- The first states have their rows and records. The sets may be more.
 pub record AreStates (chart : Chart) (sets rows : List (List ℕ)) (records : List Record) (start state : ℕ) : Type 0 where
@@ -146,6 +148,42 @@ module _ (chart : Chart) (sets rows : List (List ℕ)) (records : List Record) (
   each : length rows ≡ length sets
   each = omega (arith, are.each_row, count)
 
+  some : 0 < length sets
+  some = are.sets_few.0.some
+
+  empty : slice_index_or sets 0 [] ≡ []
+  empty = are.sets_few.0.empty
+
+  -- what is dead stays dead
+  stays : (b : ℕ) → b < 256 → slice_index_or (slice_index_or rows 0 []) b 0 ≡ 0
+  stays b small =
+      let t : ℕ = slice_index_or (slice_index_or rows 0 []) b 0 in
+      let its : IsTargetOf chart sets (slice_index_or sets 0 []) b t = target_of 0 b some small in
+      let step : IsStepOf chart [] b (slice_index_or sets t []) = subst (λ z. IsStepOf chart z b (slice_index_or sets t [])) empty its.1 in
+      let same : slice_index_or sets t [] ≡ slice_index_or sets 0 [] = step_empty chart b (slice_index_or sets t []) step ∙ sym empty in
+      neither_less t 0
+      (λ lt. absurd (omega (arith, lt)))
+      (λ lt. are.sets_few.0.different 0 t lt its.0 (sym same))
+
+  -- where the start is dead, nothing else is
+  dead_start : start ≡ 0 → length rows ≡ 1
+  dead_start e =
+      let none : slice_index_or sets start [] ≡ [] = ap (λ z. slice_index_or sets z []) e ∙ empty in
+      let begun : IsStartOf chart [] = subst (λ z. IsStartOf chart z) none are.begun in
+      ⊎_elim
+      (λ lt.
+      let more : 1 < length sets = omega (arith, lt, each) in
+      let reached = are.sets_few.0.reached 1 (omega arith) more in
+      absurd (are.sets_few.0.different 0 1 (omega arith) more (empty ∙ sym (all_empty chart begun reached.0 (slice_index_or sets 1 []) reached.1))))
+      (λ le. omega (arith, le, some, each))
+      (cases_lt 1 (length rows))
+
+  start_is : (start ≡ 1) ⊎ ((start ≡ 0) × (length rows ≡ 1))
+  start_is = ⊎_elim
+      (λ lt. let e : start ≡ 0 = omega (arith, lt) in inr (e, dead_start e))
+      (λ le. inl (omega (arith, le, are.start_first)))
+      (cases_lt start 1)
+
   pub built_states : IsBuilt chart (tables rows records start)
   built_states = record {
     sets = sets;
@@ -157,6 +195,8 @@ module _ (chart : Chart) (sets rows : List (List ℕ)) (records : List Record) (
       each_record = omega (arith, are.each_row, are.each_record);
       start_there = omega (arith, are.start_there, each);
       few = omega (arith, are.sets_few.1, each);
+      stays_dead = stays;
+      begins = start_is;
     };
     start_first = are.start_first;
     begins = are.begun;

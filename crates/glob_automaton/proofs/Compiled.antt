@@ -1,5 +1,5 @@
 -- What is built on the chart of some rules is their automaton.
-use Rattle.std.proofs.Common.{◌≡◌, ◌≢◌, ℕ, zero, suc, ◌+◌, ◌-◌, ◌<◌, ◌≤◌, ◌↔◌, ◌⊎◌, inl, inr, ⊎_elim, List, [], ◌∷◌, ◌++◌, length, Some, slice_get, slice_index_or, IsTrue, append_assoc, append-nil, refl, sym, ap, ◌∙◌, subst, arith}
+use Rattle.std.proofs.Common.{◌≡◌, ◌≢◌, ℕ, zero, suc, ◌+◌, ◌-◌, ◌<◌, ◌≤◌, ◌↔◌, inl, inr, List, [], ◌∷◌, ◌++◌, length, Some, slice_get, slice_index_or, IsTrue, append_assoc, append-nil, refl, sym, ap, ◌∙◌, subst, arith}
 use Rattle.std.specs.List.{Contains}
 use Rattle.std.specs.Prelude.{Result, Ok, Err, IfErr}
 use Rattle.std.specs.Result.{IsErrAnd}
@@ -16,14 +16,12 @@ use Rattle.glob_automaton.specs.declared.fault.CompileFault.{CompileFault}
 use Rattle.glob_automaton.specs.declared.fault.CompileFault.TheVariants.{TooManyStates, NoMemory}
 use Rattle.glob_automaton.specs.declared.record.Record.{Record}
 use Rattle.glob_automaton.specs.Automata.{Automaton, target, goes_to, state_after, most_sets, IsAutomatonOf, IsCompileFault}
-use Rattle.glob_automaton.specs.Building.{IsStartOf, IsStepOf, IsReached, begins, goes_on, EndsIn, IsRecordOf, IsBuilt, IsBuildFault}
+use Rattle.glob_automaton.specs.Building.{IsReached, begins, goes_on, EndsIn, IsRecordOf, IsBuilt, IsBuildFault}
 use Rattle.glob_automaton.specs.Drawing.{HasRule, IsChartOf}
 use Rattle.glob_automaton.specs.Least.{hits_of, IsLeastOrNone, IsLeastRecord}
 use Rattle.glob_automaton.specs.Sets.{SameSet, NoneLive, are_bytes, AreDifferent, AreMoreThan, IsPrefixOfName}
 use Rattle.glob_automaton.specs.Hits.{no_hits}
-use Rattle.glob_automaton.proofs.EmptySets.{empty_record, all_empty}
-use Rattle.glob_automaton.proofs.SetSteps.{step_empty}
-use Rattle.std.proofs.lemmas.Bool.{cases_lt}
+use Rattle.glob_automaton.proofs.EmptySets.{empty_record}
 use Rattle.std.proofs.lemmas.Option.{slice_get-get_or}
 use Rattle.glob_automaton.proofs.Counting.{few_values, each_counted}
 use Rattle.glob_automaton.proofs.LiveByParts.{LeftFirst}
@@ -163,14 +161,6 @@ module _ (first : LiveAtFirst) (after : LiveAfterByte) (by_steps : LeftFirst) (r
         below zero lt = b.are_sets.some
         below (suc i) lt = let inside : i < length prefixes = omega (arith, lt) in state_there (slice_index_or prefixes i []) (small i inside)
 
-    -- what is dead stays dead
-    stays : (c : ℕ) → c < 256 → target a 0 c ≡ 0
-    stays c small =
-        let step : IsStepOf chart [] c (slice_index_or b.sets (target a 0 c) []) =
-        subst (λ z. IsStepOf chart z c (slice_index_or b.sets (target a 0 c) [])) b.are_sets.empty (b.steps 0 c b.are_sets.some small) in
-        same_state (target a 0 c) 0 (target_there 0 c b.are_sets.some small) b.are_sets.some
-        (step_empty chart c (slice_index_or b.sets (target a 0 c) []) step ∙ sym b.are_sets.empty)
-
     -- the record of a state
     record_there : (s : ℕ) → s < length b.sets → (r : Record) × (slice_get a.records s ≡ Some r) × IsRecordOf chart (slice_index_or b.sets s []) r
     record_there s lt =
@@ -183,25 +173,6 @@ module _ (first : LiveAtFirst) (after : LiveAfterByte) (by_steps : LeftFirst) (r
         let w = record_there 0 b.are_sets.some in
         w.1 ∙ ap Some (empty_record chart w.0 (subst (λ z. IsRecordOf chart z w.0) b.are_sets.empty w.2))
 
-    -- where the start is dead, nothing else is
-    dead_start : a.start ≡ 0 → length a.rows ≡ 1
-    dead_start e =
-        let none : slice_index_or b.sets a.start [] ≡ [] = ap (λ z. slice_index_or b.sets z []) e ∙ b.are_sets.empty in
-        let begun : IsStartOf chart [] = subst (λ z. IsStartOf chart z) none b.begins in
-        ⊎_elim
-        (λ lt.
-        let more : 1 < length b.sets = omega (arith, lt, b.each_row) in
-        let reached = b.are_sets.reached 1 (omega arith) more in
-        absurd (b.are_sets.different 0 1 (omega arith) more (b.are_sets.empty ∙ sym (all_empty chart begun reached.0 (slice_index_or b.sets 1 []) reached.1))))
-        (λ le. omega (arith, le, b.are_sets.some, b.each_row))
-        (cases_lt 1 (length a.rows))
-
-    start_is : (a.start ≡ 1) ⊎ ((a.start ≡ 0) × (length a.rows ≡ 1))
-    start_is = ⊎_elim
-        (λ lt. let e : a.start ≡ 0 = omega (arith, lt) in inr (e, dead_start e))
-        (λ le. inl (omega (arith, le, b.start_first)))
-        (cases_lt a.start 1)
-
     -- what is built on a chart of rules whose paths begin with a slash is their automaton
     pub built : EachWithSlash rules → IsAutomatonOf rules a
     built slashes =
@@ -213,9 +184,7 @@ module _ (first : LiveAtFirst) (after : LiveAfterByte) (by_steps : LeftFirst) (r
               (w.0, w.1, record_least bytes (slice_index_or b.sets (state_after a bytes) []) w.0 (state_set bytes small) w.2);
           one_each = state_same;
           dead = state_dead;
-          stays_dead = stays;
           hits_nothing = none_there;
-          begins = start_is;
           count = (
             λ prefixes h. omega (arith, few_prefixes prefixes h, b.each_row),
             (counted.0, counted.1, omega (arith, counted.2, b.each_row)),

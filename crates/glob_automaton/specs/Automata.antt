@@ -28,13 +28,16 @@ state_after a bytes = goes_to a a.start bytes
 abbrev pub most_sets : ℕ
 most_sets = 16384
 
--- Each state has a row of 256 targets and a record; the start and each target are states; and there are not too many.
+-- Each state has a row of 256 targets and a record; the start and each target are states; and there are not too many. State 0
+-- leads to itself alone. The start is state 1, or state 0 where there is no other.
 pub record IsWhole (a : Automaton) : Type 0 where
   pub rows_long : (s : ℕ) → s < length a.rows → length (slice_index_or a.rows s []) ≡ 256
   pub targets : (s b : ℕ) → s < length a.rows → b < 256 → target a s b < length a.rows
   pub each_record : length a.records ≡ length a.rows
   pub start_there : a.start < length a.rows
   pub few : length a.rows ≤ most_sets
+  pub stays_dead : (b : ℕ) → b < 256 → target a 0 b ≡ 0
+  pub begins : (a.start ≡ 1) ⊎ ((a.start ≡ 0) × (length a.rows ≡ 1))
 
 -- The automaton of these rules. It has one state for each set of live places that a prefix of a name has, and state 0 for the
 -- empty set, whether or not a prefix has it. For every list of bytes it leads to the least hits.
@@ -43,9 +46,7 @@ pub record IsAutomatonOf (rules : List RuleValue) (a : Automaton) : Type 0 where
   pub least : (bytes : List ℕ) → are_bytes bytes → (r : Record) × (slice_get a.records (state_after a bytes) ≡ Some r) × IsLeastRecord rules bytes r
   pub one_each : (x y : List ℕ) → are_bytes x → are_bytes y → (state_after a x ≡ state_after a y) ↔ SameSet rules x y
   pub dead : (bytes : List ℕ) → are_bytes bytes → (state_after a bytes ≡ 0) ↔ NoneLive rules bytes
-  pub stays_dead : (b : ℕ) → b < 256 → target a 0 b ≡ 0
   pub hits_nothing : slice_get a.records 0 ≡ Some no_hits
-  pub begins : (a.start ≡ 1) ⊎ ((a.start ≡ 0) × (length a.rows ≡ 1))
   pub count : IsCount rules (length a.rows)
 
 -- why there is none

@@ -20,6 +20,3 @@ pub use laws::{
     too_many_states_can_be_told,
 };
 pub use record::{LeastHits, Record, told};
-
-#[cfg(test)]
-mod tests;

@@ -10,14 +10,14 @@ use rule_text::{RuleKind, Verdict};
 
 /// The least numbers of the rules that allow and that deny a permission (apparmor.d(5), "Rule Qualifiers"). Rules are counted
 /// from 1 in the order of the text; 0 where no rule does.
-#[derive(Clone, Copy, Debug, PartialEq, Eq)]
+#[derive(Clone, Copy, Debug, PartialEq, Eq, Hash)]
 pub struct LeastHits {
     pub allow: u16,
     pub deny: u16,
 }
 
 /// The least hits of each permission.
-#[derive(Clone, Copy, Debug, PartialEq, Eq)]
+#[derive(Clone, Copy, Debug, PartialEq, Eq, Hash)]
 pub struct Record {
     pub read: LeastHits,
     pub write: LeastHits,

@@ -40,6 +40,18 @@ loop-state-preserved c =
           (subst (λ z. IsRecordOf chart z c.record_of.result) c.deref-in-loop-state-2.ensures.value c.record_of.ensures)),
     )
 
+pub invariant_of-result : goal.invariant_of-result
+invariant_of-result c =
+    let sets = lists_of c.loop-state.sets in
+    let are = c.loop-state.invariant.1 in
+    let all : length sets ≤ c.loop-state.state =
+    elim c.loop-state-test.branch [
+      | else-loop-state-test w ↦ omega (arith, w.loop-state-test.false, are.sets_few.1)
+      | then-loop-state-test+in_ok-copy+then-not-branch w ↦
+          no_more w.in_ok-copy.field-0 c.loop-state.state (length sets) w.in_ok-copy.ensures.there w.if-not-branch.true
+    ] in
+    (built_states c.args.chart.now sets c.loop-state.rows.items c.loop-state.records.items c.in_ok-start.start c.loop-state.state are all).whole
+
 pub returns-clause-ok : goal.returns-clause-ok
 returns-clause-ok c =
     let sets = lists_of c.loop-state.sets in

@@ -1,0 +1,3 @@
+pub mod FaultlessTables
+pub mod StepsOfTables
+pub mod ToldByTables

@@ -1,0 +1,31 @@
+-- Tables of rules, and what they tell.
+use Rattle.std.specs.Prelude.{◌≡◌, List, Some, ℕ}
+use Rattle.glob_automaton.specs.Hits.{no_hits}
+use Rattle.glob_automaton.specs.Least.{IsLeastRecord}
+use Rattle.glob_automaton.specs.Records.{IsTold}
+use Rattle.glob_automaton.specs.Sets.{are_bytes}
+use Rattle.glob_automaton.specs.declared.record.Record.{Record}
+use Rattle.names.specs.declared.permissions.Perms.{Perms}
+use Rattle.rule_text.specs.PlainVerdict.{verdict}
+use Rattle.rule_text.specs.Profile.{RuleValue}
+use Rattle.rule_text.specs.declared.verdict.Verdict.{Verdict}
+use Rattle.table_image.specs.Tables.{StaysDead, Table, record_after, record_of}
+
+-- state 0 is left by no byte, and has no hits
+abbrev pub IsDeadAtZero : Table → Type 0
+IsDeadAtZero t = StaysDead t × (record_of t 0 ≡ Some no_hits)
+
+-- Every list of bytes leads to the record of its least hits. (Each list has exactly one such record.)
+abbrev pub TellsLeastHits : List RuleValue → Table → Type 0
+TellsLeastHits rules t = (bytes : List ℕ) (r : Record) → are_bytes bytes → IsLeastRecord rules bytes r →
+    record_after t bytes ≡ Some r
+
+-- a table of these rules, however its states are numbered and wherever its cells stand
+pub record IsTableOfRules (rules : List RuleValue) (t : Table) : Type 0 where
+  pub dead : IsDeadAtZero t
+  pub least : TellsLeastHits rules t
+
+-- what the record of a list of bytes tells is the verdict of the rules
+abbrev pub TellsVerdicts : List RuleValue → Table → Type 0
+TellsVerdicts rules t = (bytes : List ℕ) (r : Record) (ask : Perms) (v : Verdict) → are_bytes bytes →
+    record_after t bytes ≡ Some r → IsTold r ask v → v ≡ verdict rules bytes ask

@@ -1,0 +1,70 @@
+//! Profiles with the tables that they are compiled to.
+ghost use Rattle.std.specs.Prelude.{◌≡◌, IfOk, IfErr};
+ghost use Rattle.std.specs.Coded.{codes};
+ghost use Rattle.glob_automaton.specs.Automata.{most_sets};
+ghost use Rattle.glob_automaton.specs.Sets.{AreMoreThan};
+ghost use Rattle.glob_automaton.specs.contracts.record.Record as record_code;
+ghost use Rattle.matcher.specs.Making.{IsMakeFault};
+ghost use Rattle.matcher.specs.Telling.{IsDeadAtZero, IsTableOfRules, TellsLeastHits};
+ghost use Rattle.rule_text.specs.Profile.{profile_value};
+ghost use Rattle.table_image.specs.Bounds.{InBounds};
+ghost use Rattle.table_image.specs.Tables.{table_value};
+
+use crate::fault::MakeFault;
+use glob_automaton::{compile, names_have_one_least_record};
+use rule_text::Profile;
+use std::alloc::Global;
+use table_image::{RawTable, pack};
+use table_verifier::{VerifiedTable, verify};
+
+/// A table of a profile's rules, in bounds, if they haven't too many states.
+pub fn table_of(alloc: Global, profile: &Profile) -> Result<RawTable, MakeFault>
+    ensures bounds { IfOk result (λ table. InBounds (table_value table)) }
+    ensures rules { IfOk result (λ table. IsTableOfRules (profile_value profile.now).rules (table_value table)) }
+    ensures few { IfOk result (λ _. ¬ (AreMoreThan most_sets (profile_value profile.now).rules)) }
+    ensures err { IfErr result (IsMakeFault (profile_value profile.now).rules) }
+{
+    names_have_one_least_record();
+    let dfa = compile(alloc, profile)?;
+    Ok(pack(alloc, &dfa)?)
+}
+
+/// A profile's rules and their table, which leads every name to the least hits of the rules and so tells their verdicts.
+#[derive(Drop)]
+pub struct CompiledProfile {
+    profile: Profile,
+    table: VerifiedTable,
+    ghost dead: { IsDeadAtZero table } by { Prim.hlevel (codes, record_code.the_row.coded) },
+    ghost least: { TellsLeastHits (profile_value profile).rules table } by { Prim.hlevel (codes, record_code.the_row.coded) },
+}
+
+impl CompiledProfile {
+    /// Compiles a profile, if it hasn't too many states.
+    pub fn make(alloc: Global, profile: Profile) -> Result<CompiledProfile, MakeFault>
+        ensures profile { IfOk result (λ compiled. compiled.profile ≡ profile) }
+        ensures few { IfOk result (λ _. ¬ (AreMoreThan most_sets (profile_value profile).rules)) }
+        ensures err { IfErr result (IsMakeFault (profile_value profile).rules) }
+    {
+        let table = table_of(alloc, &profile)?;
+        match verify(table) {
+            Ok(table) => Ok(CompiledProfile { profile, table }),
+            // A table of rules is in bounds.
+            Err(_) => unreachable!(),
+        }
+    }
+
+    /// The profile.
+    pub fn profile(&self) -> &Profile
+        ensures { result.now ≡ self.now.profile }
+    {
+        &self.profile
+    }
+
+    /// The table to judge by.
+    pub fn table(&self) -> &VerifiedTable
+        ensures own { result.now ≡ self.now.table }
+        ensures rules { IsTableOfRules (profile_value self.now.profile).rules result.now }
+    {
+        &self.table
+    }
+}

@@ -1,0 +1,18 @@
+//! Laws of tables of rules.
+ghost use Rattle.std.specs.Prelude.{List};
+ghost use Rattle.matcher.specs.Telling.{TellsLeastHits, TellsVerdicts};
+ghost use Rattle.rule_text.specs.Profile.{RuleValue};
+ghost use Rattle.table_image.specs.Tables.{Table};
+
+use glob_automaton::{least_hits_tell_the_verdict, names_have_one_least_record};
+use rule_text::one_verdict_is_right;
+
+/// A table that leads every name to its least hits tells the verdicts of the rules: `judge` by a compiled profile answers
+/// what its rules say.
+pub fn tables_of_rules_tell_their_verdicts()
+    ensures { (rules : List RuleValue) (t : Table) → TellsLeastHits rules t → TellsVerdicts rules t }
+{
+    least_hits_tell_the_verdict();
+    names_have_one_least_record();
+    one_verdict_is_right();
+}

@@ -1,0 +1,27 @@
+//! Names through tables.
+ghost use Rattle.std.specs.Prelude.{◌≡◌, ◌+◌, ◌^◌, ◌<◌, Some, length};
+ghost use Rattle.table_image.specs.Tables.{state_after, state_count};
+ghost use Rattle.table_verifier.specs.Running.{Runs};
+
+use std::mem;
+use table_verifier::{State, Steps, VerifiedTable};
+
+/// The state that a list of bytes leads to. Whoever made the table, no index leaves it, whatever the bytes are, and there is
+/// exactly one look-up for each byte. No memory is taken, and there is nothing to refuse.
+// It stays a function of its own, with a count of its own: so the count and the places of the tables are in registers.
+#[inline(never)]
+pub fn run(table: &VerifiedTable, bytes: &[u8], steps: &mut Steps) -> State
+    requires { steps.old + length bytes.now < 2 ^ 64 }
+    ensures runs { Runs table.now }
+    ensures last { state_after table.now bytes.now ≡ Some result }
+    ensures there { result < state_count table.now }
+    ensures steps { steps.new ≡ steps.old + length bytes.now }
+{
+    let mut state = table.start();
+    let mut counted = mem::replace(steps, Steps::new());
+    for byte in bytes {
+        state = table.look_up(state, *byte, &mut counted);
+    }
+    *steps = counted;
+    state
+}

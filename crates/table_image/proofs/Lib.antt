@@ -1,0 +1,14 @@
+pub mod Deciding
+pub mod FirstFaults
+pub mod HeaderReads
+pub mod Heads
+pub mod ImageFaults
+pub mod Joined
+pub mod OneImage
+pub mod Pieces
+pub mod Wholes
+pub mod EqualRecords
+pub mod GrowingLists
+pub mod RecordNumbers
+pub mod PackedStates
+pub mod PackedTables

@@ -1,0 +1,12 @@
+//! Tables whose bounds are verified: no index leaves them, whatever the bytes that they run on.
+#![tactic(auto)]
+
+mod laws;
+mod steps;
+mod verified;
+mod verifying;
+
+pub use laws::tables_in_bounds_run;
+pub use steps::Steps;
+pub use verified::{State, VerifiedTable};
+pub use verifying::verify;
