@@ -1,13 +1,15 @@
 # make        builds ./aa-trace, the proved program
-# make run    builds it, judges a name by examples/passwd.profile, and runs two scripts of examples/
+# make run    builds it, judges a name by examples/passwd.profile and by its image, and runs two scripts of examples/
 # make test   the gate: every proof from nothing, must-fail edits, tests, programs
-# make bench  times on large inputs, each with the ratio to half the size or to another input, and of compiled profiles
+# make bench  times on large inputs, each with the ratio to half the size or to another input, of compiled profiles, and of the
+#             loop that runs names through a table, beside the same loop in C
+# make calls  calls the static library crates/coqetwal from C
 # make refusals  refuses each allocation of the program in turn
 
 RT := $(shell command -v rt 2>/dev/null)
 SOURCES := crates.txt HANDLES $(shell find crates -path '*/out' -prune -o -type f \( -name '*.rt' -o -name '*.antt' \) -print)
 
-.PHONY: all run test bench refusals need-rt
+.PHONY: all run test bench calls refusals need-rt
 
 all: aa-trace
 
@@ -19,6 +21,7 @@ aa-trace: $(SOURCES) | need-rt
 
 run: aa-trace
 	./aa-trace judge rw /etc/passwd < examples/passwd.profile
+	./aa-trace compile < examples/passwd.profile | ./aa-trace match rw /etc/passwd
 	./aa-trace run < examples/move.script
 	./aa-trace run < examples/links.script
 
@@ -28,6 +31,10 @@ test: need-rt
 bench: aa-trace
 	sh bench/run.sh
 	sh bench/compile.sh
+	sh bench/match.sh
+
+calls: aa-trace
+	sh tools/calls.sh
 
 refusals: aa-trace
 	sh tools/refuse-allocations.sh

@@ -15,7 +15,8 @@ quietly() {
     fi
 }
 
-for crate in names rule_text path_walk glob_automaton; do
+for crate in names rule_text path_walk glob_automaton table_image table_verifier matcher \
+        trace_report trace_line plain_bench trace_script trace_commands; do
     quietly "proving $crate" sh -c "cd crates/$crate && rt check"
 done
 # rt run proves the program, builds it and runs it once.

@@ -82,6 +82,10 @@ refuse_all examples/viewer.profile judge w /home/me/.gnupg/keys
 refuse_all "$work/rules" judge r /home/me/.ssh/a/id_39.pub
 refuse_all /dev/null judge r /x
 refuse_all /dev/null judge r
+refuse_all examples/viewer.profile compile
+./aa-trace compile <examples/viewer.profile >"$work/image"
+refuse_all "$work/image" check
+refuse_all "$work/image" match rw /home/me/.gnupg/keys
 refuse_all /dev/null --help
 
 # Directories, files, moves onto what stands and what doesn't, policies that are replaced and dropped.

@@ -2,12 +2,14 @@
 use Rattle.std.specs.Prelude.{◌≡◌, ◌⊎◌, ℕ, Bool, true, false, List, Option, Some, None, codes, is_err, ⊤}
 use Rattle.std.specs.Io.KnownBytes.{Keeps, Appends}
 use Rattle.glob_automaton.specs.Automata.{StateLimit}
-use Rattle.trace_cli.specs.CommandLine.{LineValue, judge, run}
-use Rattle.trace_cli.specs.Output.{ask_of, judge_output, line}
-use Rattle.trace_cli.specs.RunOutput.{RunEnds}
-use Rattle.trace_cli.specs.Streams.{Ends, Streams}
-use Rattle.trace_cli.specs.declared.status.Status.{Status}
-use Rattle.trace_cli.specs.declared.status.Status.TheVariants.{BadArguments, FaultsFailed, NoMemory}
+use Rattle.trace_line.specs.CommandLine.{LineValue, judge, run, compile, check, match_name}
+use Rattle.trace_commands.specs.Judge.{ask_of, judge_output}
+use Rattle.trace_report.specs.Output.{line}
+use Rattle.trace_script.specs.RunOutput.{RunEnds}
+use Rattle.trace_report.specs.Streams.{Ends, EndsInOne, Streams}
+use Rattle.trace_commands.specs.Tables.{IsCompileOutput, IsCheckOutput, IsMatchOutput}
+use Rattle.trace_report.specs.declared.status.Status.{Status}
+use Rattle.trace_report.specs.declared.status.Status.TheVariants.{BadArguments, FaultsFailed, NoMemory}
 
 -- no answer was written, and standard error has `no memory`
 pub record IsOutOfMemory (streams : Streams) : Type 0 where
@@ -33,9 +35,16 @@ ProgramEnds limit None text streams left_before left_after status = UsageEnds st
 ProgramEnds limit (Some (judge perms name)) text streams left_before left_after status =
     Ends streams (judge_output perms name text) status ⊎ ((status ≡ NoMemory) × IsOutOfMemory streams)
 ProgramEnds limit (Some (run capacity)) text streams left_before left_after status = RunEnds limit streams left_before left_after capacity text status
+ProgramEnds limit (Some compile) text streams left_before left_after status = EndsInOne streams (IsCompileOutput text) status
+ProgramEnds limit (Some check) text streams left_before left_after status = EndsInOne streams (IsCheckOutput text) status
+ProgramEnds limit (Some (match_name perms name)) text streams left_before left_after status =
+    EndsInOne streams (IsMatchOutput perms name text) status ⊎ ((status ≡ NoMemory) × IsOutOfMemory streams)
 
 -- whether the words say that nothing is to be read
 abbrev pub reads_nothing : Option LineValue → Bool
 reads_nothing None = true
 reads_nothing (Some (judge perms name)) = is_err (ask_of perms name)
 reads_nothing (Some (run capacity)) = false
+reads_nothing (Some compile) = false
+reads_nothing (Some check) = false
+reads_nothing (Some (match_name perms name)) = is_err (ask_of perms name)

@@ -1,35 +1,20 @@
 //! `aa-trace`: says what profiles of file rules make of names, and of opens in a directory tree.
 //!
 //! `aa-trace judge PERMS NAME` judges a name by the profile on standard input: it writes `allowed`, `denied by rule K` or
-//! `no rule for LETTERS`. `aa-trace run --capacity N` answers the script on standard input line by line: changes of a
-//! tree, profiles, and judged opens. Faults go to standard error, and the exit status is 0 for answers, 2 for a bad
-//! command line, 3 for a refused text or stream, and 4 for want of memory.
+//! `no rule for LETTERS`. `aa-trace compile` writes the image of that profile. `aa-trace check` tests the image on standard
+//! input, and `aa-trace match PERMS NAME` judges a name by it. `aa-trace run --capacity N` answers the script on standard
+//! input line by line: changes of a tree, profiles, and judged opens. Faults go to standard error, and the exit status is 0
+//! for answers, 2 for a bad command line, 3 for a refused text, profile, image or stream, and 4 for want of memory.
 #![tactic(auto)]
 
-mod bench;
-mod command_line;
-mod compiled;
-mod deeds;
-mod fault;
-mod judge;
-mod laws;
-mod linking;
-mod opening;
-mod plain_bench;
-mod policy;
 mod program;
-mod rows;
-mod run;
-mod status;
-mod telling;
 
 use program::run_words;
-use status::Status;
 use std::io::{BufReader, ErrorKind, Input, Print, Write};
 use std::process::ExitCode;
 use std::rt::Env;
 use std::{env, io};
-use telling::fail;
+use trace_report::{Status, fail};
 
 fn main(rt: HostRuntime) -> ExitCode {
     let mut faults = rt.stderr();

@@ -2,18 +2,17 @@
 ghost use Rattle.std.specs.Prelude.{◌≡◌, ◌⊎◌, ℕ, List, true, map};
 ghost use Rattle.std.specs.Io.KnownBytes.{Keeps};
 ghost use Rattle.glob_automaton.specs.Automata.{StateLimit};
-ghost use Rattle.trace_cli.specs.CommandLine.{line_of};
+ghost use Rattle.trace_line.specs.CommandLine.{line_of};
 ghost use Rattle.trace_cli.specs.Program.{ProgramEnds, TellsUsage, reads_nothing};
-ghost use Rattle.trace_cli.specs.Streams.{IsTextOf};
+ghost use Rattle.trace_report.specs.Streams.{IsTextOf};
 
-use crate::command_line::{Line, LineFault, command_line};
-use crate::judge::judge;
-use crate::run::run;
-use crate::status::Status;
-use crate::telling::fail;
 use std::alloc::Global;
 use std::convert::AsStr;
 use std::io::{BufRead, Write};
+use trace_commands::{check, compile, judge, match_name};
+use trace_line::{Line, LineFault, command_line};
+use trace_report::{Status, fail};
+use trace_script::run;
 
 /// Does what the words ask for, of which the first is the program's name. A fault is told on `faults`.
 pub fn run_words<S: AsStr, R: BufRead, A: Write, F: Write>(
@@ -37,6 +36,9 @@ pub fn run_words<S: AsStr, R: BufRead, A: Write, F: Write>(
     match command_line(alloc, words) {
         Ok(Line::Judge { perms, name }) => judge(alloc, perms, name, input, answers, faults),
         Ok(Line::Run { capacity }) => run(alloc, capacity, input, answers, faults),
+        Ok(Line::Compile) => compile(alloc, input, answers, faults),
+        Ok(Line::Check) => check(alloc, input, answers, faults),
+        Ok(Line::Match { perms, name }) => match_name(alloc, perms, name, input, answers, faults),
         Err(LineFault::Usage(error)) => tell_usage(alloc, faults, &error),
         Err(LineFault::NoMemory) => fail(faults, "no memory", Status::NoMemory),
     }

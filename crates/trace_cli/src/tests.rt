@@ -1,12 +1,13 @@
-use crate::command_line::{Line, LineFault, command_line};
 use crate::program::run_words;
-use crate::status::Status;
 use std::alloc::Global;
 use std::io;
 use std::io::{BufReader, ErrorKind, Read, Write};
 use std::test::Fail;
+use trace_line::{Line, LineFault, command_line};
+use trace_report::Status;
 
 mod benches;
+mod images;
 mod links;
 mod scripts;
 
@@ -85,7 +86,12 @@ impl Write for Failing {
 
 /// A run over memory: its status, and what stands on both streams.
 fn run(alloc: Global, words: &[&str], text: &str) -> (Status, Vec<u8>, Vec<u8>) {
-    let mut input = text.as_bytes();
+    run_on_bytes(alloc, words, text.as_bytes())
+}
+
+/// The same over input that is no text.
+fn run_on_bytes(alloc: Global, words: &[&str], bytes: &[u8]) -> (Status, Vec<u8>, Vec<u8>) {
+    let mut input = bytes;
     let mut answers = Vec::new(alloc);
     let mut faults = Vec::new(alloc);
     let status = run_words(alloc, words, &mut input, &mut answers, &mut faults);

@@ -1,8 +1,8 @@
 //! Scripts over a tree in plain memory, as the program runs them.
-use crate::status::Status;
 use crate::tests::run;
 use std::alloc::Global;
 use std::test::Fail;
+use trace_report::Status;
 
 /// A script that goes to its end: what stands on standard output.
 pub(super) fn answers_to(alloc: Global, capacity: &str, script: &str) -> Result<Vec<u8>, Fail> {

@@ -1,10 +1,10 @@
 //! Scripts with links and with every change, over a tree in plain memory.
-use crate::status::Status;
 use crate::tests::benches::{all_answers, answers_to};
 use crate::tests::run;
 use std::alloc::Global;
 use std::process::Abort;
 use std::test::Fail;
+use trace_report::Status;
 
 /// Scripts behind these rules of the profile p, each in a new tree, and what they print.
 fn expect(rt: &impl Abort, alloc: Global, rules: &str, cases: &[(&str, &str)]) -> Result<(), Fail> {

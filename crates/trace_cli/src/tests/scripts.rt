@@ -1,19 +1,19 @@
 //! Scripts, on a bench that has no memory for anything new.
 ghost use Rattle.std.specs.Prelude.{[]};
-ghost use Rattle.trace_cli.specs.RunOutput.{new_known};
+ghost use Rattle.plain_bench.specs.Known.{new_known};
 
-use crate::bench::{Answer, Bench, LinkAnswer};
-use crate::run::run_script;
-use crate::status::Status;
 use crate::tests::{Failing, Pieces};
-use glob_automaton::CompileFault;
+use matcher::MakeFault;
 use names::{Errno, NoMemory, Perms};
 use path_walk::Change;
+use plain_bench::{Answer, Bench, LinkAnswer};
 use rule_text::Profile;
 use std::alloc::Global;
 use std::io;
 use std::io::{BufReader, ErrorKind};
 use std::test::Fail;
+use trace_report::Status;
+use trace_script::run_script;
 
 /// The root alone and no profile, and memory for no more.
 #[derive(Drop)]
@@ -40,8 +40,8 @@ impl Bench for FullBench {
         &[]
     }
 
-    fn publish(&mut self, _profile: Profile) -> Result<u64, CompileFault> {
-        Err(CompileFault::NoMemory)
+    fn publish(&mut self, _profile: Profile) -> Result<u64, MakeFault> {
+        Err(MakeFault::NoMemory)
     }
 
     fn remove(&mut self, _name: &[u8]) -> Result<u64, NoMemory> {

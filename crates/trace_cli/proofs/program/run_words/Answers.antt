@@ -1,7 +1,7 @@
 use Rattle.std.proofs.Common.{◌≡◌, true, map}
 use Rattle.std.specs.Prelude.{is_some}
-use Rattle.trace_cli.specs.CommandLine.{line_of}
-use Rattle.trace_cli.proofs.Judging.{text_of}
+use Rattle.trace_line.specs.CommandLine.{line_of}
+use Rattle.trace_report.proofs.Endings.{text_of}
 use Rattle.trace_cli.proofs.Running.{memory_ends, usage_ends}
 use Rattle.trace_cli.proofs.program.run_words.Goals as goal
 

@@ -1,0 +1,36 @@
+-- One permission after the other joins the set, or doesn't.
+use Rattle.std.proofs.Common.{refl, sym, ap, ◌∙◌, take_all}
+use Rattle.names.specs.declared.permissions.Permission.TheVariants.{Read}
+use Rattle.names.specs.Permissions.{all_permissions}
+use Rattle.rule_text.specs.Profile.{profile_value}
+use Rattle.rule_text.proofs.LinkLaws.{is_allowed_by, passing, passing_more, passing_same, passing_all}
+use Rattle.plain_bench.proofs.Told.{told_allowed}
+use Rattle.plain_bench.proofs.compiled.allowed_by.Goals as goal
+use Rattle.plain_bench.proofs.compiled.allowed_by.Goals.{then-tells_allowed, else-tells_allowed}
+
+pub loop-permission-preserved : goal.loop-permission-preserved
+loop-permission-preserved c =
+    let own = c.args.compiled.now in
+    let rules = (profile_value own.profile).rules in
+    let test = is_allowed_by rules c.args.name.now in
+    let tells = c.tables_of_rules_tell_their_verdicts.ensures rules own.table (rw c.table.ensures.own at c.table.ensures.rules.least) in
+    let told = told_allowed rules own.table c.args.name.now _ c.record_by-record.result c.tells_allowed.result tells c.type_inv.name (rw (← c.table.ensures.own) c.record_by-record.ensures) c.tells_allowed.ensures in
+    elim c.if-tells_allowed.branch [
+      | then-tells_allowed w ↦ record {
+        so_far = w.perms-is ∙ w.with-perms.ensures
+            ∙ passing_more test all_permissions c.loop-permission.permission-index Read _ c.loop-permission.perms c.loop-permission-test.true refl
+            (sym told ∙ w.if-tells_allowed.true) c.loop-permission.invariant.so_far;
+      }
+      | else-tells_allowed w ↦ record {
+        so_far = w.perms-is
+            ∙ passing_same test all_permissions c.loop-permission.permission-index Read _ c.loop-permission.perms c.loop-permission-test.true refl
+            (sym told ∙ w.if-tells_allowed.false) c.loop-permission.invariant.so_far;
+      }
+    ]
+
+pub returns : goal.returns
+returns c =
+    let test = is_allowed_by (profile_value c.args.compiled.now.profile).rules c.args.name.now in
+    c.loop-permission.invariant.so_far
+    ∙ ap (passing test) (take_all c.loop-permission.permission-index all_permissions c.loop-permission-test.false)
+    ∙ passing_all test

@@ -1,5 +1,0 @@
-use Rattle.trace_cli.proofs.LineTexts.{lines_again}
-use Rattle.trace_cli.proofs.laws.lines_are_the_text.Goals as goal
-
-pub returns : goal.returns
-returns c = lines_again

@@ -1,7 +1,0 @@
-use Rattle.std.proofs.Common.{refl}
-use Rattle.rule_text.specs.PlainVerdict.{verdict}
-use Rattle.trace_cli.proofs.rows.links_are_answered.Goals as goal
-
-pub returns : goal.returns
-unfolding verdict
-returns c limit = refl

@@ -1,0 +1,88 @@
+-- Of each image there is one answer.
+use Rattle.std.proofs.Common.{◌≡◌, ℕ, List, Result, Ok, Err, Some, sym, ap, subst, ◌∙◌, inl, inr}
+use Rattle.std.proofs.lemmas.Option.{same_Some}
+use Rattle.glob_automaton.specs.Records.{IsTold}
+use Rattle.glob_automaton.specs.Sets.{are_bytes}
+use Rattle.glob_automaton.specs.declared.record.Record.{Record}
+use Rattle.matcher.specs.Making.{IsLoaded, IsLoadFault}
+use Rattle.matcher.specs.Telling.{TellsLeastHits, TellsVerdicts}
+use Rattle.names.specs.declared.permissions.Perms.{Perms}
+use Rattle.rule_text.specs.PlainVerdict.{verdict}
+use Rattle.rule_text.specs.Profile.{ProfileValue, RuleValue}
+use Rattle.rule_text.specs.declared.verdict.Verdict.{Verdict}
+use Rattle.table_image.specs.Bounds.{InBounds, IsFirstFault}
+use Rattle.table_image.specs.Images.{IsFirstImageFault, IsImageOf}
+use Rattle.table_image.specs.Tables.{Table, record_after}
+use Rattle.table_image.specs.declared.fault.ImageFault.{ImageFault}
+use Rattle.trace_commands.specs.Judge.{ask_of}
+use Rattle.trace_report.specs.Output.{Output, fault, image_refusal, line, whole_answer}
+use Rattle.trace_commands.specs.Tables.{IsCheckOutput, IsImageOutput, IsImageRefused, IsMatchOutput, IsMatchOutputOf, IsMatchedOutput, IsVerdictOf, counts_text, match_text}
+use Rattle.trace_report.specs.declared.status.Status.TheVariants.{Refused}
+
+-- what the laws of images, of tables and of records say
+module _
+    (one_table : (bytes : List ℕ) (t u : Table) → IsImageOf bytes t → IsImageOf bytes u → t ≡ u)
+    (no_image : (bytes : List ℕ) (t : Table) (f : ImageFault) → IsImageOf bytes t → ¬ (IsFirstImageFault bytes f))
+    (one_image_fault : (bytes : List ℕ) (f g : ImageFault) → IsFirstImageFault bytes f → IsFirstImageFault bytes g → f ≡ g)
+    (no_bounds : (t : Table) (f : ImageFault) → InBounds t → ¬ (IsFirstFault t f))
+    (one_fault : (t : Table) (f g : ImageFault) → IsFirstFault t f → IsFirstFault t g → f ≡ g) where
+  -- an image that is loaded has no fault
+  loaded_or_refused : (image : List ℕ) (t : Table) (f : ImageFault) → IsLoaded image t → IsLoadFault image f → ⊥
+  loaded_or_refused image t f loaded (inl first) = no_image image t f loaded.0 first
+  loaded_or_refused image t f loaded (inr (u, is, first)) =
+      no_bounds t f loaded.1 (subst (λ (v : Table). IsFirstFault v f) (one_table image u t is loaded.0) first)
+
+  one_load_fault : (image : List ℕ) (f g : ImageFault) → IsLoadFault image f → IsLoadFault image g → f ≡ g
+  one_load_fault image f g (inl first) (inl other) = one_image_fault image f g first other
+  one_load_fault image f g (inl first) (inr (u, is, other)) = absurd (no_image image u f is first)
+  one_load_fault image f g (inr (t, is, first)) (inl other) = absurd (no_image image t g is other)
+  one_load_fault image f g (inr (t, is, first)) (inr (u, so, other)) =
+      one_fault t f g first (subst (λ (v : Table). IsFirstFault v g) (one_table image u t so is) other)
+
+  one_refusal : (image : List ℕ) (one other : Output) → IsImageRefused image one → IsImageRefused image other → one ≡ other
+  one_refusal image one other (f, first, e) (g, second, h) =
+      e ∙ ap (λ (k : ImageFault). fault (image_refusal k) Refused) (one_load_fault image f g first second) ∙ sym h
+
+  pub one_check : (image : List ℕ) (one other : Output) → IsCheckOutput image one → IsCheckOutput image other → one ≡ other
+  one_check image one other (inl (t, loaded, e)) (inl (u, so, h)) =
+      e ∙ ap (λ (v : Table). whole_answer (line (counts_text v))) (one_table image t u loaded.0 so.0) ∙ sym h
+  one_check image one other (inl (t, loaded, e)) (inr (g, first, h)) = absurd (loaded_or_refused image t g loaded first)
+  one_check image one other (inr (f, first, e)) (inl (u, so, h)) = absurd (loaded_or_refused image u f so first)
+  one_check image one other (inr refused) (inr second) = one_refusal image one other refused second
+
+  module _ (one_verdict : (r : Record) (ask : Perms) (first second : Verdict) → IsTold r ask first → IsTold r ask second → first ≡ second) where
+    verdict_of_one : (t : Table) (name : List ℕ) (ask : Perms) (v w : Verdict) → IsVerdictOf t name ask v → IsVerdictOf t name ask w → v ≡ w
+    verdict_of_one t name ask v w (r, at, told) (s, there, so) =
+        one_verdict r ask v w told (subst (λ (q : Record). IsTold q ask w) (same_Some s r (sym there ∙ at)) so)
+
+    one_matched : (ask : Perms) (name image : List ℕ) (one other : Output) → IsMatchedOutput ask name image one → IsMatchedOutput ask name image other → one ≡ other
+    one_matched ask name image one other (inl (t, loaded, v, told, e)) (inl (u, so, w, second, h)) =
+        let here : IsVerdictOf t name ask w = subst (λ (x : Table). IsVerdictOf x name ask w) (one_table image u t so.0 loaded.0) second in
+        e ∙ ap (λ (x : Verdict). whole_answer (match_text name x)) (verdict_of_one t name ask v w told here) ∙ sym h
+    one_matched ask name image one other (inl (t, loaded, v, told, e)) (inr (g, first, h)) = absurd (loaded_or_refused image t g loaded first)
+    one_matched ask name image one other (inr (f, first, e)) (inl (u, so, w, second, h)) = absurd (loaded_or_refused image u f so first)
+    one_matched ask name image one other (inr refused) (inr second) = one_refusal image one other refused second
+
+    one_asked : (asked : Result Perms (List ℕ)) (name image : List ℕ) (one other : Output) → IsMatchOutputOf asked name image one → IsMatchOutputOf asked name image other → one ≡ other
+    one_asked (Err told) name image one other e h = e ∙ sym h
+    one_asked (Ok ask) name image one other e h = one_matched ask name image one other e h
+
+    pub one_match : (perms name image : List ℕ) (one other : Output) → IsMatchOutput perms name image one → IsMatchOutput perms name image other → one ≡ other
+    one_match perms name image one other e h = one_asked (ask_of perms name) name image one other e h
+
+  module _ (right : (rules : List RuleValue) (t : Table) → TellsLeastHits rules t → TellsVerdicts rules t) where
+    matched_right : (profile : ProfileValue) (bytes : List ℕ) (t : Table) (matched : Output) (ask : Perms) (name : List ℕ) → are_bytes name
+        → TellsLeastHits profile.rules t → IsLoaded bytes t → IsMatchedOutput ask name bytes matched
+        → matched ≡ whole_answer (match_text name (verdict profile.rules name ask))
+    matched_right profile bytes t matched ask name small least loaded (inl (u, so, v, (r, at, told), e)) =
+        let same : u ≡ t = one_table bytes u t so.0 loaded.0 in
+        let there : record_after t name ≡ Some r = subst (λ (x : Table). record_after x name ≡ Some r) same at in
+        e ∙ ap (λ (x : Verdict). whole_answer (match_text name x)) (right profile.rules t least name r ask v small there told)
+    matched_right profile bytes t matched ask name small least loaded (inr (f, first, e)) = absurd (loaded_or_refused bytes t f loaded first)
+
+    pub matched_by_image : (profile : ProfileValue) (image matched : Output) (ask : Perms) (name : List ℕ) → are_bytes name
+        → IsImageOutput profile image → IsMatchedOutput ask name image.answers matched
+        → matched ≡ whole_answer (match_text name (verdict profile.rules name ask))
+    matched_by_image profile image matched ask name small (t, of, bytes, loaded, e) wanted =
+        matched_right profile bytes t matched ask name small of.least loaded
+        (subst (λ (o : Output). IsMatchedOutput ask name o.answers matched) e wanted)

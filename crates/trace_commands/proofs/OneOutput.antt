@@ -1,0 +1,153 @@
+-- Commands that may write one of some outputs.
+use Rattle.matcher.specs.Making.{IsLoadFault}
+use Rattle.std.specs.Prelude.{Vec}
+use Rattle.glob_automaton.specs.Automata.{most_sets}
+use Rattle.glob_automaton.specs.Sets.{AreMoreThan}
+use Rattle.matcher.specs.declared.fault.MakeFault.TheVariants.{TooManyStates}
+use Rattle.matcher.specs.Telling.{IsTableOfRules}
+use Rattle.table_image.specs.Bounds.{InBounds}
+use Rattle.table_image.specs.Images.{IsImageOf}
+use Rattle.table_image.specs.Tables.{Table}
+use Rattle.std.specs.declared.alloc.Global.{Global}
+use Rattle.table_image.specs.declared.fault.ImageFault.{ImageFault}
+use Rattle.table_image.specs.declared.fault.ImageFault.TheVariants as fault_here
+use Rattle.std.proofs.Common.{◌≡◌, ◌≢◌, ◌⊎◌, ℕ, List, Option, Result, Ok, Err, refl, inl, inr}
+use Rattle.names.specs.declared.permissions.Perms.{Perms}
+use Rattle.rule_text.specs.Profile.{ProfileValue}
+use Rattle.rule_text.specs.Reading.{outcome_of}
+use Rattle.rule_text.specs.declared.fault.ReadFault.{ReadFault}
+use Rattle.trace_commands.specs.Answers.{AreGood, IsAnswered, IsFaultOfOne}
+use Rattle.trace_report.specs.Fault.{fault_of_image, fault_text, fault_status}
+use Rattle.trace_commands.specs.Judge.{ask_of}
+use Rattle.trace_report.specs.Output.{Output, compile_refusal, fault, image_refusal, refusal, whole_answer}
+use Rattle.trace_report.specs.Streams.{Ends, EndsInOne, IsTold, Streams}
+use Rattle.trace_commands.specs.Tables.{IsCheckOutput, IsCompileOutput, IsCompileOutputOf, IsImageRefused, IsMatchOutput, IsMatchOutputOf, IsMatchedOutput}
+use Rattle.trace_report.specs.declared.fault.Fault.{Fault}
+use Rattle.trace_report.specs.declared.fault.Fault.TheVariants.{Permissions, Name, Text, Compiling, Image, Input, Memory}
+use Rattle.trace_report.specs.declared.status.Status.{Status}
+use Rattle.trace_report.specs.declared.status.Status.TheVariants.{BadArguments, Done, FaultsFailed, InputFailed, NoMemory, OutputFailed, Refused}
+use Rattle.trace_report.proofs.Endings.{keeps, told_alone, written}
+
+-- answers and refusals tell of no bad arguments
+not_bad : (output : Output) (bytes : List ℕ) → output ≡ whole_answer bytes → output.status ≢ BadArguments
+not_bad output bytes e = rw e (λ bad. cc)
+
+refused : (output : Output) (text : List ℕ) → output ≡ fault text Refused → output.status ≢ BadArguments
+refused output text e = rw e (λ bad. cc)
+
+compile_status : (outcome : Result ProfileValue ReadFault) → AreGood (IsCompileOutputOf outcome)
+compile_status (Err f) output e = refused output (refusal f) e
+compile_status (Ok profile) output (inl over) = refused output (compile_refusal TooManyStates) over.1
+compile_status (Ok profile) output (inr made) = not_bad output made.1.2 made.1.4
+
+pub compile_arguments : (text : List ℕ) → AreGood (IsCompileOutput text)
+compile_arguments text = compile_status (outcome_of text)
+
+image_refused : (image : List ℕ) (output : Output) → IsImageRefused image output → output.status ≢ BadArguments
+image_refused image output h = refused output (image_refusal h.0) h.2
+
+pub check_arguments : (image : List ℕ) → AreGood (IsCheckOutput image)
+check_arguments image output (inl h) = not_bad output _ h.2
+check_arguments image output (inr h) = image_refused image output h
+
+pub matched_arguments : (ask : Perms) (name image : List ℕ) → AreGood (IsMatchedOutput ask name image)
+matched_arguments ask name image output (inl h) = not_bad output _ h.4
+matched_arguments ask name image output (inr h) = image_refused image output h
+
+-- a command that gave an answer that is wanted ends as it should
+pub one_given : (streams : Streams) (Wanted : Output → Type 0) (output : Output) (status : Status) → AreGood Wanted → Wanted output
+    → Ends streams output status → EndsInOne streams Wanted status
+one_given streams Wanted output Done good of h = (output, of, h)
+one_given streams Wanted output BadArguments good of h = (output, of, h)
+one_given streams Wanted output Refused good of h = (output, of, h)
+one_given streams Wanted output InputFailed good of h = record { answers = h.answers; faults = h.faults; arguments = good }
+one_given streams Wanted output NoMemory good of h = record { answers = h.answers; faults = h.faults; arguments = good }
+one_given streams Wanted output OutputFailed good of h = (output, of, h)
+one_given streams Wanted output FaultsFailed good of h = inr (output, of, h)
+
+-- a command that told its fault ends as it should
+pub one_told : (answers before after : Option (List ℕ)) (Wanted : Output → Type 0) (f : Fault) (status : Status)
+    → IsFaultOfOne Wanted f → IsTold before after (fault_text f) (fault_status f) status → EndsInOne (told_alone answers before after) Wanted status
+one_told answers before after Wanted f status of (inl e) = rw e (inl (keeps answers))
+one_told answers before after Wanted Permissions status of (inr h) =
+    rw h.0 (fault (fault_text Permissions) BadArguments, of, written answers before after _ (fault_text Permissions) BadArguments refl h.1)
+one_told answers before after Wanted Name status of (inr h) =
+    rw h.0 (fault (fault_text Name) BadArguments, of, written answers before after _ (fault_text Name) BadArguments refl h.1)
+one_told answers before after Wanted (Text f) status of (inr h) =
+    rw h.0 (fault (fault_text (Text f)) Refused, of, written answers before after _ (fault_text (Text f)) Refused refl h.1)
+one_told answers before after Wanted (Compiling f) status of (inr h) =
+    rw h.0 (fault (fault_text (Compiling f)) Refused, of, written answers before after _ (fault_text (Compiling f)) Refused refl h.1)
+one_told answers before after Wanted (Image f) status of (inr h) =
+    rw h.0 (fault (fault_text (Image f)) Refused, of, written answers before after _ (fault_text (Image f)) Refused refl h.1)
+one_told answers before after Wanted Input status of (inr h) = rw h.0 (record { answers = keeps answers; faults = h.1; arguments = of })
+one_told answers before after Wanted Memory status of (inr h) = rw h.0 (record { answers = keeps answers; faults = h.1; arguments = of })
+
+-- what hides the text says only that the arguments are good
+pub unread_one : (Wanted : Output → Type 0) (f : Fault) → AreGood Wanted → (f ≡ Input) ⊎ (f ≡ Memory) → IsFaultOfOne Wanted f
+unread_one Wanted f good (inl h) = rw h good
+unread_one Wanted f good (inr h) = rw h good
+
+-- bad arguments are told as such, whatever the image
+asked_one : (asked : Result Perms (List ℕ)) (name image : List ℕ) (f : Fault) → asked ≡ Err (fault_text f) → (f ≡ Permissions) ⊎ (f ≡ Name)
+    → IsFaultOfOne (IsMatchOutputOf asked name image) f
+asked_one asked name image Permissions e which = rw e refl
+asked_one asked name image Name e which = rw e refl
+asked_one asked name image Input e (inl h) = cc
+asked_one asked name image Input e (inr h) = cc
+asked_one asked name image Memory e (inl h) = cc
+asked_one asked name image Memory e (inr h) = cc
+asked_one asked name image (Text f) e (inl h) = cc
+asked_one asked name image (Text f) e (inr h) = cc
+asked_one asked name image (Compiling f) e (inl h) = cc
+asked_one asked name image (Compiling f) e (inr h) = cc
+asked_one asked name image (Image f) e (inl h) = cc
+asked_one asked name image (Image f) e (inr h) = cc
+
+pub match_in_vain : (perms name image : List ℕ) (f : Fault) → ask_of perms name ≡ Err (fault_text f) → (f ≡ Permissions) ⊎ (f ≡ Name)
+    → IsFaultOfOne (IsMatchOutput perms name image) f
+match_in_vain perms name image f e which = asked_one (ask_of perms name) name image f e which
+
+-- with good arguments, what is wanted is what is wanted of what is asked
+asked_arguments : (asked : Result Perms (List ℕ)) (ask : Perms) (name image : List ℕ) → asked ≡ Ok ask → AreGood (IsMatchOutputOf asked name image)
+asked_arguments asked ask name image e = rw e (matched_arguments ask name image)
+
+pub match_arguments : (perms name image : List ℕ) (ask : Perms) → ask_of perms name ≡ Ok ask → AreGood (IsMatchOutput perms name image)
+match_arguments perms name image ask e = asked_arguments (ask_of perms name) ask name image e
+
+asked_answer : (asked : Result Perms (List ℕ)) (ask : Perms) (name image : List ℕ) (result : Result (Vec ℕ Global) Fault) → asked ≡ Ok ask
+    → IsAnswered (IsMatchedOutput ask name image) result → IsAnswered (IsMatchOutputOf asked name image) result
+asked_answer asked ask name image result e h = rw e h
+
+pub match_answer : (perms name image name_here image_here : List ℕ) (ask : Perms) (result : Result (Vec ℕ Global) Fault)
+    → name_here ≡ name → image_here ≡ image → ask_of perms name ≡ Ok ask
+    → IsAnswered (IsMatchedOutput ask name_here image_here) result → IsAnswered (IsMatchOutput perms name image) result
+match_answer perms name image name_here image_here ask result n i e h = asked_answer (ask_of perms name) ask name image result e (rw (n, i) at h)
+
+-- the first fault of an image is told
+told_fault : (image : List ℕ) (Wanted : Output → Type 0) (f : ImageFault)
+    → ((output : Output) → IsImageRefused image output → Wanted output) → IsLoadFault image f → IsFaultOfOne Wanted (fault_of_image f)
+told_fault image Wanted fault_here.NoMemory wants (inl first) = absurd first.has
+told_fault image Wanted fault_here.NoMemory wants (inr in_table) = absurd in_table.2.has
+told_fault image Wanted fault_here.Short wants h = wants _ (fault_here.Short, h, refl)
+told_fault image Wanted fault_here.Magic wants h = wants _ (fault_here.Magic, h, refl)
+told_fault image Wanted fault_here.Version wants h = wants _ (fault_here.Version, h, refl)
+told_fault image Wanted fault_here.Reserved wants h = wants _ (fault_here.Reserved, h, refl)
+told_fault image Wanted fault_here.Counts wants h = wants _ (fault_here.Counts, h, refl)
+told_fault image Wanted fault_here.Length wants h = wants _ (fault_here.Length, h, refl)
+told_fault image Wanted (fault_here.Default s) wants h = wants _ (fault_here.Default s, h, refl)
+told_fault image Wanted (fault_here.Base s) wants h = wants _ (fault_here.Base s, h, refl)
+told_fault image Wanted (fault_here.Accept s) wants h = wants _ (fault_here.Accept s, h, refl)
+told_fault image Wanted (fault_here.Next s) wants h = wants _ (fault_here.Next s, h, refl)
+
+-- or want of memory in place of it
+pub image_fault : (image : List ℕ) (Wanted : Output → Type 0) (f : ImageFault) → AreGood Wanted
+    → ((output : Output) → IsImageRefused image output → Wanted output) → (f ≡ fault_here.NoMemory) ⊎ IsLoadFault image f
+    → IsFaultOfOne Wanted (fault_of_image f)
+image_fault image Wanted f good wants (inl none) = rw none good
+image_fault image Wanted f good wants (inr first) = told_fault image Wanted f wants first
+
+-- the image of a table of the rules, in bounds, is an answer
+pub image_made : (outcome : Result ProfileValue ReadFault) (profile : ProfileValue) (t : Table) (bytes : List ℕ) → outcome ≡ Ok profile
+    → ¬ (AreMoreThan most_sets profile.rules) → IsTableOfRules profile.rules t → InBounds t → IsImageOf bytes t
+    → IsCompileOutputOf outcome (whole_answer bytes)
+image_made outcome profile t bytes read few of bounds is = rw read (inr (few, (t, of, bytes, (is, bounds), refl)))

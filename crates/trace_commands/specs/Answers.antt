@@ -1,0 +1,41 @@
+-- What the parts of a command answer, of what is to be written.
+use Rattle.std.specs.Prelude.{◌≡◌, ◌≢◌, ◌⊎◌, ℕ, List, Option, Result, Ok, Err, Vec, IfSome}
+use Rattle.std.specs.declared.alloc.Global.{Global}
+use Rattle.names.specs.declared.permissions.Perms.{Perms}
+use Rattle.rule_text.specs.declared.verdict.Verdict.{Verdict}
+use Rattle.rule_text.specs.VerdictText.{verdict_text}
+use Rattle.trace_report.specs.declared.status.Status.TheVariants.{BadArguments}
+use Rattle.trace_report.specs.declared.fault.Fault.{Fault}
+use Rattle.trace_report.specs.declared.fault.Fault.TheVariants.{Permissions, Name, Input, Memory}
+use Rattle.trace_report.specs.Fault.{IsFaultOf, fault_text, fault_status}
+use Rattle.trace_report.specs.Output.{Output, answer, fault, whole_answer}
+
+-- the verdict that is to be written, or a fault in its place
+abbrev pub IsJudged : Output → Result Verdict Fault → Type 0
+IsJudged output (Ok verdict) = output ≡ answer (verdict_text verdict)
+IsJudged output (Err f) = IsFaultOf output f
+
+-- what is asked, or which of the arguments says nothing
+abbrev pub IsAsked : Result Perms (List ℕ) → Result Perms Fault → Type 0
+IsAsked wanted (Ok ask) = wanted ≡ Ok ask
+IsAsked wanted (Err f) = (wanted ≡ Err (fault_text f)) × (f ≡ Permissions ⊎ f ≡ Name)
+
+-- all that was left where it's known, or a failure of the stream or of memory
+abbrev pub IsTextRead : Option (List ℕ) → Result (Vec ℕ Global) Fault → Type 0
+IsTextRead left (Ok text) = IfSome left (λ known. text.items ≡ known)
+IsTextRead left (Err f) = f ≡ Input ⊎ f ≡ Memory
+
+-- no output that is wanted tells of bad arguments
+abbrev pub AreGood : (Output → Type 0) → Type 0
+AreGood Wanted = (output : Output) → Wanted output → output.status ≢ BadArguments
+
+-- the fault is an output that is wanted, or hides them, the arguments being good
+abbrev pub IsFaultOfOne : (Output → Type 0) → Fault → Type 0
+IsFaultOfOne Wanted Input = AreGood Wanted
+IsFaultOfOne Wanted Memory = AreGood Wanted
+IsFaultOfOne Wanted f = Wanted (fault (fault_text f) (fault_status f))
+
+-- the bytes of an answer that is wanted, or a fault in its place
+abbrev pub IsAnswered : (Output → Type 0) → Result (Vec ℕ Global) Fault → Type 0
+IsAnswered Wanted (Ok bytes) = Wanted (whole_answer bytes.items)
+IsAnswered Wanted (Err f) = IsFaultOfOne Wanted f

@@ -1,0 +1,40 @@
+-- What `judge` writes, memory and failures of the streams aside.
+use Rattle.std.specs.Prelude.{ℕ, Bool, false, List, [], ◌∷◌, ◌==◌, Option, Some, None, Result, Ok, Err, codes, if◌then◌else◌}
+use Rattle.names.specs.declared.permissions.Perms.{Perms}
+use Rattle.names.specs.Permissions.{perms_of}
+use Rattle.rule_text.specs.declared.fault.ReadFault.{ReadFault}
+use Rattle.rule_text.specs.PlainVerdict.{verdict}
+use Rattle.rule_text.specs.Profile.{ProfileValue}
+use Rattle.rule_text.specs.Reading.{outcome_of}
+use Rattle.rule_text.specs.VerdictText.{verdict_text}
+use Rattle.trace_report.specs.declared.status.Status.TheVariants.{BadArguments, Refused}
+use Rattle.trace_report.specs.Output.{Output, answer, fault, refusal}
+
+-- the permissions that are asked: one letter or more
+abbrev pub asked_by : List ℕ → Option Perms
+asked_by [] = None
+asked_by (b ∷ letters) = perms_of (b ∷ letters)
+
+-- the name begins with a slash
+abbrev pub is_absolute : List ℕ → Bool
+is_absolute [] = false
+is_absolute (b ∷ name) = b == 47
+
+-- what is asked, or what is told of the arguments
+abbrev pub ask_of : List ℕ → List ℕ → Result Perms (List ℕ)
+ask_of perms name = elim (asked_by perms) [
+  | None ↦ Err (codes "bad permissions")
+  | Some ask ↦ if is_absolute name then Ok ask else Err (codes "bad name")
+]
+
+-- the verdict on the name by the profile that was read, or why there is none
+abbrev pub verdict_output : Perms → List ℕ → Result ProfileValue ReadFault → Output
+verdict_output ask name (Ok profile) = answer (verdict_text (verdict profile.rules name ask))
+verdict_output ask name (Err f) = fault (refusal f) Refused
+
+-- what `judge PERMS NAME` writes on a text
+abbrev pub judge_output : List ℕ → List ℕ → List ℕ → Output
+judge_output perms name text = elim (ask_of perms name) [
+  | Err told ↦ fault told BadArguments
+  | Ok ask ↦ verdict_output ask name (outcome_of text)
+]

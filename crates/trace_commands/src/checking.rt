@@ -1,0 +1,69 @@
+//! `check`: whether the image that is read can be run.
+ghost use Rattle.std.specs.Prelude.{◌≡◌, ◌≢◌, ◌⊎◌, ℕ, List, IfOk, Some};
+ghost use Rattle.trace_commands.specs.Answers.{IsAnswered};
+ghost use Rattle.trace_report.specs.Output.{line};
+ghost use Rattle.trace_report.specs.Streams.{EndsInOne, IsTextOf};
+ghost use Rattle.trace_commands.specs.Tables.{IsCheckOutput, counts_text};
+
+use crate::judging::read_all;
+use matcher::LoadedProfile;
+use names::NoMemory;
+use std::alloc::Global;
+use std::io::{Read, Write};
+use table_verifier::VerifiedTable;
+use trace_report::{Fault, Status, fail, give};
+
+/// Reads an image from `input` and writes to `answers` how many states, cells and records it has. Its first fault is told on
+/// `faults` in place of that.
+pub fn check<R: Read, A: Write, F: Write>(
+    alloc: Global,
+    input: &mut R,
+    answers: &mut A,
+    faults: &mut F,
+) -> Status
+    ensures { (text : List ℕ) × IsTextOf (R.remaining input.old) text × EndsInOne
+        (record {
+          answers_before = A.contents answers.old;
+          answers_after = A.contents answers.new;
+          faults_before = F.contents faults.old;
+          faults_after = F.contents faults.new;
+        })
+        (IsCheckOutput text) result }
+{
+    match counts_read(alloc, input) {
+        Ok(line) => give(answers, faults, &line),
+        Err(fault) => fail(faults, fault, fault.status()),
+    }
+}
+
+/// The line of an image's counts, or why there is none.
+fn counts_read<R: Read>(alloc: Global, input: &mut R) -> Result<Vec<u8>, Fault>
+    ensures { (text : List ℕ) × IsTextOf (R.remaining input.old) text × IsAnswered (IsCheckOutput text) result }
+{
+    let image = read_all(alloc, input)?;
+    counts_of_image(alloc, &image)
+}
+
+/// The same of an image that was read.
+fn counts_of_image(alloc: Global, image: &[u8]) -> Result<Vec<u8>, Fault>
+    ensures { IsAnswered (IsCheckOutput image.now) result }
+{
+    let loaded = LoadedProfile::make(alloc, image)?;
+    match counts_line(alloc, loaded.table()) {
+        Ok(line) => Ok(line),
+        Err(NoMemory) => Err(Fault::Memory),
+    }
+}
+
+/// `ok states N cells M accepts K`.
+fn counts_line(alloc: Global, table: &VerifiedTable) -> Result<Vec<u8>, NoMemory>
+    ensures { IfOk result (λ text. text.items ≡ line (counts_text table.now)) }
+{
+    let states = table.states();
+    let cells = table.cells();
+    let records = table.records();
+    match format!(in alloc; "ok states {states} cells {cells} accepts {records}\n") {
+        Ok(text) => Ok(text.into_bytes()),
+        Err(_) => Err(NoMemory),
+    }
+}

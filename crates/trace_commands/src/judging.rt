@@ -1,0 +1,116 @@
+//! `judge PERMS NAME`: the verdict on a name by the profile that is read.
+ghost use Rattle.std.specs.Prelude.{◌≡◌, ◌≢◌, ◌↔◌, ℕ, List, IsErr, MatchResult, IfSome, IsTrue, Some, Ok, Err};
+ghost use Rattle.std.specs.Io.KnownBytes.{Keeps};
+ghost use Rattle.names.specs.declared.permissions.Perms.{Perms};
+ghost use Rattle.rule_text.specs.VerdictText.{verdict_text};
+ghost use Rattle.trace_commands.specs.Judge.{ask_of, asked_by, is_absolute, judge_output};
+ghost use Rattle.trace_report.specs.Output.{answer};
+ghost use Rattle.trace_report.specs.Streams.{Ends, IsTextOf};
+ghost use Rattle.trace_commands.specs.Answers.{IsJudged, IsAsked, IsTextRead};
+
+use names::Perms;
+use rule_text::{ReadFault, Verdict, judge_slow, read};
+use std::alloc::Global;
+use std::io::{Read, Write};
+use trace_report::{Fault, Status, fail, give};
+
+/// Reads a profile from `input` and writes to `answers` what it says of the name and the permissions that are asked.
+/// A fault is told on `faults` in place of an answer. The arguments are tested before anything is read.
+pub fn judge<R: Read, A: Write, F: Write>(
+    alloc: Global,
+    perms: &str,
+    name: &str,
+    input: &mut R,
+    answers: &mut A,
+    faults: &mut F,
+) -> Status
+    ensures output { (text : List ℕ) × IsTextOf (R.remaining input.old) text × Ends
+        (record {
+          answers_before = A.contents answers.old;
+          answers_after = A.contents answers.new;
+          faults_before = F.contents faults.old;
+          faults_after = F.contents faults.new;
+        })
+        (judge_output perms.now name.now text) result }
+    ensures unread { IsErr (ask_of perms.now name.now)
+        → Keeps (R.remaining input.old) (R.remaining input.new) }
+{
+    match verdict_on(alloc, perms, name, input) {
+        Ok(verdict) => answer(alloc, verdict, answers, faults),
+        Err(fault) => fail(faults, fault, fault.status()),
+    }
+}
+
+/// Writes the verdict as a line. Where that fails, a front part of the line was written.
+fn answer<A: Write, F: Write>(
+    alloc: Global,
+    verdict: Verdict,
+    answers: &mut A,
+    faults: &mut F,
+) -> Status
+    ensures { Ends
+        (record {
+          answers_before = A.contents answers.old;
+          answers_after = A.contents answers.new;
+          faults_before = F.contents faults.old;
+          faults_after = F.contents faults.new;
+        })
+        (answer (verdict_text verdict)) result }
+{
+    let Ok(line) = format!(in alloc; "{verdict}\n") else {
+        return fail(faults, "no memory", Status::NoMemory);
+    };
+    give(answers, faults, line.as_bytes())
+}
+
+/// The verdict on the name, or why there is none.
+fn verdict_on<R: Read>(
+    alloc: Global,
+    perms: &str,
+    name: &str,
+    input: &mut R,
+) -> Result<Verdict, Fault>
+    ensures output { (text : List ℕ) × IsTextOf (R.remaining input.old) text
+        × IsJudged (judge_output perms.now name.now text) result }
+    ensures unread { IsErr (ask_of perms.now name.now)
+        → Keeps (R.remaining input.old) (R.remaining input.new) }
+{
+    let ask = ask_of(perms, name)?;
+    let text = read_all(alloc, input)?;
+    match read(alloc, &text) {
+        Ok(profile) => Ok(judge_slow(&profile, name.as_bytes(), ask)),
+        Err(ReadFault::NoMemory) => Err(Fault::Memory),
+        Err(fault) => Err(Fault::Text(fault)),
+    }
+}
+
+/// What is asked, if the arguments say so.
+pub(crate) fn ask_of(perms: &str, name: &str) -> Result<Perms, Fault>
+    ensures { IsAsked (ask_of perms.now name.now) result }
+{
+    let ask = asked_by(perms).ok_or(Fault::Permissions)?;
+    if name.starts_with('/') {
+        Ok(ask)
+    } else {
+        Err(Fault::Name)
+    }
+}
+
+/// The permissions that a word asks for: one letter or more.
+fn asked_by(perms: &str) -> Option<Perms>
+    ensures { result ≡ asked_by perms.now }
+{
+    if perms.is_empty() {
+        return None;
+    }
+    Perms::from_letters(perms.as_bytes())
+}
+
+/// All that is left to read.
+pub(crate) fn read_all<R: Read>(alloc: Global, input: &mut R) -> Result<Vec<u8>, Fault>
+    ensures { IsTextRead (R.remaining input.old) result }
+{
+    let mut text = Vec::new(alloc);
+    input.read_to_end(&mut text)?;
+    Ok(text)
+}

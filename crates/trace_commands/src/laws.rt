@@ -1,0 +1,35 @@
+//! Laws that show the definitions of `specs/` sane. The functions do nothing: each stands for its contract.
+ghost use Rattle.std.specs.Prelude.{◌≡◌, ◌⊎◌, ◌++◌, ◌∷◌, [], ℕ, List};
+ghost use Rattle.glob_automaton.specs.Sets.{are_bytes};
+ghost use Rattle.names.specs.declared.permissions.Perms.{Perms};
+ghost use Rattle.rule_text.specs.PlainVerdict.{verdict};
+ghost use Rattle.rule_text.specs.Profile.{ProfileValue};
+ghost use Rattle.trace_report.specs.Output.{Output, whole_answer};
+ghost use Rattle.trace_commands.specs.Tables.{IsCheckOutput, IsImageOutput, IsMatchOutput, IsMatchedOutput, match_text};
+
+use glob_automaton::least_hits_tell_the_verdict;
+use matcher::tables_of_rules_tell_their_verdicts;
+use table_image::{bytes_have_one_outcome, tables_have_one_outcome};
+
+/// Of each image `check` and `match` may write one output alone.
+pub fn images_have_one_answer()
+    ensures checked { (image : List ℕ) (one other : Output) →
+        IsCheckOutput image one → IsCheckOutput image other → one ≡ other }
+    ensures matched { (perms name image : List ℕ) (one other : Output) →
+        IsMatchOutput perms name image one → IsMatchOutput perms name image other → one ≡ other }
+{
+    bytes_have_one_outcome();
+    tables_have_one_outcome();
+    least_hits_tell_the_verdict();
+}
+
+/// By an image that `compile` wrote, `match` tells the verdict of the profile's rules.
+pub fn images_of_rules_tell_their_verdicts()
+    ensures { (profile : ProfileValue) (image matched : Output) (ask : Perms) (name : List ℕ) → are_bytes name →
+        IsImageOutput profile image → IsMatchedOutput ask name image.answers matched →
+        matched ≡ whole_answer (match_text name (verdict profile.rules name ask)) }
+{
+    bytes_have_one_outcome();
+    tables_have_one_outcome();
+    tables_of_rules_tell_their_verdicts();
+}

@@ -1,0 +1,93 @@
+//! `match PERMS NAME`: the verdict on a name by the image that is read.
+ghost use Rattle.std.specs.Prelude.{◌≡◌, ◌≢◌, ◌⊎◌, ℕ, List, IsErr, IfOk, Some};
+ghost use Rattle.std.specs.Io.KnownBytes.{Keeps};
+ghost use Rattle.rule_text.specs.declared.verdict.Verdict.{Verdict};
+ghost use Rattle.trace_commands.specs.Answers.{IsAnswered};
+ghost use Rattle.trace_commands.specs.Judge.{ask_of};
+ghost use Rattle.trace_report.specs.Output.{whole_answer};
+ghost use Rattle.trace_report.specs.Streams.{EndsInOne, IsTextOf};
+ghost use Rattle.trace_commands.specs.Tables.{IsMatchOutput, IsMatchedOutput, IsVerdictOf, match_text};
+
+use crate::judging::{ask_of, read_all};
+use glob_automaton::told;
+use matcher::{LoadedProfile, run};
+use names::{NoMemory, Perms};
+use std::alloc::Global;
+use std::io::{Read, Write};
+use table_verifier::{Steps, VerifiedTable};
+use trace_report::{Fault, Status, fail, give};
+
+/// Reads an image from `input` and writes to `answers` what it says of the name and the permissions that are asked, and how
+/// many cells were looked up. A fault is told on `faults` in place of that. The arguments are tested before anything is read.
+pub fn match_name<R: Read, A: Write, F: Write>(
+    alloc: Global,
+    perms: &str,
+    name: &str,
+    input: &mut R,
+    answers: &mut A,
+    faults: &mut F,
+) -> Status
+    ensures output { (text : List ℕ) × IsTextOf (R.remaining input.old) text × EndsInOne
+        (record {
+          answers_before = A.contents answers.old;
+          answers_after = A.contents answers.new;
+          faults_before = F.contents faults.old;
+          faults_after = F.contents faults.new;
+        })
+        (IsMatchOutput perms.now name.now text) result }
+    ensures unread { IsErr (ask_of perms.now name.now)
+        → Keeps (R.remaining input.old) (R.remaining input.new) }
+{
+    match match_read(alloc, perms, name, input) {
+        Ok(lines) => give(answers, faults, &lines),
+        Err(fault) => fail(faults, fault, fault.status()),
+    }
+}
+
+/// The lines of an answer, or why there are none.
+fn match_read<R: Read>(
+    alloc: Global,
+    perms: &str,
+    name: &str,
+    input: &mut R,
+) -> Result<Vec<u8>, Fault>
+    ensures output { (text : List ℕ) × IsTextOf (R.remaining input.old) text
+        × IsAnswered (IsMatchOutput perms.now name.now text) result }
+    ensures unread { IsErr (ask_of perms.now name.now)
+        → Keeps (R.remaining input.old) (R.remaining input.new) }
+{
+    let ask = ask_of(perms, name)?;
+    let image = read_all(alloc, input)?;
+    match_image(alloc, &image, name.as_bytes(), ask)
+}
+
+/// The same of an image that was read.
+fn match_image(alloc: Global, image: &[u8], name: &[u8], ask: Perms) -> Result<Vec<u8>, Fault>
+    ensures { IsAnswered (IsMatchedOutput ask name.now image.now) result }
+{
+    let loaded = LoadedProfile::make(alloc, image)?;
+    match match_lines(alloc, loaded.table(), name, ask) {
+        Ok(lines) => Ok(lines),
+        Err(NoMemory) => Err(Fault::Memory),
+    }
+}
+
+/// The verdict, and then `steps N`.
+fn match_lines(
+    alloc: Global,
+    table: &VerifiedTable,
+    name: &[u8],
+    ask: Perms,
+) -> Result<Vec<u8>, NoMemory>
+    ensures { IfOk result (λ text. (verdict : Verdict) × IsVerdictOf table.now name.now ask verdict
+        × (text.items ≡ match_text name.now verdict)) }
+{
+    let mut steps = Steps::new();
+    let state = run(table, name, &mut steps);
+    let verdict = told(&table.record_of(state), ask);
+    let count = steps.count();
+    match format!(in alloc; "{verdict}\nsteps {count}\n") {
+        Ok(text) => Ok(text.into_bytes()),
+        Err(_) => Err(NoMemory),
+    }
+}

@@ -1,0 +1,9 @@
+pub mod WordKinds
+pub mod LeafWalk
+pub mod PairWalk
+pub mod Numbers
+pub mod RunWords
+pub mod AloneWalk
+pub mod RunWalk
+pub mod LineWalk
+pub mod CommandLine

@@ -1,0 +1,71 @@
+-- How commands end that told a fault, or of whose answer a front part was written.
+use Rattle.std.proofs.Common.{◌≡◌, ◌≢◌, ℕ, List, [], Option, Some, None, refl, inl, inr, rules}
+use Rattle.std.specs.Prelude.{codes}
+use Rattle.std.specs.Io.KnownBytes.{Keeps, Appends}
+use Rattle.trace_report.specs.declared.status.Status.{Status}
+use Rattle.trace_report.specs.declared.status.Status.TheVariants.{Done, BadArguments, Refused, OutputFailed}
+use Rattle.trace_report.specs.declared.fault.Fault.{Fault}
+use Rattle.trace_report.specs.declared.fault.Fault.TheVariants.{Permissions, Name, Text, Compiling, Image, Input, Memory}
+use Rattle.trace_report.specs.Fault.{fault_text, fault_status, IsFaultOf}
+use Rattle.trace_report.specs.Output.{Output, fault, line}
+use Rattle.trace_report.specs.Streams.{Streams, IsTextOf, IsTold, IsWritten, IsCutShort, AppendsFront, Ends}
+
+-- whatever is known of a reader, some text may have been read
+pub text_of : (left : Option (List ℕ)) → (text : List ℕ) × IsTextOf left text
+text_of None = ([], tt)
+text_of (Some known) = (known, refl)
+
+-- nothing more was written
+pub appends_nothing : (known : Option (List ℕ)) → Appends known known []
+appends_nothing None = tt
+appends_nothing (Some xs) = search rules
+
+-- of any bytes nothing was written yet
+pub nothing_yet : (known : Option (List ℕ)) (bytes : List ℕ) → AppendsFront known known bytes
+nothing_yet known bytes = ([], bytes, refl, appends_nothing known)
+
+pub keeps : (known : Option (List ℕ)) → Keeps known known
+keeps None = tt
+keeps (Some xs) = refl
+
+-- the streams of a command that told a fault and nothing else
+abbrev pub told_alone : Option (List ℕ) → Option (List ℕ) → Option (List ℕ) → Streams
+told_alone answers before after = record { answers_before = answers; answers_after = answers; faults_before = before; faults_after = after }
+
+pub written : (answers before after : Option (List ℕ)) (output : Output) (told : List ℕ) (status : Status)
+    → output ≡ fault told status → Appends before after (line told) → IsWritten (told_alone answers before after) output status
+written answers before after output told status e h = record {
+  answers = rw e (appends_nothing answers);
+  faults = rw e h;
+  ends = rw e refl;
+}
+
+cut_short : (answers before after : Option (List ℕ)) (output : Output) (told : List ℕ)
+    → output.status ≢ BadArguments → Appends before after (line told) → IsCutShort (told_alone answers before after) output told
+cut_short answers before after output told good h = record { answers = keeps answers; faults = h; arguments = good }
+
+-- a command that told its fault ends as it should
+pub ends_told : (answers before after : Option (List ℕ)) (output : Output) (f : Fault) (status : Status)
+    → IsFaultOf output f → IsTold before after (fault_text f) (fault_status f) status → Ends (told_alone answers before after) output status
+ends_told answers before after output f status of (inl e) = rw e (nothing_yet answers output.answers)
+ends_told answers before after output Permissions status of (inr h) =
+    rw h.0 (written answers before after output (fault_text Permissions) BadArguments of h.1)
+ends_told answers before after output Name status of (inr h) =
+    rw h.0 (written answers before after output (fault_text Name) BadArguments of h.1)
+ends_told answers before after output (Text f) status of (inr h) =
+    rw h.0 (written answers before after output (fault_text (Text f)) Refused of h.1)
+ends_told answers before after output (Compiling f) status of (inr h) =
+    rw h.0 (written answers before after output (fault_text (Compiling f)) Refused of h.1)
+ends_told answers before after output (Image f) status of (inr h) =
+    rw h.0 (written answers before after output (fault_text (Image f)) Refused of h.1)
+ends_told answers before after output Input status of (inr h) =
+    rw h.0 (cut_short answers before after output (fault_text Input) of h.1)
+ends_told answers before after output Memory status of (inr h) =
+    rw h.0 (cut_short answers before after output (fault_text Memory) of h.1)
+
+-- an answer of which a front part was written, and then what is told of that
+pub unanswered : (answers after faults told : Option (List ℕ)) (output : Output) (status : Status)
+    → output.status ≡ Done → AppendsFront answers after output.answers → IsTold faults told (codes "refused: output") OutputFailed status
+    → Ends (record { answers_before = answers; answers_after = after; faults_before = faults; faults_after = told }) output status
+unanswered answers after faults told output status done front (inl e) = rw e front
+unanswered answers after faults told output status done front (inr h) = rw h.0 (record { faults = h.1; answers = front; answer = done })

@@ -1,0 +1,59 @@
+-- How a fault is told, and what it says of what is to be written.
+use Rattle.std.specs.Prelude.{◌≡◌, ◌≢◌, ℕ, List, codes}
+use Rattle.std.specs.IoError.{error_kind}
+use Rattle.std.specs.declared.io.Error.{Error}
+use Rattle.std.specs.declared.io.ErrorKind.TheVariants.{OutOfMemory}
+use Rattle.matcher.specs.declared.fault.MakeFault.{MakeFault}
+use Rattle.matcher.specs.declared.fault.MakeFault.TheVariants as making
+use Rattle.rule_text.specs.declared.fault.ReadFault.{ReadFault}
+use Rattle.rule_text.specs.declared.fault.ReadFault.TheVariants as reading
+use Rattle.table_image.specs.declared.fault.ImageFault.{ImageFault}
+use Rattle.table_image.specs.declared.fault.ImageFault.TheVariants as image
+use Rattle.trace_report.specs.declared.status.Status.{Status}
+use Rattle.trace_report.specs.declared.status.Status.TheVariants.{BadArguments, Refused, InputFailed, NoMemory}
+use Rattle.trace_report.specs.declared.fault.Fault.{Fault}
+use Rattle.trace_report.specs.declared.fault.Fault.TheVariants.{Permissions, Name, Text, Compiling, Image, Input, Memory}
+use Rattle.trace_report.specs.Output.{Output, fault, refusal, compile_refusal, image_refusal}
+
+abbrev pub fault_text : Fault → List ℕ
+fault_text Permissions = codes "bad permissions"
+fault_text Name = codes "bad name"
+fault_text (Text f) = refusal f
+fault_text (Compiling f) = compile_refusal f
+fault_text (Image f) = image_refusal f
+fault_text Input = codes "refused: input"
+fault_text Memory = codes "no memory"
+
+abbrev pub fault_status : Fault → Status
+fault_status Permissions = BadArguments
+fault_status Name = BadArguments
+fault_status (Text f) = Refused
+fault_status (Compiling f) = Refused
+fault_status (Image f) = Refused
+fault_status Input = InputFailed
+fault_status Memory = NoMemory
+
+-- the fault is what is to be written, or hides it, the arguments being good
+abbrev pub IsFaultOf : Output → Fault → Type 0
+IsFaultOf output Input = output.status ≢ BadArguments
+IsFaultOf output Memory = output.status ≢ BadArguments
+IsFaultOf output f = output ≡ fault (fault_text f) (fault_status f)
+
+-- what an error of a reader is told as
+abbrev pub IsFaultOfReading : Error → Fault → Type 0
+IsFaultOfReading error Input = error_kind error ≢ OutOfMemory
+IsFaultOfReading error Memory = error_kind error ≡ OutOfMemory
+IsFaultOfReading error _ = ⊥
+
+-- what faults of texts, of making profiles and of images are told as: want of memory is told as such
+abbrev pub fault_of_text : ReadFault → Fault
+fault_of_text reading.NoMemory = Memory
+fault_of_text f = Text f
+
+abbrev pub fault_of_making : MakeFault → Fault
+fault_of_making making.NoMemory = Memory
+fault_of_making f = Compiling f
+
+abbrev pub fault_of_image : ImageFault → Fault
+fault_of_image image.NoMemory = Memory
+fault_of_image f = Image f

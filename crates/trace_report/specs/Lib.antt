@@ -1,0 +1,4 @@
+pub mod Status
+pub mod Output
+pub mod Streams
+pub mod Fault

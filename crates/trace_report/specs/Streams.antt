@@ -1,0 +1,76 @@
+-- How a command leaves its streams.
+use Rattle.std.specs.Prelude.{◌≡◌, ◌≢◌, ◌⊎◌, ℕ, List, ◌++◌, Option, codes, IfSome}
+use Rattle.std.specs.Io.KnownBytes.{Keeps, Appends}
+use Rattle.trace_report.specs.Output.{Output, line}
+use Rattle.trace_report.specs.declared.status.Status.{Status}
+use Rattle.trace_report.specs.declared.status.Status.TheVariants.{Done, BadArguments, Refused, InputFailed, OutputFailed, FaultsFailed, NoMemory}
+
+-- the bytes of both streams of output, before and after, where they are known
+pub record Streams : Type 0 where
+  pub answers_before : Option (List ℕ)
+  pub answers_after : Option (List ℕ)
+  pub faults_before : Option (List ℕ)
+  pub faults_after : Option (List ℕ)
+
+-- a front part of the bytes was appended
+abbrev pub AppendsFront : Option (List ℕ) → Option (List ℕ) → List ℕ → Type 0
+AppendsFront before after bytes =
+    (front : List ℕ) × (back : List ℕ) × (bytes ≡ front ++ back) × Appends before after front
+
+-- what is to be written was written, and the status is the one that goes with it
+pub record IsWritten (streams : Streams) (output : Output) (status : Status) : Type 0 where
+  pub answers : Appends streams.answers_before streams.answers_after output.answers
+  pub faults : Appends streams.faults_before streams.faults_after output.faults
+  pub ends : output.status ≡ status
+
+-- good arguments, and then a fault of which the input says nothing
+pub record IsCutShort (streams : Streams) (output : Output) (told : List ℕ) : Type 0 where
+  pub answers : Keeps streams.answers_before streams.answers_after
+  pub faults : Appends streams.faults_before streams.faults_after (line told)
+  pub arguments : output.status ≢ BadArguments
+
+-- an answer that couldn't be written whole: a front part of it stands
+pub record IsUnanswered (streams : Streams) (output : Output) : Type 0 where
+  pub faults : Appends streams.faults_before streams.faults_after (line (codes "refused: output"))
+  pub answers : AppendsFront streams.answers_before streams.answers_after output.answers
+  pub answer : output.status ≡ Done
+
+-- A message that couldn't be written: the answers are what they are to be, or a front part of that.
+abbrev pub IsUntold : Streams → Output → Type 0
+IsUntold streams output = AppendsFront streams.answers_before streams.answers_after output.answers
+
+-- How a command ends that is to write `output`.
+abbrev pub Ends : Streams → Output → Status → Type 0
+Ends streams output Done = IsWritten streams output Done
+Ends streams output BadArguments = IsWritten streams output BadArguments
+Ends streams output Refused = IsWritten streams output Refused
+Ends streams output InputFailed = IsCutShort streams output (codes "refused: input")
+Ends streams output NoMemory = IsCutShort streams output (codes "no memory")
+Ends streams output OutputFailed = IsUnanswered streams output
+Ends streams output FaultsFailed = IsUntold streams output
+
+-- a text that may have been read by a reader with these bytes left
+abbrev pub IsTextOf : Option (List ℕ) → List ℕ → Type 0
+IsTextOf left text = IfSome left (λ known. text ≡ known)
+
+-- a message was written and the status is the one that goes with it, or the message couldn't be written
+abbrev pub IsTold : Option (List ℕ) → Option (List ℕ) → List ℕ → Status → Status → Type 0
+IsTold before after told status result = (result ≡ FaultsFailed) ⊎ ((result ≡ status) × Appends before after (line told))
+
+-- good arguments, and then a fault of which the input says nothing, whatever is wanted
+pub record AreCutShort (streams : Streams) (Wanted : Output → Type 0) (told : List ℕ) : Type 0 where
+  pub answers : Keeps streams.answers_before streams.answers_after
+  pub faults : Appends streams.faults_before streams.faults_after (line told)
+  pub arguments : (output : Output) → Wanted output → output.status ≢ BadArguments
+
+-- How a command ends that is to write one of some outputs. Where a message couldn't be written, no answer stands, or what
+-- stands of one that is wanted.
+abbrev pub EndsInOne : Streams → (Output → Type 0) → Status → Type 0
+EndsInOne streams Wanted Done = (output : Output) × Wanted output × IsWritten streams output Done
+EndsInOne streams Wanted BadArguments = (output : Output) × Wanted output × IsWritten streams output BadArguments
+EndsInOne streams Wanted Refused = (output : Output) × Wanted output × IsWritten streams output Refused
+EndsInOne streams Wanted InputFailed = AreCutShort streams Wanted (codes "refused: input")
+EndsInOne streams Wanted NoMemory = AreCutShort streams Wanted (codes "no memory")
+EndsInOne streams Wanted OutputFailed = (output : Output) × Wanted output × IsUnanswered streams output
+EndsInOne streams Wanted FaultsFailed = Keeps streams.answers_before streams.answers_after
+    ⊎ ((output : Output) × Wanted output × IsUntold streams output)

@@ -1,0 +1,10 @@
+//! How commands end: exit statuses, why a command has no answer and how that is told, and what goes to the streams of output.
+#![tactic(auto)]
+
+mod fault;
+mod status;
+mod telling;
+
+pub use fault::Fault;
+pub use status::Status;
+pub use telling::{fail, give, write_through};

@@ -1,0 +1,37 @@
+//! How a run of the program ended.
+ghost use Rattle.std.specs.Prelude.{◌≡◌};
+ghost use Rattle.trace_report.specs.Status.{status_code};
+
+/// How a run of the program ended.
+#[derive(Clone, Copy, Debug, PartialEq, Eq)]
+pub enum Status {
+    /// The answer was written.
+    Done,
+    /// The command line can't be followed, and nothing was read.
+    BadArguments,
+    /// What was read is refused: a text, its profile, or an image.
+    Refused,
+    /// Reading failed.
+    InputFailed,
+    /// The answer couldn't be written, or not all of it.
+    OutputFailed,
+    /// The message of a fault couldn't be written, or not all of it.
+    FaultsFailed,
+    /// Memory was refused.
+    NoMemory,
+}
+
+impl Status {
+    /// What the process ends with.
+    pub fn code(self) -> u8
+        ensures { result ≡ status_code self }
+    {
+        match self {
+            Status::Done => 0,
+            Status::BadArguments => 2,
+            Status::Refused | Status::InputFailed | Status::OutputFailed | Status::FaultsFailed =>
+                3,
+            Status::NoMemory => 4,
+        }
+    }
+}

@@ -1,0 +1,71 @@
+//! Lines on the streams of output.
+ghost use Rattle.std.specs.Prelude.{◌≡◌, ◌⊎◌, OnOk, OnErr, IfSome, Some};
+ghost use Rattle.std.specs.Io.KnownBytes.{Appends};
+ghost use Rattle.trace_report.specs.Output.{line, whole_answer};
+ghost use Rattle.trace_report.specs.Streams.{Ends, IsTold, AppendsFront};
+
+use crate::status::Status;
+use std::fmt::Display;
+use std::io;
+use std::io::{ErrorKind, Write};
+
+/// Writes the bytes, in as many parts as the writer takes, and has them stand where they go to. At an error a front
+/// part of them was written.
+pub fn write_through<W: Write>(to: &mut W, bytes: &[u8]) -> io::Result<()>
+    ensures ok { OnOk result (Appends (W.contents to.old) (W.contents to.new) bytes.now) }
+    ensures err { OnErr result (AppendsFront (W.contents to.old) (W.contents to.new) bytes.now) }
+{
+    let mut left = bytes;
+    for _ in 0..u64::MAX {
+        if left.is_empty() {
+            return to.flush();
+        }
+        match to.write(left) {
+            Ok(0) => return Err(io::Error::from(ErrorKind::WriteZero)),
+            Ok(count) => left = &left[count..],
+            Err(error) => {
+                if error.kind() != ErrorKind::Interrupted {
+                    return Err(error);
+                }
+            }
+        }
+    }
+    Err(io::Error::from(ErrorKind::TimedOut))
+}
+
+/// Writes the text as a line, and has it stand where it goes to.
+fn tell<W: Write, D: Display + Drop>(to: &mut W, text: D) -> io::Result<()>
+    ensures { OnOk result (IfSome (D.output text)
+        (λ text. Appends (W.contents to.old) (W.contents to.new) (line text))) }
+{
+    writeln!(to, "{text}")?;
+    to.flush()
+}
+
+/// Tells why there is no answer, and ends with the status.
+pub fn fail<F: Write, D: Display + Drop>(faults: &mut F, message: D, status: Status) -> Status
+    ensures { IfSome (D.output message)
+        (λ told. IsTold (F.contents faults.old) (F.contents faults.new) told status result) }
+{
+    match tell(faults, message) {
+        Ok(()) => status,
+        Err(_) => Status::FaultsFailed,
+    }
+}
+
+/// Writes the bytes of an answer. Where that fails, a front part of them was written.
+pub fn give<A: Write, F: Write>(answers: &mut A, faults: &mut F, bytes: &[u8]) -> Status
+    ensures { Ends
+        (record {
+          answers_before = A.contents answers.old;
+          answers_after = A.contents answers.new;
+          faults_before = F.contents faults.old;
+          faults_after = F.contents faults.new;
+        })
+        (whole_answer bytes.now) result }
+{
+    match write_through(answers, bytes) {
+        Ok(()) => Status::Done,
+        Err(_) => fail(faults, "refused: output", Status::OutputFailed),
+    }
+}

@@ -1,0 +1,8 @@
+pub mod LineWords
+pub mod Following
+pub mod LineReads
+pub mod ScriptRuns
+pub mod ScriptEndings
+pub mod LineTexts
+pub mod Publishing
+pub mod Unanswered

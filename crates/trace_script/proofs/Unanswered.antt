@@ -1,0 +1,21 @@
+-- Scripts of which no line was answered.
+use Rattle.std.proofs.Common.{ℕ, List, [], arith, Option, Some, None, refl, inl, inr}
+use Rattle.std.specs.Prelude.{codes}
+use Rattle.glob_automaton.specs.Automata.{StateLimit}
+use Rattle.trace_script.specs.RunOutput.{RunEnds, AnswersRead, run_output}
+use Rattle.trace_report.specs.Streams.{IsTold}
+use Rattle.trace_report.specs.declared.status.Status.{Status}
+use Rattle.trace_report.specs.declared.status.Status.TheVariants.{NoMemory}
+use Rattle.trace_report.proofs.Endings.{appends_nothing, nothing_yet, told_alone}
+
+-- nothing was read, and no command waits for an answer
+nothing_read : (left : Option (List ℕ)) → AnswersRead left left 0
+nothing_read None = ([], tt, omega arith)
+nothing_read (Some xs) = ([], refl, omega arith)
+
+-- a script of which no line was answered, for want of memory
+pub nothing_answered : (limit : StateLimit) (capacity : ℕ) (text : List ℕ) (left answers before after : Option (List ℕ)) (status : Status)
+    → IsTold before after (codes "no memory") NoMemory status → RunEnds limit (told_alone answers before after) left left capacity text status
+nothing_answered limit capacity text left answers before after status (inl e) = rw e (nothing_yet answers (run_output limit capacity text).answers)
+nothing_answered limit capacity text left answers before after status (inr h) =
+    rw h.0 (record { count = 0; read = nothing_read left; answers = appends_nothing answers; faults = h.1 })

@@ -1,0 +1,5 @@
+pub mod Script
+pub mod RunOutput
+pub mod Line
+pub mod Following
+pub mod Rows

@@ -1,0 +1,157 @@
+-- What `run` writes, memory and failures of the streams aside: a line for each command of the script. Which profiles have
+-- too many states is told by a test, `limit`: there is one, and any two answer alike.
+use Rattle.std.specs.Prelude.{ℕ, Bool, ◌+◌, ◌≤◌, Option, List, [], ◌∷◌, ◌++◌, map, take, length, codes, decimal, Some, None, Result, Ok, Err, if◌then◌else◌}
+use Rattle.std.specs.List.{concat}
+use Rattle.std.specs.Io.KnownBytes.{Appends, Consumes}
+use Rattle.glob_automaton.specs.Automata.{StateLimit}
+use Rattle.matcher.specs.declared.fault.MakeFault.TheVariants.{TooManyStates}
+use Rattle.names.specs.declared.errors.Errno.{Errno}
+use Rattle.names.specs.Errors.{errno_text}
+use Rattle.names.specs.declared.permissions.Perms.{Perms}
+use Rattle.path_walk.specs.declared.change.Change.{Change}
+use Rattle.path_walk.specs.declared.change.Change.TheVariants as tree
+use Rattle.path_walk.specs.Plain.{tree_of, outcome}
+use Rattle.path_walk.specs.Apply.{and_then}
+use Rattle.rule_text.specs.declared.fault.ReadFault.{ReadFault}
+use Rattle.rule_text.specs.Profile.{ProfileValue}
+use Rattle.rule_text.specs.Reading.{outcome_of}
+use Rattle.trace_report.specs.declared.status.Status.{Status}
+use Rattle.trace_report.specs.declared.status.Status.TheVariants.{Done, BadArguments, Refused, InputFailed, OutputFailed, FaultsFailed, NoMemory}
+use Rattle.trace_report.specs.Output.{Output, line, refusal, compile_refusal}
+use Rattle.trace_report.specs.Streams.{Streams, IsWritten, AppendsFront}
+use Rattle.trace_script.specs.Script.{ChangeWords, Command, Script, mkdir, create, symlink, link, unlink, rmdir, rename, publish, remove, alter, judge_open, judge_link, script_of}
+use Rattle.plain_bench.specs.Known.{Known, new_known, with_deed, with_change, after_link, tree_version, policy_version}
+use Rattle.plain_bench.specs.Published.{published, removed, policy_after}
+use Rattle.plain_bench.specs.Opening.{path_of, answered_by, answered_text}
+use Rattle.plain_bench.specs.Linking.{LinkAnswered, link_answered, link_answered_text}
+
+-- a line that is printed, and what is known then
+pub record Printed : Type 0 where
+  pub text : List ℕ
+  pub known : Known
+
+-- a change with checked paths, or the first fault of a path, the old one's before the new one's
+abbrev pub change_of : ChangeWords → Result Change Errno
+change_of (mkdir path) = and_then (path_of path) (λ p. Ok (tree.Mkdir p))
+change_of (create path) = and_then (path_of path) (λ p. Ok (tree.Create p))
+change_of (symlink text path) = and_then (path_of path) (λ p. Ok (tree.Symlink text p))
+change_of (link old new) = and_then (path_of old) (λ a. and_then (path_of new) (λ b. Ok (tree.Link a b)))
+change_of (unlink path) = and_then (path_of path) (λ p. Ok (tree.Unlink p))
+change_of (rmdir path) = and_then (path_of path) (λ p. Ok (tree.Rmdir p))
+change_of (rename old new) = and_then (path_of old) (λ a. and_then (path_of new) (λ b. Ok (tree.Rename a b)))
+
+-- `ok V`, with the tree's new version, or why the change is refused
+abbrev pub change_printed : Known → Result Change Errno → Printed
+change_printed known (Err errno) = record { text = errno_text errno; known = known }
+change_printed known (Ok c) = elim (outcome known.tree c) [
+  | Ok t ↦ record { text = codes "ok " ++ decimal (tree_version known + 1); known = with_change known c }
+  | Err errno ↦ record { text = errno_text errno; known = known }
+]
+
+-- a profile that isn't over the limit is published: `policy NAME version V`, with the policy's new version; one that is over
+-- it is refused: `policy refused: compile 1`
+abbrev pub profile_printed : Known → ProfileValue → Bool → Printed
+profile_printed known profile is_over =
+    if is_over
+    then record { text = codes "policy " ++ compile_refusal TooManyStates; known = known }
+    else record {
+      text = codes "policy " ++ profile.name ++ codes " version " ++ decimal (policy_version known + 1);
+      known = with_deed known (published profile);
+    }
+
+-- what is printed of a profile, or `policy refused: read N at OFFSET`; a refusal changes nothing
+abbrev pub policy_printed : StateLimit → Known → Result ProfileValue ReadFault → Printed
+policy_printed limit known (Ok profile) = profile_printed known profile (limit.is_over profile.rules)
+policy_printed limit known (Err fault) = record { text = codes "policy " ++ refusal fault; known = known }
+
+-- `policy NAME removed version V`, whether or not there was such a profile
+abbrev pub drop_printed : Known → List ℕ → Printed
+drop_printed known name = record {
+  text = codes "policy " ++ name ++ codes " removed version " ++ decimal (policy_version known + 1);
+  known = with_deed known (removed name);
+}
+
+-- an answer to a judged link
+abbrev pub link_printed : Known → List ℕ → List ℕ → LinkAnswered → Printed
+link_printed known old new answer = record { text = link_answered_text answer; known = after_link known old new answer }
+
+-- an answer to an open
+abbrev pub open_printed : Known → List ℕ → List ℕ → Perms → Printed
+open_printed known profile path ask = record {
+  text = answered_text (answered_by (tree_of known.tree) (tree_version known) (policy_version known) path ask (policy_after known.deeds profile));
+  known = known;
+}
+
+-- an answer to a judged link, by the profile of a name
+abbrev pub judged_printed : Known → List ℕ → List ℕ → List ℕ → Printed
+judged_printed known profile old new =
+    link_printed known old new (link_answered known.tree (policy_version known) old new (policy_after known.deeds profile))
+
+abbrev pub printed : StateLimit → Known → Command → Printed
+printed limit known (publish text) = policy_printed limit known (outcome_of text)
+printed limit known (remove name) = drop_printed known name
+printed limit known (alter words) = change_printed known (change_of words)
+printed limit known (judge_open profile path ask) = open_printed known profile path ask
+printed limit known (judge_link profile old new) = judged_printed known profile old new
+
+-- one line for each command, by what the commands before it have done
+abbrev pub printed_lines : StateLimit → Known → List Command → List (List ℕ)
+printed_lines limit known [] = []
+printed_lines limit known (c ∷ cs) = (printed limit known c).text ∷ printed_lines limit (printed limit known c).known cs
+
+-- the bytes of lines, each with its line feed
+abbrev pub text_of_lines : List (List ℕ) → List ℕ
+text_of_lines lines = concat (map line lines)
+
+-- a script that runs to its end, or to a line that is no command
+abbrev pub script_output : StateLimit → Known → Script → Output
+script_output limit known script = elim (script.stopped) [
+  | None ↦ record { answers = text_of_lines (printed_lines limit known script.commands); faults = []; status = Done }
+  | Some number ↦ record {
+    answers = text_of_lines (printed_lines limit known script.commands);
+    faults = line (codes "line " ++ decimal number ++ codes ": not a command");
+    status = Refused;
+  }
+]
+
+abbrev pub run_output : StateLimit → ℕ → List ℕ → Output
+run_output limit capacity text = script_output limit (new_known capacity) (script_of text)
+
+-- the lines of all commands of a script
+abbrev pub run_lines : StateLimit → ℕ → List ℕ → List (List ℕ)
+run_lines limit capacity text = printed_lines limit (new_known capacity) (script_of text).commands
+
+-- Of what was taken from the reader, where that is known, all commands are answered but for the last one at most, if so
+-- many answers stand.
+abbrev pub AnswersRead : Option (List ℕ) → Option (List ℕ) → ℕ → Type 0
+AnswersRead left_before left_after count =
+    (read : List ℕ) × Consumes left_before left_after read × (length (script_of read).commands ≤ count + 1)
+
+-- the first lines stand whole, those of all commands that were read but the last, and why there are no more is told
+pub record IsBrokenOff (streams : Streams) (left_before left_after : Option (List ℕ)) (lines : List (List ℕ)) (told : List ℕ) : Type 0 where
+  pub count : ℕ
+  pub read : AnswersRead left_before left_after count
+  pub answers : Appends streams.answers_before streams.answers_after (text_of_lines (take count lines))
+  pub faults : Appends streams.faults_before streams.faults_after (line told)
+
+-- a line that couldn't be written whole: a front part of the answers stands
+pub record IsCut (streams : Streams) (output : Output) : Type 0 where
+  pub answers : AppendsFront streams.answers_before streams.answers_after output.answers
+  pub faults : Appends streams.faults_before streams.faults_after (line (codes "refused: output"))
+
+-- How a script ends that is answered when this is known. `left_before` and `left_after` are the reader's bytes.
+abbrev pub ScriptEnds : StateLimit → Streams → Option (List ℕ) → Option (List ℕ) → Known → List ℕ → Status → Type 0
+ScriptEnds limit streams left_before left_after known text Done = IsWritten streams (script_output limit known (script_of text)) Done
+ScriptEnds limit streams left_before left_after known text BadArguments = ⊥
+ScriptEnds limit streams left_before left_after known text Refused = IsWritten streams (script_output limit known (script_of text)) Refused
+ScriptEnds limit streams left_before left_after known text InputFailed =
+    IsBrokenOff streams left_before left_after (printed_lines limit known (script_of text).commands) (codes "refused: input")
+ScriptEnds limit streams left_before left_after known text NoMemory =
+    IsBrokenOff streams left_before left_after (printed_lines limit known (script_of text).commands) (codes "no memory")
+ScriptEnds limit streams left_before left_after known text OutputFailed = IsCut streams (script_output limit known (script_of text))
+ScriptEnds limit streams left_before left_after known text FaultsFailed =
+    AppendsFront streams.answers_before streams.answers_after (script_output limit known (script_of text)).answers
+
+-- How `run` ends. Bad arguments are found before.
+abbrev pub RunEnds : StateLimit → Streams → Option (List ℕ) → Option (List ℕ) → ℕ → List ℕ → Status → Type 0
+RunEnds limit streams left_before left_after capacity text status = ScriptEnds limit streams left_before left_after (new_known capacity) text status

@@ -1,0 +1,63 @@
+//! The commands of a script, done on a bench, and their answers.
+ghost use Rattle.std.specs.Prelude.{◌+◌, ◌<◌, ◌≤◌, ◌^◌, OnOk};
+ghost use Rattle.glob_automaton.specs.Automata.{StateLimit};
+ghost use Rattle.trace_script.specs.Following.{IsPrinted, IsPut};
+ghost use Rattle.trace_script.specs.Line.{command_value};
+ghost use Rattle.plain_bench.specs.Known.{policy_version};
+ghost use Rattle.trace_script.specs.RunOutput.{printed};
+ghost use Rattle.trace_script.specs.Script.{publish};
+
+use crate::compose::{change_line, drop_line, link_line, open_line, policy_line};
+use crate::line::Command;
+use crate::stop::Stop;
+use plain_bench::Bench;
+use std::alloc::Global;
+use std::io::Write;
+use trace_report::write_through;
+
+/// Does a command and writes its answer as a line.
+pub(crate) fn answer_command<B: Bench, A: Write>(
+    alloc: Global,
+    bench: &mut B,
+    command: Command<'_>,
+    answers: &mut A,
+) -> Result<(), Stop>
+    requires { policy_version (B.known bench.old) + 1 < 2 ^ 60 }
+    ensures line { (limit : StateLimit) → IsPrinted (printed limit (B.known bench.old) (command_value command.entry)) (B.known bench.new)
+        (A.contents answers.old) (A.contents answers.new) result }
+    ensures few { OnOk result (policy_version (B.known bench.new) ≤ policy_version (B.known bench.old) + 1) }
+{
+    let line = match command {
+        Command::Remove(name) => drop_line(alloc, bench, name)?,
+        Command::Alter(words) => change_line(alloc, bench, words)?,
+        Command::JudgeOpen { profile, path, ask } => open_line(alloc, bench, profile, path, ask)?,
+        Command::JudgeLink { profile, old, new } => link_line(alloc, bench, profile, old, new)?,
+    };
+    print_line(answers, &line)
+}
+
+/// Publishes the profile of a text, if it is one, and writes the answer as a line.
+pub(crate) fn answer_policy<B: Bench, A: Write>(
+    alloc: Global,
+    bench: &mut B,
+    text: &[u8],
+    answers: &mut A,
+) -> Result<(), Stop>
+    requires { policy_version (B.known bench.old) + 1 < 2 ^ 60 }
+    ensures line { (limit : StateLimit) → IsPrinted (printed limit (B.known bench.old) (publish text.now)) (B.known bench.new)
+        (A.contents answers.old) (A.contents answers.new) result }
+    ensures few { OnOk result (policy_version (B.known bench.new) ≤ policy_version (B.known bench.old) + 1) }
+{
+    let line = policy_line(alloc, bench, text)?;
+    print_line(answers, &line)
+}
+
+/// Writes a line that is composed.
+fn print_line<A: Write>(answers: &mut A, line: &[u8]) -> Result<(), Stop>
+    ensures { IsPut (A.contents answers.old) (A.contents answers.new) line.now result }
+{
+    match write_through(answers, line) {
+        Ok(()) => Ok(()),
+        Err(_) => Err(Stop::Output),
+    }
+}

@@ -1,0 +1,258 @@
+//! The lines that answer commands, each composed whole before it is written.
+ghost use Rattle.std.specs.Prelude.{◌+◌, ◌≡◌, ◌<◌, ◌≤◌, ◌^◌, ◌++◌, IfOk, OnOk, Ok, codes, decimal};
+ghost use Rattle.plain_bench.specs.Opening.{versions_text};
+ghost use Rattle.trace_script.specs.Following.{IsComposed, IsText};
+ghost use Rattle.glob_automaton.specs.Automata.{StateLimit};
+ghost use Rattle.names.specs.Errors.{errno_text};
+ghost use Rattle.rule_text.specs.Profile.{profile_value};
+ghost use Rattle.trace_report.specs.Fault.{fault_text};
+ghost use Rattle.trace_script.specs.Line.{change_words};
+ghost use Rattle.plain_bench.specs.Known.{policy_version};
+ghost use Rattle.trace_script.specs.RunOutput.{printed, policy_printed, drop_printed, change_of, change_printed, open_printed, judged_printed};
+ghost use Rattle.trace_script.specs.Script.{publish};
+
+use crate::line::ChangeWords;
+use crate::stop::Stop;
+use matcher::MakeFault;
+use names::{Errno, Path, Perms};
+use path_walk::{Change, LinkBytes};
+use plain_bench::{Answer, Bench, LinkAnswer};
+use rule_text::{Profile, ReadFault, read};
+use std::alloc::{AllocError, Global};
+use trace_report::Fault;
+
+/// Publishes the profile of a text, if it is one.
+pub(crate) fn policy_line<B: Bench>(
+    alloc: Global,
+    bench: &mut B,
+    text: &[u8],
+) -> Result<Vec<u8>, Stop>
+    requires { policy_version (B.known bench.old) + 1 < 2 ^ 60 }
+    ensures line { (limit : StateLimit) → IsComposed (printed limit (B.known bench.old) (publish text.now)) (B.known bench.new) result }
+    ensures few { OnOk result (policy_version (B.known bench.new) ≤ policy_version (B.known bench.old) + 1) }
+{
+    match read(alloc, text) {
+        Ok(profile) => profile_line(alloc, bench, profile),
+        Err(ReadFault::NoMemory) => Err(Stop::Memory),
+        Err(fault) => refusal_line(alloc, Fault::Text(fault)),
+    }
+}
+
+/// Publishes a profile, if it can be compiled. Its line is begun before, so that want of memory for that publishes nothing.
+fn profile_line<B: Bench>(alloc: Global, bench: &mut B, profile: Profile) -> Result<Vec<u8>, Stop>
+    requires { policy_version (B.known bench.old) + 1 < 2 ^ 60 }
+    ensures line { (limit : StateLimit) → IsComposed (policy_printed limit (B.known bench.old) (Ok (profile_value profile))) (B.known bench.new) result }
+    ensures few { OnOk result (policy_version (B.known bench.new) ≤ policy_version (B.known bench.old) + 1) }
+{
+    let mut line = joined(alloc, "policy ", profile.name(), " version ")?;
+    match bench.publish(profile) {
+        Ok(version) => {
+            let end = format!(in alloc; "{version}\n")?;
+            line.extend_from_slice(end.as_bytes())?;
+            Ok(line)
+        }
+        Err(MakeFault::NoMemory) => Err(Stop::Memory),
+        Err(fault) => refusal_line(alloc, Fault::Compiling(fault)),
+    }
+}
+
+/// Why a profile isn't published, as a line.
+fn refusal_line(alloc: Global, fault: Fault) -> Result<Vec<u8>, Stop>
+    ensures { IsText (codes "policy " ++ fault_text fault) result }
+{
+    let line = format!(in alloc; "policy {fault}\n")?;
+    Ok(line.into_bytes())
+}
+
+/// Takes the profile of a name away.
+pub(crate) fn drop_line<B: Bench>(
+    alloc: Global,
+    bench: &mut B,
+    name: &[u8],
+) -> Result<Vec<u8>, Stop>
+    requires { policy_version (B.known bench.old) + 1 < 2 ^ 60 }
+    ensures { IsComposed (drop_printed (B.known bench.old) name.now) (B.known bench.new) result }
+{
+    let version = bench.remove(name)?;
+    let end = format!(in alloc; " removed version {version}\n")?;
+    let line = joined(alloc, "policy ", name, &end)?;
+    Ok(line)
+}
+
+/// Makes a change of the tree.
+pub(crate) fn change_line<B: Bench>(
+    alloc: Global,
+    bench: &mut B,
+    words: ChangeWords<'_>,
+) -> Result<Vec<u8>, Stop>
+    ensures { IsComposed (change_printed (B.known bench.old) (change_of (change_words words.entry))) (B.known bench.new) result }
+{
+    match change_of(words) {
+        Ok(change) => accepted_line(alloc, bench, &change),
+        Err(errno) => errno_line(alloc, errno),
+    }
+}
+
+/// Makes a change of the tree whose paths are checked.
+fn accepted_line<B: Bench>(
+    alloc: Global,
+    bench: &mut B,
+    change: &Change<'_>,
+) -> Result<Vec<u8>, Stop>
+    ensures { IsComposed (change_printed (B.known bench.old) (Ok change.now)) (B.known bench.new) result }
+{
+    match bench.change(change) {
+        Ok(version) => {
+            let line = format!(in alloc; "ok {version}\n")?;
+            Ok(line.into_bytes())
+        }
+        Err(Errno::ENOMEM) => Err(Stop::Memory),
+        Err(errno) => errno_line(alloc, errno),
+    }
+}
+
+/// Opens a path, and judges it by a profile.
+pub(crate) fn open_line<B: Bench>(
+    alloc: Global,
+    bench: &mut B,
+    profile: &[u8],
+    path: &[u8],
+    ask: Perms,
+) -> Result<Vec<u8>, Stop>
+    ensures { IsComposed (open_printed (B.known bench.old) profile.now path.now ask) (B.known bench.new) result }
+{
+    match bench.open(profile, path, ask) {
+        Answer::Judged {
+            verdict,
+            node,
+            tree_version,
+            policy_version,
+        } => {
+            let told = format!(in alloc; "{verdict}")?;
+            let name = bench.name();
+            named_line(alloc, &told, name, node, tree_version, policy_version)
+        }
+        Answer::Failed {
+            errno,
+            tree_version,
+        } => failed_line(alloc, errno, tree_version),
+        Answer::NoProfile { policy_version } => unpublished_line(alloc, policy_version),
+    }
+}
+
+/// Makes one more entry of a file, if a profile allows it.
+pub(crate) fn link_line<B: Bench>(
+    alloc: Global,
+    bench: &mut B,
+    profile: &[u8],
+    old: &[u8],
+    new: &[u8],
+) -> Result<Vec<u8>, Stop>
+    ensures { IsComposed (judged_printed (B.known bench.old) profile.now old.now new.now) (B.known bench.new) result }
+{
+    match bench.link(profile, old, new)? {
+        LinkAnswer::Linked {
+            node,
+            tree_version,
+            policy_version,
+        } => {
+            let line = format!(in alloc;
+                "linked node {node} tree {tree_version} policy {policy_version}\n"
+            )?;
+            Ok(line.into_bytes())
+        }
+        LinkAnswer::NotAllowed {
+            verdict,
+            node,
+            tree_version,
+            policy_version,
+        } => {
+            let told = format!(in alloc; "{verdict}")?;
+            let name = bench.name();
+            named_line(alloc, &told, name, node, tree_version, policy_version)
+        }
+        LinkAnswer::Failed {
+            errno,
+            tree_version,
+        } => failed_line(alloc, errno, tree_version),
+        LinkAnswer::NoProfile { policy_version } => unpublished_line(alloc, policy_version),
+    }
+}
+
+/// A change with checked paths, or the first fault of a path, the old one's before the new one's.
+fn change_of(words: ChangeWords<'_>) -> Result<Change<'_>, Errno>
+    ensures { result ≡ change_of (change_words words.entry) }
+{
+    match words {
+        ChangeWords::Mkdir(path) => Ok(Change::Mkdir(Path::check(path)?)),
+        ChangeWords::Create(path) => Ok(Change::Create(Path::check(path)?)),
+        ChangeWords::Symlink(text, path) => {
+            let path = Path::check(path)?;
+            Ok(Change::Symlink(LinkBytes::new(text), path))
+        }
+        ChangeWords::Link(old, new) => {
+            let old = Path::check(old)?;
+            let new = Path::check(new)?;
+            Ok(Change::Link(old, new))
+        }
+        ChangeWords::Unlink(path) => Ok(Change::Unlink(Path::check(path)?)),
+        ChangeWords::Rmdir(path) => Ok(Change::Rmdir(Path::check(path)?)),
+        ChangeWords::Rename(old, new) => {
+            let old = Path::check(old)?;
+            let new = Path::check(new)?;
+            Ok(Change::Rename(old, new))
+        }
+    }
+}
+
+/// What is told of a name, with the node and both versions, as a line.
+fn named_line(
+    alloc: Global,
+    told: &str,
+    name: &[u8],
+    node: u64,
+    tree_version: u64,
+    policy_version: u64,
+) -> Result<Vec<u8>, Stop>
+    ensures { IsText (told.now ++ codes " " ++ name.now ++ versions_text node tree_version policy_version) result }
+{
+    let start = format!(in alloc; "{told} ")?;
+    let end = format!(in alloc; " node {node} tree {tree_version} policy {policy_version}\n")?;
+    let line = joined(alloc, &start, name, &end)?;
+    Ok(line)
+}
+
+/// Why there is no verdict, as a line.
+fn failed_line(alloc: Global, errno: Errno, tree_version: u64) -> Result<Vec<u8>, Stop>
+    ensures { IsText (errno_text errno ++ codes " tree " ++ decimal tree_version) result }
+{
+    let line = format!(in alloc; "{errno} tree {tree_version}\n")?;
+    Ok(line.into_bytes())
+}
+
+/// That a profile isn't published, as a line.
+fn unpublished_line(alloc: Global, policy_version: u64) -> Result<Vec<u8>, Stop>
+    ensures { IsText (codes "no profile policy " ++ decimal policy_version) result }
+{
+    let line = format!(in alloc; "no profile policy {policy_version}\n")?;
+    Ok(line.into_bytes())
+}
+
+/// Why a change is refused, as a line.
+fn errno_line(alloc: Global, errno: Errno) -> Result<Vec<u8>, Stop>
+    ensures { IsText (errno_text errno) result }
+{
+    let line = format!(in alloc; "{errno}\n")?;
+    Ok(line.into_bytes())
+}
+
+/// A name between two texts.
+fn joined(alloc: Global, before: &str, name: &[u8], after: &str) -> Result<Vec<u8>, AllocError>
+    ensures { IfOk result (λ line. line.items ≡ before.now ++ name.now ++ after.now) }
+{
+    let mut line = Vec::new(alloc);
+    line.extend_from_slice(before.as_bytes())?;
+    line.extend_from_slice(name)?;
+    line.extend_from_slice(after.as_bytes())?;
+    Ok(line)
+}

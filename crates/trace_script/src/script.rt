@@ -1,0 +1,99 @@
+//! `run --capacity N`: a script of tree changes, policies and opens, answered line by line.
+ghost use Rattle.std.specs.Prelude.{◌≡◌, ℕ, List};
+ghost use Rattle.glob_automaton.specs.Automata.{StateLimit};
+ghost use Rattle.trace_script.specs.Following.{IsFollowed};
+ghost use Rattle.plain_bench.specs.Known.{policy_version};
+ghost use Rattle.trace_script.specs.RunOutput.{RunEnds, ScriptEnds, printed_lines};
+ghost use Rattle.trace_script.specs.Script.{script_of};
+ghost use Rattle.trace_report.specs.Streams.{IsTextOf};
+
+use crate::place::{Place, follow_line};
+use crate::read_line::{LineRead, read_line};
+use crate::stop::Stop;
+use names::NoMemory;
+use plain_bench::{Bench, PlainBench};
+use std::alloc::Global;
+use std::io::{BufRead, Write};
+use trace_report::{Status, fail};
+
+/// The most lines that are read. No script is so long: to read them would take centuries. The bound keeps every
+/// version that is counted far below 2^64.
+const MOST_LINES: u64 = (1 << 60) - 1;
+
+/// Reads a script from `input`, and writes to `answers` a line for each of its commands, before it reads the next line.
+/// The script changes a tree that begins as the root alone, with room for `capacity` entries, publishes profiles and
+/// opens paths. Why there are no more answers is told on `faults`.
+pub fn run<R: BufRead, A: Write, F: Write>(
+    alloc: Global,
+    capacity: u32,
+    input: &mut R,
+    answers: &mut A,
+    faults: &mut F,
+) -> Status
+    ensures { (limit : StateLimit) → (text : List ℕ) × IsTextOf (R.remaining input.old) text × RunEnds limit
+        (record {
+          answers_before = A.contents answers.old;
+          answers_after = A.contents answers.new;
+          faults_before = F.contents faults.old;
+          faults_after = F.contents faults.new;
+        })
+        (R.remaining input.old) (R.remaining input.new) capacity text result }
+{
+    match PlainBench::new(alloc, capacity as usize) {
+        Ok(mut bench) => run_script(alloc, &mut bench, input, answers, faults),
+        Err(NoMemory) => fail(faults, NoMemory, Status::NoMemory),
+    }
+}
+
+/// Answers a script line by line, up to its end or to a line that is no command.
+pub fn run_script<B: Bench, R: BufRead, A: Write, F: Write>(
+    alloc: Global,
+    bench: &mut B,
+    input: &mut R,
+    answers: &mut A,
+    faults: &mut F,
+) -> Status
+    requires { policy_version (B.known bench.old) ≡ 0 }
+    ensures { (limit : StateLimit) → (text : List ℕ) × IsTextOf (R.remaining input.old) text × ScriptEnds limit
+        (record {
+          answers_before = A.contents answers.old;
+          answers_after = A.contents answers.new;
+          faults_before = F.contents faults.old;
+          faults_after = F.contents faults.new;
+        })
+        (R.remaining input.old) (R.remaining input.new) (B.known bench.old) text result }
+{
+    match follow(alloc, bench, input, answers) {
+        Ok(()) => Status::Done,
+        Err(stop) => fail(faults, stop, stop.status()),
+    }
+}
+
+/// Answers the lines of a script one by one, each before the next is read.
+fn follow<B: Bench, R: BufRead, A: Write>(
+    alloc: Global,
+    bench: &mut B,
+    input: &mut R,
+    answers: &mut A,
+) -> Result<(), Stop>
+    requires { policy_version (B.known bench.old) ≡ 0 }
+    ensures { (limit : StateLimit) → (text : List ℕ) × IsTextOf (R.remaining input.old) text
+        × IsFollowed (R.remaining input.old) (R.remaining input.new) (printed_lines limit (B.known bench.old) (script_of text).commands) (script_of text).stopped
+        (A.contents answers.old) (A.contents answers.new) result }
+{
+    let mut place = Place::Outside;
+    let mut line = Vec::new(alloc);
+    for before in 0..MOST_LINES {
+        match read_line(input, &mut line)? {
+            LineRead::Whole => {
+                place = follow_line(alloc, bench, place, before + 1, &line, answers)?;
+            }
+            LineRead::Last => {
+                return follow_line(alloc, bench, place, before + 1, &line, answers)?.close();
+            }
+            LineRead::End => return place.close(),
+        }
+    }
+    // Only after MOST_LINES, so never in practice.
+    Err(Stop::Input)
+}

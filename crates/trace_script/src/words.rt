@@ -1,0 +1,79 @@
+//! The words of a line.
+ghost use Rattle.std.specs.Prelude.{◌≡◌, drop};
+ghost use Rattle.std.specs.Iterator.{YieldsFirstBy, item_count};
+ghost use Rattle.std.specs.List.{prefix_len, position_or_len, before_first};
+ghost use Rattle.trace_script.specs.Script.{is_blank, words_of};
+
+use std::iter::FusedIterator;
+use std::marker::Model;
+
+/// What stands between the blanks of a line, seen as the list of the words that are left.
+#[derive(Debug, Drop)]
+pub(crate) struct Words<'a> {
+    left: &'a [u8],
+}
+
+impl<'a> Model for Words<'a> {
+    ghost use Rattle.std.specs.Prelude.{ℕ, List};
+    ghost use Rattle.trace_script.specs.Script.{words_of};
+
+    ghost Value = { List (List ℕ) };
+
+    ghost view = { λ w. words_of w.left.now };
+}
+
+impl<'a> Words<'a> {
+    /// The words of a line. No memory is taken.
+    pub(crate) fn of(line: &'a [u8]) -> Words<'a>
+        ensures { result ≡ words_of line.now }
+    {
+        Words { left: line }
+    }
+}
+
+impl<'a> Iterator for Words<'a> {
+    type Item = &'a [u8];
+
+    ghost next_gives = { YieldsFirstBy (λ word. word.now) (λ left. left) };
+
+    ghost remaining = { item_count (λ left. left) };
+
+    fn next(&mut self) -> Option<&'a [u8]> {
+        let (word, left) = split_at_blank(skip_blanks(self.left));
+        self.left = left;
+        if word.is_empty() {
+            return None;
+        }
+        Some(word)
+    }
+}
+
+impl<'a> FusedIterator for Words<'a> {}
+
+/// Whether a byte parts words.
+fn is_blank(byte: u8) -> bool
+    ensures { result ≡ is_blank byte }
+{
+    byte == b' ' || byte == b'\t'
+}
+
+/// The bytes from the first that is no blank on.
+fn skip_blanks(bytes: &[u8]) -> &[u8]
+    ensures { result.now ≡ drop (prefix_len is_blank bytes.now) bytes.now }
+{
+    match bytes.iter().position(|b| !is_blank(*b)) {
+        Some(i) => &bytes[i..],
+        None => &[],
+    }
+}
+
+/// The bytes before the first blank, and those from it on.
+fn split_at_blank(bytes: &[u8]) -> (&[u8], &[u8])
+    ensures before { result.0.now ≡ before_first is_blank bytes.now }
+    ensures from { result.1.now ≡ drop (position_or_len is_blank bytes.now) bytes.now }
+{
+    match bytes.iter().position(|b| is_blank(*b)) {
+        Some(i) => bytes.split_at(i),
+        None => (bytes, &[]),
+    }
+}
