@@ -1,0 +1,10 @@
+-- The rounds so far.
+use Rattle.std.proofs.Common.{◌≡◌, ◌*◌}
+use Rattle.coqetwal.specs.Walks.{AreAfterRounds, looked_up}
+use Rattle.coqetwal.proofs.running.run_rounds.Given as goal
+
+abbrev pub invariant-loop-round : goal.invariant-loop-round
+invariant-loop-round l = record {
+  count : l.steps ≡ l._round * looked_up l.names l.initial.states;
+  rounds : AreAfterRounds l.table l.names l._round l.initial.states l.states;
+}

@@ -1,0 +1,38 @@
+-- Many names of one length, which stand one after another, run through one table.
+use Rattle.std.specs.Prelude.{◌≡◌, ◌⊎◌, ℕ, ◌*◌, ◌/◌, ◌^◌, ◌<◌, ◌≤◌, List, Some, drop, length, slice_get, take}
+use Rattle.table_image.specs.Bounds.{fault_number}
+use Rattle.table_image.specs.Tables.{Table, state_after}
+use Rattle.table_image.specs.declared.fault.ImageFault.{ImageFault}
+use Rattle.matcher.specs.Making.{IsLoaded}
+use Rattle.coqetwal.specs.Answers.{IsRefusedFor}
+use Rattle.coqetwal.specs.declared.answer.Walk.{Walk}
+
+-- how long each name is, where there are so many states
+abbrev pub name_length : List ℕ → List ℕ → ℕ
+name_length names states = length names / length states
+
+abbrev pub name_at : List ℕ → List ℕ → ℕ → List ℕ
+name_at names states i = take (name_length names states) (drop (i * name_length names states) names)
+
+-- how many cells are looked up in a round: one for each byte of a name
+abbrev pub looked_up : List ℕ → List ℕ → ℕ
+looked_up names states = length states * name_length names states
+
+-- each state is the one that its name leads to
+abbrev pub AreAfter : Table → List ℕ → List ℕ → Type 0
+AreAfter t names states = (i s : ℕ) → slice_get states i ≡ Some s → state_after t (name_at names states i) ≡ Some s
+
+-- the same, where there was a round
+pub record AreAfterRounds (t : Table) (names : List ℕ) (rounds : ℕ) (old new : List ℕ) : Type 0 where
+  pub long : length new ≡ length old
+  pub none : rounds ≡ 0 → new ≡ old
+  pub some : 0 < rounds → AreAfter t names new
+
+-- What is told of a walk: how many cells were looked up in all rounds, or the image's first fault, or that the look-ups
+-- have no room in their count.
+abbrev pub IsWalkOf : List ℕ → List ℕ → ℕ → List ℕ → List ℕ → Walk → Type 0
+IsWalkOf image names rounds old new walk =
+    ((t : Table) × IsLoaded image t × AreAfterRounds t names rounds old new
+    × (walk ≡ record { kind = 0; number = 0; steps = rounds * looked_up names old }))
+    ⊎ ((new ≡ old) × (((f : ImageFault) × IsRefusedFor image f × (walk ≡ record { kind = 3; number = fault_number f; steps = 0 }))
+    ⊎ ((2 ^ 64 ≤ rounds * length names) × (walk ≡ record { kind = 4; number = 0; steps = 0 }))))
