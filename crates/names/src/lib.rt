@@ -16,6 +16,3 @@ pub use laws::{
 };
 pub use paths::{Components, Path, split_component};
 pub use permissions::{Permission, Perms};
-
-#[cfg(test)]
-mod tests;

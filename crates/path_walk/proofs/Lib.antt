@@ -28,7 +28,6 @@ pub mod Naming
 pub mod PlaceNames
 pub mod Reached
 pub mod Linked
-pub mod SmallTree
 pub mod LinkCounts
 pub mod Descent
 pub mod Acting

@@ -16,4 +16,3 @@ pub mod Target
 pub mod Judge
 pub mod PlainLaws
 pub mod Script
-pub mod SmallTree

@@ -39,6 +39,3 @@ pub use plain::PlainTree;
 pub use rows::{changes_are_answered, long_names_are_told, paths_are_walked};
 pub use scratch::Scratch;
 pub use walk::resolve;
-
-#[cfg(test)]
-mod tests;

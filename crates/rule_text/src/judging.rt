@@ -81,6 +81,3 @@ pub fn judge_slow(profile: &Profile, name: &[u8], ask: Perms) -> Verdict
         Verdict::NoRule { missing }
     }
 }
-
-#[cfg(test)]
-mod tests;

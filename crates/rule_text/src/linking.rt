@@ -94,6 +94,3 @@ impl fmt::Display for LinkVerdict {
         }
     }
 }
-
-#[cfg(test)]
-mod tests;

@@ -15,8 +15,6 @@ mod name;
 mod path;
 mod rules;
 mod stop;
-#[cfg(test)]
-mod tests;
 mod text;
 mod words;
 

@@ -12,9 +12,6 @@ use crate::profile::{Profile, Rule, RuleKind};
 use names::{NoMemory, Permission, Perms};
 use std::alloc::Global;
 
-#[cfg(test)]
-mod tests;
-
 /// The bytes that have a backslash before them in a path.
 const SPECIAL: &[u8] = b"*?[{},\\\"@";
 

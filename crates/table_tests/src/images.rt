@@ -1,0 +1,52 @@
+//! Images of small profiles, byte for byte.
+ghost use Rattle.std.specs.Prelude.{IfOk};
+ghost use Rattle.table_image.specs.Bounds.{InBounds};
+ghost use Rattle.table_image.specs.Tables.{table_value};
+
+use glob_automaton::compile;
+use rule_text::read;
+use std::alloc::Global;
+use std::test::Fail;
+use table_image::{
+    ImageFault, RawTable, bytes_have_one_outcome, from_bytes, pack, tables_have_one_outcome,
+    to_bytes,
+};
+
+mod faults;
+mod headers;
+mod layout;
+mod numbers;
+
+// The tables of a profile's text.
+fn tables_of(alloc: Global, text: &[u8]) -> Result<RawTable, Fail>
+    ensures { IfOk result (λ table. InBounds (table_value table)) }
+{
+    let profile = read(alloc, text)?;
+    Ok(pack(alloc, &compile(alloc, &profile)?)?)
+}
+
+// The smallest image: 2 dead states that share 256 free cells, and a record of no hits.
+pub(crate) fn smallest(alloc: Global) -> Result<Vec<u8>, Fail> {
+    let mut bytes = b"PTAB\x01\0\0\0\x02\0\0\0\0\x01\0\0\x01\0\0\0".to_vec(alloc)?;
+    bytes.resize(1_068, 0)?;
+    bytes.resize(2_092, 255)?;
+    bytes.resize(2_112, 0)?;
+    Ok(bytes)
+}
+
+// The image of a profile of one name.
+fn passwd(alloc: Global) -> Result<Vec<u8>, Fail> {
+    let table = tables_of(alloc, b"profile p { /etc/passwd r, }")?;
+    Ok(to_bytes(alloc, &table)?)
+}
+
+// The image with other bytes from a place on.
+fn altered(alloc: Global, image: &[u8], place: usize, other: &[u8]) -> Result<Vec<u8>, Fail> {
+    let before = image.get(..place).ok_or("no such place")?;
+    let rest = image.get(place..).ok_or("no such place")?;
+    let behind = rest.get(other.len()..).ok_or("no such place")?;
+    let mut bytes = before.to_vec(alloc)?;
+    bytes.extend_from_slice(other)?;
+    bytes.extend_from_slice(behind)?;
+    Ok(bytes)
+}

@@ -1,0 +1,10 @@
+//! Tests of `table_image`, `table_verifier` and `matcher`, and nothing else. A library with tests of its own would be proved
+//! twice, once with them; as they stand here, each of these libraries is proved once.
+#![tactic(auto)]
+
+#[cfg(test)]
+mod images;
+#[cfg(test)]
+mod matching;
+#[cfg(test)]
+mod verifying;

@@ -1,0 +1,34 @@
+//! Names judged by compiled profiles and by loaded ones.
+use matcher::{
+    AnyProfile, CompiledProfile, LoadedProfile, MakeFault, PolicyChange, judge, run, table_of,
+    tables_of_rules_tell_their_verdicts,
+};
+use names::{Permission, Perms};
+use rule_text::{Profile, read};
+use std::alloc::Global;
+use std::test::Fail;
+use table_image::{ImageFault, to_bytes};
+use table_verifier::{Steps, VerifiedTable};
+
+mod agreeing;
+mod images;
+mod making;
+mod verdicts;
+
+// `profile p {`, these rules and `}`, read.
+fn profile_of(alloc: Global, rules: &[u8]) -> Result<Profile, Fail> {
+    let mut text = b"profile p {".to_vec(alloc)?;
+    text.extend_from_slice(rules)?;
+    text.extend_from_slice(b"}")?;
+    Ok(read(alloc, &text)?)
+}
+
+fn compiled_of(alloc: Global, rules: &[u8]) -> Result<CompiledProfile, Fail> {
+    let profile = profile_of(alloc, rules)?;
+    Ok(CompiledProfile::make(alloc, profile)?)
+}
+
+// The image of a profile's table.
+fn image_of(alloc: Global, profile: &CompiledProfile) -> Result<Vec<u8>, Fail> {
+    Ok(to_bytes(alloc, &table_of(alloc, profile.profile())?)?)
+}
