@@ -1,25 +1,30 @@
 #!/bin/sh
-# Proves each crate, lowest first, and builds ./aa-trace. What was proved before and hasn't changed is kept.
+# Proves each crate that the program stands on, as many side by side as there are processors and memory for them, and builds
+# ./aa-trace. What was proved before and hasn't changed is kept.
 set -eu
 cd "$(dirname "$0")/.."
-log=$(mktemp)
-trap 'rm -f "$log"' EXIT
+work=$(mktemp -d)
+trap 'rm -rf "$work"' EXIT
 
-# quietly WHAT COMMAND..: one line for a step that works, and all that it said for one that doesn't
-quietly() {
-    echo "$1 .."
-    shift
-    if ! "$@" >"$log" 2>&1; then
-        cat "$log"
-        exit 1
-    fi
-}
+# A rule for make for each crate of the repository below trace_cli: the crates that it stands on come first.
+awk '
+    /^[a-z]/ {
+        name = $1
+        sub(/:.*/, "", name)
+        for (i = 2; i <= NF; i++) below[name, ++count[name]] = $i
+        known[name] = 1
+    }
+    function rule(name, i) {
+        if (done[name]++) return
+        line = name ":"
+        for (i = 1; i <= count[name]; i++) if (below[name, i] in known) line = line " " below[name, i]
+        print line "\n\t@sh tools/prove.sh " name
+        for (i = 1; i <= count[name]; i++) if (below[name, i] in known) rule(below[name, i])
+    }
+    END { rule("trace_cli") }
+' crates.txt >"$work/rules"
 
-for crate in names rule_text path_walk glob_automaton table_image table_verifier matcher \
-        trace_report trace_line plain_bench trace_script trace_commands; do
-    quietly "proving $crate" sh -c "cd crates/$crate && rt check"
-done
-# rt run proves the program, builds it and runs it once.
-quietly 'proving and building trace_cli' \
-    sh -c 'cd crates/trace_cli && rt run -- judge rw /etc/passwd <../../examples/passwd.profile'
+# A proof takes up to 3 GB.
+jobs=$(awk -v processors="$(nproc)" '/MemAvailable/ { most = int($2 / 3000000); print most < 1 ? 1 : most < processors ? most : processors }' /proc/meminfo)
+make --no-print-directory -s -f "$work/rules" -j "$jobs" trace_cli
 cp crates/trace_cli/out/trace_cli aa-trace
