@@ -42,7 +42,7 @@ struct coqetwal_walk {
     uint64_t steps;
 };
 
-/* The number of the first fault of an image, 1 to 10; 11 where memory was refused; 0 where it is accepted. */
+/* The number of the first fault of an image, 1 to 10; 11 where memory was refused, which it is only of bytes with none of the faults 1 to 6; 0 where it is accepted. */
 uint16_t coqetwal_check(const uint8_t *image, size_t image_length);
 
 /* What an image says of a name for which permissions are asked by their letters: r w l k m. */

@@ -1,9 +1,9 @@
 -- What a text's states are, and why it has none.
 use Rattle.std.specs.Prelude.{◌≡◌, ◌⊎◌, ℕ, List}
-use Rattle.rule_text.specs.Profile.{ProfileValue}
-use Rattle.rule_text.specs.Grammar.{ReadsAs}
-use Rattle.rule_text.specs.ReadFaults.{FaultsAs}
-use Rattle.rule_text.specs.declared.fault.ReadFault.TheVariants as read
+use Rattle.rule_reader.specs.Profile.{ProfileValue}
+use Rattle.rule_reader.specs.Grammar.{ReadsAs}
+use Rattle.rule_reader.specs.ReadFaults.{FaultsAs}
+use Rattle.rule_reader.specs.declared.fault.ReadFault.TheVariants as read
 use Rattle.glob_automaton.specs.Automata.{IsCompileFault}
 use Rattle.glob_automaton.specs.Sets.{IsCount}
 use Rattle.compile_bench.specs.declared.Refusal.{Refusal}

@@ -5,7 +5,7 @@ ghost use Rattle.std.specs.Prelude.{◌≡◌, ◌⊎◌, IfOk, IfErr};
 ghost use Rattle.compile_bench.specs.States.{HasStates, IsRefusal};
 
 use glob_automaton::{CompileFault, compile};
-use rule_text::{ReadFault, read};
+use rule_reader::{ReadFault, read};
 use std::alloc::{AllocError, Global};
 use std::io;
 use std::io::{Input, Read};

@@ -3,22 +3,18 @@ use Rattle.std.specs.Prelude.{◌≡◌, ◌⊎◌, ℕ, ◌+◌, Bool, List, Op
 use Rattle.names.specs.Permissions.{has}
 use Rattle.names.specs.declared.permissions.Permission.TheVariants.{Read, Write, Link, Lock, Map}
 use Rattle.names.specs.declared.permissions.Perms.{Perms}
-use Rattle.rule_text.specs.declared.verdict.Verdict.{Verdict}
-use Rattle.rule_text.specs.declared.verdict.Verdict.TheVariants.{Denied, NoRule, Allowed}
-use Rattle.glob_automaton.specs.Records.{IsTold}
-use Rattle.glob_automaton.specs.declared.record.Record.{Record}
-use Rattle.table_image.specs.Bounds.{fault_number}
-use Rattle.table_image.specs.Tables.{Table, record_after}
-use Rattle.table_image.specs.declared.fault.ImageFault.{ImageFault}
-use Rattle.table_image.specs.declared.fault.ImageFault.TheVariants.{NoMemory}
-use Rattle.matcher.specs.Making.{IsLoaded, IsLoadFault}
+use Rattle.verdicts.specs.declared.verdict.Verdict.{Verdict}
+use Rattle.verdicts.specs.declared.verdict.Verdict.TheVariants.{Denied, NoRule, Allowed}
+use Rattle.verdicts.specs.Records.{IsTold}
+use Rattle.verdicts.specs.declared.record.Record.{Record}
+use Rattle.tables.specs.Bounds.{fault_number}
+use Rattle.tables.specs.Tables.{Table, record_after}
+use Rattle.tables.specs.declared.fault.ImageFault.{ImageFault}
+use Rattle.table_runner.specs.Loading.{IsLoaded, IsRefusedFor}
 use Rattle.coqetwal.specs.declared.answer.Answer.{Answer}
 
--- why an image isn't loaded: its first fault, or want of memory
-abbrev pub IsRefusedFor : List ℕ → ImageFault → Type 0
-IsRefusedFor image f = (f ≡ NoMemory) ⊎ IsLoadFault image f
-
--- 0 of an image that is accepted, else the number of its first fault
+-- 0 of an image that is accepted, else the number of what it is refused for: its first fault, or want of memory, of bytes
+-- without any of the header's faults alone
 abbrev pub IsCheckNumber : List ℕ → ℕ → Type 0
 IsCheckNumber image n = ((t : Table) × IsLoaded image t × (n ≡ 0)) ⊎ ((f : ImageFault) × IsRefusedFor image f × (n ≡ fault_number f))
 

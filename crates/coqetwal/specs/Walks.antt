@@ -1,10 +1,9 @@
 -- Many names of one length, which stand one after another, run through one table.
 use Rattle.std.specs.Prelude.{◌≡◌, ◌⊎◌, ℕ, ◌*◌, ◌/◌, ◌^◌, ◌<◌, ◌≤◌, List, Some, drop, length, slice_get, take}
-use Rattle.table_image.specs.Bounds.{fault_number}
-use Rattle.table_image.specs.Tables.{Table, state_after}
-use Rattle.table_image.specs.declared.fault.ImageFault.{ImageFault}
-use Rattle.matcher.specs.Making.{IsLoaded}
-use Rattle.coqetwal.specs.Answers.{IsRefusedFor}
+use Rattle.tables.specs.Bounds.{fault_number}
+use Rattle.tables.specs.Tables.{Table, state_after}
+use Rattle.tables.specs.declared.fault.ImageFault.{ImageFault}
+use Rattle.table_runner.specs.Loading.{IsLoaded, IsRefusedFor}
 use Rattle.coqetwal.specs.declared.answer.Walk.{Walk}
 
 -- how long each name is, where there are so many states

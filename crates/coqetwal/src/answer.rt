@@ -3,7 +3,7 @@ ghost use Rattle.std.specs.Prelude.{◌≡◌};
 ghost use Rattle.coqetwal.specs.Answers.{number_if, perms_number, verdict_answer};
 
 use names::{Permission, Perms};
-use rule_text::Verdict;
+use verdicts::Verdict;
 
 /// The name is allowed; of a walk, that it was walked.
 pub(crate) const ALLOWED: u16 = 0;

@@ -4,9 +4,9 @@ ghost use Rattle.names.specs.Permissions.{perms_of};
 ghost use Rattle.coqetwal.specs.Answers.{IsAnswerOf};
 
 use crate::answer::{Answer, BAD_CALL, BAD_IMAGE, answer_of};
-use matcher::{LoadedProfile, judge};
 use names::Perms;
 use std::alloc::Global;
+use table_runner::{LoadedProfile, judge};
 
 /// What an image says of a name for which permissions are asked by their letters. The letters are tested first.
 #[unsafe(no_mangle)]

@@ -3,8 +3,8 @@ ghost use Rattle.std.specs.Prelude.{◌≡◌, ◌+◌, ◌*◌, ◌^◌, ◌<�
 ghost use Rattle.coqetwal.specs.Walks.{AreAfter, AreAfterRounds, IsWalkOf, looked_up};
 
 use crate::answer::{ALLOWED, BAD_CALL, BAD_IMAGE, Walk};
-use matcher::{LoadedProfile, run};
 use std::alloc::Global;
+use table_runner::{LoadedProfile, run};
 use table_verifier::{Steps, VerifiedTable};
 
 /// Runs as many names as there is room for states through the table of an image, which is loaded once. The names stand one

@@ -4,7 +4,7 @@ use Rattle.std.proofs.Math.Seq.{get_or-append_seam}
 use Rattle.std.proofs.lemmas.List.{length-append, get_or_append_left}
 use Rattle.std.proofs.lemmas.Bool.{cases_lt}
 use Rattle.glob_automaton.specs.declared.chart.Chart.{Chart}
-use Rattle.glob_automaton.specs.declared.record.Record.{Record}
+use Rattle.verdicts.specs.declared.record.Record.{Record}
 use Rattle.glob_automaton.specs.Automata.{Automaton}
 use Rattle.glob_automaton.specs.Building.{IsStartOf, IsStepOf, begins, IsRecordOf, IsBuilt}
 use Rattle.glob_automaton.specs.Gathering.{IsAscending}

@@ -2,8 +2,8 @@
 use Rattle.std.proofs.Common.{[], ◌≡◌, ℕ, zero, suc, ◌+◌, ◌<◌, ◌≤◌, inl, inr, ⊎_elim, List, ◌∷◌, ◌++◌, length, refl, sym, ap, ◌∙◌, arith, None, Some}
 use Rattle.std.specs.List.{slice_get}
 use Rattle.std.proofs.lemmas.Option.{slice_get_within}
-use Rattle.rule_text.specs.Glob.{Glob, empty, one, run, cat, none, alt, places}
-use Rattle.rule_text.specs.Follow.{Numbers, Starts, TakesAt, Goes}
+use Rattle.rule_globs.specs.Glob.{Glob, empty, one, run, cat, none, alt, places}
+use Rattle.rule_globs.specs.Follow.{Numbers, Starts, TakesAt, Goes}
 use Rattle.glob_automaton.specs.Chart.{IsIn, at_place, at_run, past_run, one_side, other_side, IsOrdered}
 use Rattle.glob_automaton.specs.declared.chart.Entry.{Entry}
 use Rattle.glob_automaton.specs.declared.chart.Entry.TheVariants as entry

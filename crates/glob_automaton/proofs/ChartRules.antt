@@ -3,21 +3,21 @@ use Rattle.std.proofs.Common.{[], ◌≡◌, ℕ, ◌+◌, ◌<◌, ◌≤◌, f
 use Rattle.std.specs.List.{slice_get}
 use Rattle.std.proofs.lemmas.List.{length-append}
 use Rattle.std.proofs.lemmas.Bool.{cases_lt}
-use Rattle.rule_text.specs.Glob.{places}
-use Rattle.rule_text.specs.Follow.{Starts, TakesAt, Goes}
-use Rattle.rule_text.specs.Rules.{RuleValue, pattern}
+use Rattle.rule_globs.specs.Glob.{places}
+use Rattle.rule_globs.specs.Follow.{Starts, TakesAt, Goes}
+use Rattle.rule_globs.specs.Rules.{RuleValue, pattern}
 use Rattle.glob_automaton.specs.Chart.{IsIn, at_place, IsOrdered, takes_byte}
 use Rattle.glob_automaton.specs.Drawing.{Grows, IsKnown, IsDrawn, HasRule, HasRules, IsChartOf}
 use Rattle.glob_automaton.specs.declared.chart.Chart.{Chart}
 use Rattle.glob_automaton.specs.declared.chart.Place.{Place}
-use Rattle.glob_automaton.specs.declared.chart.Drawn.{Drawn}
+use Rattle.glob_automaton.specs.declared.chart.ChartRule.{ChartRule}
 use Rattle.glob_automaton.specs.declared.chart.Takes.TheVariants as takes
 use Rattle.glob_automaton.specs.declared.chart.Entry.TheVariants as entry
 use Rattle.glob_automaton.proofs.ChartLaws.{get_left, get_last, get_right, starts_by, goes_by, takes_own}
 use Rattle.glob_automaton.proofs.DrawingLaws.{grows_on, grows_not, grown_length, live_as_before, old_or_new, takes_on, known_on, in_place}
 
 -- a chart with these rules
-abbrev pub with_rules : Chart → Vec Drawn Global → Chart
+abbrev pub with_rules : Chart → Vec ChartRule Global → Chart
 with_rules chart rules = record { places = chart.places; entries = chart.entries; classes = chart.classes; rules = rules }
 
 -- what the chart's places refer to is there
@@ -29,7 +29,7 @@ abbrev pub end_place : Place
 end_place = record { takes = takes.Nothing; behind = 0 }
 
 -- a rule that stands in the chart stays when the chart grows
-pub kept_rule : (old new : Chart) (rule : RuleValue) (d : Drawn) → IsOrdered old.entries.items → RefersWithin old →
+pub kept_rule : (old new : Chart) (rule : RuleValue) (d : ChartRule) → IsOrdered old.entries.items → RefersWithin old →
     Grows old.places.items new.places.items → Grows old.entries.items new.entries.items → Grows old.classes.items new.classes.items →
     HasRule old rule d → HasRule new rule d
 kept_rule old new rule d ordered within more_places more_entries more_classes has =
@@ -55,8 +55,8 @@ kept_rule old new rule d ordered within more_places more_entries more_classes ha
     }
 
 -- the rules that stand in the chart, and one more
-pub more_rules : (old new : Chart) (at : ℕ) (rules : List RuleValue) (ds : List Drawn) (rule : RuleValue) (d : Drawn) →
-    ((r : RuleValue) (e : Drawn) → HasRule old r e → HasRule new r e) → d.end ≡ length old.places.items → HasRule new rule d →
+pub more_rules : (old new : Chart) (at : ℕ) (rules : List RuleValue) (ds : List ChartRule) (rule : RuleValue) (d : ChartRule) →
+    ((r : RuleValue) (e : ChartRule) → HasRule old r e → HasRule new r e) → d.end ≡ length old.places.items → HasRule new rule d →
     length new.places.items ≡ length old.places.items + places (pattern rule) + 1 → HasRules old at rules ds →
     HasRules new at (rules ++ rule ∷ []) (ds ++ d ∷ [])
 more_rules old new at [] [] rule d kept is has count h = (is ∙ h, has, omega (arith, count, h))
@@ -66,7 +66,7 @@ more_rules old new at (r ∷ rules) (x ∷ ds) rule d kept is has count h =
     (h.0, kept r x h.1, more_rules old new (at + places (pattern r) + 1) rules ds rule d kept is has count h.2)
 
 -- the rule that was drawn stands in the chart
-pub new_rule : (s0 s2 s3 : Chart) (all : Vec Drawn Global) (rule : RuleValue) (d : Drawn) (last : ℕ) →
+pub new_rule : (s0 s2 s3 : Chart) (all : Vec ChartRule Global) (rule : RuleValue) (d : ChartRule) (last : ℕ) →
     s2.places.items ≡ s0.places.items ++ end_place ∷ [] → d.end ≡ length s0.places.items → d.kind ≡ rule.kind → d.perms ≡ rule.perms →
     ((q : ℕ) → IsIn s2.entries.items last q ↔ (q ≡ d.end)) → IsDrawn s2 s3 (pattern rule) last d.start → HasRule (with_rules s3 all) rule d
 new_rule s0 s2 s3 all rule d last pushed is kind perms at_last dr =
@@ -110,7 +110,7 @@ new_rule s0 s2 s3 all rule d last pushed is kind perms at_last dr =
     }
 
 -- the whole chart, with one rule more
-pub chart_more : (s0 s2 s3 : Chart) (all : Vec Drawn Global) (rules : List RuleValue) (rule : RuleValue) (d : Drawn) (last : ℕ) →
+pub chart_more : (s0 s2 s3 : Chart) (all : Vec ChartRule Global) (rules : List RuleValue) (rule : RuleValue) (d : ChartRule) (last : ℕ) →
     IsChartOf rules s0 →
     s2.places.items ≡ s0.places.items ++ end_place ∷ [] → d.end ≡ length s0.places.items → d.kind ≡ rule.kind → d.perms ≡ rule.perms →
     last ≡ length s0.entries.items → s2.entries.items ≡ s0.entries.items ++ entry.Place d.end ∷ [] →

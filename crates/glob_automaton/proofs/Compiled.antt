@@ -5,28 +5,31 @@ use Rattle.std.specs.Prelude.{Result, Ok, Err, IfErr}
 use Rattle.std.specs.Result.{IsErrAnd}
 use Rattle.names.specs.declared.permissions.Permission.{Permission}
 use Rattle.names.specs.Permissions.{has}
-use Rattle.rule_text.specs.Glob.{Glob, places}
-use Rattle.rule_text.specs.Profile.{RuleValue, pattern}
-use Rattle.rule_text.specs.Verdict.{Hits, IsRuleAt}
-use Rattle.rule_text.specs.declared.profile.RuleKind.{RuleKind}
-use Rattle.rule_text.specs.declared.profile.RuleKind.TheVariants.{Allow, Deny}
+use Rattle.rule_globs.specs.Glob.{Glob, places}
+use Rattle.rule_reader.specs.Profile.{RuleValue, pattern}
+use Rattle.rule_globs.specs.Verdict.{Hits, IsRuleAt}
+use Rattle.verdicts.specs.declared.kind.RuleKind.{RuleKind}
+use Rattle.verdicts.specs.declared.kind.RuleKind.TheVariants.{Allow, Deny}
 use Rattle.glob_automaton.specs.declared.chart.Chart.{Chart}
-use Rattle.glob_automaton.specs.declared.chart.Drawn.{Drawn}
+use Rattle.glob_automaton.specs.declared.chart.ChartRule.{ChartRule}
 use Rattle.glob_automaton.specs.declared.fault.CompileFault.{CompileFault}
 use Rattle.glob_automaton.specs.declared.fault.CompileFault.TheVariants.{TooManyStates, NoMemory}
-use Rattle.glob_automaton.specs.declared.record.Record.{Record}
+use Rattle.verdicts.specs.declared.record.Record.{Record}
 use Rattle.glob_automaton.specs.Automata.{Automaton, target, goes_to, state_after, most_sets, IsAutomatonOf, IsCompileFault}
 use Rattle.glob_automaton.specs.Building.{IsReached, begins, goes_on, EndsIn, IsRecordOf, IsBuilt, IsBuildFault}
 use Rattle.glob_automaton.specs.Drawing.{HasRule, IsChartOf}
-use Rattle.glob_automaton.specs.Least.{hits_of, IsLeastOrNone, IsLeastRecord}
-use Rattle.glob_automaton.specs.Sets.{SameSet, NoneLive, are_bytes, AreDifferent, AreMoreThan, IsPrefixOfName}
-use Rattle.glob_automaton.specs.Hits.{no_hits}
+use Rattle.verdicts.specs.Least.{hits_of, IsLeastOrNone}
+use Rattle.glob_automaton.specs.Least.{IsLeastRecord}
+use Rattle.names.specs.Bytes.{are_bytes}
+use Rattle.glob_automaton.specs.Sets.{SameSet, NoneLive, AreDifferent, AreMoreThan, IsPrefixOfName}
+use Rattle.verdicts.specs.Hits.{no_hits}
 use Rattle.glob_automaton.proofs.EmptySets.{empty_record}
 use Rattle.std.proofs.lemmas.Option.{slice_get-get_or}
 use Rattle.glob_automaton.proofs.Counting.{few_values, each_counted}
 use Rattle.glob_automaton.proofs.LiveByParts.{LeftFirst}
 use Rattle.glob_automaton.proofs.LiveNumbers.{LiveAtFirst, LiveAfterByte}
 use Rattle.glob_automaton.proofs.NamePrefixes.{EachWithSlash}
+use Rattle.glob_automaton.proofs.OneRecord.{AreTheirHits}
 use Rattle.glob_automaton.proofs.PatternPlaces.{end_live}
 use Rattle.glob_automaton.proofs.ReachedSets.{at_index, has_number, number_there, equal_sets, empty_set}
 use Rattle.glob_automaton.proofs.RuleNumbers.{rule_stands, drawn_of, rule_of, neither_less}
@@ -51,7 +54,7 @@ module _ (first : LiveAtFirst) (after : LiveAfterByte) (by_steps : LeftFirst) (r
       EndsIn chart set kind p n ↔ Hits rules kind p bytes n
   end_hits bytes set reached kind p n = (
     λ h.
-        let d : Drawn = h.1 in
+        let d : ChartRule = h.1 in
         let r = rule_of chart rules chart.rules.items 0 is.drawn h.0 d h.3 in
         let g : Glob = pattern r.0 in
         let has_it : HasRule chart r.0 d = rule_stands chart rules chart.rules.items 0 is.drawn h.0 r.0 d r.1 h.3 in
@@ -67,7 +70,7 @@ module _ (first : LiveAtFirst) (after : LiveAfterByte) (by_steps : LeftFirst) (r
         let g : Glob = pattern h.0 in
         let stands = at_index rules n h.0 h.1 in
         let w = drawn_of chart rules chart.rules.items 0 is.drawn (n - 1) h.0 stands in
-        let d : Drawn = w.0 in
+        let d : ChartRule = w.0 in
         let has_it : HasRule chart h.0 d = rule_stands chart rules chart.rules.items 0 is.drawn (n - 1) h.0 d stands w.1 in
         let last : d.end + (places g - places g) ≡ d.end = omega arith in (
           n - 1,
@@ -168,14 +171,14 @@ module _ (first : LiveAtFirst) (after : LiveAfterByte) (by_steps : LeftFirst) (r
         (r, slice_get-get_or a.records s no_hits (omega (arith, lt, b.each_row, b.whole.each_record)), b.records s no_hits lt)
 
     -- that of the empty set has no hits
-    none_there : slice_get a.records 0 ≡ Some no_hits
-    none_there =
+    none_there : AreTheirHits → slice_get a.records 0 ≡ Some no_hits
+    none_there same =
         let w = record_there 0 b.are_sets.some in
-        w.1 ∙ ap Some (empty_record chart w.0 (subst (λ z. IsRecordOf chart z w.0) b.are_sets.empty w.2))
+        w.1 ∙ ap Some (empty_record same chart w.0 (subst (λ z. IsRecordOf chart z w.0) b.are_sets.empty w.2))
 
     -- what is built on a chart of rules whose paths begin with a slash is their automaton
-    pub built : EachWithSlash rules → IsAutomatonOf rules a
-    built slashes =
+    pub built : AreTheirHits → EachWithSlash rules → IsAutomatonOf rules a
+    built same slashes =
         let counted = each_counted first after by_steps rules chart is slashes b.sets b.are_sets in
         record {
           whole = b.whole;
@@ -184,7 +187,7 @@ module _ (first : LiveAtFirst) (after : LiveAfterByte) (by_steps : LeftFirst) (r
               (w.0, w.1, record_least bytes (slice_index_or b.sets (state_after a bytes) []) w.0 (state_set bytes small) w.2);
           one_each = state_same;
           dead = state_dead;
-          hits_nothing = none_there;
+          hits_nothing = none_there same;
           count = (
             λ prefixes h. omega (arith, few_prefixes prefixes h, b.each_row),
             (counted.0, counted.1, omega (arith, counted.2, b.each_row)),

@@ -4,11 +4,11 @@ use Rattle.std.specs.Prelude.{Result, IfOk}
 use Rattle.std.proofs.lemmas.List.{append_assoc, append-nil}
 use Rattle.std.proofs.lemmas.Result.{IfOk-weaker}
 use Rattle.std.proofs.lemmas.Simd.{map-map}
-use Rattle.rule_text.specs.Glob.{Glob, empty, one, run, cat, none, alt, ByteSet, exactly, not_slash}
-use Rattle.rule_text.specs.Meaning.{meaning, node_meaning, meaning_of, alt_all, alternatives_meaning}
-use Rattle.rule_text.specs.declared.items.Item.{Item, Item-F, fold-roll-Item}
-use Rattle.rule_text.specs.declared.items.Item.TheVariants as v
-use Rattle.rule_text.specs.declared.items.Item.TheVariants.{rolls-Byte, rolls-AnyByte, rolls-Group}
+use Rattle.rule_globs.specs.Glob.{Glob, empty, one, run, cat, none, alt, ByteSet, exactly, not_slash}
+use Rattle.rule_globs.specs.Meaning.{meaning, node_meaning, meaning_of, alt_all, alternatives_meaning}
+use Rattle.rule_globs.specs.declared.items.Item.{Item, Item-F, fold-roll-Item}
+use Rattle.rule_globs.specs.declared.items.Item.TheVariants as v
+use Rattle.rule_globs.specs.declared.items.Item.TheVariants.{rolls-Byte, rolls-AnyByte, rolls-Group}
 use Rattle.glob_automaton.specs.Drawing.{TakesSet, IsKnown, IsDrawn}
 use Rattle.glob_automaton.specs.declared.chart.Chart.{Chart}
 use Rattle.glob_automaton.specs.declared.chart.Takes.{Takes}

@@ -7,9 +7,9 @@ use Rattle.std.proofs.lemmas.List.{length-append, append_assoc, append-nil, get_
 use Rattle.std.proofs.lemmas.Result.{IfOk-weaker}
 use Rattle.std.proofs.Math.Seq.{get_or-append_seam}
 use Rattle.std.proofs.lemmas.Bool.{cases_lt}
-use Rattle.rule_text.specs.Glob.{Glob, empty, one, run, cat, none, alt, fits, places, ByteSet, not_slash}
-use Rattle.rule_text.specs.Meaning.{in_stars, stars_glob}
-use Rattle.rule_text.specs.Follow.{Starts, TakesAt, Goes}
+use Rattle.rule_globs.specs.Glob.{Glob, empty, one, run, cat, none, alt, fits, places, ByteSet, not_slash}
+use Rattle.rule_globs.specs.Meaning.{in_stars, stars_glob}
+use Rattle.rule_globs.specs.Follow.{Starts, TakesAt, Goes}
 use Rattle.glob_automaton.specs.Chart.{IsIn, at_place, at_run, past_run, one_side, other_side, IsOrdered, refers_below, takes_byte}
 use Rattle.glob_automaton.specs.Drawing.{IsReady, TakesSet, Grows, IsKnown, IsDrawn}
 use Rattle.glob_automaton.specs.declared.chart.Chart.{Chart}

@@ -2,15 +2,15 @@
 use Rattle.std.proofs.Common.{◌≡◌, ⊎_elim, ℕ, List, [], refl, ap, ◌∙◌, subst}
 use Rattle.names.specs.declared.permissions.Permission.{Permission}
 use Rattle.names.specs.declared.permissions.Permission.TheVariants.{Read, Write, Link, Lock, Map}
-use Rattle.rule_text.specs.declared.profile.RuleKind.{RuleKind}
-use Rattle.rule_text.specs.declared.profile.RuleKind.TheVariants.{Allow, Deny}
+use Rattle.verdicts.specs.declared.kind.RuleKind.{RuleKind}
+use Rattle.verdicts.specs.declared.kind.RuleKind.TheVariants.{Allow, Deny}
 use Rattle.glob_automaton.specs.declared.chart.Chart.{Chart}
-use Rattle.glob_automaton.specs.declared.record.Record.{Record}
+use Rattle.verdicts.specs.declared.record.Record.{Record}
 use Rattle.glob_automaton.specs.Building.{IsStartOf, IsStepOf, IsReached, begins, goes_on, EndsIn, IsRecordOf}
-use Rattle.glob_automaton.specs.Hits.{no_hits}
-use Rattle.glob_automaton.specs.Least.{hits_of, IsLeastOrNone}
+use Rattle.verdicts.specs.Hits.{no_hits}
+use Rattle.verdicts.specs.Least.{hits_of, IsLeastOrNone}
 use Rattle.glob_automaton.proofs.Ascending.{no_members, contains_none}
-use Rattle.glob_automaton.proofs.OneRecord.{same_record}
+use Rattle.glob_automaton.proofs.OneRecord.{AreTheirHits}
 use Rattle.glob_automaton.proofs.SetSteps.{step_empty}
 
 -- no end is in the empty set
@@ -29,8 +29,8 @@ none Lock = refl
 none Map = refl
 
 -- the empty set's record has no hits
-pub empty_record : (chart : Chart) (r : Record) → IsRecordOf chart [] r → r ≡ no_hits
-empty_record chart r is = same_record r no_hits (λ p. no_hits_of p (is p))
+pub empty_record : AreTheirHits → (chart : Chart) (r : Record) → IsRecordOf chart [] r → r ≡ no_hits
+empty_record same chart r is = same r no_hits (λ p. no_hits_of p (is p))
   where
     no_hits_of : (p : Permission) → IsLeastOrNone (EndsIn chart [] Allow p) (hits_of r p).allow × IsLeastOrNone (EndsIn chart [] Deny p) (hits_of r p).deny →
         hits_of r p ≡ hits_of no_hits p

@@ -8,28 +8,28 @@ use Rattle.std.proofs.lemmas.Option.{same_Some, slice_get_within, slice_get_read
 use Rattle.std.proofs.lemmas.Bool.{cases_Bool, cases_lt}
 use Rattle.names.specs.declared.permissions.Permission.{Permission}
 use Rattle.names.specs.Permissions.{has}
-use Rattle.rule_text.specs.declared.profile.RuleKind.{RuleKind}
-use Rattle.rule_text.specs.declared.profile.RuleKind.TheVariants.{Allow, Deny}
+use Rattle.verdicts.specs.declared.kind.RuleKind.{RuleKind}
+use Rattle.verdicts.specs.declared.kind.RuleKind.TheVariants.{Allow, Deny}
 use Rattle.glob_automaton.specs.declared.chart.Chart.{Chart}
-use Rattle.glob_automaton.specs.declared.chart.Drawn.{Drawn}
-use Rattle.glob_automaton.specs.declared.record.LeastHits.{LeastHits}
-use Rattle.glob_automaton.specs.declared.record.Record.{Record}
+use Rattle.glob_automaton.specs.declared.chart.ChartRule.{ChartRule}
+use Rattle.verdicts.specs.declared.record.LeastHits.{LeastHits}
+use Rattle.verdicts.specs.declared.record.Record.{Record}
 use Rattle.glob_automaton.specs.Building.{EndsIn, IsRecordOf}
 use Rattle.glob_automaton.specs.Drawing.{IsPartOfChart}
 use Rattle.glob_automaton.specs.Gathering.{IsAscending}
-use Rattle.glob_automaton.specs.Hits.{first_number, hits_with, record_with, no_hits}
-use Rattle.glob_automaton.specs.Least.{hits_of, IsLeastOrNone}
+use Rattle.verdicts.specs.Hits.{first_number, hits_with, record_with, no_hits}
+use Rattle.verdicts.specs.Least.{hits_of, IsLeastOrNone}
 use Rattle.glob_automaton.proofs.HitSteps.{number_of, after, hits_of-with, least-first, none-of}
 use Rattle.glob_automaton.proofs.LeastSteps.{least-same}
 use Rattle.glob_automaton.proofs.RuleNumbers.{rule_of, before, neither_less}
 
 -- the rules' ends, in their order
 abbrev pub ends : Chart → List ℕ
-ends chart = map (λ (d : Drawn). d.end) chart.rules.items
+ends chart = map (λ (d : ChartRule). d.end) chart.rules.items
 
 -- n is the number of a rule of this kind that holds p and whose end is one of the first i places of the set
 abbrev pub EndsBefore : Chart → List ℕ → ℕ → RuleKind → Permission → ℕ → Type 0
-EndsBefore chart set i kind p n = (j : ℕ) × (d : Drawn) × (n ≡ j + 1) × (slice_get chart.rules.items j ≡ Some d) × (d.kind ≡ kind) × IsTrue (has d.perms p)
+EndsBefore chart set i kind p n = (j : ℕ) × (d : ChartRule) × (n ≡ j + 1) × (slice_get chart.rules.items j ≡ Some d) × (d.kind ≡ kind) × IsTrue (has d.perms p)
     × ((k : ℕ) × (k < i) × (k < length set) × (get_or set k 0 ≡ d.end))
 
 -- the record has the least hits of the ends at the first i places
@@ -57,15 +57,15 @@ search_missed xs x i up searches j within at =
     (cases_lt j i)
 
 -- the end of a rule
-end_at : (chart : Chart) (j : ℕ) (d : Drawn) → slice_get chart.rules.items j ≡ Some d → (j < length (ends chart)) × (get_or (ends chart) j 0 ≡ d.end)
+end_at : (chart : Chart) (j : ℕ) (d : ChartRule) → slice_get chart.rules.items j ≡ Some d → (j < length (ends chart)) × (get_or (ends chart) j 0 ≡ d.end)
 end_at chart j d at =
     let within : j < length chart.rules.items = slice_get_within chart.rules.items j d at in (
-      omega (arith, within, length-map chart.rules.items (λ (z : Drawn). z.end)),
-      get_or-map (λ (z : Drawn). z.end) chart.rules.items j d 0 within ∙ ap (λ (z : Drawn). z.end) (get_or_from_slice_get chart.rules.items j d d at),
+      omega (arith, within, length-map chart.rules.items (λ (z : ChartRule). z.end)),
+      get_or-map (λ (z : ChartRule). z.end) chart.rules.items j d 0 within ∙ ap (λ (z : ChartRule). z.end) (get_or_from_slice_get chart.rules.items j d d at),
     )
 
 -- a rule stands at each index
-rule_there : (chart : Chart) (j : ℕ) → j < length chart.rules.items → (d : Drawn) × (slice_get chart.rules.items j ≡ Some d)
+rule_there : (chart : Chart) (j : ℕ) → j < length chart.rules.items → (d : ChartRule) × (slice_get chart.rules.items j ≡ Some d)
 rule_there chart j within = ⊎_elim
     (λ h. (h.0, h.2))
     (λ h. absurd (omega (arith, within, h.0)))
@@ -90,14 +90,14 @@ module _ (chart : Chart) (set : List ℕ) where
 
 module _ (chart : Chart) (part : IsPartOfChart chart) where
   -- a later rule's end is greater
-  later_end : (i j : ℕ) (d e : Drawn) → slice_get chart.rules.items i ≡ Some d → slice_get chart.rules.items j ≡ Some e → i < j → d.end < e.end
+  later_end : (i j : ℕ) (d e : ChartRule) → slice_get chart.rules.items i ≡ Some d → slice_get chart.rules.items j ≡ Some e → i < j → d.end < e.end
   later_end i j d e at later lt =
       let rule = rule_of chart part.0 chart.rules.items 0 part.1.drawn i d at in
       let h = before chart part.0 chart.rules.items 0 part.1.drawn i j rule.0 d e lt rule.1 at later in
       omega (arith, h)
 
   -- an end is that of one rule
-  one_end : (i j : ℕ) (d e : Drawn) → slice_get chart.rules.items i ≡ Some d → slice_get chart.rules.items j ≡ Some e → d.end ≡ e.end → i ≡ j
+  one_end : (i j : ℕ) (d e : ChartRule) → slice_get chart.rules.items i ≡ Some d → slice_get chart.rules.items j ≡ Some e → d.end ≡ e.end → i ≡ j
   one_end i j d e at other same = neither_less i j
       (λ lt. let h = later_end i j d e at other lt in omega (arith, h, same))
       (λ lt. let h = later_end j i e d other at lt in omega (arith, h, same))
@@ -105,7 +105,7 @@ module _ (chart : Chart) (part : IsPartOfChart chart) where
   -- the rules' ends ascend
   ends_ascend : IsAscending (ends chart)
   ends_ascend i j lt within =
-      let count = length-map chart.rules.items (λ (z : Drawn). z.end) in
+      let count = length-map chart.rules.items (λ (z : ChartRule). z.end) in
       let one = rule_there chart i (omega (arith, lt, within, count)) in
       let two = rule_there chart j (omega (arith, within, count)) in
       let h = later_end i j one.0 two.0 one.1 two.1 lt in
@@ -116,7 +116,7 @@ module _ (chart : Chart) (part : IsPartOfChart chart) where
   module _ (set : List ℕ) (up : IsAscending set) (i : ℕ) (within : i < length set) where
     -- an end at one place more is one of those before, or that of a rule that ends at this place
     end_before : (kind : RuleKind) (p : Permission) (m : ℕ) → EndsBefore chart set (i + 1) kind p m →
-        EndsBefore chart set i kind p m ⊎ ((j : ℕ) × (d : Drawn) × (m ≡ j + 1) × (slice_get chart.rules.items j ≡ Some d)
+        EndsBefore chart set i kind p m ⊎ ((j : ℕ) × (d : ChartRule) × (m ≡ j + 1) × (slice_get chart.rules.items j ≡ Some d)
         × (d.kind ≡ kind) × IsTrue (has d.perms p) × (get_or set i 0 ≡ d.end))
     end_before kind p m t = ⊎_elim
         (λ lt. inl (t.0, t.1, t.2, t.3, t.4, t.5, (t.6.0, lt, t.6.2, t.6.3)))
@@ -130,7 +130,7 @@ module _ (chart : Chart) (part : IsPartOfChart chart) where
 
     -- no rule of this kind and permission ends at this place
     skip : (kind : RuleKind) (p : Permission) (old : ℕ) →
-        ((j : ℕ) (d : Drawn) → slice_get chart.rules.items j ≡ Some d → d.kind ≡ kind → IsTrue (has d.perms p) → ¬ (get_or set i 0 ≡ d.end)) →
+        ((j : ℕ) (d : ChartRule) → slice_get chart.rules.items j ≡ Some d → d.kind ≡ kind → IsTrue (has d.perms p) → ¬ (get_or set i 0 ≡ d.end)) →
         IsLeastOrNone (EndsBefore chart set i kind p) old → IsLeastOrNone (EndsBefore chart set (i + 1) kind p) old
     skip kind p old none least = least-same (EndsBefore chart set i kind p) (EndsBefore chart set (i + 1) kind p) old
         (end_stays kind p)
@@ -149,9 +149,9 @@ module _ (chart : Chart) (part : IsPartOfChart chart) where
         (subst (λ z. IsBinarySearchResult (λ y. nat_cmp y (get_or set i 0)) z (Err found)) same searches) j is.0 (is.1 ∙ sym e))
         (least kind p))
 
-    module _ (n : ℕ) (d : Drawn) (at : slice_get chart.rules.items n ≡ Some d) (ends_here : get_or set i 0 ≡ d.end) where
+    module _ (n : ℕ) (d : ChartRule) (at : slice_get chart.rules.items n ≡ Some d) (ends_here : get_or set i 0 ≡ d.end) where
       -- the rule that ends at this place
-      rule_here : (j : ℕ) (e : Drawn) → slice_get chart.rules.items j ≡ Some e → get_or set i 0 ≡ e.end → (j ≡ n) × (e ≡ d)
+      rule_here : (j : ℕ) (e : ChartRule) → slice_get chart.rules.items j ≡ Some e → get_or set i 0 ≡ e.end → (j ≡ n) × (e ≡ d)
       rule_here j e other here =
           let same : j ≡ n = one_end j n e d other at (sym here ∙ ends_here) in
           (same, same_Some e d (sym other ∙ ap (slice_get chart.rules.items) same ∙ at))
@@ -186,22 +186,22 @@ module _ (chart : Chart) (part : IsPartOfChart chart) where
           (enter kind p (number_of kind old) same.0 held (least kind p)))
           (λ other. subst Least (sym (ap (number_of kind) now ∙ other.1))
           (skip kind p (number_of kind old)
-          (λ j e there of_kind holds here. other.0 (ap (λ (z : Drawn). z.kind) (sym (rule_here j e there here).1) ∙ of_kind)) (least kind p)))
+          (λ j e there of_kind holds here. other.0 (ap (λ (z : ChartRule). z.kind) (sym (rule_here j e there here).1) ∙ of_kind)) (least kind p)))
           (after kind d.kind old (n + 1)))
           (λ not_held. let now : hits_of (record_with r d.kind d.perms (n + 1)) p ≡ old = is ∙ ap both not_held in
           subst Least (sym (ap (number_of kind) now))
           (skip kind p (number_of kind old)
           (λ j e there of_kind holds here.
-          true≢false (sym holds ∙ ap (λ (z : Drawn). has z.perms p) (rule_here j e there here).1 ∙ not_held)) (least kind p)))
+          true≢false (sym holds ∙ ap (λ (z : ChartRule). has z.perms p) (rule_here j e there here).1 ∙ not_held)) (least kind p)))
           (cases_Bool (has d.perms p)))
 
     -- a rule's end is found at this place
-    pub found-add : (all : List ℕ) (r s : Record) (n : ℕ) (d : Drawn) → all ≡ ends chart →
+    pub found-add : (all : List ℕ) (r s : Record) (n : ℕ) (d : ChartRule) → all ≡ ends chart →
         IsBinarySearchResult (λ y. nat_cmp y (get_or set i 0)) all (Ok n) → d ≡ get_or chart.rules.items n d →
         s ≡ record_with r d.kind d.perms (n + 1) → IsRecordBefore chart set i r → IsRecordBefore chart set (i + 1) s
     found-add all r s n d same searches read made least =
         let found = search_found (ends chart) (get_or set i 0) n ends_ascend
         (subst (λ z. IsBinarySearchResult (λ y. nat_cmp y (get_or set i 0)) z (Ok n)) same searches) in
-        let count = length-map chart.rules.items (λ (z : Drawn). z.end) in
+        let count = length-map chart.rules.items (λ (z : ChartRule). z.end) in
         let at = slice_get_read chart.rules.items (length chart.rules.items) n d refl (omega (arith, found.0, count)) read in
         ends-add n d at (sym found.1 ∙ (end_at chart n d at).1) r s made least

@@ -5,7 +5,7 @@ use Rattle.std.proofs.lemmas.Bool.{cases_lt}
 use Rattle.std.proofs.lemmas.Option.{same_Some, slice_get_read, slice_get_within, slice_get-get_or}
 use Rattle.std.proofs.lemmas.List.{get_or_default}
 use Rattle.glob_automaton.specs.declared.chart.Chart.{Chart}
-use Rattle.glob_automaton.specs.declared.chart.Drawn.{Drawn}
+use Rattle.glob_automaton.specs.declared.chart.ChartRule.{ChartRule}
 use Rattle.glob_automaton.specs.declared.chart.Place.{Place}
 use Rattle.glob_automaton.specs.Chart.{IsIn, takes_byte}
 use Rattle.glob_automaton.specs.Drawing.{IsPartOfChart}
@@ -15,7 +15,7 @@ use Rattle.glob_automaton.proofs.RuleNumbers.{rule_of, rule_stands}
 
 -- q is live at the beginning of one of the first i rules
 abbrev pub StartsBefore : Chart → ℕ → ℕ → Type 0
-StartsBefore chart i q = (n : ℕ) × (d : Drawn) × (n < i) × (slice_get chart.rules.items n ≡ Some d) × IsIn chart.entries.items d.start q
+StartsBefore chart i q = (n : ℕ) × (d : ChartRule) × (n < i) × (slice_get chart.rules.items n ≡ Some d) × IsIn chart.entries.items d.start q
 
 -- q is live behind one of the first i places of the set, which takes the byte
 abbrev pub StepsBefore : Chart → List ℕ → ℕ → ℕ → ℕ → Type 0
@@ -23,7 +23,7 @@ StepsBefore chart set b i q = (k : ℕ) × (place : Place) × (k < i) × (k < le
     × IsTrue (takes_byte chart.classes.items place.takes b) × IsIn chart.entries.items place.behind q
 
 -- where a rule begins is an entry
-pub start_there : (chart : Chart) → IsPartOfChart chart → (i : ℕ) (d : Drawn) → slice_get chart.rules.items i ≡ Some d → d.start < length chart.entries.items
+pub start_there : (chart : Chart) → IsPartOfChart chart → (i : ℕ) (d : ChartRule) → slice_get chart.rules.items i ≡ Some d → d.start < length chart.entries.items
 start_there chart part i d at =
     let rule = rule_of chart part.0 chart.rules.items 0 part.1.drawn i d at in
     (rule_stands chart part.0 chart.rules.items 0 part.1.drawn i rule.0 d rule.1 at).start_there
@@ -34,7 +34,7 @@ member_at set i lt = (i, lt, get_or_default set i (get_or set i 0) 0 lt)
 
 module _ (chart : Chart) where
   -- One rule more is read, and what is live where it begins comes in.
-  pub starts_more : (old new : List ℕ) (i : ℕ) (rules : List Drawn) (d : Drawn) → rules ≡ chart.rules.items → i < length rules →
+  pub starts_more : (old new : List ℕ) (i : ℕ) (rules : List ChartRule) (d : ChartRule) → rules ≡ chart.rules.items → i < length rules →
       ((q : ℕ) → Contains old q ↔ StartsBefore chart i q) →
       ((q : ℕ) → Contains new q ↔ (Contains old q ⊎ IsIn chart.entries.items (get_or rules i d).start q)) →
       (q : ℕ) → Contains new q ↔ StartsBefore chart (i + 1) q
@@ -49,12 +49,12 @@ module _ (chart : Chart) where
             (λ lt. inl ((before q).1 (s.0, s.1, lt, s.3, s.4)))
             (λ le. let at : s.0 ≡ i = omega (arith, s.2, le) in
             let one : s.1 ≡ get_or rules i d = same_Some s.1 (get_or rules i d) (sym s.3 ∙ ap (slice_get chart.rules.items) at ∙ read) in
-            inr (subst (λ (z : Drawn). IsIn chart.entries.items z.start q) one s.4))
+            inr (subst (λ (z : ChartRule). IsIn chart.entries.items z.start q) one s.4))
             (cases_lt s.0 i)),
       )
 
   -- where the rule that is read begins is an entry
-  pub read_start_there : IsPartOfChart chart → (i : ℕ) (rules : List Drawn) (d : Drawn) → rules ≡ chart.rules.items → i < length rules →
+  pub read_start_there : IsPartOfChart chart → (i : ℕ) (rules : List ChartRule) (d : ChartRule) → rules ≡ chart.rules.items → i < length rules →
       (get_or rules i d).start < length chart.entries.items
   read_start_there part i rules d same within = start_there chart part i (get_or rules i d)
       (subst (λ z. slice_get z i ≡ Some (get_or rules i d)) same (slice_get-get_or rules i d within))

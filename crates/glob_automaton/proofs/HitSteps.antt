@@ -6,15 +6,16 @@ use Rattle.names.specs.declared.permissions.Permission.{Permission}
 use Rattle.names.specs.declared.permissions.Permission.TheVariants.{Read, Write, Link, Lock, Map}
 use Rattle.names.specs.declared.permissions.Perms.{Perms}
 use Rattle.names.specs.Permissions.{has}
-use Rattle.rule_text.specs.Glob.{Takes}
-use Rattle.rule_text.specs.Profile.{RuleValue, pattern}
-use Rattle.rule_text.specs.Verdict.{IsRuleAt, Hits}
-use Rattle.rule_text.specs.declared.profile.RuleKind.{RuleKind}
-use Rattle.rule_text.specs.declared.profile.RuleKind.TheVariants.{Allow, Deny}
-use Rattle.glob_automaton.specs.declared.record.LeastHits.{LeastHits}
-use Rattle.glob_automaton.specs.declared.record.Record.{Record}
-use Rattle.glob_automaton.specs.Hits.{first_number, hits_with, hits_after, record_with, no_hits}
-use Rattle.glob_automaton.specs.Least.{hits_of, IsLeastOrNone, IsLeastRecord}
+use Rattle.rule_globs.specs.Glob.{Takes}
+use Rattle.rule_reader.specs.Profile.{RuleValue, pattern}
+use Rattle.rule_globs.specs.Verdict.{IsRuleAt, Hits}
+use Rattle.verdicts.specs.declared.kind.RuleKind.{RuleKind}
+use Rattle.verdicts.specs.declared.kind.RuleKind.TheVariants.{Allow, Deny}
+use Rattle.verdicts.specs.declared.record.LeastHits.{LeastHits}
+use Rattle.verdicts.specs.declared.record.Record.{Record}
+use Rattle.verdicts.specs.Hits.{first_number, hits_with, hits_after, record_with, no_hits}
+use Rattle.verdicts.specs.Least.{hits_of, IsLeastOrNone}
+use Rattle.glob_automaton.specs.Least.{IsLeastRecord}
 use Rattle.glob_automaton.proofs.LeastSteps.{least-same}
 
 -- the record after more rules, numbered behind i, of which those whose number passes the test match

@@ -1,6 +1,4 @@
-pub mod Positions
 pub mod LeastSteps
-pub mod PermsTests
 pub mod ToldLaws
 pub mod HitSteps
 pub mod EndSteps

@@ -1,9 +1,9 @@
 -- Live places by the parts of patterns: the same that are live by steps.
 use Rattle.std.proofs.Common.{ℕ, ◌↔◌, List}
-use Rattle.rule_text.specs.Glob.{Glob, LiveOrEnd}
-use Rattle.rule_text.specs.LiveSteps.{IsLeftFirst}
-use Rattle.rule_text.specs.Profile.{RuleValue, pattern}
-use Rattle.rule_text.specs.Verdict.{IsRuleAt}
+use Rattle.rule_globs.specs.Glob.{Glob, LiveOrEnd}
+use Rattle.rule_globs.specs.LiveSteps.{IsLeftFirst}
+use Rattle.rule_reader.specs.Profile.{RuleValue, pattern}
+use Rattle.rule_globs.specs.Verdict.{IsRuleAt}
 use Rattle.glob_automaton.specs.Sets.{IsLive, SameSet, NoneLive}
 
 -- the law of live places by steps

@@ -2,11 +2,11 @@
 use Rattle.std.proofs.Common.{◌≡◌, ℕ, ◌+◌, ◌-◌, ◌<◌, ◌≤◌, ◌↔◌, ◌⊎◌, inl, inr, ⊎_elim, List, [], ◌∷◌, ◌++◌, Some, slice_get, refl, sym, subst, subst₂, arith}
 use Rattle.std.specs.List.{Contains}
 use Rattle.std.proofs.lemmas.Option.{slice_get_cases}
-use Rattle.rule_text.specs.Glob.{Glob, LiveOrEnd, places}
-use Rattle.rule_text.specs.Follow.{Starts, TakesAt, Goes}
-use Rattle.rule_text.specs.Profile.{RuleValue, pattern}
+use Rattle.rule_globs.specs.Glob.{Glob, LiveOrEnd, places}
+use Rattle.rule_globs.specs.Follow.{Starts, TakesAt, Goes}
+use Rattle.rule_reader.specs.Profile.{RuleValue, pattern}
 use Rattle.glob_automaton.specs.declared.chart.Chart.{Chart}
-use Rattle.glob_automaton.specs.declared.chart.Drawn.{Drawn}
+use Rattle.glob_automaton.specs.declared.chart.ChartRule.{ChartRule}
 use Rattle.glob_automaton.specs.Building.{IsStartOf, IsStepOf, IsReached, begins, goes_on}
 use Rattle.glob_automaton.specs.Drawing.{HasRule, IsChartOf}
 use Rattle.glob_automaton.specs.Gathering.{IsAscending}
@@ -28,7 +28,7 @@ LiveAfterByte = (pattern : Glob) (end p : ℕ) (bytes : List ℕ) (b : ℕ) → 
 pub record IsNumber (rules : List RuleValue) (chart : Chart) (bytes : List ℕ) (q : ℕ) : Type 0 where
   pub index : ℕ
   pub rule : RuleValue
-  pub drawn : Drawn
+  pub drawn : ChartRule
   pub place : ℕ
   pub stands : slice_get rules index ≡ Some rule
   pub is_drawn : slice_get chart.rules.items index ≡ Some drawn
@@ -54,7 +54,7 @@ start_there : (rules : List RuleValue) (chart : Chart) (set : List ℕ) → Live
     (q : ℕ) → Contains set q → IsNumber rules chart [] q
 start_there rules chart set first is start q h =
     let w = (start.live q).0 h in
-    let d : Drawn = w.1 in
+    let d : ChartRule = w.1 in
     let r = rule_of chart rules chart.rules.items 0 is.drawn w.0 d w.2 in
     let g : Glob = pattern r.0 in
     let has : HasRule chart r.0 d = rule_stands chart rules chart.rules.items 0 is.drawn w.0 r.0 d r.1 w.2 in
@@ -78,7 +78,7 @@ start_there rules chart set first is start q h =
 start_back : (rules : List RuleValue) (chart : Chart) (set : List ℕ) → LiveAtFirst → IsChartOf rules chart → IsStartOf chart set →
     (q : ℕ) → IsNumber rules chart [] q → Contains set q
 start_back rules chart set first is start q n =
-    let d : Drawn = n.drawn in
+    let d : ChartRule = n.drawn in
     let g : Glob = pattern n.rule in
     let begun : Starts g (d.end + 1) (λ z. z ≡ d.end) q =
     subst (λ z. Starts g (d.end + 1) (λ y. y ≡ d.end) z) (sym n.number) ((first g d.end n.place n.within).0 n.live) in
@@ -91,7 +91,7 @@ step_there rules chart bytes set next b after is small step holds q h =
     let w = (step.live q).0 h in
     let p : ℕ = w.0 in
     let n : IsNumber rules chart bytes p = (holds p).0 w.2 in
-    let d : Drawn = n.drawn in
+    let d : ChartRule = n.drawn in
     let g : Glob = pattern n.rule in
     let has : HasRule chart n.rule d = stands_so rules chart bytes p is n in
     let low : d.end ≤ p = omega (arith, n.number) in
@@ -124,7 +124,7 @@ step_there rules chart bytes set next b after is small step holds q h =
 step_back : (rules : List RuleValue) (chart : Chart) (bytes set next : List ℕ) (b : ℕ) → LiveAfterByte → IsChartOf rules chart → b < 256 →
     IsStepOf chart set b next → HoldsNumbers rules chart bytes set → (q : ℕ) → IsNumber rules chart (bytes ++ b ∷ []) q → Contains next q
 step_back rules chart bytes set next b after is small step holds q n =
-    let d : Drawn = n.drawn in
+    let d : ChartRule = n.drawn in
     let g : Glob = pattern n.rule in
     let has : HasRule chart n.rule d = stands_so rules chart (bytes ++ b ∷ []) q is n in
     let w = (after g d.end n.place bytes b n.within).0 n.live in

@@ -5,12 +5,12 @@ use Rattle.std.proofs.lemmas.Bool.{and_parts}
 use Rattle.std.proofs.lemmas.List.Elements.{All-nil, All-push}
 use Rattle.std.proofs.lemmas.Option.{none-some, same_Some}
 use Rattle.names.specs.Permissions.{has, all_permissions}
-use Rattle.rule_text.specs.Glob.{LiveOrEnd}
-use Rattle.rule_text.specs.Profile.{RuleValue, ProfileValue, pattern}
-use Rattle.rule_text.specs.Readable.{begins_with_slash, are_tokens, is_path, is_rule, is_name, is_profile}
-use Rattle.rule_text.specs.Tokens.{Token, pattern_of}
+use Rattle.rule_globs.specs.Glob.{LiveOrEnd}
+use Rattle.rule_reader.specs.Profile.{RuleValue, ProfileValue, pattern}
+use Rattle.rule_reader.specs.Readable.{begins_with_slash, are_tokens, is_path, is_rule, is_name, is_profile}
+use Rattle.rule_globs.specs.Tokens.{Token, pattern_of}
 use Rattle.glob_automaton.specs.declared.chart.Chart.{Chart}
-use Rattle.glob_automaton.specs.declared.chart.Drawn.{Drawn}
+use Rattle.glob_automaton.specs.declared.chart.ChartRule.{ChartRule}
 use Rattle.glob_automaton.specs.Building.{IsStepOf, IsReached, begins, goes_on}
 use Rattle.glob_automaton.specs.Drawing.{HasRule, IsChartOf}
 use Rattle.glob_automaton.specs.Sets.{IsPrefixOfName}
@@ -47,7 +47,7 @@ leads_on : (rules : List RuleValue) (chart : Chart) (bytes set next : List ℕ) 
 leads_on rules chart bytes set next b q is small step numbers h =
     let w = (step.live q).0 h in
     let n : IsNumber rules chart bytes w.0 = numbers w.0 w.2 in
-    let d : Drawn = n.drawn in
+    let d : ChartRule = n.drawn in
     let has : HasRule chart n.rule d = stands_so rules chart bytes w.0 is n in
     let taken = (has.taken w.0 b w.1 (omega (arith, n.number)) (omega (arith, n.number)) w.3 small).0 w.4 in
     ((w.0, w.2), (takes_within (pattern n.rule) (d.end + 1) w.0 b taken).1)

@@ -1,15 +1,15 @@
 -- Each list of bytes has one record of least hits.
 use Rattle.std.proofs.Common.{◌≡◌, ⊎_elim, ℕ, ◌-◌, Bool, IsTrue, false, List, Option, Some, None, slice_get, sym, ap, ◌∙◌, subst, arith}
 use Rattle.names.specs.declared.permissions.Permission.{Permission}
-use Rattle.names.specs.declared.permissions.Permission.TheVariants.{Read, Write, Link, Lock, Map}
-use Rattle.rule_text.specs.PlainVerdict.{takes}
-use Rattle.rule_text.specs.Profile.{RuleValue, pattern}
-use Rattle.rule_text.specs.Verdict.{Hits}
-use Rattle.rule_text.specs.declared.profile.RuleKind.TheVariants.{Allow, Deny}
-use Rattle.glob_automaton.specs.declared.record.LeastHits.{LeastHits}
-use Rattle.glob_automaton.specs.declared.record.Record.{Record}
-use Rattle.glob_automaton.specs.Hits.{no_hits}
-use Rattle.glob_automaton.specs.Least.{hits_of, IsLeastOrNone, IsLeastRecord}
+use Rattle.rule_globs.specs.PlainVerdict.{takes}
+use Rattle.rule_reader.specs.Profile.{RuleValue, pattern}
+use Rattle.rule_globs.specs.Verdict.{Hits}
+use Rattle.verdicts.specs.declared.kind.RuleKind.TheVariants.{Allow, Deny}
+use Rattle.verdicts.specs.declared.record.LeastHits.{LeastHits}
+use Rattle.verdicts.specs.declared.record.Record.{Record}
+use Rattle.verdicts.specs.Hits.{no_hits}
+use Rattle.verdicts.specs.Least.{hits_of, IsLeastOrNone}
+use Rattle.glob_automaton.specs.Least.{IsLeastRecord}
 use Rattle.glob_automaton.proofs.HitSteps.{record_over, AreMatches, record_over_is_least}
 use Rattle.glob_automaton.proofs.LiveTests.{TakesByCuts}
 use Rattle.glob_automaton.proofs.ReachedSets.{at_index}
@@ -26,18 +26,13 @@ same_hits : (h k : LeastHits) → h.allow ≡ k.allow → h.deny ≡ k.deny → 
 same_hits h k one other =
     ap (λ z. record { allow = z; deny = h.deny }) one ∙ ap (λ z. record { allow = k.allow; deny = z }) other
 
--- and a record is by its hits
-pub same_record : (r s : Record) → ((p : Permission) → hits_of r p ≡ hits_of s p) → r ≡ s
-same_record r s same =
-    ap (λ z. record { read = z; write = r.write; link = r.link; lock = r.lock; map = r.map }) (same Read)
-    ∙ ap (λ z. record { read = s.read; write = z; link = r.link; lock = r.lock; map = r.map }) (same Write)
-    ∙ ap (λ z. record { read = s.read; write = s.write; link = z; lock = r.lock; map = r.map }) (same Link)
-    ∙ ap (λ z. record { read = s.read; write = s.write; link = s.link; lock = z; map = r.map }) (same Lock)
-    ∙ ap (λ z. record { read = s.read; write = s.write; link = s.link; lock = s.lock; map = z }) (same Map)
+-- a record is what it has for each permission
+abbrev pub AreTheirHits : Type 0
+AreTheirHits = (r s : Record) → ((p : Permission) → hits_of r p ≡ hits_of s p) → r ≡ s
 
-pub one_record : (rules : List RuleValue) (name : List ℕ) (first second : Record) →
+pub one_record : AreTheirHits → (rules : List RuleValue) (name : List ℕ) (first second : Record) →
     IsLeastRecord rules name first → IsLeastRecord rules name second → first ≡ second
-one_record rules name first second one other = same_record first second (λ p. same_hits (hits_of first p) (hits_of second p)
+one_record same rules name first second one other = same first second (λ p. same_hits (hits_of first p) (hits_of second p)
     (one_least (Hits rules Allow p name) (hits_of first p).allow (hits_of second p).allow (one p).0 (other p).0)
     (one_least (Hits rules Deny p name) (hits_of first p).deny (hits_of second p).deny (one p).1 (other p).1))
 

@@ -2,10 +2,10 @@
 use Rattle.std.proofs.Common.{◌≡◌, ℕ, ◌+◌, ◌<◌, ◌≤◌, ◌⊎◌, inl, inr, ⊎_elim, true, List, [], ◌∷◌, ◌++◌, get_or, IsTrue, nat_lt, sym, ap, ◌∙◌, arith, ltb-true, eqb-true}
 use Rattle.std.proofs.lemmas.Bool.{and_parts}
 use Rattle.names.specs.Paths.{is_slash}
-use Rattle.rule_text.specs.Glob.{Glob, empty, one, run, cat, none, alt, ByteSet, exactly, fits, contains, Takes, places, Live, LiveOrEnd}
-use Rattle.rule_text.specs.Follow.{Numbers, Starts, TakesAt, Goes}
-use Rattle.rule_text.specs.Readable.{begins_with_slash}
-use Rattle.rule_text.specs.Tokens.{Token, byte, any_byte, bracket, stars, opening, between, closing, pattern_of}
+use Rattle.rule_globs.specs.Glob.{Glob, empty, one, run, cat, none, alt, ByteSet, exactly, fits, contains, Takes, places, Live, LiveOrEnd}
+use Rattle.rule_globs.specs.Follow.{Numbers, Starts, TakesAt, Goes}
+use Rattle.rule_reader.specs.Readable.{begins_with_slash}
+use Rattle.rule_globs.specs.Tokens.{Token, byte, any_byte, bracket, stars, opening, between, closing, pattern_of}
 
 -- what is live where a pattern begins is a place of it, or is live behind it
 pub starts_within : (g : Glob) (base : ℕ) (behind : Numbers) (q : ℕ) → Starts g base behind q → ((base ≤ q) × (q < base + places g)) ⊎ behind q

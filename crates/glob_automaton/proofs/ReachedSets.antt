@@ -2,11 +2,11 @@
 use Rattle.std.proofs.Common.{◌≡◌, ℕ, ◌+◌, ◌-◌, ◌≤◌, ◌↔◌, List, [], Some, slice_get, refl, sym, ap, ◌∙◌, subst, subst₂, arith}
 use Rattle.std.specs.List.{Contains}
 use Rattle.std.proofs.lemmas.Option.{same_Some, slice_get_read, slice_get_within, get_or_from_slice_get}
-use Rattle.rule_text.specs.Glob.{LiveOrEnd, places}
-use Rattle.rule_text.specs.Profile.{RuleValue, pattern}
-use Rattle.rule_text.specs.Verdict.{IsRuleAt}
+use Rattle.rule_globs.specs.Glob.{LiveOrEnd, places}
+use Rattle.rule_reader.specs.Profile.{RuleValue, pattern}
+use Rattle.rule_globs.specs.Verdict.{IsRuleAt}
 use Rattle.glob_automaton.specs.declared.chart.Chart.{Chart}
-use Rattle.glob_automaton.specs.declared.chart.Drawn.{Drawn}
+use Rattle.glob_automaton.specs.declared.chart.ChartRule.{ChartRule}
 use Rattle.glob_automaton.specs.Building.{IsReached}
 use Rattle.glob_automaton.specs.Drawing.{IsChartOf}
 use Rattle.glob_automaton.specs.Sets.{SameSet, NoneLive}
@@ -55,7 +55,7 @@ moved rules chart x y go q n =
 
 module _ (first : LiveAtFirst) (after : LiveAfterByte) (rules : List RuleValue) (chart : Chart) (is : IsChartOf rules chart) where
   -- a rule's number is in the set exactly where its place is live
-  pub number_there : (bytes set : List ℕ) → IsReached chart bytes set → (i : ℕ) (rule : RuleValue) (d : Drawn) (p : ℕ) →
+  pub number_there : (bytes set : List ℕ) → IsReached chart bytes set → (i : ℕ) (rule : RuleValue) (d : ChartRule) (p : ℕ) →
       slice_get rules i ≡ Some rule → slice_get chart.rules.items i ≡ Some d → p ≤ places (pattern rule) →
       Contains set (d.end + (places (pattern rule) - p)) ↔ LiveOrEnd (pattern rule) bytes p
   number_there bytes set reached i rule d p stands drawn le = (
@@ -65,7 +65,7 @@ module _ (first : LiveAtFirst) (after : LiveAfterByte) (rules : List RuleValue) 
         stands drawn n.stands n.is_drawn (omega arith) (omega arith) (omega (arith, n.number)) (omega (arith, n.number)) in
         let one : rule ≡ n.rule = same_Some rule n.rule (sym stands ∙ ap (λ z. slice_get rules z) at ∙ n.stands) in
         let two : d ≡ n.drawn = same_Some d n.drawn (sym drawn ∙ ap (λ z. slice_get chart.rules.items z) at ∙ n.is_drawn) in
-        let ends : d.end ≡ n.drawn.end = ap (λ (z : Drawn). z.end) two in
+        let ends : d.end ≡ n.drawn.end = ap (λ (z : ChartRule). z.end) two in
         let long : places (pattern rule) ≡ places (pattern n.rule) = ap (λ (z : RuleValue). places (pattern z)) one in
         let place : p ≡ n.place = omega (arith, ends, long, le, n.within, n.number) in
         subst₂ (λ (z : RuleValue) (y : ℕ). LiveOrEnd (pattern z) bytes y) (sym one) (sym place) n.live,

@@ -1,13 +1,13 @@
 -- A chart has as many drawn rules as it has rules.
 use Rattle.std.proofs.Common.{◌≡◌, ℕ, ◌+◌, ◌≤◌, List, [], ◌∷◌, length, refl, map, take, arith}
 use Rattle.std.proofs.lemmas.List.{length-map, length-take-le}
-use Rattle.rule_text.specs.Glob.{places}
-use Rattle.rule_text.specs.Profile.{RuleValue, pattern}
+use Rattle.rule_globs.specs.Glob.{places}
+use Rattle.rule_reader.specs.Profile.{RuleValue, pattern}
 use Rattle.glob_automaton.specs.declared.chart.Chart.{Chart}
-use Rattle.glob_automaton.specs.declared.chart.Drawn.{Drawn}
+use Rattle.glob_automaton.specs.declared.chart.ChartRule.{ChartRule}
 use Rattle.glob_automaton.specs.Drawing.{HasRules}
 
-as_many : (chart : Chart) (rules : List RuleValue) (ds : List Drawn) (at : ℕ) → HasRules chart at rules ds → length ds ≡ length rules
+as_many : (chart : Chart) (rules : List RuleValue) (ds : List ChartRule) (at : ℕ) → HasRules chart at rules ds → length ds ≡ length rules
 as_many chart [] [] at h = refl
 as_many chart [] (d ∷ ds) at h = absurd h
 as_many chart (r ∷ rules) [] at h = absurd h

@@ -2,11 +2,11 @@
 use Rattle.std.proofs.Common.{◌≡◌, ◌⊎◌, ⊎_elim, ℕ, ◌+◌, ◌<◌, ◌≤◌, List, [], ◌∷◌, length, Contains, subst, arith}
 use Rattle.std.proofs.lemmas.Bool.{cases_lt}
 use Rattle.std.proofs.lemmas.Option.{slice_get_within}
-use Rattle.rule_text.specs.Glob.{Glob, places}
-use Rattle.rule_text.specs.Follow.{Starts, TakesAt, Goes}
-use Rattle.rule_text.specs.Profile.{RuleValue, pattern}
+use Rattle.rule_globs.specs.Glob.{Glob, places}
+use Rattle.rule_globs.specs.Follow.{Starts, TakesAt, Goes}
+use Rattle.rule_reader.specs.Profile.{RuleValue, pattern}
 use Rattle.glob_automaton.specs.declared.chart.Chart.{Chart}
-use Rattle.glob_automaton.specs.declared.chart.Drawn.{Drawn}
+use Rattle.glob_automaton.specs.declared.chart.ChartRule.{ChartRule}
 use Rattle.glob_automaton.specs.Building.{ArePlaces, IsStartOf, IsStepOf, IsReached, begins, goes_on, AreSets}
 use Rattle.glob_automaton.specs.Drawing.{HasRule, HasRules, IsPartOfChart}
 use Rattle.glob_automaton.proofs.Ascending.{contains_none}
@@ -17,13 +17,13 @@ use Rattle.glob_automaton.proofs.SetSteps.{set_from}
 -- a rule to whose numbers p belongs
 record OwnRule (chart : Chart) (p : ℕ) : Type 0 where
   rule : RuleValue
-  drawn : Drawn
+  drawn : ChartRule
   has : HasRule chart rule drawn
   low : drawn.end ≤ p
   high : p ≤ drawn.end + places (pattern rule)
 
 -- each number belongs to a rule
-own_rule : (chart : Chart) (rules : List RuleValue) (ds : List Drawn) (at : ℕ) → HasRules chart at rules ds →
+own_rule : (chart : Chart) (rules : List RuleValue) (ds : List ChartRule) (at : ℕ) → HasRules chart at rules ds →
     (p : ℕ) → at ≤ p → p < length chart.places.items → OwnRule chart p
 own_rule chart [] [] at h p low within = absurd (omega (arith, h, low, within))
 own_rule chart [] (d ∷ ds) at h p low within = absurd h
@@ -34,7 +34,7 @@ own_rule chart (r ∷ rules) (d ∷ ds) at h p low within = ⊎_elim
     (cases_lt p (at + places (pattern r) + 1))
 
 -- a number of a rule's is a place of the chart
-place_there : (chart : Chart) (rule : RuleValue) (d : Drawn) (q : ℕ) → HasRule chart rule d →
+place_there : (chart : Chart) (rule : RuleValue) (d : ChartRule) (q : ℕ) → HasRule chart rule d →
     ((d.end + 1 ≤ q) × (q < d.end + 1 + places (pattern rule))) ⊎ (q ≡ d.end) → q < length chart.places.items
 place_there chart rule d q has near = ⊎_elim (λ t. omega (arith, t.1, has.fits)) (λ e. omega (arith, e, has.fits)) near
 
@@ -42,7 +42,7 @@ place_there chart rule d q has near = ⊎_elim (λ t. omega (arith, t.1, has.fit
 pub start_places : (chart : Chart) (set : List ℕ) → IsPartOfChart chart → IsStartOf chart set → ArePlaces chart set
 start_places chart set part start q h =
     let w = (start.live q).0 h in
-    let d : Drawn = w.1 in
+    let d : ChartRule = w.1 in
     let r = rule_of chart part.0 chart.rules.items 0 part.1.drawn w.0 d w.2 in
     let has : HasRule chart r.0 d = rule_stands chart part.0 chart.rules.items 0 part.1.drawn w.0 r.0 d r.1 w.2 in
     let begun : Starts (pattern r.0) (d.end + 1) (λ z. z ≡ d.end) q = (has.starts q).0 w.3 in
@@ -53,7 +53,7 @@ pub step_places : (chart : Chart) (set next : List ℕ) (b : ℕ) → IsPartOfCh
 step_places chart set next b part small step q h =
     let w = (step.live q).0 h in
     let o = own_rule chart part.0 chart.rules.items 0 part.1.drawn w.0 (omega arith) (slice_get_within chart.places.items w.0 w.1 w.3) in
-    let d : Drawn = o.drawn in
+    let d : ChartRule = o.drawn in
     let g : Glob = pattern o.rule in
     let taken : TakesAt g (d.end + 1) w.0 b = (o.has.taken w.0 b w.1 o.low o.high w.3 small).0 w.4 in
     let own : d.end + 1 ≤ w.0 = (takes_within g (d.end + 1) w.0 b taken).0 in

@@ -1,12 +1,13 @@
 -- An automaton as tables: a row of 256 targets and a record for each state.
 use Rattle.std.specs.Prelude.{◌≡◌, ◌↔◌, ◌⊎◌, ℕ, Bool, IsTrue, ◌<◌, ◌≤◌, List, [], ◌∷◌, length, Some, slice_get, slice_index_or}
-use Rattle.rule_text.specs.Profile.{RuleValue}
-use Rattle.glob_automaton.specs.declared.record.Record.{Record}
+use Rattle.names.specs.Bytes.{are_bytes}
+use Rattle.rule_reader.specs.Profile.{RuleValue}
+use Rattle.verdicts.specs.declared.record.Record.{Record}
 use Rattle.glob_automaton.specs.declared.fault.CompileFault.{CompileFault}
 use Rattle.glob_automaton.specs.declared.fault.CompileFault.TheVariants.{TooManyStates, NoMemory}
-use Rattle.glob_automaton.specs.Hits.{no_hits}
+use Rattle.verdicts.specs.Hits.{no_hits}
 use Rattle.glob_automaton.specs.Least.{IsLeastRecord}
-use Rattle.glob_automaton.specs.Sets.{SameSet, NoneLive, are_bytes, IsCount, AreMoreThan}
+use Rattle.glob_automaton.specs.Sets.{SameSet, NoneLive, IsCount, AreMoreThan}
 
 pub record Automaton : Type 0 where
   pub rows : List (List ℕ)

@@ -2,18 +2,18 @@
 use Rattle.std.specs.Prelude.{◌≡◌, ◌≢◌, ◌↔◌, ℕ, ◌+◌, ◌<◌, ◌≤◌, List, [], ◌∷◌, ◌++◌, length, Some, slice_get, slice_index_or, Contains, IsTrue}
 use Rattle.names.specs.declared.permissions.Permission.{Permission}
 use Rattle.names.specs.Permissions.{has}
-use Rattle.rule_text.specs.declared.profile.RuleKind.{RuleKind}
-use Rattle.rule_text.specs.declared.profile.RuleKind.TheVariants.{Allow, Deny}
+use Rattle.verdicts.specs.declared.kind.RuleKind.{RuleKind}
+use Rattle.verdicts.specs.declared.kind.RuleKind.TheVariants.{Allow, Deny}
 use Rattle.glob_automaton.specs.declared.chart.Chart.{Chart}
-use Rattle.glob_automaton.specs.declared.chart.Drawn.{Drawn}
+use Rattle.glob_automaton.specs.declared.chart.ChartRule.{ChartRule}
 use Rattle.glob_automaton.specs.declared.chart.Place.{Place}
 use Rattle.glob_automaton.specs.declared.fault.CompileFault.{CompileFault}
 use Rattle.glob_automaton.specs.declared.fault.CompileFault.TheVariants.{TooManyStates, NoMemory}
-use Rattle.glob_automaton.specs.declared.record.Record.{Record}
+use Rattle.verdicts.specs.declared.record.Record.{Record}
 use Rattle.glob_automaton.specs.Automata.{Automaton, target, most_sets, IsWhole}
 use Rattle.glob_automaton.specs.Chart.{IsIn, takes_byte}
 use Rattle.glob_automaton.specs.Gathering.{IsAscending}
-use Rattle.glob_automaton.specs.Least.{hits_of, IsLeastOrNone}
+use Rattle.verdicts.specs.Least.{hits_of, IsLeastOrNone}
 
 -- all of these are places of the chart
 abbrev pub ArePlaces : Chart → List ℕ → Type 0
@@ -22,7 +22,7 @@ ArePlaces chart set = (q : ℕ) → Contains set q → q < length chart.places.i
 -- what is live before the first byte
 pub record IsStartOf (chart : Chart) (set : List ℕ) : Type 0 where
   pub ascending : IsAscending set
-  pub live : (q : ℕ) → Contains set q ↔ ((n : ℕ) × (d : Drawn) × (slice_get chart.rules.items n ≡ Some d) × IsIn chart.entries.items d.start q)
+  pub live : (q : ℕ) → Contains set q ↔ ((n : ℕ) × (d : ChartRule) × (slice_get chart.rules.items n ≡ Some d) × IsIn chart.entries.items d.start q)
 
 -- what is live after one byte more
 pub record IsStepOf (chart : Chart) (set : List ℕ) (b : ℕ) (next : List ℕ) : Type 0 where
@@ -37,7 +37,7 @@ pub data IsReached : Chart → List ℕ → List ℕ → Type 0 where
 
 -- n is the number of a rule of this kind that holds p and whose end is in the set
 abbrev pub EndsIn : Chart → List ℕ → RuleKind → Permission → ℕ → Type 0
-EndsIn chart set kind p n = (i : ℕ) × (d : Drawn) × (n ≡ i + 1) × (slice_get chart.rules.items i ≡ Some d) × (d.kind ≡ kind) × IsTrue (has d.perms p) × Contains set d.end
+EndsIn chart set kind p n = (i : ℕ) × (d : ChartRule) × (n ≡ i + 1) × (slice_get chart.rules.items i ≡ Some d) × (d.kind ≡ kind) × IsTrue (has d.perms p) × Contains set d.end
 
 abbrev pub IsRecordOf : Chart → List ℕ → Record → Type 0
 IsRecordOf chart set r = (p : Permission) →

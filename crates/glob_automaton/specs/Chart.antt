@@ -1,6 +1,6 @@
 -- The places of all rules, and how a match goes from one to the next.
 use Rattle.std.specs.Prelude.{◌≡◌, ℕ, ◌<◌, Bool, false, List, [], Some, slice_get, slice_index_or}
-use Rattle.rule_text.specs.Glob.{fits, exactly, not_slash, every_byte}
+use Rattle.rule_globs.specs.Glob.{fits, exactly, not_slash, every_byte}
 use Rattle.glob_automaton.specs.declared.chart.Entry.{Entry}
 use Rattle.glob_automaton.specs.declared.chart.Entry.TheVariants as entry
 use Rattle.glob_automaton.specs.declared.chart.Takes.{Takes}

@@ -1,10 +1,10 @@
 -- What a chart has of a pattern, and of a profile's rules.
 use Rattle.std.specs.Prelude.{◌≡◌, ◌↔◌, ℕ, ◌+◌, ◌<◌, ◌≤◌, List, [], ◌∷◌, ◌++◌, length, Some, slice_get, IsTrue}
-use Rattle.rule_text.specs.Glob.{Glob, fits, ByteSet, places}
-use Rattle.rule_text.specs.Follow.{Starts, TakesAt, Goes}
-use Rattle.rule_text.specs.Profile.{RuleValue, pattern}
+use Rattle.rule_globs.specs.Glob.{Glob, fits, ByteSet, places}
+use Rattle.rule_globs.specs.Follow.{Starts, TakesAt, Goes}
+use Rattle.rule_reader.specs.Profile.{RuleValue, pattern}
 use Rattle.glob_automaton.specs.declared.chart.Chart.{Chart}
-use Rattle.glob_automaton.specs.declared.chart.Drawn.{Drawn}
+use Rattle.glob_automaton.specs.declared.chart.ChartRule.{ChartRule}
 use Rattle.glob_automaton.specs.declared.chart.Place.{Place}
 use Rattle.glob_automaton.specs.declared.chart.Takes.{Takes}
 use Rattle.glob_automaton.specs.declared.chart.Takes.TheVariants as takes
@@ -49,7 +49,7 @@ pub record IsDrawn (old new : Chart) (g : Glob) (behind start : ℕ) : Type 0 wh
       (place.behind < length new.entries.items) × IsKnown new place.takes
 
 -- a rule stands in the chart, its end at this place and its places behind it
-pub record HasRule (chart : Chart) (rule : RuleValue) (drawn : Drawn) : Type 0 where
+pub record HasRule (chart : Chart) (rule : RuleValue) (drawn : ChartRule) : Type 0 where
   pub kind : drawn.kind ≡ rule.kind
   pub perms : drawn.perms ≡ rule.perms
   pub fits : drawn.end + places (pattern rule) < length chart.places.items
@@ -61,7 +61,7 @@ pub record HasRule (chart : Chart) (rule : RuleValue) (drawn : Drawn) : Type 0 w
       IsIn chart.entries.items place.behind q ↔ Goes (pattern rule) (drawn.end + 1) (λ r. r ≡ drawn.end) p q
 
 -- each rule stands behind the one before it, and nothing else stands in the chart
-abbrev pub HasRules : Chart → ℕ → List RuleValue → List Drawn → Type 0
+abbrev pub HasRules : Chart → ℕ → List RuleValue → List ChartRule → Type 0
 HasRules chart at [] [] = length chart.places.items ≡ at
 HasRules chart at [] (d ∷ ds) = ⊥
 HasRules chart at (rule ∷ rules) [] = ⊥

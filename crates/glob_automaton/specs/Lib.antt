@@ -1,6 +1,4 @@
 pub mod Least
-pub mod Hits
-pub mod Records
 pub mod Sets
 pub mod Automata
 pub mod Chart

@@ -1,8 +1,8 @@
 -- The sets of live places of a profile's rules, and how many different ones the prefixes of names have.
 use Rattle.std.specs.Prelude.{◌≡◌, ◌↔◌, ℕ, ◌+◌, ◌<◌, ◌≤◌, List, [], ◌∷◌, length, All, slice_index_or}
-use Rattle.rule_text.specs.LiveSteps.{IsLeftFirst}
-use Rattle.rule_text.specs.Profile.{RuleValue, pattern}
-use Rattle.rule_text.specs.Verdict.{IsRuleAt}
+use Rattle.rule_globs.specs.LiveSteps.{IsLeftFirst}
+use Rattle.rule_reader.specs.Profile.{RuleValue, pattern}
+use Rattle.rule_globs.specs.Verdict.{IsRuleAt}
 
 -- The place p of the rule with number n is live after the bytes: some steps with these bytes leave it first. Rules are
 -- numbered from 1. The places of a rule are numbered from 0 in the order written, and its end has the next number. (The same
@@ -17,9 +17,6 @@ SameSet rules one other = (n p : ℕ) → IsLive rules one n p ↔ IsLive rules 
 -- nothing is live any more
 abbrev pub NoneLive : List RuleValue → List ℕ → Type 0
 NoneLive rules bytes = (n p : ℕ) → ¬ (IsLive rules bytes n p)
-
-abbrev pub are_bytes : List ℕ → Type 0
-are_bytes bytes = All (λ b. b < 256) bytes
 
 -- a front part of a name: nothing, or bytes but 0 of which the first is a slash
 abbrev pub IsPrefixOfName : List ℕ → Type 0

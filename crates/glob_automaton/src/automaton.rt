@@ -2,8 +2,8 @@
 ghost use Rattle.std.specs.Prelude.{◌≡◌, ◌<◌, length, slice_get, Some};
 ghost use Rattle.glob_automaton.specs.Automata.{IsWhole, target, state_after};
 
-use crate::record::Record;
 use std::marker::Model;
+use verdicts::Record;
 
 /// The deterministic automaton of a profile's rules (apparmor.d(5), "Globbing"): for each state a row of 256 targets, one for
 /// each byte, and a record of least hits. In state 0 nothing is live any more. Its readers take no memory.

@@ -8,13 +8,13 @@ ghost use Rattle.glob_automaton.specs.Gathering.{IsGathering, IsAscending};
 ghost use Rattle.glob_automaton.specs.States.{lists_of, AreFewSets, Keeps, IsNumbered, IsNumberFault, IsTargetOf, IsRowOf};
 
 use crate::automaton::Dfa;
-use crate::bytes::Alike;
+use crate::bytes::ByteClasses;
 use crate::chart::{Chart, Takes};
 use crate::fault::CompileFault;
-use crate::record::Record;
 use crate::sets::Gathering;
 use indexmap::IndexSet;
 use std::alloc::{AllocError, Global};
+use verdicts::Record;
 
 /// The most different sets of live places, the empty set among them.
 const MOST_SETS: usize = 16384;
@@ -33,7 +33,7 @@ pub(crate) fn build(alloc: Global, chart: &Chart) -> Result<Dfa, CompileFault>
     ensures ok { IfOk result (IsBuilt chart.now) }
     ensures err { IfErr result (IsBuildFault chart.now) }
 {
-    let alike = Alike::of(chart);
+    let classes = ByteClasses::of(chart);
     let ends = ends_of(alloc, chart)?;
     let mut gathering = Gathering::new(alloc, chart)?;
     let mut sets = Sets {
@@ -50,7 +50,7 @@ pub(crate) fn build(alloc: Global, chart: &Chart) -> Result<Dfa, CompileFault>
         if !sets.copy(state, &mut set)? {
             break;
         }
-        let row = row_of(chart, &alike, &set, &mut gathering, &mut sets)?;
+        let row = row_of(chart, &classes, &set, &mut gathering, &mut sets)?;
         keep(&mut rows, row)?;
         keep(&mut records, record_of(chart, &ends, &set))?;
     }
@@ -182,13 +182,13 @@ fn target_of(
 // The targets of a set. Bytes that are alike and that no place of the set takes alone have one target, which is found once.
 fn row_of(
     chart: &Chart,
-    alike: &Alike,
+    classes: &ByteClasses,
     set: &[usize],
     gathering: &mut Gathering,
     sets: &mut Sets,
 ) -> Result<[u32; 256], CompileFault>
     requires chart { IsPartOfChart chart.now }
-    requires alike { AreAlike chart.now alike.now.least }
+    requires alike { AreAlike chart.now classes.now.least }
     requires gathering { IsGathering chart.now gathering.old }
     requires sets { AreFewSets chart.now (lists_of sets.old) }
     requires set { Contains (lists_of sets.old) set.now }
@@ -203,7 +203,7 @@ fn row_of(
     let mut others: [Option<u32>; 256] = [None; 256];
     let mut row = [0; 256];
     for byte in 0..256 {
-        let least = alike.least[byte] as usize;
+        let least = classes.least[byte] as usize;
         if named[byte] {
             row[byte] = target_of(chart, set, byte as u8, gathering, sets)?;
             continue;
@@ -239,11 +239,11 @@ fn record_of(chart: &Chart, ends: &[usize], set: &[usize]) -> Record
     requires ascending { IsAscending set.now }
     ensures { IsRecordOf chart.now set.now result }
 {
-    let mut record = Record::NONE;
+    let mut record = Record::none();
     for place in set {
         if let Ok(number) = ends.binary_search(place) {
             let rule = chart.rules[number];
-            record = record.with(rule.kind, rule.perms, number as u16 + 1);
+            record = record.with_rule(rule.kind, rule.perms, number as u16 + 1);
         }
     }
     record

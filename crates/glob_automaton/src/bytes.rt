@@ -6,13 +6,13 @@ use crate::chart::Chart;
 
 /// For each byte the least of its class: each place takes both or neither, places that take one byte alone aside.
 #[derive(Clone, Copy)]
-pub(crate) struct Alike {
+pub(crate) struct ByteClasses {
     pub least: [u8; 256],
 }
 
-impl Alike {
+impl ByteClasses {
     /// The least alike byte of each, by the places of a chart.
-    pub(crate) fn of(chart: &Chart) -> Alike
+    pub(crate) fn of(chart: &Chart) -> ByteClasses
         ensures { AreAlike chart.now result.least }
     {
         let mut least = [0; 256];
@@ -21,7 +21,7 @@ impl Alike {
         for taken in &chart.classes {
             split(&mut least, taken);
         }
-        Alike { least }
+        ByteClasses { least }
     }
 }
 

@@ -1,15 +1,17 @@
 //! The places of all rules, and how a match goes from one to the next: a nondeterministic automaton whose empty moves are
 //! entries.
 ghost use Rattle.std.specs.Prelude.{◌≡◌, ◌≤◌, ◌++◌, ◌∷◌, [], IfOk, OnOk, length};
-ghost use Rattle.rule_text.specs.Glob.{ByteSet, one, run};
-ghost use Rattle.rule_text.specs.Meaning.{meaning, meaning_of, stars_glob, alternatives_meaning};
-ghost use Rattle.rule_text.specs.Profile.{profile_value, rule_value};
+ghost use Rattle.rule_globs.specs.Glob.{ByteSet, one, run};
+ghost use Rattle.rule_globs.specs.Meaning.{meaning, meaning_of, stars_glob, alternatives_meaning};
+ghost use Rattle.rule_reader.specs.Profile.{profile_value, rule_value};
 ghost use Rattle.glob_automaton.specs.Chart.{takes_byte};
 ghost use Rattle.glob_automaton.specs.Drawing.{IsReady, IsDrawn, IsPartOfChart, HasOneMore, IsChartOf, IsKnown, TakesSet};
 
 use names::Perms;
-use rule_text::{Class, Item, Profile, Rule, RuleKind, Stars};
+use rule_globs::{Class, Item, Stars};
+use rule_reader::{Profile, Rule};
 use std::alloc::{AllocError, Global};
+use verdicts::RuleKind;
 
 /// Which bytes a place takes.
 #[derive(Clone, Copy, Debug, PartialEq, Eq)]
@@ -48,7 +50,7 @@ pub(crate) struct Place {
 
 /// A rule: the place of its end, the entry at its beginning, and what it says.
 #[derive(Clone, Copy, Debug)]
-pub(crate) struct Drawn {
+pub(crate) struct ChartRule {
     pub end: usize,
     pub start: usize,
     pub kind: RuleKind,
@@ -62,7 +64,7 @@ pub(crate) struct Chart {
     pub entries: Vec<Entry>,
     /// Which bytes each class takes.
     pub classes: Vec<[bool; 256]>,
-    pub rules: Vec<Drawn>,
+    pub rules: Vec<ChartRule>,
 }
 
 impl Chart {
@@ -96,7 +98,7 @@ impl Chart {
         })?;
         let last = self.entry(Entry::Place(end))?;
         let start = self.draw_items(rule.items(), last)?;
-        self.rules.push(Drawn {
+        self.rules.push(ChartRule {
             end,
             start,
             kind: rule.kind(),
@@ -153,7 +155,7 @@ impl Chart {
     // Draws a class.
     fn draw_class(&mut self, class: &Class, behind: usize) -> Result<usize, AllocError>
         requires { IsReady self.old behind }
-        ensures { IfOk result (IsDrawn self.old self.new (one (ByteSet.class class.now.negated class.now.ranges.items)) behind) }
+        ensures { IfOk result (IsDrawn self.old self.new (one (ByteSet.class class.now.negated class.now.ranges)) behind) }
     {
         let mut taken = [false; 256];
         for byte in 0..256 {

@@ -1,14 +1,16 @@
 //! From a profile to its automaton.
 ghost use Rattle.std.specs.Prelude.{◌≡◌, ◌<◌, ◌≤◌, List, ℕ, length, IfOk, IfErr};
-ghost use Rattle.rule_text.specs.Profile.{profile_value};
+ghost use Rattle.rule_reader.specs.Profile.{profile_value};
 ghost use Rattle.glob_automaton.specs.Automata.{IsAutomatonOf, IsCompileFault};
 
 use crate::automaton::Dfa;
 use crate::building::build;
 use crate::chart::Chart;
 use crate::fault::CompileFault;
-use rule_text::{Profile, live_is_left_first, live_places_go_on};
+use rule_globs::{live_is_left_first, live_places_go_on};
+use rule_reader::Profile;
 use std::alloc::Global;
+use verdicts::records_are_their_hits;
 
 /// Compiles a profile's rules (apparmor.d(5), "Globbing" and "Rule Qualifiers"). The automaton has one state for each set of
 /// places that is live after a prefix of a name, and state 0 for the empty set, whether or not a prefix has it. Refused
@@ -19,6 +21,7 @@ pub fn compile(alloc: Global, profile: &Profile) -> Result<Dfa, CompileFault>
 {
     live_places_go_on();
     live_is_left_first();
+    records_are_their_hits();
     let chart = Chart::of(alloc, profile)?;
     build(alloc, &chart)
 }

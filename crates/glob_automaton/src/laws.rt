@@ -1,21 +1,21 @@
 //! Laws of least hits and of the count of states.
 ghost use Rattle.std.specs.Prelude.{◌≡◌, ◌↔◌, ◌<◌, List, ℕ};
 ghost use Rattle.names.specs.declared.permissions.Perms.{Perms};
-ghost use Rattle.rule_text.specs.Profile.{RuleValue};
-ghost use Rattle.rule_text.specs.Verdict.{IsVerdict};
-ghost use Rattle.rule_text.specs.declared.verdict.Verdict.{Verdict};
-ghost use Rattle.glob_automaton.specs.declared.record.Record.{Record};
+ghost use Rattle.rule_reader.specs.Profile.{RuleValue};
+ghost use Rattle.rule_globs.specs.Verdict.{IsVerdict};
+ghost use Rattle.verdicts.specs.declared.verdict.Verdict.{Verdict};
+ghost use Rattle.verdicts.specs.declared.record.Record.{Record};
 ghost use Rattle.glob_automaton.specs.Automata.{StateLimit};
 ghost use Rattle.glob_automaton.specs.Least.{IsLeastRecord};
-ghost use Rattle.glob_automaton.specs.Records.{IsTold};
+ghost use Rattle.verdicts.specs.Records.{IsTold};
 ghost use Rattle.glob_automaton.specs.Sets.{IsCount, AreMoreThan};
 
-use rule_text::{live_is_left_first, live_places_go_on, takes_by_cuts};
+use rule_globs::{live_is_left_first, live_places_go_on, takes_by_cuts};
+use verdicts::records_are_their_hits;
 
-/// A record tells one verdict, and one of least hits tells that of the rules.
+/// A record of least hits tells the verdict of the rules.
 pub fn least_hits_tell_the_verdict()
-    ensures one { (r : Record) (ask : Perms) (first second : Verdict) → IsTold r ask first → IsTold r ask second → first ≡ second }
-    ensures right { (rules : List RuleValue) (name : List ℕ) (r : Record) (ask : Perms) (v : Verdict) →
+    ensures { (rules : List RuleValue) (name : List ℕ) (r : Record) (ask : Perms) (v : Verdict) →
         IsLeastRecord rules name r → IsTold r ask v → IsVerdict rules name ask v }
 {}
 
@@ -26,6 +26,7 @@ pub fn names_have_one_least_record()
     ensures some { (rules : List RuleValue) (name : List ℕ) → (r : Record) × IsLeastRecord rules name r }
 {
     takes_by_cuts();
+    records_are_their_hits();
 }
 
 /// Rules have one count at most, and there are more sets than a number exactly where the count is greater.

@@ -9,7 +9,6 @@ mod chart;
 mod compiling;
 mod fault;
 mod laws;
-mod record;
 mod sets;
 
 pub use automaton::Dfa;
@@ -19,4 +18,4 @@ pub use laws::{
     least_hits_tell_the_verdict, names_have_one_least_record, rules_have_one_count,
     too_many_states_can_be_told,
 };
-pub use record::{LeastHits, Record, told};
+pub use verdicts::{LeastHits, Record, told};

@@ -1,9 +1,9 @@
 -- Tables in bounds have no fault.
 use Rattle.std.proofs.Common.{arith}
-use Rattle.table_image.specs.Bounds.{InBounds, HasFault, IsFirstFault}
-use Rattle.table_image.specs.Tables.{Table}
-use Rattle.table_image.specs.declared.fault.ImageFault.{ImageFault}
-use Rattle.table_image.specs.declared.fault.ImageFault.TheVariants as fault
+use Rattle.tables.specs.Bounds.{InBounds, HasFault, IsFirstFault}
+use Rattle.tables.specs.Tables.{Table}
+use Rattle.tables.specs.declared.fault.ImageFault.{ImageFault}
+use Rattle.tables.specs.declared.fault.ImageFault.TheVariants as fault
 
 no_fault : (t : Table) (f : ImageFault) → InBounds t → HasFault t f → ⊥
 no_fault t fault.Counts bounds has = has bounds.limits

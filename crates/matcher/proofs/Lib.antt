@@ -1,3 +1,2 @@
 pub mod FaultlessTables
-pub mod StepsOfTables
 pub mod ToldByTables

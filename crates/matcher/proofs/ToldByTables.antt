@@ -2,17 +2,17 @@
 use Rattle.std.proofs.Common.{◌≡◌, ℕ, List, sym, ◌∙◌, ap, subst, Some}
 use Rattle.std.proofs.lemmas.Option.{same_Some}
 use Rattle.names.specs.declared.permissions.Perms.{Perms}
-use Rattle.glob_automaton.specs.declared.record.Record.{Record}
+use Rattle.verdicts.specs.declared.record.Record.{Record}
 use Rattle.glob_automaton.specs.Automata.{Automaton, IsAutomatonOf}
 use Rattle.glob_automaton.specs.Least.{IsLeastRecord}
-use Rattle.glob_automaton.specs.Records.{IsTold}
+use Rattle.verdicts.specs.Records.{IsTold}
 use Rattle.matcher.specs.Telling.{TellsLeastHits, TellsVerdicts}
-use Rattle.rule_text.specs.PlainVerdict.{verdict}
-use Rattle.rule_text.specs.Profile.{RuleValue}
-use Rattle.rule_text.specs.Verdict.{IsVerdict}
-use Rattle.rule_text.specs.declared.verdict.Verdict.{Verdict}
+use Rattle.rule_globs.specs.PlainVerdict.{verdict}
+use Rattle.rule_reader.specs.Profile.{RuleValue}
+use Rattle.rule_globs.specs.Verdict.{IsVerdict}
+use Rattle.verdicts.specs.declared.verdict.Verdict.{Verdict}
 use Rattle.table_image.specs.Packing.{IsTableOf}
-use Rattle.table_image.specs.Tables.{Table}
+use Rattle.tables.specs.Tables.{Table}
 
 -- the table of an automaton of rules leads to their least hits
 pub tells_least : ((rules : List RuleValue) (name : List ℕ) (first second : Record) → IsLeastRecord rules name first → IsLeastRecord rules name second → first ≡ second)

@@ -1,16 +1,12 @@
--- What profiles are made of, and why they aren't made.
-use Rattle.std.specs.Prelude.{◌⊎◌, ℕ, List}
+-- Why profiles aren't made.
+use Rattle.std.specs.Prelude.{ℕ, List}
 use Rattle.glob_automaton.specs.Automata.{most_sets}
 use Rattle.glob_automaton.specs.Sets.{AreMoreThan}
 use Rattle.glob_automaton.specs.declared.fault.CompileFault.{CompileFault}
 use Rattle.glob_automaton.specs.declared.fault.CompileFault.TheVariants as compiling
 use Rattle.matcher.specs.declared.fault.MakeFault.{MakeFault}
 use Rattle.matcher.specs.declared.fault.MakeFault.TheVariants.{TooManyStates, NoMemory}
-use Rattle.rule_text.specs.Profile.{RuleValue}
-use Rattle.table_image.specs.Bounds.{InBounds, IsFirstFault}
-use Rattle.table_image.specs.Images.{IsImageOf, IsFirstImageFault}
-use Rattle.table_image.specs.Tables.{Table}
-use Rattle.table_image.specs.declared.fault.ImageFault.{ImageFault}
+use Rattle.rule_reader.specs.Profile.{RuleValue}
 
 -- the number by which a fault is told
 abbrev pub fault_number : MakeFault → ℕ
@@ -26,11 +22,3 @@ made_of compiling.NoMemory = NoMemory
 abbrev pub IsMakeFault : List RuleValue → MakeFault → Type 0
 IsMakeFault rules TooManyStates = AreMoreThan most_sets rules
 IsMakeFault rules NoMemory = Unit {0}
-
--- the table of an image, which is in bounds
-abbrev pub IsLoaded : List ℕ → Table → Type 0
-IsLoaded bytes t = IsImageOf bytes t × InBounds t
-
--- the first fault of an image: of its bytes, or of the table that they are
-abbrev pub IsLoadFault : List ℕ → ImageFault → Type 0
-IsLoadFault bytes f = IsFirstImageFault bytes f ⊎ ((t : Table) × IsImageOf bytes t × IsFirstFault t f)

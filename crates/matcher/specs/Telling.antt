@@ -1,15 +1,15 @@
 -- Tables of rules, and what they tell.
 use Rattle.std.specs.Prelude.{◌≡◌, List, Some, ℕ}
-use Rattle.glob_automaton.specs.Hits.{no_hits}
+use Rattle.verdicts.specs.Hits.{no_hits}
 use Rattle.glob_automaton.specs.Least.{IsLeastRecord}
-use Rattle.glob_automaton.specs.Records.{IsTold}
-use Rattle.glob_automaton.specs.Sets.{are_bytes}
-use Rattle.glob_automaton.specs.declared.record.Record.{Record}
+use Rattle.verdicts.specs.Records.{IsTold}
+use Rattle.names.specs.Bytes.{are_bytes}
+use Rattle.verdicts.specs.declared.record.Record.{Record}
 use Rattle.names.specs.declared.permissions.Perms.{Perms}
-use Rattle.rule_text.specs.PlainVerdict.{verdict}
-use Rattle.rule_text.specs.Profile.{RuleValue}
-use Rattle.rule_text.specs.declared.verdict.Verdict.{Verdict}
-use Rattle.table_image.specs.Tables.{StaysDead, Table, record_after, record_of}
+use Rattle.rule_globs.specs.PlainVerdict.{verdict}
+use Rattle.rule_reader.specs.Profile.{RuleValue}
+use Rattle.verdicts.specs.declared.verdict.Verdict.{Verdict}
+use Rattle.tables.specs.Tables.{StaysDead, Table, record_after, record_of}
 
 -- state 0 is left by no byte, and has no hits
 abbrev pub IsDeadAtZero : Table → Type 0

@@ -3,19 +3,20 @@ ghost use Rattle.std.specs.Prelude.{◌≡◌, IfOk, IfErr};
 ghost use Rattle.std.specs.Coded.{codes};
 ghost use Rattle.glob_automaton.specs.Automata.{most_sets};
 ghost use Rattle.glob_automaton.specs.Sets.{AreMoreThan};
-ghost use Rattle.glob_automaton.specs.contracts.record.Record as record_code;
+ghost use Rattle.verdicts.specs.contracts.record.Record as record_code;
 ghost use Rattle.matcher.specs.Making.{IsMakeFault};
 ghost use Rattle.matcher.specs.Telling.{IsDeadAtZero, IsTableOfRules, TellsLeastHits};
-ghost use Rattle.rule_text.specs.Profile.{profile_value};
-ghost use Rattle.table_image.specs.Bounds.{InBounds};
-ghost use Rattle.table_image.specs.Tables.{table_value};
+ghost use Rattle.rule_reader.specs.Profile.{profile_value};
+ghost use Rattle.tables.specs.Bounds.{InBounds};
+ghost use Rattle.tables.specs.Tables.{table_value};
 
 use crate::fault::MakeFault;
 use glob_automaton::{compile, names_have_one_least_record};
-use rule_text::Profile;
+use rule_reader::Profile;
 use std::alloc::Global;
-use table_image::{RawTable, pack};
+use table_image::pack;
 use table_verifier::{VerifiedTable, verify};
+use tables::RawTable;
 
 /// A table of a profile's rules, in bounds, if they haven't too many states.
 pub fn table_of(alloc: Global, profile: &Profile) -> Result<RawTable, MakeFault>

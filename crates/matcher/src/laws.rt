@@ -1,11 +1,11 @@
 //! Laws of tables of rules.
 ghost use Rattle.std.specs.Prelude.{List};
 ghost use Rattle.matcher.specs.Telling.{TellsLeastHits, TellsVerdicts};
-ghost use Rattle.rule_text.specs.Profile.{RuleValue};
-ghost use Rattle.table_image.specs.Tables.{Table};
+ghost use Rattle.rule_reader.specs.Profile.{RuleValue};
+ghost use Rattle.tables.specs.Tables.{Table};
 
 use glob_automaton::{least_hits_tell_the_verdict, names_have_one_least_record};
-use rule_text::one_verdict_is_right;
+use rule_globs::one_verdict_is_right;
 
 /// A table that leads every name to its least hits tells the verdicts of the rules: `judge` by a compiled profile answers
 /// what its rules say.

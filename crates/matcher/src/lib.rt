@@ -1,18 +1,13 @@
-//! Names run through verified tables, and judged.
+//! Profiles compiled to tables, and laws on what these tell. What runs names through tables and judges by them is handed on.
 #![tactic(auto)]
 
 mod compiled;
 mod fault;
-mod judging;
 mod laws;
-mod loaded;
 mod profiles;
-mod running;
 
 pub use compiled::{CompiledProfile, table_of};
 pub use fault::MakeFault;
-pub use judging::judge;
 pub use laws::tables_of_rules_tell_their_verdicts;
-pub use loaded::LoadedProfile;
 pub use profiles::{AnyProfile, PolicyChange};
-pub use running::run;
+pub use table_runner::{LoadedProfile, judge, record_of_name, run};

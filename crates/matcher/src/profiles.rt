@@ -3,8 +3,8 @@ ghost use Rattle.std.specs.Prelude.{◌≡◌};
 ghost use Rattle.matcher.specs.Profiles.{any_table};
 
 use crate::compiled::CompiledProfile;
-use crate::loaded::LoadedProfile;
 use std::sync::Arc;
+use table_runner::LoadedProfile;
 use table_verifier::VerifiedTable;
 
 /// A profile of either origin.

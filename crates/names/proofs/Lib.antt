@@ -1,2 +1,4 @@
 pub mod PathLemmas
 pub mod PathLaws
+pub mod Positions
+pub mod PermsLaws

@@ -1,3 +1,4 @@
 pub mod Permissions
 pub mod Errors
 pub mod Paths
+pub mod Bytes

@@ -1,5 +1,5 @@
 -- The permissions of file rules, the letters that stand for them, and sets of them (apparmor.d(5), "Access Modes").
-use Rattle.std.specs.Prelude.{ℕ, Bool, List, [], ◌∷◌, Option, Some, None, ◌==◌, ◌||◌, map, filter, find, IsTrue, if◌then◌else◌}
+use Rattle.std.specs.Prelude.{ℕ, Bool, List, [], ◌∷◌, Option, Some, None, ◌==◌, ◌||◌, map, filter, find, IsTrue, if◌then◌else◌, length}
 use Rattle.std.specs.List.{list_all, list_any}
 use Rattle.names.specs.declared.permissions.Permission.{Permission}
 use Rattle.names.specs.declared.permissions.Permission.TheVariants.{Read, Write, Link, Lock, Map}
@@ -16,6 +16,18 @@ letter Map = 109
 -- every permission, in the order in which a set is printed
 abbrev pub all_permissions : List Permission
 all_permissions = Read ∷ Write ∷ Link ∷ Lock ∷ Map ∷ []
+
+-- how many there are
+abbrev pub permission_count : ℕ
+permission_count = length all_permissions
+
+-- the place of a permission in that order
+abbrev pub index : Permission → ℕ
+index Read = 0
+index Write = 1
+index Link = 2
+index Lock = 3
+index Map = 4
 
 -- the permission with this letter
 abbrev pub permission_of : ℕ → Option Permission

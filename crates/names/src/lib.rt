@@ -12,7 +12,9 @@ mod permissions;
 pub use errors::{Errno, NoMemory};
 pub use laws::{
     components_are_parts, components_of_joined, components_of_paths, letters_read_again,
-    one_letter_each, paths_are_names,
+    one_letter_each, paths_are_names, permissions_are_numbered,
 };
-pub use paths::{Components, Path, split_component};
+pub use paths::{
+    Components, LONGEST_COMPONENT, LONGEST_PATH, Path, has_long_component, split_component,
+};
 pub use permissions::{Permission, Perms};

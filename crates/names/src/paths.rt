@@ -8,10 +8,10 @@ use std::iter::FusedIterator;
 use std::marker::Model;
 
 /// The longest path, in bytes: limits.h's PATH_MAX without the byte 0 that closes a path in C.
-const LONGEST_PATH: usize = 4095;
+pub const LONGEST_PATH: usize = 4095;
 
 /// The longest component of a path, in bytes: limits.h's NAME_MAX.
-const LONGEST_COMPONENT: usize = 255;
+pub const LONGEST_COMPONENT: usize = 255;
 
 /// A path as calls take it (path_resolution(7)). It begins with a slash, has no byte 0, and is
 /// nowhere too long. Its bytes need not be UTF-8.
@@ -137,8 +137,8 @@ pub fn split_component(text: &[u8]) -> Option<(&[u8], &[u8])>
     Some((component, left))
 }
 
-// Whether some component of the text is too long.
-fn has_long_component(text: &[u8]) -> bool
+/// Whether some component of the text is too long. No memory is taken.
+pub fn has_long_component(text: &[u8]) -> bool
     ensures { result ≡ has_long_component text.now }
 {
     Components::of(text).any(|component| component.len() > LONGEST_COMPONENT)

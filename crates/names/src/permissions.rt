@@ -1,6 +1,6 @@
-ghost use Rattle.std.specs.Prelude.{◌≡◌, ◌↔◌, ◌&&◌, ◌∷◌, [], not, false, Some, IsTrue};
+ghost use Rattle.std.specs.Prelude.{◌≡◌, ◌<◌, ◌↔◌, ◌&&◌, ◌∷◌, [], not, false, Some, IsTrue};
 ghost use Rattle.names.specs.declared.permissions.Permission.{Permission};
-ghost use Rattle.names.specs.Permissions.{letter, permission_of, has, set_of, with_permission, perms_of, letters, Shares};
+ghost use Rattle.names.specs.Permissions.{letter, index, permission_count, permission_of, has, set_of, with_permission, perms_of, letters, Shares};
 
 use std::fmt;
 
@@ -15,14 +15,25 @@ pub enum Permission {
 }
 
 impl Permission {
+    /// How many permissions there are.
+    pub const COUNT: usize = 5;
+
     /// Every permission, in the order in which a set of them is printed: r w l k m.
-    pub const ALL: [Permission; 5] = [
+    pub const ALL: [Permission; Permission::COUNT] = [
         Permission::Read,
         Permission::Write,
         Permission::Link,
         Permission::Lock,
         Permission::Map,
     ];
+
+    /// The place of the permission in [`Permission::ALL`].
+    pub fn index(self) -> usize
+        ensures place { result ≡ index self }
+        ensures there { result < permission_count }
+    {
+        self as usize
+    }
 
     /// The letter that stands for the permission in a rule.
     pub fn letter(self) -> u8

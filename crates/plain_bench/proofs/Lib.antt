@@ -1,6 +1,5 @@
 pub mod ByteKeys
 pub mod DeedLaws
-pub mod Asked
 pub mod Answering
 pub mod LinkJudging
-pub mod Told
+pub mod OneWorld

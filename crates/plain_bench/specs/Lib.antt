@@ -1,10 +1,2 @@
-pub mod Published
-pub mod Opening
-pub mod Linking
-pub mod Bench
-pub mod Deeds
-pub mod PolicyChanges
-pub mod Policy
-pub mod Judging
-pub mod Known
-pub mod PlainKnown
+pub mod PlainHistory
+pub mod inner

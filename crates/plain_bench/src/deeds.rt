@@ -2,27 +2,26 @@
 ghost use Rattle.std.specs.Prelude.{◌≡◌, List, [], ◌∷◌, ◌++◌};
 ghost use Rattle.std.specs.Borrow.{ftrue};
 ghost use Rattle.std.specs.Coded.{codes};
-ghost use Rattle.rule_text.specs.contracts.profile.Profile as profile;
-ghost use Rattle.plain_bench.specs.Deeds.{PolicyDeed};
-ghost use Rattle.plain_bench.specs.PolicyChanges.{recorded};
+ghost use Rattle.mediation.specs.Deeds as mediation;
+ghost use Rattle.plain_bench.specs.inner.Deeds.{deed_value};
 
-use rule_text::Profile;
+use matcher::AnyProfile;
 use std::marker::{Model, PhantomData};
 
 /// One change of what is published.
 #[derive(Clone, Copy)]
-pub(crate) enum PolicyChange<'a> {
-    /// This profile stands under its name.
-    Replace(&'a Profile),
-    /// Nothing stands under this name.
-    Remove(&'a [u8]),
+pub(crate) enum Deed<'a> {
+    /// This profile stands under the name.
+    Published(&'a [u8], &'a AnyProfile),
+    /// Nothing stands under the name.
+    Removed(&'a [u8]),
 }
 
-/// The changes of the policy, the first of them first. It takes no memory: only contracts read it.
+/// The deeds, the first of them first. It takes no memory: only contracts read it.
 #[derive(Drop)]
 pub(crate) struct Deeds {
     marker: PhantomData<u8>,
-    pub ghost list: { List PolicyDeed } by { Prim.hlevel (codes, profile.the_row.coded) },
+    pub ghost list: { List mediation.Deed } by { Prim.hlevel codes },
 }
 
 impl Model for Deeds {
@@ -38,9 +37,9 @@ impl Deeds {
         }
     }
 
-    /// With one change more.
-    pub(crate) fn and(&self, change: &PolicyChange<'_>) -> Deeds
-        ensures { result.list ≡ self.now.list ++ recorded change.now ∷ [] }
+    /// With one deed more.
+    pub(crate) fn and(&self, deed: &Deed<'_>) -> Deeds
+        ensures { result.list ≡ self.now.list ++ deed_value deed.now ∷ [] }
     {
         Deeds {
             marker: PhantomData,

@@ -1,17 +1,17 @@
 //! Judged opens and links: a tree in plain memory and the published profiles, in one thread.
 //!
-//! [`Bench`] is what a script works on, and [`PlainBench`] its first implementation. Opens and links are judged over any look
-//! at a tree, by the tables of compiled profiles.
+//! [`Bench`] is what a script works on, and [`PlainBench`] its first implementation.
+//!
+//! What a stranger must believe stands in `specs/`, 6 lines beside those of `mediation`; `specs/inner/` has what only private
+//! contracts say.
 #![tactic(auto)]
 
 mod bench;
-mod compiled;
 mod deeds;
-mod linking;
-mod opening;
 mod plain_bench;
 mod policy;
 mod working;
 
-pub use bench::{Answer, Bench, LinkAnswer};
+pub use bench::Bench;
+pub use mediation::{Answer, LinkAnswer};
 pub use plain_bench::PlainBench;

@@ -2,7 +2,8 @@
 ghost use Rattle.std.specs.Prelude.{◌≤◌};
 
 use crate::policy::Policy;
-use path_walk::{PlainTree, Scratch};
+use path_lookup::Scratch;
+use plain_tree::PlainTree;
 
 /// A tree and the published profiles, with the room that walks and names need.
 #[derive(Drop)]
@@ -10,6 +11,7 @@ pub struct PlainBench {
     pub(crate) tree: PlainTree,
     pub(crate) policy: Policy,
     pub(crate) scratch: Scratch,
+    // The name that was judged last stands at the front.
     pub(crate) name: [u8; 4096],
     pub(crate) name_length: usize,
     ghost fits: { name_length ≤ 4095 },

@@ -1,20 +1,19 @@
 //! The published profiles, in a map.
-ghost use Rattle.std.specs.Prelude.{◌+◌, ◌≡◌, ◌^◌, ◌<◌, ◌∷◌, [], ◌++◌, List, IfOk, IfErr, OnErr, map, length};
+ghost use Rattle.std.specs.Prelude.{◌+◌, ◌≡◌, ◌^◌, ◌<◌, ◌∷◌, [], ◌++◌, IfOk, IfErr, OnErr, length};
 ghost use Rattle.std.specs.Coded.{codes};
 ghost use Rattle.std.specs.Option.{option_map};
 ghost use Rattle.glob_automaton.specs.Automata.{most_sets};
-ghost use Rattle.matcher.specs.Making.{IsMakeFault};
 ghost use Rattle.glob_automaton.specs.Sets.{AreMoreThan};
-ghost use Rattle.rule_text.specs.contracts.profile.Profile as profile;
-ghost use Rattle.rule_text.specs.Profile.{profile_value};
-ghost use Rattle.plain_bench.specs.Deeds.{deed_value};
-ghost use Rattle.plain_bench.specs.Published.{published, removed, policy_after};
-ghost use Rattle.plain_bench.specs.Policy.{Holds};
+ghost use Rattle.matcher.specs.Making.{IsMakeFault};
+ghost use Rattle.mediation.specs.Deeds.{published, published_rules, removed, policy_after};
+ghost use Rattle.mediation.specs.Profiles.{judge_of};
+ghost use Rattle.plain_bench.specs.inner.Policy.{Holds};
+ghost use Rattle.rule_reader.specs.Profile.{profile_value};
 
-use crate::deeds::{Deeds, PolicyChange};
-use matcher::{CompiledProfile, MakeFault};
+use crate::deeds::{Deed, Deeds};
+use matcher::{AnyProfile, CompiledProfile, MakeFault};
 use names::NoMemory;
-use rule_text::Profile;
+use rule_reader::Profile;
 use std::alloc::Global;
 use std::collections::BTreeMap;
 
@@ -22,17 +21,17 @@ use std::collections::BTreeMap;
 #[derive(Drop)]
 pub(crate) struct Policy {
     alloc: Global,
-    profiles: BTreeMap<Vec<u8>, CompiledProfile>,
-    // How many changes there were.
+    profiles: BTreeMap<Vec<u8>, AnyProfile>,
+    // How many deeds there were.
     version: u64,
     deeds: Deeds,
-    ghost holds: { Holds profiles version deeds.list } by { Prim.hlevel (codes, profile.the_row.coded) },
+    ghost holds: { Holds profiles version deeds.list } by { Prim.hlevel codes },
 }
 
 impl Policy {
     /// Nothing is published.
     pub(crate) fn new(alloc: Global) -> Policy
-        ensures { map deed_value result.deeds.list ≡ [] }
+        ensures { result.deeds.list ≡ [] }
     {
         Policy {
             alloc,
@@ -44,46 +43,44 @@ impl Policy {
 
     /// How many profiles were published or removed.
     pub(crate) fn version(&self) -> u64
-        ensures { result ≡ length (map deed_value self.now.deeds.list) }
+        ensures { result ≡ length self.now.deeds.list }
     {
         self.version
     }
 
     /// The profile of a name.
-    pub(crate) fn get(&self, name: &[u8]) -> Option<&CompiledProfile>
-        ensures { option_map (λ compiled. profile_value compiled.now.profile) result ≡ policy_after (map deed_value self.now.deeds.list) name.now }
+    pub(crate) fn get(&self, name: &[u8]) -> Option<&AnyProfile>
+        ensures { option_map (λ profile. judge_of profile.now) result ≡ policy_after self.now.deeds.list name.now }
     {
         self.profiles.get(name)
     }
 
     /// Publishes a profile under its name, if it can be compiled, and answers the new version.
     pub(crate) fn publish(&mut self, profile: Profile) -> Result<u64, MakeFault>
-        requires { length (map deed_value self.old.deeds.list) + 1 < 2 ^ 60 }
-        ensures ok { IfOk result (λ version. (map deed_value self.new.deeds.list ≡ map deed_value self.old.deeds.list ++ published (profile_value profile) ∷ [])
-            × (version ≡ length (map deed_value self.new.deeds.list)) × ¬ (AreMoreThan most_sets (profile_value profile).rules)) }
-        ensures err { IfErr result (λ fault. (map deed_value self.new.deeds.list ≡ map deed_value self.old.deeds.list)
-            × IsMakeFault (profile_value profile).rules fault) }
+        requires { length self.old.deeds.list + 1 < 2 ^ 60 }
+        ensures ok { IfOk result (λ version. (self.new.deeds.list ≡ self.old.deeds.list ++ published_rules (profile_value profile) ∷ [])
+            × (version ≡ length self.new.deeds.list) × ¬ (AreMoreThan most_sets (profile_value profile).rules)) }
+        ensures err { IfErr result (λ fault. (self.new.deeds.list ≡ self.old.deeds.list) × IsMakeFault (profile_value profile).rules fault) }
     {
         let compiled = CompiledProfile::make(self.alloc, profile)?;
-        match self.keep(compiled) {
+        let Ok(name) = Vec::from_slice(self.alloc, compiled.profile().name()) else {
+            return Err(MakeFault::NoMemory);
+        };
+        match self.keep(name, AnyProfile::Compiled(compiled)) {
             Ok(version) => Ok(version),
             Err(NoMemory) => Err(MakeFault::NoMemory),
         }
     }
 
-    // Publishes a compiled profile under its name.
-    fn keep(&mut self, compiled: CompiledProfile) -> Result<u64, NoMemory>
-        requires { length (map deed_value self.old.deeds.list) + 1 < 2 ^ 60 }
-        ensures ok { IfOk result (λ version. (map deed_value self.new.deeds.list ≡ map deed_value self.old.deeds.list ++ published (profile_value compiled.profile) ∷ [])
-            × (version ≡ length (map deed_value self.new.deeds.list))) }
-        ensures err { OnErr result (map deed_value self.new.deeds.list ≡ map deed_value self.old.deeds.list) }
+    // Publishes a profile under a name.
+    fn keep(&mut self, name: Vec<u8>, profile: AnyProfile) -> Result<u64, NoMemory>
+        requires { length self.old.deeds.list + 1 < 2 ^ 60 }
+        ensures ok { IfOk result (λ version. (self.new.deeds.list ≡ self.old.deeds.list ++ published name.items (judge_of profile) ∷ [])
+            × (version ≡ length self.new.deeds.list)) }
+        ensures err { OnErr result (self.new.deeds.list ≡ self.old.deeds.list) }
     {
-        let profile = compiled.profile();
-        let Ok(name) = Vec::from_slice(self.alloc, profile.name()) else {
-            return Err(NoMemory);
-        };
-        let deeds = self.deeds.and(&PolicyChange::Replace(profile));
-        match self.profiles.insert(name, compiled) {
+        let deeds = self.deeds.and(&Deed::Published(&name, &profile));
+        match self.profiles.insert(name, profile) {
             Ok(_) => {
                 self.deeds = deeds;
                 self.version += 1;
@@ -95,12 +92,12 @@ impl Policy {
 
     /// Takes the profile of a name away, if there is one, and answers the new version.
     pub(crate) fn remove(&mut self, name: &[u8]) -> u64
-        requires { length (map deed_value self.old.deeds.list) + 1 < 2 ^ 60 }
-        ensures new { map deed_value self.new.deeds.list ≡ map deed_value self.old.deeds.list ++ removed name.now ∷ [] }
-        ensures version { result ≡ length (map deed_value self.new.deeds.list) }
+        requires { length self.old.deeds.list + 1 < 2 ^ 60 }
+        ensures new { self.new.deeds.list ≡ self.old.deeds.list ++ removed name.now ∷ [] }
+        ensures version { result ≡ length self.new.deeds.list }
     {
         self.profiles.remove(name);
-        self.deeds = self.deeds.and(&PolicyChange::Remove(name));
+        self.deeds = self.deeds.and(&Deed::Removed(name));
         self.version += 1;
         self.version
     }

@@ -1,30 +1,32 @@
 //! What is done on a bench in plain memory.
-ghost use Rattle.std.specs.Prelude.{◌≡◌, ◌≤◌, IfOk, IfErr, IsOk, Ok, Err, take, []};
-ghost use Rattle.path_walk.specs.declared.change.Change.TheVariants.{Link};
-ghost use Rattle.path_walk.specs.Plain.{outcome};
-ghost use Rattle.rule_text.specs.Profile.{profile_value};
-ghost use Rattle.plain_bench.specs.Judging.{link_of};
-ghost use Rattle.plain_bench.specs.Linking.{link_judged};
-ghost use Rattle.plain_bench.specs.Known.{new_known};
-ghost use Rattle.plain_bench.specs.PlainKnown.{known_of};
+ghost use Rattle.std.specs.Prelude.{◌≡◌, ◌≤◌, ℕ, List, IfOk, IfErr, OnOk, OnErr, IsOk, Ok, Err, length, take};
+ghost use Rattle.mediation.specs.Answers.{link_answered};
+ghost use Rattle.mediation.specs.History.{new_history};
+ghost use Rattle.mediation.specs.Judging.{link_of};
+ghost use Rattle.mediation.specs.Linking.{link_judged, answer_by_verdict};
+ghost use Rattle.mediation.specs.Profiles.{judge_of};
+ghost use Rattle.directory_tree.specs.declared.change.Change.TheVariants.{Link};
+ghost use Rattle.directory_tree.specs.Plain.{outcome};
+ghost use Rattle.plain_bench.specs.PlainHistory.{history_of};
+ghost use Rattle.plain_bench.specs.inner.Settling.{settled};
 
-use crate::bench::{Answer, Bench, LinkAnswer};
-use crate::linking::{JudgedLink, judge_names};
-use crate::opening::judge_file;
+use crate::bench::Bench;
 use crate::plain_bench::PlainBench;
 use crate::policy::Policy;
-use matcher::{CompiledProfile, MakeFault};
+use directory_tree::{Change, links_are_found, plain_trees_are_well_formed};
+use matcher::{AnyProfile, MakeFault};
+use mediation::{Answer, JudgedLink, LinkAnswer, judge_file, judge_names};
 use names::{Errno, NoMemory, Path, Perms};
-use path_walk::{
-    Change, PlainTree, Scratch, WalkFault, links_are_found, plain_trees_are_well_formed,
-};
-use rule_text::{LinkVerdict, Profile};
+use path_lookup::{Scratch, WalkFault};
+use plain_tree::PlainTree;
+use rule_judge::LinkVerdict;
+use rule_reader::Profile;
 use std::alloc::Global;
 
 impl PlainBench {
     /// The root alone, with room for so many entries, and no profile.
     pub fn new(alloc: Global, capacity: usize) -> Result<PlainBench, NoMemory>
-        ensures { IfOk result (λ bench. known_of bench ≡ new_known capacity) }
+        ensures { IfOk result (λ bench. history_of bench ≡ new_history capacity) }
     {
         Ok(PlainBench {
             tree: PlainTree::new(alloc, capacity)?,
@@ -40,7 +42,7 @@ impl PlainBench {
 /// front of `room`.
 fn judge_tested<'a>(
     tree: &mut PlainTree,
-    compiled: &CompiledProfile,
+    profile: &AnyProfile,
     old: &'a [u8],
     new: &'a [u8],
     scratch: &mut Scratch,
@@ -49,8 +51,8 @@ fn judge_tested<'a>(
     ensures same { tree.new ≡ tree.old }
     ensures fits { IfOk result (λ tested. tested.1.name_length ≤ 4095) }
     ensures change { IfOk result (λ tested. (tested.0 ≡ Link old.now new.now) × IsOk (outcome tree.old tested.0)) }
-    ensures answer { IfOk result (λ tested. link_judged tree.old (profile_value compiled.now.profile) old.now new.now ≡ Ok (link_of room.new tested.1)) }
-    ensures fault { IfErr result (λ errno. link_judged tree.old (profile_value compiled.now.profile) old.now new.now ≡ Err errno) }
+    ensures answer { IfOk result (λ tested. link_judged tree.old (judge_of profile.now) old.now new.now ≡ Ok (link_of room.new tested.1)) }
+    ensures fault { IfErr result (λ errno. link_judged tree.old (judge_of profile.now) old.now new.now ≡ Err errno) }
 {
     plain_trees_are_well_formed();
     links_are_found();
@@ -61,7 +63,7 @@ fn judge_tested<'a>(
     let Change::Link(old, new) = &change else {
         unreachable!();
     };
-    match judge_names(tree, compiled, old, new, scratch, room) {
+    match judge_names(tree, profile, old, new, scratch, room) {
         Ok(judged) => Ok((change, judged)),
         Err(fault) => match fault {
             WalkFault::Refused(errno) => Err(errno),
@@ -71,8 +73,40 @@ fn judge_tested<'a>(
     }
 }
 
+/// Makes a link that the tree would take, if its verdict is fine, and answers it.
+fn settle(
+    tree: &mut PlainTree,
+    change: &Change<'_>,
+    judged: &JudgedLink,
+    policy_version: u64,
+) -> Result<LinkAnswer, NoMemory>
+    requires { IsOk (outcome tree.old change.now) }
+    ensures tree { OnOk result (tree.new ≡ settled tree.old change.now judged.now.verdict) }
+    ensures answer { IfOk result (λ answer. (room : List ℕ) → link_answered (take judged.now.name_length room) answer
+        ≡ answer_by_verdict (link_of room judged.now) (length tree.old.history) policy_version judged.now.verdict) }
+    ensures err { OnErr result (tree.new ≡ tree.old) }
+{
+    match judged.verdict {
+        LinkVerdict::Fine => match tree.apply(change) {
+            Ok(tree_version) => Ok(LinkAnswer::Linked {
+                node: judged.node,
+                tree_version,
+                policy_version,
+            }),
+            // The tree would take the link, so that only memory can be wanting.
+            Err(_) => Err(NoMemory),
+        },
+        LinkVerdict::Refused(_) | LinkVerdict::Wider { .. } => Ok(LinkAnswer::NotAllowed {
+            verdict: judged.verdict,
+            node: judged.node,
+            tree_version: tree.version(),
+            policy_version,
+        }),
+    }
+}
+
 impl Bench for PlainBench {
-    ghost known = { known_of };
+    ghost history = { history_of };
 
     ghost judged_name = { λ b. take b.name_length b.name };
 
@@ -82,14 +116,15 @@ impl Bench for PlainBench {
 
     fn open(&mut self, profile: &[u8], path: &[u8], ask: Perms) -> Answer {
         plain_trees_are_well_formed();
+        self.name_length = 0;
         let policy_version = self.policy.version();
         let tree_version = self.tree.version();
-        let Some(compiled) = self.policy.get(profile) else {
+        let Some(published) = self.policy.get(profile) else {
             return Answer::NoProfile { policy_version };
         };
         let judged = judge_file(
             &mut self.tree,
-            compiled,
+            published,
             path,
             ask,
             &mut self.scratch,
@@ -117,45 +152,30 @@ impl Bench for PlainBench {
     }
 
     fn link(&mut self, profile: &[u8], old: &[u8], new: &[u8]) -> Result<LinkAnswer, NoMemory> {
+        self.name_length = 0;
         let policy_version = self.policy.version();
         let tree_version = self.tree.version();
-        let Some(compiled) = self.policy.get(profile) else {
+        let Some(published) = self.policy.get(profile) else {
             return Ok(LinkAnswer::NoProfile { policy_version });
         };
         let tested = judge_tested(
             &mut self.tree,
-            compiled,
+            published,
             old,
             new,
             &mut self.scratch,
             &mut self.name,
         );
-        let (change, judged) = match tested {
-            Ok(tested) => tested,
-            Err(errno) => {
-                return Ok(LinkAnswer::Failed {
-                    errno,
-                    tree_version,
-                });
+        match tested {
+            Ok((change, judged)) => {
+                let answer = settle(&mut self.tree, &change, &judged, policy_version)?;
+                self.name_length = judged.name_length;
+                Ok(answer)
             }
-        };
-        self.name_length = judged.name_length;
-        if judged.verdict != LinkVerdict::Fine {
-            return Ok(LinkAnswer::NotAllowed {
-                verdict: judged.verdict,
-                node: judged.node,
+            Err(errno) => Ok(LinkAnswer::Failed {
+                errno,
                 tree_version,
-                policy_version,
-            });
-        }
-        match self.tree.apply(&change) {
-            Ok(tree_version) => Ok(LinkAnswer::Linked {
-                node: judged.node,
-                tree_version,
-                policy_version,
             }),
-            // The link was tested, so that only memory can be wanting.
-            Err(_) => Err(NoMemory),
         }
     }
 

@@ -2,12 +2,12 @@
 use Rattle.std.proofs.Common.{◌≡◌, ◌∙◌, ℕ, Bool, true, false, not, List, Ok, Err, refl, sym, ap, true≢false}
 use Rattle.std.specs.List.{All, list_all}
 use Rattle.std.proofs.lemmas.List.Sums.{AllPass-from_list_all}
-use Rattle.rule_text.specs.ReadHeader.{slash_name_at, name_at, attachment_at, brace_at, named_header_at, slash_header_at, header_at}
-use Rattle.rule_text.specs.ReadWords.{name_bytes, name_in, quoted_name}
-use Rattle.rule_text.specs.ReadClasses.{members_at, class_at}
-use Rattle.rule_text.specs.ReadPaths.{goes_on_at, token_at, tokens_at, path_in, path_at}
-use Rattle.rule_text.specs.Reading.{perms_at, perms_behind, qualifier_at, start_at, rule_begins, comma_at, body_at, rule_at, rules_at, text_at}
-use Rattle.rule_text.specs.ReadFaults.{IsSettled}
+use Rattle.rule_reader.specs.ReadHeader.{slash_name_at, name_at, attachment_at, brace_at, named_header_at, slash_header_at, header_at}
+use Rattle.rule_reader.specs.ReadWords.{name_bytes, name_in, quoted_name}
+use Rattle.rule_reader.specs.ReadClasses.{members_at, class_at}
+use Rattle.rule_reader.specs.ReadPaths.{goes_on_at, token_at, tokens_at, path_in, path_at}
+use Rattle.rule_reader.specs.Reading.{perms_at, perms_behind, qualifier_at, start_at, rule_begins, comma_at, body_at, rule_at, rules_at, text_at}
+use Rattle.rule_reader.specs.ReadFaults.{IsSettled}
 use Rattle.rule_tests.specs.Settled.{settled_fronts, unsettled_fronts}
 
 -- reading the text stops at a settled fault

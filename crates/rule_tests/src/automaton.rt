@@ -233,17 +233,15 @@ fn verdicts(rt: HostRuntime) -> Result<(), Fail> {
     let read = Perms::NONE.with(Permission::Read);
     let write = Perms::NONE.with(Permission::Write);
     let both = read.with(Permission::Write);
-    assert_eq!(rt; told(&Record::NONE, Perms::NONE), Verdict::Allowed);
+    assert_eq!(rt; told(&Record::none(), Perms::NONE), Verdict::Allowed);
     assert_eq!(rt;
-        told(&Record::NONE, both),
+        told(&Record::none(), both),
         Verdict::NoRule { missing: both }
     );
     // Reading is allowed by rule 2, writing by rule 1 and denied by rule 7.
-    let record = Record {
-        read: hits(2, 0),
-        write: hits(1, 7),
-        ..Record::NONE
-    };
+    let record = Record::none()
+        .with_hits(Permission::Read, hits(2, 0))
+        .with_hits(Permission::Write, hits(1, 7));
     assert_eq!(rt; told(&record, read), Verdict::Allowed);
     assert_eq!(rt; told(&record, both), Verdict::Denied { rule: 7 });
     let linking = read.with(Permission::Link);
@@ -254,12 +252,10 @@ fn verdicts(rt: HostRuntime) -> Result<(), Fail> {
         Verdict::Denied { rule: 7 }
     );
     // The least rule that denies, whichever permission it holds.
-    let denied = Record {
-        read: hits(0, 9),
-        write: hits(0, 3),
-        map: hits(0, 5),
-        ..Record::NONE
-    };
+    let denied = Record::none()
+        .with_hits(Permission::Read, hits(0, 9))
+        .with_hits(Permission::Write, hits(0, 3))
+        .with_hits(Permission::Map, hits(0, 5));
     assert_eq!(rt; told(&denied, read), Verdict::Denied { rule: 9 });
     assert_eq!(rt; told(&denied, write), Verdict::Denied { rule: 3 });
     assert_eq!(rt;

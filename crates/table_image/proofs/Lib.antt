@@ -1,13 +1,3 @@
-pub mod Deciding
-pub mod FirstFaults
-pub mod HeaderReads
-pub mod Heads
-pub mod ImageFaults
-pub mod Joined
-pub mod OneImage
-pub mod Pieces
-pub mod Wholes
-pub mod EqualRecords
 pub mod GrowingLists
 pub mod RecordNumbers
 pub mod PackedStates

@@ -3,9 +3,9 @@ use Rattle.std.proofs.Common.{◌≡◌, ⊎_elim, ℕ, ◌+◌, ◌-◌, ◌*�
 use Rattle.std.proofs.lemmas.Bool.{cases_lt}
 use Rattle.std.proofs.lemmas.Option.{slice_get_within}
 use Rattle.glob_automaton.specs.Automata.{Automaton, IsWhole, target}
-use Rattle.glob_automaton.specs.declared.record.Record.{Record}
-use Rattle.table_image.specs.PackSteps.{source, Grows, IsRecordNumber, IsPacked}
-use Rattle.table_image.specs.Tables.{Table}
+use Rattle.verdicts.specs.declared.record.Record.{Record}
+use Rattle.table_image.specs.inner.PackSteps.{source, Grows, IsRecordNumber, IsPacked}
+use Rattle.tables.specs.Tables.{Table}
 use Rattle.table_image.proofs.GrowingLists.{grown_long, kept, added, one_each, row_each}
 use Rattle.table_image.proofs.RecordNumbers.{no_fewer, record_kept}
 

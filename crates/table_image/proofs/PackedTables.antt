@@ -3,11 +3,11 @@ use Rattle.std.proofs.Common.{◌≡◌, ⊎_elim, ℕ, ◌+◌, ◌*◌, ◌<�
 use Rattle.std.specs.Option.{option_and_then}
 use Rattle.std.proofs.lemmas.Option.{slice_get-get_or, slice_get_within, get_or_from_slice_get}
 use Rattle.glob_automaton.specs.Automata.{Automaton, IsWhole, target, goes_to}
-use Rattle.glob_automaton.specs.Sets.{are_bytes}
-use Rattle.table_image.specs.Bounds.{InBounds}
-use Rattle.table_image.specs.PackSteps.{source, IsPacked}
+use Rattle.names.specs.Bytes.{are_bytes}
+use Rattle.tables.specs.Bounds.{InBounds}
+use Rattle.table_image.specs.inner.PackSteps.{source, IsPacked}
 use Rattle.table_image.specs.Packing.{IsTableOf}
-use Rattle.table_image.specs.Tables.{Table, next_state, state_from, record_of}
+use Rattle.tables.specs.Tables.{Table, next_state, state_from, record_of}
 use Rattle.table_image.proofs.PackedStates.{source_there}
 
 -- a number that stands in a list is what is read there

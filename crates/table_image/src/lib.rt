@@ -1,15 +1,13 @@
-//! Images of compiled profiles: the tables of an automaton, and the bytes that they are stored as.
+//! The tables of an automaton. The names of tables, of their images and of records are handed on.
+//!
+//! What a stranger must believe stands in `specs/`, 15 lines; what `specs/inner/` has is of the proofs' own.
 #![tactic(auto)]
 
-mod bytes;
-mod fault;
-mod header;
-mod laws;
 mod packing;
-mod table;
 
-pub use bytes::{from_bytes, to_bytes};
-pub use fault::ImageFault;
-pub use laws::{bytes_have_one_outcome, tables_have_one_outcome};
 pub use packing::pack;
-pub use table::RawTable;
+pub use tables::{
+    FEWEST_STATES, ImageFault, ROW_LENGTH, RawTable, are_counts_in_limits, bytes_have_one_outcome,
+    from_bytes, tables_have_one_outcome, to_bytes,
+};
+pub use verdicts::{LeastHits, Record};

@@ -1,38 +1,39 @@
 //! The tables of an automaton.
 ghost use Rattle.std.specs.Prelude.{◌≡◌, ◌<◌, ◌≤◌, ◌++◌, ◌∷◌, [], IfOk, OnOk, length};
 ghost use Rattle.glob_automaton.specs.Automata.{target};
-ghost use Rattle.table_image.specs.PackSteps.{Grows, IsRecordNumber};
+ghost use Rattle.table_image.specs.inner.PackSteps.{Grows, IsRecordNumber};
 ghost use Rattle.table_image.specs.Packing.{IsTableOf};
-ghost use Rattle.table_image.specs.Tables.{table_value};
+ghost use Rattle.tables.specs.Tables.{table_value};
 
-use crate::table::RawTable;
-use glob_automaton::{Dfa, Record};
+use glob_automaton::Dfa;
 use indexmap::IndexSet;
 use names::NoMemory;
 use std::alloc::{AllocError, Global};
+use tables::{FEWEST_STATES, ROW_LENGTH, RawTable};
+use verdicts::{Record, equal_records_are_one};
 
 /// The tables of an automaton: each state has a row of 256 cells of its own, in the order of the states, and equal records
 /// stand once, in the order of their least states. An automaton of state 0 alone has a second state, which is as dead.
 pub fn pack(alloc: Global, dfa: &Dfa) -> Result<RawTable, NoMemory>
     ensures { IfOk result (λ table. IsTableOf dfa.now (table_value table)) }
 {
-    match packed(alloc, dfa) {
+    match pack_states(alloc, dfa) {
         Ok(table) => Ok(table),
         Err(AllocError) => Err(NoMemory),
     }
 }
 
-fn packed(alloc: Global, dfa: &Dfa) -> Result<RawTable, AllocError>
+fn pack_states(alloc: Global, dfa: &Dfa) -> Result<RawTable, AllocError>
     ensures { IfOk result (λ table. IsTableOf dfa.now (table_value table)) }
 {
     let last = dfa.states() - 1;
-    let states = dfa.states().max(2);
+    let states = dfa.states().max(FEWEST_STATES);
     let mut table = RawTable {
         default: Vec::with_capacity(alloc, states as usize)?,
         base: Vec::with_capacity(alloc, states as usize)?,
         accept: Vec::with_capacity(alloc, states as usize)?,
-        next: Vec::with_capacity(alloc, 256 * states as usize)?,
-        check: Vec::with_capacity(alloc, 256 * states as usize)?,
+        next: Vec::with_capacity(alloc, (ROW_LENGTH * states) as usize)?,
+        check: Vec::with_capacity(alloc, (ROW_LENGTH * states) as usize)?,
         records: Vec::new(alloc),
     };
     let mut numbers = IndexSet::new(alloc);
@@ -40,7 +41,7 @@ fn packed(alloc: Global, dfa: &Dfa) -> Result<RawTable, AllocError>
         let source = state.min(last);
         let number = number_of(&mut table.records, &mut numbers, dfa.record_at(source))?;
         push_number(&mut table.default, 0)?;
-        push_number(&mut table.base, 256 * state)?;
+        push_number(&mut table.base, ROW_LENGTH * state)?;
         push_number(&mut table.accept, number)?;
         push_targets(&mut table.next, dfa, source)?;
         push_owner(&mut table.check, state)?;
@@ -61,7 +62,7 @@ fn push_targets(next: &mut Vec<u32>, dfa: &Dfa, source: u32) -> Result<(), Alloc
     requires { source < length dfa.now.rows }
     ensures { OnOk result (Grows next.old.items next.new.items 256 (λ b. target dfa.now source b)) }
 {
-    for byte in 0..256u32 {
+    for byte in 0..ROW_LENGTH {
         push_number(next, dfa.target(source, byte as u8))?;
     }
     Ok(())
@@ -71,7 +72,7 @@ fn push_targets(next: &mut Vec<u32>, dfa: &Dfa, source: u32) -> Result<(), Alloc
 fn push_owner(check: &mut Vec<u32>, state: u32) -> Result<(), AllocError>
     ensures { OnOk result (Grows check.old.items check.new.items 256 (λ _. state)) }
 {
-    for _cell in 0..256u32 {
+    for _cell in 0..ROW_LENGTH {
         push_number(check, state)?;
     }
     Ok(())
@@ -88,6 +89,7 @@ fn number_of(
     ensures same { OnOk result (numbers.new.keys ≡ records.new.items) }
     ensures number { IfOk result (IsRecordNumber records.old.items records.new.items hits) }
 {
+    equal_records_are_one();
     if let Some(number) = numbers.get_index_of(&hits) {
         return Ok(number as u32);
     }

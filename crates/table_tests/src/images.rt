@@ -1,7 +1,7 @@
 //! Images of small profiles, byte for byte.
 ghost use Rattle.std.specs.Prelude.{IfOk};
-ghost use Rattle.table_image.specs.Bounds.{InBounds};
-ghost use Rattle.table_image.specs.Tables.{table_value};
+ghost use Rattle.tables.specs.Bounds.{InBounds};
+ghost use Rattle.tables.specs.Tables.{table_value};
 
 use glob_automaton::compile;
 use rule_text::read;

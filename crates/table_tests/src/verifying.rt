@@ -1,9 +1,9 @@
 //! The smallest tables, sound and altered, and strangers' tables.
-use glob_automaton::Record;
 use std::alloc::Global;
 use std::test::Fail;
 use table_image::{ImageFault, RawTable};
 use table_verifier::{State, Steps, VerifiedTable, tables_in_bounds_run, verify};
+use verdicts::Record;
 
 mod altered;
 mod running;
@@ -13,7 +13,7 @@ mod shapes;
 fn smallest(alloc: Global) -> Result<RawTable, Fail> {
     let zeros = Vec::from_elem(alloc, 0u32, 2)?;
     let mut records = Vec::new(alloc);
-    records.push(Record::NONE)?;
+    records.push(Record::none())?;
     Ok(RawTable {
         default: zeros.clone()?,
         base: zeros.clone()?,

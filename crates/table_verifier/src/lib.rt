@@ -1,4 +1,6 @@
 //! Tables whose bounds are verified: no index leaves them, whatever the bytes that they run on.
+//!
+//! What a stranger must believe stands in `specs/`, 11 lines, over the definitions of `tables`.
 #![tactic(auto)]
 
 mod laws;

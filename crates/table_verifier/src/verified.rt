@@ -1,14 +1,14 @@
 //! Tables that were accepted.
 ghost use Rattle.std.specs.Prelude.{◌≡◌, ◌+◌, ◌^◌, ◌<◌, Some, slice_get};
-ghost use Rattle.table_image.specs.Bounds.{InBounds};
-ghost use Rattle.table_image.specs.Tables.{cell_count, next_state, record_count, record_of, state_count, table_value};
+ghost use Rattle.tables.specs.Bounds.{InBounds};
+ghost use Rattle.tables.specs.Tables.{cell_count, next_state, record_count, record_of, state_count, table_value};
 ghost use Rattle.table_verifier.specs.Running.{Runs};
 
 use crate::laws::tables_in_bounds_run;
 use crate::steps::Steps;
-use glob_automaton::Record;
 use std::marker::Model;
-use table_image::RawTable;
+use tables::RawTable;
+use verdicts::Record;
 
 /// The number of a state.
 pub type State = u32;
@@ -23,8 +23,8 @@ pub struct VerifiedTable {
 }
 
 impl Model for VerifiedTable {
-    ghost use Rattle.table_image.specs.Bounds.{InBounds};
-    ghost use Rattle.table_image.specs.Tables.{Table, table_value};
+    ghost use Rattle.tables.specs.Bounds.{InBounds};
+    ghost use Rattle.tables.specs.Tables.{Table, table_value};
 
     ghost Value = { Table };
 

@@ -1,19 +1,19 @@
 -- Of each image there is one answer.
 use Rattle.std.proofs.Common.{◌≡◌, ℕ, List, Result, Ok, Err, Some, sym, ap, subst, ◌∙◌, inl, inr}
 use Rattle.std.proofs.lemmas.Option.{same_Some}
-use Rattle.glob_automaton.specs.Records.{IsTold}
-use Rattle.glob_automaton.specs.Sets.{are_bytes}
-use Rattle.glob_automaton.specs.declared.record.Record.{Record}
-use Rattle.matcher.specs.Making.{IsLoaded, IsLoadFault}
+use Rattle.verdicts.specs.Records.{IsTold}
+use Rattle.names.specs.Bytes.{are_bytes}
+use Rattle.verdicts.specs.declared.record.Record.{Record}
+use Rattle.table_runner.specs.Loading.{IsLoaded, IsLoadFault}
 use Rattle.matcher.specs.Telling.{TellsLeastHits, TellsVerdicts}
 use Rattle.names.specs.declared.permissions.Perms.{Perms}
-use Rattle.rule_text.specs.PlainVerdict.{verdict}
-use Rattle.rule_text.specs.Profile.{ProfileValue, RuleValue}
-use Rattle.rule_text.specs.declared.verdict.Verdict.{Verdict}
-use Rattle.table_image.specs.Bounds.{InBounds, IsFirstFault}
-use Rattle.table_image.specs.Images.{IsFirstImageFault, IsImageOf}
-use Rattle.table_image.specs.Tables.{Table, record_after}
-use Rattle.table_image.specs.declared.fault.ImageFault.{ImageFault}
+use Rattle.rule_globs.specs.PlainVerdict.{verdict}
+use Rattle.rule_reader.specs.Profile.{ProfileValue, RuleValue}
+use Rattle.verdicts.specs.declared.verdict.Verdict.{Verdict}
+use Rattle.tables.specs.Bounds.{InBounds, IsFirstFault}
+use Rattle.tables.specs.Images.{IsFirstImageFault, IsImageOf}
+use Rattle.tables.specs.Tables.{Table, record_after}
+use Rattle.tables.specs.declared.fault.ImageFault.{ImageFault}
 use Rattle.trace_commands.specs.Judge.{ask_of}
 use Rattle.trace_report.specs.Output.{Output, fault, image_refusal, line, whole_answer}
 use Rattle.trace_commands.specs.Tables.{IsCheckOutput, IsImageOutput, IsImageRefused, IsMatchOutput, IsMatchOutputOf, IsMatchedOutput, IsVerdictOf, counts_text, match_text}

@@ -1,27 +1,27 @@
 -- Commands that may write one of some outputs.
-use Rattle.matcher.specs.Making.{IsLoadFault}
+use Rattle.table_runner.specs.Loading.{IsLoadFault, IsRefusedFor}
 use Rattle.std.specs.Prelude.{Vec}
 use Rattle.glob_automaton.specs.Automata.{most_sets}
 use Rattle.glob_automaton.specs.Sets.{AreMoreThan}
 use Rattle.matcher.specs.declared.fault.MakeFault.TheVariants.{TooManyStates}
 use Rattle.matcher.specs.Telling.{IsTableOfRules}
-use Rattle.table_image.specs.Bounds.{InBounds}
-use Rattle.table_image.specs.Images.{IsImageOf}
-use Rattle.table_image.specs.Tables.{Table}
+use Rattle.tables.specs.Bounds.{InBounds}
+use Rattle.tables.specs.Images.{IsImageOf}
+use Rattle.tables.specs.Tables.{Table}
 use Rattle.std.specs.declared.alloc.Global.{Global}
-use Rattle.table_image.specs.declared.fault.ImageFault.{ImageFault}
-use Rattle.table_image.specs.declared.fault.ImageFault.TheVariants as fault_here
+use Rattle.tables.specs.declared.fault.ImageFault.{ImageFault}
+use Rattle.tables.specs.declared.fault.ImageFault.TheVariants as fault_here
 use Rattle.std.proofs.Common.{◌≡◌, ◌≢◌, ◌⊎◌, ℕ, List, Option, Result, Ok, Err, refl, inl, inr}
 use Rattle.names.specs.declared.permissions.Perms.{Perms}
-use Rattle.rule_text.specs.Profile.{ProfileValue}
-use Rattle.rule_text.specs.Reading.{outcome_of}
-use Rattle.rule_text.specs.declared.fault.ReadFault.{ReadFault}
+use Rattle.rule_reader.specs.Profile.{ProfileValue}
+use Rattle.rule_reader.specs.Reading.{outcome_of}
+use Rattle.rule_reader.specs.declared.fault.ReadFault.{ReadFault}
 use Rattle.trace_commands.specs.Answers.{AreGood, IsAnswered, IsFaultOfOne}
 use Rattle.trace_report.specs.Fault.{fault_of_image, fault_text, fault_status}
 use Rattle.trace_commands.specs.Judge.{ask_of}
 use Rattle.trace_report.specs.Output.{Output, compile_refusal, fault, image_refusal, refusal, whole_answer}
 use Rattle.trace_report.specs.Streams.{Ends, EndsInOne, IsTold, Streams}
-use Rattle.trace_commands.specs.Tables.{IsCheckOutput, IsCompileOutput, IsCompileOutputOf, IsImageRefused, IsMatchOutput, IsMatchOutputOf, IsMatchedOutput}
+use Rattle.trace_commands.specs.Tables.{IsCheckOutput, IsCompileOutput, IsCompileOutputOf, IsImageRefused, IsMatchOutput, IsMemoryOfWhole, IsMatchOutputOf, IsMatchedOutput}
 use Rattle.trace_report.specs.declared.fault.Fault.{Fault}
 use Rattle.trace_report.specs.declared.fault.Fault.TheVariants.{Permissions, Name, Text, Compiling, Image, Input, Memory}
 use Rattle.trace_report.specs.declared.status.Status.{Status}
@@ -141,10 +141,26 @@ told_fault image Wanted (fault_here.Next s) wants h = wants _ (fault_here.Next s
 
 -- or want of memory in place of it
 pub image_fault : (image : List ℕ) (Wanted : Output → Type 0) (f : ImageFault) → AreGood Wanted
-    → ((output : Output) → IsImageRefused image output → Wanted output) → (f ≡ fault_here.NoMemory) ⊎ IsLoadFault image f
+    → ((output : Output) → IsImageRefused image output → Wanted output) → IsRefusedFor image f
     → IsFaultOfOne Wanted (fault_of_image f)
-image_fault image Wanted f good wants (inl none) = rw none good
+image_fault image Wanted f good wants (inl none) = rw none.0 good
 image_fault image Wanted f good wants (inr first) = told_fault image Wanted f wants first
+
+-- and where memory is wanted, the bytes are whole
+pub image_memory : (image : List ℕ) (f : ImageFault) → IsRefusedFor image f → IsMemoryOfWhole image (fault_of_image f)
+image_memory image fault_here.NoMemory (inl none) e = none.1
+image_memory image fault_here.NoMemory (inr (inl first)) e = absurd first.has
+image_memory image fault_here.NoMemory (inr (inr in_table)) e = absurd in_table.2.has
+image_memory image fault_here.Short h e = cc
+image_memory image fault_here.Magic h e = cc
+image_memory image fault_here.Version h e = cc
+image_memory image fault_here.Reserved h e = cc
+image_memory image fault_here.Counts h e = cc
+image_memory image fault_here.Length h e = cc
+image_memory image (fault_here.Default s) h e = cc
+image_memory image (fault_here.Base s) h e = cc
+image_memory image (fault_here.Accept s) h e = cc
+image_memory image (fault_here.Next s) h e = cc
 
 -- the image of a table of the rules, in bounds, is an answer
 pub image_made : (outcome : Result ProfileValue ReadFault) (profile : ProfileValue) (t : Table) (bytes : List ℕ) → outcome ≡ Ok profile

@@ -2,11 +2,11 @@
 use Rattle.std.specs.Prelude.{ℕ, Bool, false, List, [], ◌∷◌, ◌==◌, Option, Some, None, Result, Ok, Err, codes, if◌then◌else◌}
 use Rattle.names.specs.declared.permissions.Perms.{Perms}
 use Rattle.names.specs.Permissions.{perms_of}
-use Rattle.rule_text.specs.declared.fault.ReadFault.{ReadFault}
-use Rattle.rule_text.specs.PlainVerdict.{verdict}
-use Rattle.rule_text.specs.Profile.{ProfileValue}
-use Rattle.rule_text.specs.Reading.{outcome_of}
-use Rattle.rule_text.specs.VerdictText.{verdict_text}
+use Rattle.rule_reader.specs.declared.fault.ReadFault.{ReadFault}
+use Rattle.rule_globs.specs.PlainVerdict.{verdict}
+use Rattle.rule_reader.specs.Profile.{ProfileValue}
+use Rattle.rule_reader.specs.Reading.{outcome_of}
+use Rattle.verdicts.specs.VerdictText.{verdict_text}
 use Rattle.trace_report.specs.declared.status.Status.TheVariants.{BadArguments, Refused}
 use Rattle.trace_report.specs.Output.{Output, answer, fault, refusal}
 

@@ -1,20 +1,23 @@
 -- What `compile`, `check` and `match` write, memory and failures of the streams aside.
 use Rattle.std.specs.Prelude.{◌≡◌, ◌⊎◌, ℕ, List, ◌++◌, Result, Ok, Err, Some, codes, decimal, length}
 use Rattle.glob_automaton.specs.Automata.{most_sets}
-use Rattle.glob_automaton.specs.Records.{IsTold}
+use Rattle.verdicts.specs.Records.{IsTold}
 use Rattle.glob_automaton.specs.Sets.{AreMoreThan}
 use Rattle.matcher.specs.declared.fault.MakeFault.TheVariants.{TooManyStates}
-use Rattle.glob_automaton.specs.declared.record.Record.{Record}
-use Rattle.matcher.specs.Making.{IsLoaded, IsLoadFault}
+use Rattle.verdicts.specs.declared.record.Record.{Record}
+use Rattle.table_runner.specs.Loading.{IsLoaded, IsLoadFault}
 use Rattle.matcher.specs.Telling.{IsTableOfRules}
 use Rattle.names.specs.declared.permissions.Perms.{Perms}
-use Rattle.rule_text.specs.Profile.{ProfileValue}
-use Rattle.rule_text.specs.Reading.{outcome_of}
-use Rattle.rule_text.specs.VerdictText.{verdict_text}
-use Rattle.rule_text.specs.declared.fault.ReadFault.{ReadFault}
-use Rattle.rule_text.specs.declared.verdict.Verdict.{Verdict}
-use Rattle.table_image.specs.Tables.{Table, state_count, cell_count, record_count, record_after}
-use Rattle.table_image.specs.declared.fault.ImageFault.{ImageFault}
+use Rattle.rule_reader.specs.Profile.{ProfileValue}
+use Rattle.rule_reader.specs.Reading.{outcome_of}
+use Rattle.verdicts.specs.VerdictText.{verdict_text}
+use Rattle.rule_reader.specs.declared.fault.ReadFault.{ReadFault}
+use Rattle.verdicts.specs.declared.verdict.Verdict.{Verdict}
+use Rattle.tables.specs.Tables.{Table, state_count, cell_count, record_count, record_after}
+use Rattle.tables.specs.Images.{IsWhole}
+use Rattle.tables.specs.declared.fault.ImageFault.{ImageFault}
+use Rattle.trace_report.specs.declared.fault.Fault.{Fault}
+use Rattle.trace_report.specs.declared.fault.Fault.TheVariants.{Memory}
 use Rattle.trace_commands.specs.Judge.{ask_of}
 use Rattle.trace_report.specs.Output.{Output, compile_refusal, fault, image_refusal, line, refusal, whole_answer}
 use Rattle.trace_report.specs.declared.status.Status.TheVariants.{BadArguments, Refused}
@@ -38,6 +41,10 @@ IsCompileOutput text output = IsCompileOutputOf (outcome_of text) output
 -- what is written of an image that is refused: its first fault
 abbrev pub IsImageRefused : List ℕ → Output → Type 0
 IsImageRefused image output = (f : ImageFault) × IsLoadFault image f × (output ≡ fault (image_refusal f) Refused)
+
+-- want of memory hides what is told of an image only where its bytes have none of the header's faults
+abbrev pub IsMemoryOfWhole : List ℕ → Fault → Type 0
+IsMemoryOfWhole image f = f ≡ Memory → IsWhole image
 
 -- `ok states N cells M accepts K`
 abbrev pub counts_text : Table → List ℕ

@@ -1,16 +1,17 @@
 //! `check`: whether the image that is read can be run.
-ghost use Rattle.std.specs.Prelude.{◌≡◌, ◌≢◌, ◌⊎◌, ℕ, List, IfOk, Some};
+ghost use Rattle.std.specs.Prelude.{◌≡◌, ◌≢◌, ◌⊎◌, ℕ, List, IfErr, IfOk, Some};
 ghost use Rattle.trace_commands.specs.Answers.{IsAnswered};
 ghost use Rattle.trace_report.specs.Output.{line};
 ghost use Rattle.trace_report.specs.Streams.{EndsInOne, IsTextOf};
-ghost use Rattle.trace_commands.specs.Tables.{IsCheckOutput, counts_text};
+ghost use Rattle.trace_commands.specs.Tables.{IsCheckOutput, IsMemoryOfWhole, counts_text};
 
 use crate::judging::read_all;
-use matcher::LoadedProfile;
 use names::NoMemory;
 use std::alloc::Global;
 use std::io::{Read, Write};
+use table_runner::LoadedProfile;
 use table_verifier::VerifiedTable;
+use tables::images_are_whole;
 use trace_report::{Fault, Status, fail, give};
 
 /// Reads an image from `input` and writes to `answers` how many states, cells and records it has. Its first fault is told on
@@ -46,8 +47,10 @@ fn counts_read<R: Read>(alloc: Global, input: &mut R) -> Result<Vec<u8>, Fault>
 
 /// The same of an image that was read.
 fn counts_of_image(alloc: Global, image: &[u8]) -> Result<Vec<u8>, Fault>
-    ensures { IsAnswered (IsCheckOutput image.now) result }
+    ensures output { IsAnswered (IsCheckOutput image.now) result }
+    ensures memory { IfErr result (IsMemoryOfWhole image.now) }
 {
+    images_are_whole();
     let loaded = LoadedProfile::make(alloc, image)?;
     match counts_line(alloc, loaded.table()) {
         Ok(line) => Ok(line),

@@ -7,10 +7,10 @@ ghost use Rattle.trace_commands.specs.Tables.{IsCompileOutput};
 use crate::judging::read_all;
 use matcher::table_of;
 use names::NoMemory;
-use rule_text::read;
+use rule_reader::read;
 use std::alloc::Global;
 use std::io::{Read, Write};
-use table_image::to_bytes;
+use tables::to_bytes;
 use trace_report::{Fault, Status, fail, give};
 
 /// Reads a profile from `input` and writes the image of its table to `answers`. A fault is told on `faults` in place of it.

@@ -2,17 +2,19 @@
 ghost use Rattle.std.specs.Prelude.{◌≡◌, ◌≢◌, ◌↔◌, ℕ, List, IsErr, MatchResult, IfSome, IsTrue, Some, Ok, Err};
 ghost use Rattle.std.specs.Io.KnownBytes.{Keeps};
 ghost use Rattle.names.specs.declared.permissions.Perms.{Perms};
-ghost use Rattle.rule_text.specs.VerdictText.{verdict_text};
+ghost use Rattle.verdicts.specs.VerdictText.{verdict_text};
 ghost use Rattle.trace_commands.specs.Judge.{ask_of, asked_by, is_absolute, judge_output};
 ghost use Rattle.trace_report.specs.Output.{answer};
 ghost use Rattle.trace_report.specs.Streams.{Ends, IsTextOf};
 ghost use Rattle.trace_commands.specs.Answers.{IsJudged, IsAsked, IsTextRead};
 
 use names::Perms;
-use rule_text::{ReadFault, Verdict, judge_slow, read};
+use rule_judge::judge_slow;
+use rule_reader::{ReadFault, read};
 use std::alloc::Global;
 use std::io::{Read, Write};
 use trace_report::{Fault, Status, fail, give};
+use verdicts::Verdict;
 
 /// Reads a profile from `input` and writes to `answers` what it says of the name and the permissions that are asked.
 /// A fault is told on `faults` in place of an answer. The arguments are tested before anything is read.

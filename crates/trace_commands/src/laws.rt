@@ -1,15 +1,15 @@
 //! Laws that show the definitions of `specs/` sane. The functions do nothing: each stands for its contract.
 ghost use Rattle.std.specs.Prelude.{◌≡◌, ◌⊎◌, ◌++◌, ◌∷◌, [], ℕ, List};
-ghost use Rattle.glob_automaton.specs.Sets.{are_bytes};
+ghost use Rattle.names.specs.Bytes.{are_bytes};
 ghost use Rattle.names.specs.declared.permissions.Perms.{Perms};
-ghost use Rattle.rule_text.specs.PlainVerdict.{verdict};
-ghost use Rattle.rule_text.specs.Profile.{ProfileValue};
+ghost use Rattle.rule_globs.specs.PlainVerdict.{verdict};
+ghost use Rattle.rule_reader.specs.Profile.{ProfileValue};
 ghost use Rattle.trace_report.specs.Output.{Output, whole_answer};
 ghost use Rattle.trace_commands.specs.Tables.{IsCheckOutput, IsImageOutput, IsMatchOutput, IsMatchedOutput, match_text};
 
-use glob_automaton::least_hits_tell_the_verdict;
 use matcher::tables_of_rules_tell_their_verdicts;
-use table_image::{bytes_have_one_outcome, tables_have_one_outcome};
+use tables::{bytes_have_one_outcome, tables_have_one_outcome};
+use verdicts::records_tell_one_verdict;
 
 /// Of each image `check` and `match` may write one output alone.
 pub fn images_have_one_answer()
@@ -20,7 +20,7 @@ pub fn images_have_one_answer()
 {
     bytes_have_one_outcome();
     tables_have_one_outcome();
-    least_hits_tell_the_verdict();
+    records_tell_one_verdict();
 }
 
 /// By an image that `compile` wrote, `match` tells the verdict of the profile's rules.

@@ -1,21 +1,22 @@
 //! `match PERMS NAME`: the verdict on a name by the image that is read.
-ghost use Rattle.std.specs.Prelude.{◌≡◌, ◌≢◌, ◌⊎◌, ℕ, List, IsErr, IfOk, Some};
+ghost use Rattle.std.specs.Prelude.{◌≡◌, ◌≢◌, ◌⊎◌, ℕ, List, IsErr, IfErr, IfOk, Some};
 ghost use Rattle.std.specs.Io.KnownBytes.{Keeps};
-ghost use Rattle.rule_text.specs.declared.verdict.Verdict.{Verdict};
+ghost use Rattle.verdicts.specs.declared.verdict.Verdict.{Verdict};
 ghost use Rattle.trace_commands.specs.Answers.{IsAnswered};
 ghost use Rattle.trace_commands.specs.Judge.{ask_of};
 ghost use Rattle.trace_report.specs.Output.{whole_answer};
 ghost use Rattle.trace_report.specs.Streams.{EndsInOne, IsTextOf};
-ghost use Rattle.trace_commands.specs.Tables.{IsMatchOutput, IsMatchedOutput, IsVerdictOf, match_text};
+ghost use Rattle.trace_commands.specs.Tables.{IsMatchOutput, IsMatchedOutput, IsMemoryOfWhole, IsVerdictOf, match_text};
 
 use crate::judging::{ask_of, read_all};
-use glob_automaton::told;
-use matcher::{LoadedProfile, run};
 use names::{NoMemory, Perms};
 use std::alloc::Global;
 use std::io::{Read, Write};
+use table_runner::{LoadedProfile, record_of_name};
 use table_verifier::{Steps, VerifiedTable};
+use tables::images_are_whole;
 use trace_report::{Fault, Status, fail, give};
+use verdicts::told;
 
 /// Reads an image from `input` and writes to `answers` what it says of the name and the permissions that are asked, and how
 /// many cells were looked up. A fault is told on `faults` in place of that. The arguments are tested before anything is read.
@@ -63,8 +64,10 @@ fn match_read<R: Read>(
 
 /// The same of an image that was read.
 fn match_image(alloc: Global, image: &[u8], name: &[u8], ask: Perms) -> Result<Vec<u8>, Fault>
-    ensures { IsAnswered (IsMatchedOutput ask name.now image.now) result }
+    ensures output { IsAnswered (IsMatchedOutput ask name.now image.now) result }
+    ensures memory { IfErr result (IsMemoryOfWhole image.now) }
 {
+    images_are_whole();
     let loaded = LoadedProfile::make(alloc, image)?;
     match match_lines(alloc, loaded.table(), name, ask) {
         Ok(lines) => Ok(lines),
@@ -83,8 +86,7 @@ fn match_lines(
         × (text.items ≡ match_text name.now verdict)) }
 {
     let mut steps = Steps::new();
-    let state = run(table, name, &mut steps);
-    let verdict = told(&table.record_of(state), ask);
+    let verdict = told(&record_of_name(table, name, &mut steps), ask);
     let count = steps.count();
     match format!(in alloc; "{verdict}\nsteps {count}\n") {
         Ok(text) => Ok(text.into_bytes()),

@@ -1,10 +1,10 @@
 -- What clap's walk over words comes to, at a command of which the one flag is `-h` or `--help`.
-use Rattle.std.proofs.Common.{◌≡◌, ◌≢◌, ◌⊎◌, ℕ, Bool, false, List, [], ◌∷◌, length, Option, Some, None, refl, sym, ◌∙◌, inl, inr}
-use Rattle.std.specs.Prelude.{slice_get, drop, encode_utf8, codes, fold}
-use Rattle.std.specs.Str.{chars}
+use Rattle.std.proofs.Common.{◌≡◌, ◌≢◌, ◌⊎◌, ℕ, ◌==◌, Bool, true, false, List, [], ◌∷◌, length, Option, Some, None, refl, sym, ◌∙◌, inl, inr}
+use Rattle.std.specs.Prelude.{slice_get, drop, encode_utf8, codes, fold, option_map}
+use Rattle.std.specs.Str.{bytes_eq, chars}
 use Rattle.clap.specs.Lexer.{name_and_value}
-use Rattle.clap.specs.Walk.{arg_by_index, arg_by_long, arg_by_short, plain, first_of, one_of, Held, Names, Row, Rule, Text, Waiting, Walk, idle, option, positional, value, walked, finished, settled, subcommand_met, to_positional}
-use Rattle.clap.specs.Simple.{Shape, help_rule}
+use Rattle.clap.specs.Walk.{arg_by_index, arg_by_long, arg_by_short, plain, Held, Names, Row, Rule, Text, Waiting, Walk, idle, option, positional, value, walked, finished, settled, subcommand_met, to_positional}
+use Rattle.clap.specs.Simple.{Shape, help_rule, new_shape}
 use Rattle.clap.specs.Kinds.{Kinds, or_else}
 use Rattle.clap.proofs.FaultLemmas.{fault_ends}
 use Rattle.clap.proofs.WalkLemmas.{bundle_ends}
@@ -12,7 +12,6 @@ use Rattle.clap.specs.Faults.{long_fault, short_fault, walk_fault, turn_fault, s
 use Rattle.clap.specs.declared.builder.value_parser.ValueParser.TheVariants.{String}
 use Rattle.clap.specs.declared.error.kind.ErrorKind.{ErrorKind}
 use Rattle.clap.specs.declared.error.kind.ErrorKind.TheVariants.{DisplayHelp, TooManyValues, UnknownArgument}
-use Rattle.trace_line.specs.CommandLine.{LineValue, judge, run, compile, check, match_name, number_of}
 use Rattle.trace_line.proofs.WordKinds.{IsPlainWord, IsLongWord, IsShortWord}
 
 -- ---- faults, one after the other
@@ -55,39 +54,36 @@ end_of s w words = (fold (walked s.rules []) w words).held
 abbrev pub faults_from : Shape → Kinds → Walk → List Text → Kinds
 faults_from s turn w words = or_else (or_else turn (walk_fault s [] w words)) (end_fault s (end_of s w words))
 
--- the matches of a command are those of the line
-abbrev pub HasMatches : Text → List Row → LineValue → Type 0
-HasMatches command rows (judge perms name) =
-    (command ≡ codes "judge") × (first_of (codes "PERMS") rows ≡ Some perms) × (first_of (codes "NAME") rows ≡ Some name)
-HasMatches command rows (run capacity) =
-    (command ≡ codes "run") × ((text : Text) × (one_of (codes "capacity") rows ≡ Some text) × (number_of text ≡ Some capacity))
-HasMatches command rows compile = command ≡ codes "compile"
-HasMatches command rows check = command ≡ codes "check"
-HasMatches command rows (match_name perms name) =
-    (command ≡ codes "match") × (first_of (codes "PERMS") rows ≡ Some perms) × (first_of (codes "NAME") rows ≡ Some name)
+-- the words have no fault and give these matches, or there is none and they have a fault
+abbrev pub ComesTo : {A : Type 0} → (List Row → A → Type 0) → Shape → Kinds → Walk → List Text → Option A → Type 0
+ComesTo Has s turn w words None = faults_from s turn w words ≢ []
+ComesTo Has s turn w words (Some found) = (faults_from s turn w words ≡ []) × Has (finished s.rules (end_of s w words)) found
 
--- the words have no fault and their matches are those of the line, or there is none and they have a fault
-abbrev pub ComesTo : Shape → Kinds → Walk → List Text → Option LineValue → Type 0
-ComesTo s turn w words None = faults_from s turn w words ≢ []
-ComesTo s turn w words (Some line) = (faults_from s turn w words ≡ []) × HasMatches s.name (finished s.rules (end_of s w words)) line
+-- what follows from what is found
+pub comes_as : {A B : Type 0} (Has : List Row → A → Type 0) (As : List Row → B → Type 0) (f : A → B) (s : Shape) (w : Walk) (words : List Text)
+    → ((rows : List Row) (found : A) → Has rows found → As rows (f found)) → (found : Option A) → ComesTo Has s [] w words found
+    → ComesTo As s [] w words (option_map f found)
+comes_as Has As f s w words to None h = h
+comes_as Has As f s w words to (Some found) h = (h.0, to _ found h.1)
+
+-- ---- a step
 
 -- a step without a fault
-pub step : (s : Shape) (w next : Walk) (word : Text) (words : List Text) (line : Option LineValue) → turn_fault s [] w word ≡ []
-    → walked s.rules [] w word ≡ next → ComesTo s [] next words line → ComesTo s [] w (word ∷ words) line
+pub step : {A : Type 0} (Has : List Row → A → Type 0) (s : Shape) (w next : Walk) (word : Text) (words : List Text) (found : Option A)
+    → turn_fault s [] w word ≡ [] → walked s.rules [] w word ≡ next → ComesTo Has s [] next words found → ComesTo Has s [] w (word ∷ words) found
 unfolding walk_fault
-step s w next word words line quiet to h =
-    let via : ComesTo s (turn_fault s [] w word) (walked s.rules [] w word) words line =
-    rw (quiet, to) h in
-    elim line as (λ l. ComesTo s (turn_fault s [] w word) (walked s.rules [] w word) words l → ComesTo s [] w (word ∷ words) l) [
+step {A} Has s w next word words found quiet to h =
+    let via : ComesTo Has s (turn_fault s [] w word) (walked s.rules [] w word) words found = rw (quiet, to) h in
+    elim found as (λ f. ComesTo Has s (turn_fault s [] w word) (walked s.rules [] w word) words f → ComesTo Has s [] w (word ∷ words) f) [
       | None ↦ λ h. h
-      | Some line ↦ λ h. h
+      | Some f ↦ λ h. h
     ] via
 
 -- a step with a fault
-pub stop : (s : Shape) (w : Walk) (word : Text) (words : List Text) → Some_of (turn_fault s [] w word) → ComesTo s [] w (word ∷ words) None
+pub stop : {A : Type 0} (Has : List Row → A → Type 0) (s : Shape) (w : Walk) (word : Text) (words : List Text) → Some_of (turn_fault s [] w word)
+    → ComesTo Has s [] w (word ∷ words) None
 unfolding walk_fault
-stop s w word words fault =
-    let via : ComesTo s (turn_fault s [] w word) (walked s.rules [] w word) words None = some_fault _ (in_first _ _ (in_first _ _ fault)) in via
+stop Has s w word words fault = some_fault _ (in_first _ _ (in_first _ _ fault))
 
 -- ---- one word
 
@@ -118,6 +114,11 @@ plain_walked s i rows pending word h = elim h.short [
       rw (h.dashes, h.long, short.1, ← bundle_ends s.rules (length short.0) short.0 0 plain (held rows pending) first) refl
 ]
 
+-- ---- a command that is built
+
+abbrev pub leaf_shape : Text → List Rule → Shape
+leaf_shape name rules = record (new_shape name) { rules = rules; disable_help_subcommand = true; is_built = true }
+
 -- ---- help, and options that aren't there
 
 abbrev pub help : Rule
@@ -125,6 +126,20 @@ help = record help_rule { parser = Some String; range = Some (record { start_inc
 
 abbrev pub IsHelpOrNone : Option Rule → Type 0
 IsHelpOrNone found = (found ≡ Some help) ⊎ (found ≡ None)
+
+help_long_if : (name : Text) (same : Bool) → bytes_eq (codes "help") name ≡ same → IsHelpOrNone (arg_by_long (help ∷ []) name)
+help_long_if name true e = inl (rw e refl)
+help_long_if name false e = inr (rw e refl)
+
+pub help_long : (name : Text) → IsHelpOrNone (arg_by_long (help ∷ []) name)
+help_long name = help_long_if name (bytes_eq (codes "help") name) refl
+
+help_short_if : (x : ℕ) (same : Bool) → (104 == x) ≡ same → IsHelpOrNone (arg_by_short (help ∷ []) x)
+help_short_if x true e = inl (rw e refl)
+help_short_if x false e = inr (rw e refl)
+
+pub help_short : (x : ℕ) → IsHelpOrNone (arg_by_short (help ∷ []) x)
+help_short x = help_short_if x (104 == x) refl
 
 help_fault : (s : Shape) (given : Option Text) (h : Held) → Some_of (long_fault s.rules s.args_override_self (Some help) given h)
 help_fault s None h = in_second _ _ (DisplayHelp, [], refl)

@@ -1,9 +1,12 @@
+pub mod Named
 pub mod WordKinds
 pub mod LeafWalk
 pub mod PairWalk
 pub mod Numbers
-pub mod RunWords
-pub mod AloneWalk
-pub mod RunWalk
+pub mod GivenWords
+pub mod OptionRules
+pub mod OptionWalk
+pub mod ThreeOptions
 pub mod LineWalk
 pub mod CommandLine
+pub mod Building

@@ -1,223 +1,260 @@
--- What clap's walk over the words comes to at the commands of the program.
-use Rattle.std.proofs.Common.{◌≡◌, ◌≢◌, ◌⊎◌, ◌==◌, Bool, true, false, List, [], ◌∷◌, ◌++◌, Option, Some, None, refl, ap, ap₂, subst, ◌∙◌, inl, inr, append_assoc}
-use Rattle.std.proofs.lemmas.List.{append-nil}
-use Rattle.std.proofs.lemmas.Slice.Eq.{bytes_eq-Decides}
-use Rattle.std.specs.Prelude.{is_some, codes, find, fold, option_map}
-use Rattle.std.specs.Option.{option_map_or}
+-- What clap's walk over the words comes to at a program with commands of two arguments and commands of options.
+use Rattle.std.proofs.Common.{◌≡◌, ◌≢◌, ◌∙◌, ◌&&◌, ◌++◌, Bool, true, false, not, List, [], ◌∷◌, map, Option, Some, None, refl, ap, ap₂, subst, sym, drop, inl, inr, ◌⊎◌, append_assoc, append-nil}
+use Rattle.std.specs.Prelude.{is_some, codes, find, fold, option_and_then, option_map}
+use Rattle.std.specs.List.{list_all}
+use Rattle.std.specs.Option.{option_map_or, option_or}
 use Rattle.std.specs.Str.{bytes_eq}
+use Rattle.std.proofs.lemmas.Slice.Eq.{bytes_eq-Decides}
 use Rattle.clap.specs.Lexer.{name_and_value}
-use Rattle.clap.specs.Walk.{answers_to, arg_by_long, Names, Row, Rule, Text, idle, subcommand_met, Walk, walked, walk_from, finished, nothing_held, settled}
-use Rattle.clap.specs.Simple.{App, Shape, built, label_of, names_of, rows_at, subcommand_of, entered}
+use Rattle.clap.specs.Walk.{answers_to, arg_by_long, Names, Row, Rule, Text, idle, stop_after, subcommand_met, Walk, walked, walk_from, finished, nothing_held, settled}
+use Rattle.clap.specs.Simple.{App, Shape, built, built_leaf, help_shape, label_of, names_of, rows_at, entered}
 use Rattle.clap.specs.Kinds.{Kinds, or_else}
 use Rattle.clap.proofs.FaultLemmas.{stopped_fault}
-use Rattle.clap.specs.Faults.{walk_fault, settle_fault, defaults_fault, check_fault, fault_of, entered_fault, level_fault, turn_fault}
+use Rattle.clap.proofs.WalkLemmas.{both, find-map}
+use Rattle.clap.specs.Faults.{built_fault, walk_fault, settle_fault, defaults_fault, check_fault, entered_fault, level_fault, turn_fault}
 use Rattle.clap.specs.declared.error.kind.ErrorKind.TheVariants.{DisplayHelp, InvalidSubcommand, MissingSubcommand, UnknownArgument}
-use Rattle.trace_line.specs.CommandLine.{LineValue, line_of, program_app}
+use Rattle.trace_line.specs.CommandLine.{CommandForm, LineValue, Takes, arguments_of, command_named, commands, given_by, line_by, line_of, number_of, numbers, pair, pair_of}
+use Rattle.trace_line.specs.inner.Parser.{GivesLine, program_app}
+use Rattle.trace_line.proofs.Named.{find_made, found_name, found_passes, or_false}
 use Rattle.trace_line.proofs.WordKinds.{Kind, is_dashes, is_long, is_short, is_plain, kind_of_word}
-use Rattle.trace_line.proofs.LeafWalk.{ComesTo, HasMatches, Some_of, end_of, faults_from, in_first, long_is_fault, long_turn, or_else-nil, plain_turn, short_turn, some_fault, walk_at}
-use Rattle.trace_line.proofs.PairWalk.{judge_walk, match_walk, pair_shape}
-use Rattle.trace_line.proofs.RunWalk.{run_shape, run_walk}
-use Rattle.trace_line.proofs.AloneWalk.{alone_shape, by_long, by_short, check_walk, compile_walk}
-
-abbrev program : App
-program = built program_app
-
--- ---- the words behind a command
-
--- a command was met, and the words behind it wait
-stopped_walk : (c : List Rule) (names : Names) (w : Walk) (name : Text) (before words : List Text)
-    → fold (walked c names) (record w { stopped = Some (name, before) }) words ≡ record w { stopped = Some (name, before ++ words) }
-unfolding walked
-stopped_walk c names w name before [] = rw append-nil refl
-stopped_walk c names w name before (word ∷ words) =
-    stopped_walk c names w name (before ++ word ∷ []) words ∙ rw append_assoc refl
-
--- the program's walk at a command that was met
-abbrev met : Text → Walk
-met name = record (walk_from nothing_held) { stopped = Some (name, []) }
-
--- the faults of the words behind the program's name, of which the first has none
-abbrev whole : Walk → Kinds → Kinds
-whole w turn = or_else turn (or_else (entered_fault program w.stopped)
-    (or_else (settle_fault program.top.rules false w.held) (or_else (defaults_fault (settled program.top.rules w.held).rows program.top.rules)
-    (check_fault program.top (finished program.top.rules w.held) (is_some (entered program w.stopped))))))
-
--- the words behind a command that was met add no fault of the program's own
-behind : (name : Text) (words : List Text)
-    → whole (fold (walked program.top.rules (names_of program)) (met name) words) (walk_fault program.top (names_of program) (met name) words)
-    ≡ whole (record (met name) { stopped = Some (name, words) }) []
-behind name words = ap₂ whole (stopped_walk program.top.rules (names_of program) (met name) name [] words)
-    (stopped_fault program.top (names_of program) (met name) (name, []) words)
+use Rattle.trace_line.proofs.LeafWalk.{ComesTo, Some_of, comes_as, end_of, faults_from, help_long, help_short, in_first, leaf_shape, long_is_fault, long_turn, or_else-nil, plain_turn, short_turn, some_fault, walk_at}
+use Rattle.trace_line.proofs.PairWalk.{HasPair, pair_rules, pair_walk}
+use Rattle.trace_line.proofs.OptionRules.{built_rules, is_sound}
+use Rattle.trace_line.proofs.OptionWalk.{HasGiven, numbers_walk}
 
 -- where a walk begins
 abbrev start : Walk
 start = walk_at idle 1 false nothing_held
 
--- the walk at the word that names a command, and the command that it then enters
-record IsCommand (s : Shape) : Type 0 where
-  quiet : turn_fault program.top (names_of program) start s.name ≡ []
-  walks : walked program.top.rules (names_of program) start s.name ≡ met s.name
-  found : find (λ t. answers_to s.name (label_of t)) program.subs ≡ Some s
+-- ---- one command
 
--- the faults where the words enter this command, if there is one
-abbrev entered_whole : List Text → Option Shape → Kinds
-entered_whole words found = or_else (option_map_or (λ s. level_fault s [] nothing_held words false []) found [])
-    (check_fault program.top [] (is_some (option_map (λ s. rows_at s words) found)))
+abbrev pub rules_by : Takes → List Rule
+rules_by (pair line) = pair_rules
+rules_by (numbers options line) = built_rules options
 
--- the program's faults are the command's
-faults_behind : (s : Shape) → IsCommand s → (first : Text) (words : List Text)
-    → fault_of program_app (first ∷ s.name ∷ words) ≡ faults_from s [] start words
-unfolding walk_fault defaults_fault
-faults_behind s is first words =
-    let over : Kinds → Walk → Kinds = λ turn w. whole (fold (walked program.top.rules (names_of program)) w words)
-    (or_else turn (walk_fault program.top (names_of program) w words)) in
-    ap₂ over is.quiet is.walks ∙ behind s.name words ∙ ap (entered_whole words) is.found ∙ or_else-nil (faults_from s [] start words)
+abbrev has_sound_options : Takes → Bool
+has_sound_options (pair line) = true
+has_sound_options (numbers options line) = list_all is_sound options
 
--- the matches of the words behind a command
-abbrev rows_behind : Shape → List Text → List Row
-rows_behind s words = finished s.rules (end_of s start words)
+-- a command as it is built
+abbrev pub leaf : CommandForm → Shape
+leaf command = leaf_shape command.name (rules_by command.takes)
 
--- the program's matches are the command's
-matches_behind : (s : Shape) → IsCommand s → (first : Text) (words : List Text)
-    → subcommand_of program_app (first ∷ s.name ∷ words) ≡ Some (s.name, rows_behind s words)
-matches_behind s is first words =
-    let over : Walk → Option (Text × List Row) = λ w. entered program (fold (walked program.top.rules (names_of program)) w words).stopped in
-    ap over is.walks ∙ ap (λ (w : Walk). entered program w.stopped) (stopped_walk program.top.rules (names_of program) (met s.name) s.name [] words)
-    ∙ ap (option_map (λ s. rows_at s words)) is.found
+-- clap reads the words behind a command's name as `line_by` says
+takes_walk : (name : Text) (takes : Takes) → has_sound_options takes ≡ true → (words : List Text)
+    → ComesTo (GivesLine takes) (leaf_shape name (rules_by takes)) [] start words (line_by takes words)
+takes_walk name (pair line) sound words =
+    comes_as HasPair (GivesLine (pair line)) (λ asked. line asked.0 asked.1) (leaf_shape name pair_rules) start words
+    (λ rows asked h. (asked.0, asked.1, h.0, h.1, refl)) (pair_of (arguments_of words)) (pair_walk name words)
+takes_walk name (numbers options line) sound words =
+    comes_as (HasGiven options) (GivesLine (numbers options line)) (λ given. line (number_of given)) (leaf_shape name (built_rules options)) start words
+    (λ rows given h. (number_of given, h, refl)) (given_by options [] words) (numbers_walk name options sound words)
 
--- ---- the five commands
+-- ---- a program with these commands, as it is built
 
-judge_is : IsCommand (pair_shape (codes "judge"))
-unfolding walked
-judge_is = record { quiet = refl; walks = refl; found = refl }
+abbrev top : Shape
+top = (built program_app).top
 
-run_is : IsCommand run_shape
-unfolding walked
-run_is = record { quiet = refl; walks = refl; found = refl }
+abbrev help_leaf : Shape
+help_leaf = record (built_leaf help_shape) { disable_help_subcommand = true }
 
-compile_is : IsCommand (alone_shape (codes "compile"))
-unfolding walked
-compile_is = record { quiet = refl; walks = refl; found = refl }
+abbrev program_of : List CommandForm → App
+program_of forms = record { top = top; subs = map leaf forms ++ help_leaf ∷ [] }
 
-check_is : IsCommand (alone_shape (codes "check"))
-unfolding walked
-check_is = record { quiet = refl; walks = refl; found = refl }
+program_is : built program_app ≡ program_of commands
+program_is = refl
 
-match_is : IsCommand (pair_shape (codes "match"))
-unfolding walked
-match_is = record { quiet = refl; walks = refl; found = refl }
+-- the forms are of commands that are read as their definition says
+abbrev is_good : CommandForm → Bool
+is_good command = not (bytes_eq command.name (codes "help")) && has_sound_options command.takes
 
--- ---- a command that isn't there
+-- the line by these commands, of the words behind the program's name
+abbrev line_in : List CommandForm → List Text → Option LineValue
+line_in forms [] = None
+line_in forms (name ∷ words) = option_and_then (λ command. line_by command.takes words) (command_named forms name)
 
--- the word names no command
-record IsNoCommand (word : Text) : Type 0 where
-  judge : bytes_eq (codes "judge") word ≡ false
-  run : bytes_eq (codes "run") word ≡ false
-  compile : bytes_eq (codes "compile") word ≡ false
-  check : bytes_eq (codes "check") word ≡ false
-  match_name : bytes_eq (codes "match") word ≡ false
-  help : bytes_eq (codes "help") word ≡ false
+find_leaf : (word : Text) (forms : List CommandForm)
+    → find (λ t. answers_to word (label_of t)) (map leaf forms ++ help_leaf ∷ [])
+    ≡ option_or (option_map leaf (command_named forms word)) (find (λ t. answers_to word (label_of t)) (help_leaf ∷ []))
+find_leaf word forms = find_made leaf _ (λ c. bytes_eq c.name word) (λ c. or_false (bytes_eq c.name word)) forms (help_leaf ∷ [])
 
-none_met : (word : Text) → IsNoCommand word → subcommand_met (names_of program) idle word ≡ None
-none_met word other = rw (other.judge, other.run, other.compile, other.check, other.match_name, other.help) refl
+module _ (forms : List CommandForm) (good : list_all is_good forms ≡ true) where
+  abbrev program : App
+  program = program_of forms
 
--- the faults of the first word, no command
-no_command : (word : Text) (words : List Text) → subcommand_met (names_of program) idle word ≡ None → Kind word
-    → Some_of (walk_fault program.top (names_of program) (walk_from nothing_held) (word ∷ words)) ⊎ (word ≡ codes "--")
-unfolding walk_fault
-no_command word words none (is_dashes e) = inr e
-no_command word words none (is_long o l) =
-    let name : Text = (name_and_value l.body).0 in
-    inl (in_first _ _ (long_turn program.top (names_of program) idle 1 nothing_held word none l
-    (long_is_fault program.top (arg_by_long program.top.rules name) (name_and_value l.body).1 nothing_held (by_long name (bytes_eq (codes "help") name) refl))))
-no_command word words none (is_short o s) =
-    inl (in_first _ _ (short_turn program.top (names_of program) idle 1 [] None word none (λ x. by_short x (104 == x) refl) s))
-no_command word words none (is_plain o h) =
-    inl (in_first _ _ (UnknownArgument, InvalidSubcommand ∷ [], plain_turn program.top (names_of program) 1 [] None word none h))
+  abbrev names : Names
+  names = names_of program
 
--- `help` is answered with help
-help_fault : (first : Text) (words : List Text) → Some_of (fault_of program_app (first ∷ codes "help" ∷ words))
-unfolding walk_fault
-help_fault first words = (DisplayHelp, InvalidSubcommand ∷ [], refl)
+  abbrev found_by : Text → Option CommandForm → Option Shape
+  found_by word command = option_or (option_map leaf command) (find (λ t. answers_to word (label_of t)) (help_leaf ∷ []))
 
--- behind `--` no command is met
-escaped_fault : (first : Text) (words : List Text) → Some_of (fault_of program_app (first ∷ codes "--" ∷ words))
-unfolding walk_fault walked defaults_fault
-escaped_fault first [] = (MissingSubcommand, [], refl)
-escaped_fault first (word ∷ words) = (UnknownArgument, InvalidSubcommand ∷ [], refl)
+  met_by : (word : Text) (command : Option CommandForm) → command_named forms word ≡ command
+      → subcommand_met names idle word ≡ option_map (λ s. s.0) (option_map label_of (found_by word command))
+  met_by word command is =
+      ap (option_map (λ (s : Text × List Text). s.0)) (sym (find-map (answers_to word) label_of program.subs) ∙ ap (option_map label_of) (find_leaf word forms
+      ∙ ap (found_by word) is))
 
--- ---- all the words
+  -- ---- the words behind a command
 
--- the words have no fault and their matches give the line, or there is none and they have a fault
-abbrev pub ReadsAs : List Text → Option LineValue → Type 0
-ReadsAs words None = fault_of program_app words ≢ []
-ReadsAs words (Some line) = (fault_of program_app words ≡ [])
-    × ((command : Text) × (rows : List Row) × (subcommand_of program_app words ≡ Some (command, rows)) × HasMatches command rows line)
+  -- a command was met, and the words behind it wait
+  stopped_walk : (w : Walk) (name : Text) (before words : List Text)
+      → fold (walked top.rules names) (record w { stopped = Some (name, before) }) words ≡ record w { stopped = Some (name, before ++ words) }
+  unfolding walked
+  stopped_walk w name before [] = rw append-nil refl
+  stopped_walk w name before (word ∷ words) = stopped_walk w name (before ++ word ∷ []) words ∙ rw append_assoc refl
 
--- the words are read as a command reads those behind it
-behind_read : (s : Shape) (words behind : List Text) (line : Option LineValue) → fault_of program_app words ≡ faults_from s [] start behind
-    → subcommand_of program_app words ≡ Some (s.name, rows_behind s behind) → ComesTo s [] start behind line → ReadsAs words line
-behind_read s words behind None fault rows h = rw fault h
-behind_read s words behind (Some line) fault rows h = (rw fault h.0, (s.name, rows_behind s behind, rows, h.1))
+  -- the program's walk at a command that was met
+  abbrev met : Text → Walk
+  met name = record (walk_from nothing_held) { stopped = Some (name, []) }
 
--- clap reads a line of this command as `line_of` says
-abbrev Reads : Text → List Text → Text → Type 0
-Reads first words command = ReadsAs (first ∷ command ∷ words) (line_of (first ∷ command ∷ words))
+  -- the faults of the words, of which the first has those of `turn`
+  abbrev whole : Walk → Kinds → Kinds
+  whole w turn = or_else turn (or_else (entered_fault program w.stopped)
+      (or_else (settle_fault top.rules false w.held) (or_else (defaults_fault (settled top.rules w.held).rows top.rules)
+      (check_fault top (finished top.rules w.held) (is_some (entered program w.stopped))))))
 
--- a command of which the walk gives the line
-reads_behind : (s : Shape) → IsCommand s → (first : Text) (words : List Text) → ComesTo s [] start words (line_of (first ∷ s.name ∷ words))
-    → Reads first words s.name
-reads_behind s is first words =
-    behind_read s (first ∷ s.name ∷ words) words (line_of (first ∷ s.name ∷ words)) (faults_behind s is first words) (matches_behind s is first words)
+  -- the faults of the words behind the program's name
+  abbrev faults : List Text → Kinds
+  faults words = built_fault program nothing_held words
 
-judge_read : (first : Text) (words : List Text) → Reads first words (codes "judge")
-judge_read first words = reads_behind (pair_shape (codes "judge")) judge_is first words (judge_walk words)
+  -- the command that they enter, with its matches
+  abbrev entered_by : List Text → Option (Text × List Row)
+  entered_by words = entered program (stop_after top.rules names words)
 
-run_read : (first : Text) (words : List Text) → Reads first words (codes "run")
-run_read first words = reads_behind run_shape run_is first words (run_walk words)
+  -- the words behind a command that was met add no fault of the program's own
+  behind : (name : Text) (words : List Text)
+      → whole (fold (walked top.rules names) (met name) words) (walk_fault top names (met name) words) ≡ whole (record (met name) { stopped = Some (name, words) }) []
+  behind name words = ap₂ whole (stopped_walk (met name) name [] words) (stopped_fault top names (met name) (name, []) words)
 
-compile_read : (first : Text) (words : List Text) → Reads first words (codes "compile")
-compile_read first words = reads_behind (alone_shape (codes "compile")) compile_is first words (compile_walk words)
+  module _ (command : CommandForm) (is : command_named forms command.name ≡ Some command) where
+    parts : (not (bytes_eq command.name (codes "help")) ≡ true) × (has_sound_options command.takes ≡ true)
+    parts = both (not (bytes_eq command.name (codes "help"))) (has_sound_options command.takes) (found_passes is_good _ forms command good is)
 
-check_read : (first : Text) (words : List Text) → Reads first words (codes "check")
-check_read first words = reads_behind (alone_shape (codes "check")) check_is first words (check_walk words)
+    not_help : bytes_eq command.name (codes "help") ≡ false
+    not_help = go (bytes_eq command.name (codes "help")) parts.0
+      where
+        go : (b : Bool) → not b ≡ true → b ≡ false
+        go true e = sym e
+        go false e = refl
 
-match_read : (first : Text) (words : List Text) → Reads first words (codes "match")
-match_read first words = reads_behind (pair_shape (codes "match")) match_is first words (match_walk words)
+    met_here : subcommand_met names idle command.name ≡ Some command.name
+    met_here = met_by command.name (Some command) is
 
-help_read : (first : Text) (words : List Text) → Reads first words (codes "help")
-help_read first words = some_fault _ (help_fault first words)
+    quiet : turn_fault top names start command.name ≡ []
+    quiet = rw (met_here, not_help) refl
 
--- any other word in a command's place
-other_read : (first command : Text) (words : List Text) → IsNoCommand command → Reads first words command
-other_read first command words other =
-    rw (other.judge, other.run, other.compile, other.check, other.match_name) (elim (no_command command words (none_met command other) (kind_of_word command)) [
-      | inl fault ↦ some_fault _ (in_first _ _ fault)
-      | inr dashes ↦ rw dashes (some_fault _ (escaped_fault first words))
-    ])
+    walks : walked top.rules names start command.name ≡ met command.name
+    unfolding walked
+    walks = rw met_here refl
 
--- the word is the one that it equals
-named : (name command : Text) (P : Text → Type 0) → P name → bytes_eq name command ≡ true → P command
-named name command P is e = subst P ((bytes_eq-Decides name command).0 e) is
+    found : find (λ t. answers_to command.name (label_of t)) program.subs ≡ Some (leaf command)
+    found = find_leaf command.name forms ∙ ap (found_by command.name) is
 
--- the command, by the name that its word equals
-command_read : (first command : Text) (words : List Text) (judge run compile check match_name help : Bool) → bytes_eq (codes "judge") command ≡ judge
-    → bytes_eq (codes "run") command ≡ run → bytes_eq (codes "compile") command ≡ compile → bytes_eq (codes "check") command ≡ check
-    → bytes_eq (codes "match") command ≡ match_name → bytes_eq (codes "help") command ≡ help → Reads first words command
-command_read first command words true _ _ _ _ _ e _ _ _ _ _ = named (codes "judge") command (Reads first words) (judge_read first words) e
-command_read first command words false true _ _ _ _ _ e _ _ _ _ = named (codes "run") command (Reads first words) (run_read first words) e
-command_read first command words false false true _ _ _ _ _ e _ _ _ = named (codes "compile") command (Reads first words) (compile_read first words) e
-command_read first command words false false false true _ _ _ _ _ e _ _ = named (codes "check") command (Reads first words) (check_read first words) e
-command_read first command words false false false false true _ _ _ _ _ e _ = named (codes "match") command (Reads first words) (match_read first words) e
-command_read first command words false false false false false true _ _ _ _ _ e = named (codes "help") command (Reads first words) (help_read first words) e
-command_read first command words false false false false false false j r p k m h =
-    other_read first command words (record { judge = j; run = r; compile = p; check = k; match_name = m; help = h })
+    -- the faults where the words enter this command, if there is one
+    abbrev entered_whole : List Text → Option Shape → Kinds
+    entered_whole words found = or_else (option_map_or (λ s. level_fault s [] nothing_held words false []) found [])
+        (check_fault top [] (is_some (option_map (λ s. rows_at s words) found)))
 
--- clap reads the words as `line_of` says
-pub words_read : (words : List Text) → ReadsAs words (line_of words)
-unfolding walk_fault walked defaults_fault
-words_read [] = λ e. cc
-words_read (first ∷ []) = λ e. cc
-words_read (first ∷ command ∷ words) = command_read first command words (bytes_eq (codes "judge") command) (bytes_eq (codes "run") command)
-    (bytes_eq (codes "compile") command) (bytes_eq (codes "check") command) (bytes_eq (codes "match") command) (bytes_eq (codes "help") command)
-    refl refl refl refl refl refl
+    -- the program's faults are the command's
+    faults_behind : (words : List Text) → faults (command.name ∷ words) ≡ faults_from (leaf command) [] start words
+    unfolding walk_fault defaults_fault
+    faults_behind words =
+        let over : Kinds → Walk → Kinds = λ turn w. whole (fold (walked top.rules names) w words) (or_else turn (walk_fault top names w words)) in
+        ap₂ over quiet walks ∙ behind command.name words ∙ ap (entered_whole words) found ∙ or_else-nil (faults_from (leaf command) [] start words)
+
+    -- the program's matches are the command's
+    matches_behind : (words : List Text)
+        → entered_by (command.name ∷ words) ≡ Some (command.name, finished (rules_by command.takes) (end_of (leaf command) start words))
+    matches_behind words =
+        let over : Walk → Option (Text × List Row) = λ w. entered program (fold (walked top.rules names) w words).stopped in
+        ap over walks ∙ ap (λ (w : Walk). entered program w.stopped) (stopped_walk (met command.name) command.name [] words)
+        ∙ ap (option_map (λ s. rows_at s words)) found
+
+  -- ---- a command that isn't there
+
+  module _ (word : Text) (none : subcommand_met names idle word ≡ None) where
+    -- the faults of the first word, no command
+    no_command : (words : List Text) → Kind word → Some_of (walk_fault top names start (word ∷ words)) ⊎ (word ≡ codes "--")
+    unfolding walk_fault
+    no_command words (is_dashes e) = inr e
+    no_command words (is_long o l) =
+        let name : Text = (name_and_value l.body).0 in
+        inl (in_first _ _ (long_turn top names idle 1 nothing_held word none l
+        (long_is_fault top (arg_by_long top.rules name) (name_and_value l.body).1 nothing_held (help_long name))))
+    no_command words (is_short o s) = inl (in_first _ _ (short_turn top names idle 1 [] None word none help_short s))
+    no_command words (is_plain o h) = inl (in_first _ _ (UnknownArgument, InvalidSubcommand ∷ [], plain_turn top names 1 [] None word none h))
+
+  -- `help` is answered with help
+  help_fault : (words : List Text) → subcommand_met names idle (codes "help") ≡ Some (codes "help") → Some_of (faults (codes "help" ∷ words))
+  unfolding walk_fault
+  help_fault words is =
+      let turn : turn_fault top names start (codes "help") ≡ DisplayHelp ∷ InvalidSubcommand ∷ [] = rw is refl in
+      in_first _ _ (in_first _ _ (DisplayHelp, InvalidSubcommand ∷ [], turn))
+
+  -- behind `--` no command is met
+  escaped_walk : subcommand_met names idle (codes "--") ≡ None → walked top.rules names start (codes "--") ≡ walk_at idle 1 true nothing_held
+  unfolding walked
+  escaped_walk none = rw none refl
+
+  escaped_fault : (words : List Text) → subcommand_met names idle (codes "--") ≡ None → Some_of (faults (codes "--" ∷ words))
+  unfolding walk_fault defaults_fault
+  escaped_fault [] none =
+      let quiet : turn_fault top names start (codes "--") ≡ [] = rw none refl in
+      let over : Kinds → Walk → Kinds = λ turn w. whole w (or_else turn []) in
+      (MissingSubcommand, [], ap₂ over quiet (escaped_walk none))
+  escaped_fault (word ∷ words) none =
+      let quiet : turn_fault top names start (codes "--") ≡ [] = rw none refl in
+      let over : Kinds → Walk → Kinds = λ turn w. or_else turn (or_else (turn_fault top names w word) (walk_fault top names (walked top.rules names w word) words)) in
+      in_first _ _ (UnknownArgument, InvalidSubcommand ∷ [], ap₂ over quiet (escaped_walk none))
+
+  -- ---- all the words
+
+  -- the words have no fault and their matches give the line, or there is none and they have a fault
+  abbrev pub ReadsAs : List Text → Option LineValue → Type 0
+  ReadsAs words None = faults words ≢ []
+  ReadsAs words (Some line) = (faults words ≡ []) × ((command : CommandForm) × (rows : List Row) × (command_named forms command.name ≡ Some command)
+      × (entered_by words ≡ Some (command.name, rows)) × GivesLine command.takes rows line)
+
+  behind_read : (command : CommandForm) → command_named forms command.name ≡ Some command → (words : List Text) (line : Option LineValue)
+      → ComesTo (GivesLine command.takes) (leaf command) [] start words line → ReadsAs (command.name ∷ words) line
+  behind_read command is words None h = rw (faults_behind command is words) h
+  behind_read command is words (Some line) h =
+      (faults_behind command is words ∙ h.0, (command, finished (rules_by command.takes) (end_of (leaf command) start words), is, matches_behind command is words, h.1))
+
+  command_read : (command : CommandForm) → command_named forms command.name ≡ Some command → (words : List Text)
+      → ReadsAs (command.name ∷ words) (line_by command.takes words)
+  command_read command is words = behind_read command is words (line_by command.takes words) (takes_walk command.name command.takes (parts command is).1 words)
+
+  other_read : (word : Text) (words : List Text) → subcommand_met names idle word ≡ None → faults (word ∷ words) ≢ []
+  other_read word words none = elim (no_command word none words (kind_of_word word)) [
+    | inl fault ↦ some_fault _ (in_first _ _ fault)
+    | inr dashes ↦ some_fault _ (subst (λ w. Some_of (faults (w ∷ words))) (sym dashes)
+        (escaped_fault words (ap (subcommand_met names idle) (sym dashes) ∙ none)))
+  ]
+
+  help_or_other : (word : Text) (words : List Text) (is_help : Bool) → bytes_eq (codes "help") word ≡ is_help → command_named forms word ≡ None
+      → faults (word ∷ words) ≢ []
+  help_or_other word words true e none =
+      let same : codes "help" ≡ word = (bytes_eq-Decides (codes "help") word).0 e in
+      let named : command_named forms (codes "help") ≡ None = ap (command_named forms) same ∙ none in
+      subst (λ w. faults (w ∷ words) ≢ []) same (some_fault _ (help_fault words (met_by (codes "help") None named)))
+  help_or_other word words false e none = other_read word words (met_by word None none ∙ rw e refl)
+
+  first_read : (word : Text) (words : List Text) (command : Option CommandForm) → command_named forms word ≡ command
+      → ReadsAs (word ∷ words) (option_and_then (λ command. line_by command.takes words) command)
+  first_read word words None is = help_or_other word words (bytes_eq (codes "help") word) refl is
+  first_read word words (Some command) is =
+      let name : command.name ≡ word = found_name (λ (c : CommandForm). c.name) word forms command is in
+      subst (λ w. ReadsAs (w ∷ words) (line_by command.takes words)) name (command_read command (ap (command_named forms) name ∙ is) words)
+
+  -- clap reads the words as the forms of the commands say
+  pub words_read : (words : List Text) → ReadsAs words (line_in forms words)
+  unfolding walk_fault walked defaults_fault
+  words_read [] = λ e. cc
+  words_read (word ∷ words) = first_read word words (command_named forms word) refl
+
+-- clap reads the words of a command line as `line_of` says
+pub program_read : (words : List Text) → ReadsAs commands refl (drop 1 words) (line_of words)
+program_read [] = words_read commands refl []
+program_read (first ∷ []) = words_read commands refl []
+program_read (first ∷ name ∷ words) = words_read commands refl (name ∷ words)

@@ -1,21 +1,21 @@
--- What clap's walk comes to over the words behind a command of two arguments: `judge` or `match`.
-use Rattle.std.proofs.Common.{◌≡◌, ℕ, ◌==◌, Bool, true, false, List, [], ◌∷◌, ◌++◌, Option, Some, None, refl, inl, inr}
+-- What clap's walk comes to over the words behind a command of two arguments.
+use Rattle.std.proofs.Common.{◌≡◌, ℕ, true, false, List, [], ◌∷◌, ◌++◌, Option, Some, None, refl}
 use Rattle.std.specs.Prelude.{codes, option_map}
 use Rattle.std.specs.Str.{bytes_eq}
 use Rattle.clap.specs.Lexer.{name_and_value}
-use Rattle.clap.specs.Walk.{arg_by_long, arg_by_short, finished, first_of, Held, Row, Rule, Text, idle, walked, nothing_held, pushed, settled}
-use Rattle.clap.specs.Simple.{Shape, new_rule, new_shape}
+use Rattle.clap.specs.Walk.{Walk, arg_by_long, first_of, Held, Row, Rule, Text, idle, walked, nothing_held, pushed, settled}
+use Rattle.clap.specs.Simple.{Shape, new_rule}
 use Rattle.clap.specs.Faults.{walk_fault, turn_fault, defaults_fault}
 use Rattle.clap.specs.declared.builder.action.ArgAction.TheVariants.{Set}
 use Rattle.clap.specs.declared.builder.value_parser.ValueParser.TheVariants.{String}
 use Rattle.clap.specs.declared.error.kind.ErrorKind.TheVariants.{UnknownArgument}
-use Rattle.trace_line.specs.CommandLine.{LineValue, is_option, arguments_of, judge, judge_of, match_name, match_of}
+use Rattle.trace_line.specs.CommandLine.{is_option, arguments_of, pair_of}
 use Rattle.trace_line.proofs.WordKinds.{IsLongWord, IsShortWord, is_dashes, is_long, is_short, is_plain, kind_of_word}
-use Rattle.trace_line.proofs.LeafWalk.{ComesTo, HasMatches, IsHelpOrNone, Some_of, held, help, long_is_fault, long_turn, plain_turn, plain_walked, short_turn, step, stop, walk_at}
+use Rattle.trace_line.proofs.LeafWalk.{ComesTo, Some_of, held, help, help_long, help_short, leaf_shape, long_is_fault, long_turn, plain_turn, plain_walked, short_turn, step, stop, walk_at}
 
 -- ---- the command as it is built
 
-abbrev positional : Text → ℕ → Rule
+abbrev pub positional : Text → ℕ → Rule
 positional id i = record (new_rule id) {
   required = true;
   action = Some Set;
@@ -24,22 +24,8 @@ positional id i = record (new_rule id) {
   index = Some i;
 }
 
-abbrev rules : List Rule
-rules = positional (codes "PERMS") 1 ∷ positional (codes "NAME") 2 ∷ help ∷ []
-
-abbrev pub pair_shape : Text → Shape
-pair_shape name = record (new_shape name) { rules = rules; disable_help_subcommand = true; is_built = true }
-
--- ---- options
-
--- a name is help's, or no option's
-by_long : (name : Text) (same : Bool) → bytes_eq (codes "help") name ≡ same → IsHelpOrNone (arg_by_long rules name)
-by_long name true e = inl (rw e refl)
-by_long name false e = inr (rw e refl)
-
-by_short : (x : ℕ) (same : Bool) → (104 == x) ≡ same → IsHelpOrNone (arg_by_short rules x)
-by_short x true e = inl (rw e refl)
-by_short x false e = inr (rw e refl)
+abbrev pub pair_rules : List Rule
+pair_rules = positional (codes "PERMS") 1 ∷ positional (codes "NAME") 2 ∷ help ∷ []
 
 -- ---- the arguments
 
@@ -48,7 +34,7 @@ abbrev one_held : Text → Held
 one_held p = held [] (Some (codes "PERMS", p ∷ []))
 
 abbrev two_held : Text → Text → Held
-two_held p n = pushed (codes "NAME") n (settled rules (one_held p))
+two_held p n = pushed (codes "NAME") n (settled pair_rules (one_held p))
 
 arguments_option : (word : Text) (words : List Text) → bytes_eq word (codes "--") ≡ false → is_option word ≡ true → arguments_of (word ∷ words) ≡ None
 arguments_option word words dashes is = rw (dashes, is) refl
@@ -57,17 +43,17 @@ arguments_plain : (word : Text) (words : List Text) → bytes_eq word (codes "--
     → arguments_of (word ∷ words) ≡ option_map (λ others. word ∷ others) (arguments_of words)
 arguments_plain word words dashes is = rw (dashes, is) refl
 
--- two arguments are the command's, and no other number of them
-abbrev pair_of : (Text → Text → LineValue) → Option (List Text) → Option LineValue
-pair_of line (Some (perms ∷ name ∷ [])) = Some (line perms name)
-pair_of line _ = None
+-- the matches are those of the arguments
+abbrev pub HasPair : List Row → Text × Text → Type 0
+HasPair rows asked = (first_of (codes "PERMS") rows ≡ Some asked.0) × (first_of (codes "NAME") rows ≡ Some asked.1)
 
--- ---- a command of this name, whose two arguments give this line
-module _ (name : Text) (line : Text → Text → LineValue)
-    (has : (perms judged : Text) (rows : List Row) → first_of (codes "PERMS") rows ≡ Some perms → first_of (codes "NAME") rows ≡ Some judged
-    → HasMatches name rows (line perms judged)) where
+-- ---- a command of this name
+module _ (name : Text) where
   abbrev shape : Shape
-  shape = pair_shape name
+  shape = leaf_shape name pair_rules
+
+  abbrev Comes : Walk → List Text → Option (Text × Text) → Type 0
+  Comes = ComesTo HasPair shape []
 
   -- an option is a fault
   long_comes : (i : ℕ) (rows : List Row) (pending : Option (Text × List Text)) (word : Text) → IsLongWord word
@@ -75,40 +61,40 @@ module _ (name : Text) (line : Text → Text → LineValue)
   long_comes i rows pending word l =
       let asked : Text = (name_and_value l.body).0 in
       long_turn shape [] idle i (held rows pending) word refl l
-      (long_is_fault shape (arg_by_long rules asked) (name_and_value l.body).1 (held rows pending) (by_long asked (bytes_eq (codes "help") asked) refl))
+      (long_is_fault shape (arg_by_long pair_rules asked) (name_and_value l.body).1 (held rows pending) (help_long asked))
 
   short_comes : (i : ℕ) (rows : List Row) (pending : Option (Text × List Text)) (word : Text) → IsShortWord word
       → Some_of (turn_fault shape [] (walk_at idle i false (held rows pending)) word)
-  short_comes i rows pending word is = short_turn shape [] idle i rows pending word refl (λ x. by_short x (104 == x) refl) is
+  short_comes i rows pending word is = short_turn shape [] idle i rows pending word refl help_short is
 
   -- behind `--`, by how many arguments stand before
-  escaped_two : (p n : Text) (words : List Text) → ComesTo shape [] (walk_at idle 3 true (two_held p n)) words (pair_of line (Some (p ∷ n ∷ words)))
+  escaped_two : (p n : Text) (words : List Text) → Comes (walk_at idle 3 true (two_held p n)) words (pair_of (Some (p ∷ n ∷ words)))
   unfolding walk_fault defaults_fault
-  escaped_two p n [] = (refl, has p n (finished rules (two_held p n)) refl refl)
-  escaped_two p n (word ∷ words) = stop shape (walk_at idle 3 true (two_held p n)) word words (UnknownArgument, [], refl)
+  escaped_two p n [] = (refl, (refl, refl))
+  escaped_two p n (word ∷ words) = stop HasPair shape (walk_at idle 3 true (two_held p n)) word words (UnknownArgument, [], refl)
 
-  escaped_one : (p : Text) (words : List Text) → ComesTo shape [] (walk_at idle 2 true (one_held p)) words (pair_of line (Some (p ∷ words)))
+  escaped_one : (p : Text) (words : List Text) → Comes (walk_at idle 2 true (one_held p)) words (pair_of (Some (p ∷ words)))
   unfolding walk_fault defaults_fault walked
   escaped_one p [] = λ e. cc
   escaped_one p (word ∷ words) =
-      step shape (walk_at idle 2 true (one_held p)) (walk_at idle 3 true (two_held p word)) word words _ refl refl (escaped_two p word words)
+      step HasPair shape (walk_at idle 2 true (one_held p)) (walk_at idle 3 true (two_held p word)) word words _ refl refl (escaped_two p word words)
 
-  escaped_none : (words : List Text) → ComesTo shape [] (walk_at idle 1 true nothing_held) words (pair_of line (Some words))
+  escaped_none : (words : List Text) → Comes (walk_at idle 1 true nothing_held) words (pair_of (Some words))
   unfolding walk_fault defaults_fault walked
   escaped_none [] = λ e. cc
   escaped_none (word ∷ words) =
-      step shape (walk_at idle 1 true nothing_held) (walk_at idle 2 true (one_held word)) word words _ refl refl (escaped_one word words)
+      step HasPair shape (walk_at idle 1 true nothing_held) (walk_at idle 2 true (one_held word)) word words _ refl refl (escaped_one word words)
 
   -- what the arguments come to behind these
-  abbrev line_behind : List Text → Option (List Text) → Option LineValue
-  line_behind before arguments = pair_of line (option_map (λ others. before ++ others) arguments)
+  abbrev line_behind : List Text → Option (List Text) → Option (Text × Text)
+  line_behind before arguments = pair_of (option_map (λ others. before ++ others) arguments)
 
   -- an option, wherever it stands
   refused_option : (i : ℕ) (rows : List Row) (pending : Option (Text × List Text)) (before : List Text) (word : Text) (words : List Text)
       → bytes_eq word (codes "--") ≡ false → is_option word ≡ true → Some_of (turn_fault shape [] (walk_at idle i false (held rows pending)) word)
-      → ComesTo shape [] (walk_at idle i false (held rows pending)) (word ∷ words) (line_behind before (arguments_of (word ∷ words)))
+      → Comes (walk_at idle i false (held rows pending)) (word ∷ words) (line_behind before (arguments_of (word ∷ words)))
   refused_option i rows pending before word words dashes is fault =
-      rw (arguments_option word words dashes is) (stop shape (walk_at idle i false (held rows pending)) word words fault)
+      rw (arguments_option word words dashes is) (stop HasPair shape (walk_at idle i false (held rows pending)) word words fault)
 
   -- a third argument is one too many
   three_or_more : (p n word : Text) (o : Option (List Text)) → line_behind (p ∷ n ∷ []) (option_map (λ others. word ∷ others) o) ≡ None
@@ -116,19 +102,19 @@ module _ (name : Text) (line : Text → Text → LineValue)
   three_or_more p n word (Some words) = refl
 
   -- before any `--`, by how many arguments stand before
-  free_two : (p n : Text) (words : List Text) → ComesTo shape [] (walk_at idle 3 false (two_held p n)) words (line_behind (p ∷ n ∷ []) (arguments_of words))
+  free_two : (p n : Text) (words : List Text) → Comes (walk_at idle 3 false (two_held p n)) words (line_behind (p ∷ n ∷ []) (arguments_of words))
   unfolding walk_fault defaults_fault walked
-  free_two p n [] = (refl, has p n (finished rules (two_held p n)) refl refl)
+  free_two p n [] = (refl, (refl, refl))
   free_two p n (word ∷ words) =
       let rows : List Row = (two_held p n).rows in
       let pending : Option (Text × List Text) = (two_held p n).pending in
       let w = walk_at idle 3 false (two_held p n) in
       elim (kind_of_word word) [
-        | is_dashes e ↦ rw e (step shape w (walk_at idle 3 true (two_held p n)) (codes "--") words _ refl refl (escaped_two p n words))
+        | is_dashes e ↦ rw e (step HasPair shape w (walk_at idle 3 true (two_held p n)) (codes "--") words _ refl refl (escaped_two p n words))
         | is_long o l ↦ refused_option 3 rows pending (p ∷ n ∷ []) word words l.dashes o (long_comes 3 rows pending word l)
         | is_short o s ↦ refused_option 3 rows pending (p ∷ n ∷ []) word words s.dashes o (short_comes 3 rows pending word s)
         | is_plain o h ↦ rw (arguments_plain word words h.dashes o, three_or_more p n word (arguments_of words))
-            (stop shape w word words (UnknownArgument, [], plain_turn shape [] 3 rows pending word refl h))
+            (stop HasPair shape w word words (UnknownArgument, [], plain_turn shape [] 3 rows pending word refl h))
       ]
 
   -- the word is the second argument
@@ -136,7 +122,7 @@ module _ (name : Text) (line : Text → Text → LineValue)
   one_more p word None = refl
   one_more p word (Some words) = refl
 
-  free_one : (p : Text) (words : List Text) → ComesTo shape [] (walk_at idle 2 false (one_held p)) words (line_behind (p ∷ []) (arguments_of words))
+  free_one : (p : Text) (words : List Text) → Comes (walk_at idle 2 false (one_held p)) words (line_behind (p ∷ []) (arguments_of words))
   unfolding walk_fault defaults_fault walked
   free_one p [] = λ e. cc
   free_one p (word ∷ words) =
@@ -144,15 +130,15 @@ module _ (name : Text) (line : Text → Text → LineValue)
       let pending : Option (Text × List Text) = (one_held p).pending in
       let w = walk_at idle 2 false (one_held p) in
       elim (kind_of_word word) [
-        | is_dashes e ↦ rw e (step shape w (walk_at idle 2 true (one_held p)) (codes "--") words _ refl refl (escaped_one p words))
+        | is_dashes e ↦ rw e (step HasPair shape w (walk_at idle 2 true (one_held p)) (codes "--") words _ refl refl (escaped_one p words))
         | is_long o l ↦ refused_option 2 rows pending (p ∷ []) word words l.dashes o (long_comes 2 rows pending word l)
         | is_short o s ↦ refused_option 2 rows pending (p ∷ []) word words s.dashes o (short_comes 2 rows pending word s)
-        | is_plain o h ↦ rw (arguments_plain word words h.dashes o, one_more p word (arguments_of words)) (step shape w (walk_at idle 3 false (two_held p word)) word words _
+        | is_plain o h ↦ rw (arguments_plain word words h.dashes o, one_more p word (arguments_of words)) (step HasPair shape w (walk_at idle 3 false (two_held p word)) word words _
             (plain_turn shape [] 2 rows pending word refl h) (plain_walked shape 2 rows pending word h) (free_two p word words))
       ]
 
   -- no argument stands before
-  none_yet : (o : Option (List Text)) → line_behind [] o ≡ pair_of line o
+  none_yet : (o : Option (List Text)) → line_behind [] o ≡ pair_of o
   none_yet None = refl
   none_yet (Some words) = refl
 
@@ -161,37 +147,19 @@ module _ (name : Text) (line : Text → Text → LineValue)
   first_one word None = refl
   first_one word (Some words) = refl
 
-  free_none : (words : List Text) → ComesTo shape [] (walk_at idle 1 false nothing_held) words (line_behind [] (arguments_of words))
+  free_none : (words : List Text) → Comes (walk_at idle 1 false nothing_held) words (line_behind [] (arguments_of words))
   unfolding walk_fault defaults_fault walked
   free_none [] = λ e. cc
   free_none (word ∷ words) =
       let w = walk_at idle 1 false nothing_held in
       elim (kind_of_word word) [
-        | is_dashes e ↦ rw e (step shape w (walk_at idle 1 true nothing_held) (codes "--") words _ refl refl (escaped_none words))
+        | is_dashes e ↦ rw e (step HasPair shape w (walk_at idle 1 true nothing_held) (codes "--") words _ refl refl (escaped_none words))
         | is_long o l ↦ refused_option 1 [] None [] word words l.dashes o (long_comes 1 [] None word l)
         | is_short o s ↦ refused_option 1 [] None [] word words s.dashes o (short_comes 1 [] None word s)
-        | is_plain o h ↦ rw (arguments_plain word words h.dashes o, first_one word (arguments_of words)) (step shape w (walk_at idle 2 false (one_held word)) word words _
+        | is_plain o h ↦ rw (arguments_plain word words h.dashes o, first_one word (arguments_of words)) (step HasPair shape w (walk_at idle 2 false (one_held word)) word words _
             (plain_turn shape [] 1 [] None word refl h) (plain_walked shape 1 [] None word h) (free_one word words))
       ]
 
   -- clap takes two arguments, and no other number of them
-  pair_walk : (words : List Text) → ComesTo shape [] (walk_at idle 1 false nothing_held) words (pair_of line (arguments_of words))
+  pub pair_walk : (words : List Text) → Comes (walk_at idle 1 false nothing_held) words (pair_of (arguments_of words))
   pair_walk words = rw (← none_yet (arguments_of words)) (free_none words)
-
--- ---- the two commands
-
-judge_is : (o : Option (List Text)) → judge_of o ≡ pair_of judge o
-judge_is (Some (perms ∷ name ∷ [])) = refl
-judge_is _ = refl
-
--- clap reads the words behind `judge` as `judge_of` says
-pub judge_walk : (words : List Text) → ComesTo (pair_shape (codes "judge")) [] (walk_at idle 1 false nothing_held) words (judge_of (arguments_of words))
-judge_walk words = rw (judge_is (arguments_of words)) (pair_walk (codes "judge") judge (λ perms name rows p n. (refl, p, n)) words)
-
-match_is : (o : Option (List Text)) → match_of o ≡ pair_of match_name o
-match_is (Some (perms ∷ name ∷ [])) = refl
-match_is _ = refl
-
--- clap reads the words behind `match` as `match_of` says
-pub match_walk : (words : List Text) → ComesTo (pair_shape (codes "match")) [] (walk_at idle 1 false nothing_held) words (match_of (arguments_of words))
-match_walk words = rw (match_is (arguments_of words)) (pair_walk (codes "match") match_name (λ perms name rows p n. (refl, p, n)) words)

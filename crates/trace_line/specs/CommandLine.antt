@@ -1,12 +1,10 @@
 -- What the words of a command line ask for.
-use Rattle.std.specs.Prelude.{◌≡◌, ℕ, ◌&&◌, Bool, true, false, List, [], ◌∷◌, ◌==◌, Option, Some, None, drop, nat_le, option_map, is_some, pos, slice_get, take, codes, if◌then◌else◌}
+use Rattle.std.specs.Prelude.{ℕ, ◌&&◌, Bool, false, not, List, [], ◌∷◌, ◌++◌, ◌==◌, Option, Some, None, option_and_then, option_map, unwrap_or, is_some, pos, slice_get, codes, find, if◌then◌else◌}
+use Rattle.std.specs.Option.{option_map_or}
 use Rattle.std.specs.Str.{bytes_eq, chars}
-use Rattle.std.specs.Str.Parse.{digits_value, without_leading_plus}
-use Rattle.clap.specs.ValueTests.{is_numeral}
-use Rattle.clap.specs.Words.{App, Rule, kind_of, new_app, new_rule, with_rule, with_subcommand}
-use Rattle.clap.specs.declared.builder.value_parser.ValueParser.TheVariants.{Signed}
-use Rattle.clap.specs.declared.error.Error.{Error}
-use Rattle.clap.specs.declared.error.kind.ErrorKind.TheVariants.{OutOfMemory}
+use Rattle.std.specs.Str.Parse.{digits_value, without_leading_sign}
+use Rattle.clap.specs.Lexer.{long_of}
+use Rattle.clap.specs.ValueTests.{is_signed_in}
 use Rattle.trace_line.specs.declared.line.Line.{Line}
 use Rattle.trace_line.specs.declared.line.Line.TheVariants.{Judge, Run, Compile, Check, Match}
 use Rattle.trace_line.specs.declared.line.LineFault.{LineFault}
@@ -35,6 +33,8 @@ abbrev pub is_option : List ℕ → Bool
 is_option [] = false
 is_option (b ∷ rest) = b == 45 && is_some (slice_get (chars rest) 0)
 
+-- ---- arguments
+
 -- The arguments among the words, none of which may be an option. The first `--` is no argument; behind it any word is one.
 abbrev pub arguments_of : List (List ℕ) → Option (List (List ℕ))
 arguments_of [] = Some []
@@ -42,89 +42,106 @@ arguments_of (word ∷ words) =
     if bytes_eq word (codes "--") then Some words
     else (if is_option word then None else option_map (λ others. word ∷ others) (arguments_of words))
 
--- a command by its arguments
-abbrev pub judge_of : Option (List (List ℕ)) → Option LineValue
-judge_of (Some (perms ∷ name ∷ [])) = Some (judge perms name)
-judge_of _ = None
+-- two arguments, and no other number of them
+abbrev pub pair_of : Option (List (List ℕ)) → Option (List ℕ × List ℕ)
+pair_of (Some (first ∷ second ∷ [])) = Some (first, second)
+pair_of _ = None
 
-abbrev pub match_of : Option (List (List ℕ)) → Option LineValue
-match_of (Some (perms ∷ name ∷ [])) = Some (match_name perms name)
-match_of _ = None
+-- ---- options with numbers
 
--- a command that takes no arguments
-abbrev pub alone : LineValue → List (List ℕ) → Option LineValue
-alone line [] = Some line
-alone line _ = None
+pub record NumberOption : Type 0 where
+  -- what stands behind the two hyphens
+  pub name : List ℕ
+  -- what stands for its number where the option isn't given
+  pub default : List ℕ
+  -- the least and the greatest number that it takes
+  pub least : ℕ
+  pub most : ℕ
 
--- The number from 1 to 16,384 that decimal digits write. They may begin with zeros, and one `+` may stand in front.
-abbrev pub number_of : List ℕ → Option ℕ
-number_of text =
-    let digits = without_leading_plus text in
-    let number = digits_value 10 digits in
-    if is_numeral digits && (nat_le 1 number && nat_le number 16384) then Some number else None
+-- the first option of this name
+abbrev pub option_named : List NumberOption → List ℕ → Option NumberOption
+option_named options name = find (λ option. bytes_eq option.name name) options
 
--- the words without a `--` that stands last, which says nothing
-abbrev pub without_last_dashes : List (List ℕ) → List (List ℕ)
-without_last_dashes [] = []
-without_last_dashes (word ∷ []) = if bytes_eq word (codes "--") then [] else word ∷ []
-without_last_dashes (word ∷ next ∷ words) = word ∷ without_last_dashes (next ∷ words)
+-- The text is a number that the option takes: decimal digits, perhaps behind a sign.
+abbrev pub is_number_of : NumberOption → List ℕ → Bool
+is_number_of option text = is_signed_in (pos option.least) (pos option.most) text
 
--- The capacity that is asked, once: 1,024 where there are no words, `--capacity=N`, or `--capacity N`.
-abbrev pub capacity_of : List (List ℕ) → Option ℕ
-capacity_of [] = Some 1024
-capacity_of (word ∷ []) = if bytes_eq (take 11 word) (codes "--capacity=") then number_of (drop 11 word) else None
-capacity_of (word ∷ number ∷ []) = if bytes_eq word (codes "--capacity") then number_of number else None
-capacity_of _ = None
+-- the names of the options that are given, each with its text
+abbrev pub Given : Type 0
+Given = List (List ℕ × List ℕ)
+
+abbrev pub text_given : Given → List ℕ → Option (List ℕ)
+text_given given name = option_map (λ pair. pair.1) (find (λ pair. bytes_eq pair.0 name) given)
+
+-- whether a command with these options takes one more of this name, with this text: each is given once at most
+abbrev pub is_taken : List NumberOption → Given → List ℕ → List ℕ → Bool
+is_taken options given name text =
+    option_map_or (λ option. is_number_of option text) (option_named options name) false && not (is_some (text_given given name))
+
+-- one more option behind those given, if there are a name and a text, and the command takes them
+abbrev pub one_more : List NumberOption → Given → Option (List ℕ) → Option (List ℕ) → Option Given
+one_more options given (Some name) (Some text) = if is_taken options given name text then Some (given ++ (name, text) ∷ []) else None
+one_more options given _ _ = None
+
+-- of a word `--NAME=TEXT` or `--NAME` the name, and of the first the text
+abbrev pub name_in : List ℕ → Option (List ℕ)
+name_in word = option_map (λ cut. cut.0) (long_of word)
+
+abbrev pub text_in : List ℕ → Option (List ℕ)
+text_in word = option_and_then (λ cut. cut.1) (long_of word)
+
+-- the word behind `--NAME` is the text, if it is no option itself
+abbrev pub text_behind : List ℕ → Option (List ℕ)
+text_behind word = if is_option word then None else Some word
+
+-- The options that the words give behind those given: `--NAME=TEXT`, or `--NAME` and `TEXT`, in any order. A `--` that stands
+-- last says nothing.
+abbrev pub given_by : List NumberOption → Given → List (List ℕ) → Option Given
+given_by options given [] = Some given
+given_by options given (word ∷ []) = if bytes_eq word (codes "--") then Some given else one_more options given (name_in word) (text_in word)
+given_by options given (word ∷ next ∷ words) =
+    if is_some (text_in word) then option_and_then (λ more. given_by options more (next ∷ words)) (one_more options given (name_in word) (text_in word))
+    else option_and_then (λ more. given_by options more words) (one_more options given (name_in word) (text_behind next))
+
+-- the number of an option, by the text that is given or stands for it
+abbrev pub number_of : Given → NumberOption → ℕ
+number_of given option = digits_value 10 (without_leading_sign (unwrap_or (text_given given option.name) option.default))
+
+-- ---- the commands
+
+-- what the words behind a command's name are
+pub data Takes : Type 0 where
+  -- two arguments, which give the line
+  pair : (List ℕ → List ℕ → LineValue) → Takes
+  -- options, whose numbers give the line
+  numbers : List NumberOption → ((NumberOption → ℕ) → LineValue) → Takes
+
+pub record CommandForm : Type 0 where
+  pub name : List ℕ
+  pub takes : Takes
+
+abbrev pub capacity : NumberOption
+capacity = record { name = codes "capacity"; default = codes "1024"; least = 1; most = 16384 }
+
+abbrev pub commands : List CommandForm
+commands = record { name = codes "judge"; takes = pair judge }
+    ∷ record { name = codes "run"; takes = numbers (capacity ∷ []) (λ number. run (number capacity)) }
+    ∷ record { name = codes "compile"; takes = numbers [] (λ number. compile) }
+    ∷ record { name = codes "check"; takes = numbers [] (λ number. check) }
+    ∷ record { name = codes "match"; takes = pair match_name } ∷ []
+
+abbrev pub command_named : List CommandForm → List ℕ → Option CommandForm
+command_named commands name = find (λ command. bytes_eq command.name name) commands
+
+abbrev pub line_by : Takes → List (List ℕ) → Option LineValue
+line_by (pair line) words = option_map (λ asked. line asked.0 asked.1) (pair_of (arguments_of words))
+line_by (numbers options line) words = option_map (λ given. line (number_of given)) (given_by options [] words)
 
 -- the program's name, a command's and what it is asked
 abbrev pub line_of : List (List ℕ) → Option LineValue
-line_of (program ∷ command ∷ words) =
-    if bytes_eq (codes "judge") command then judge_of (arguments_of words)
-    else (if bytes_eq (codes "run") command then option_map run (capacity_of (without_last_dashes words))
-    else (if bytes_eq (codes "compile") command then alone compile (without_last_dashes words)
-    else (if bytes_eq (codes "check") command then alone check (without_last_dashes words)
-    else (if bytes_eq (codes "match") command then match_of (arguments_of words) else None))))
+line_of (program ∷ name ∷ words) = option_and_then (λ command. line_by command.takes words) (command_named commands name)
 line_of _ = None
 
 abbrev pub line_fault_number : LineFault → ℕ
 line_fault_number (Usage told) = 1
 line_fault_number NoMemory = 2
-
--- a fault of memory is one, and any other is one of usage
-abbrev pub IsLineFaultOf : Error → LineFault → Type 0
-IsLineFaultOf error NoMemory = kind_of error ≡ OutOfMemory
-IsLineFaultOf error (Usage told) = (told ≡ error) × (kind_of error ≡ OutOfMemory → ⊥)
-
--- the program as its parser knows it
-abbrev pub required_rule : List ℕ → Rule
-required_rule id = record (new_rule id) { required = true }
-
-abbrev pub judge_app : App
-judge_app = with_rule (with_rule (new_app (codes "judge")) (required_rule (codes "PERMS"))) (required_rule (codes "NAME"))
-
-abbrev pub match_app : App
-match_app = with_rule (with_rule (new_app (codes "match")) (required_rule (codes "PERMS"))) (required_rule (codes "NAME"))
-
-abbrev pub compile_app : App
-compile_app = new_app (codes "compile")
-
-abbrev pub check_app : App
-check_app = new_app (codes "check")
-
--- an option `--capacity`, whose value is a number between 1 and 16,384
-abbrev pub capacity_rule : Rule
-capacity_rule = record (new_rule (codes "capacity")) {
-  long = Some (codes "capacity");
-  value_names = 1;
-  defaults = codes "1024" ∷ [];
-  parser = Some (Signed (pos 1) (pos 16384));
-}
-
-abbrev pub run_app : App
-run_app = with_rule (new_app (codes "run")) capacity_rule
-
-abbrev pub program_app : App
-program_app =
-    let judging = with_subcommand (with_subcommand (new_app (codes "aa-trace")) judge_app.top) run_app.top in
-    let program = with_subcommand (with_subcommand (with_subcommand judging compile_app.top) check_app.top) match_app.top in
-    record program { top = record program.top { subcommand_required = true } }

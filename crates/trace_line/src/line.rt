@@ -1,10 +1,12 @@
 //! What the words of a command line ask for.
-ghost use Rattle.std.specs.Prelude.{◌≡◌, ◌↔◌, IfOk, IfErr, is_some, true, map};
-ghost use Rattle.clap.specs.Words.{app_of, kind_of};
-ghost use Rattle.trace_line.specs.CommandLine.{line_of, line_value, IsLineFaultOf, line_fault_number, judge_app, run_app, compile_app, check_app, match_app, program_app};
+ghost use Rattle.std.specs.Prelude.{◌≡◌, IfOk, IfErr, is_some, true, false, map, codes};
+ghost use Rattle.clap.specs.Words.{app_of, first_value, found_of, rows_of, rule_of};
+ghost use Rattle.trace_line.specs.CommandLine.{line_of, line_value, line_fault_number};
+ghost use Rattle.trace_line.specs.inner.Parser.{IsLineFaultOf, IsReadAs, number_option, number_read, number_rule, numbers_app, pair_app, program_app};
 
+use clap::builder::ValueParser;
 use clap::error::ErrorKind;
-use clap::{Arg, Command, value_parser};
+use clap::{Arg, ArgMatches, Command};
 use std::alloc::{AllocError, Global};
 use std::convert::AsStr;
 use thiserror::Error;
@@ -69,109 +71,162 @@ impl From<AllocError> for LineFault {
     }
 }
 
+/// An option of a command, whose value is a number.
+#[derive(Clone, Copy)]
+struct NumberOption {
+    /// Its name, which stands behind two hyphens.
+    name: &'static str,
+    /// The number that it has where it isn't given, in decimal digits.
+    default: &'static str,
+    least: u32,
+    most: u32,
+    help: &'static str,
+}
+
+/// How many entries the tree of `run` has room for.
+const CAPACITY: NumberOption = NumberOption {
+    name: "capacity",
+    default: "1024",
+    least: 1,
+    most: 16384,
+    help: "The number of entries that the tree has room for, 1 to 16384",
+};
+
 /// Reads the words of a command line, of which the first is the program's name.
 pub fn command_line<'a, S: AsStr>(alloc: Global, words: &'a [S]) -> Result<Line<'a>, LineFault>
     ensures ok { IfOk result (λ line. line_of (map S.text words.now) ≡ Some (line_value line)) }
     ensures err { IfErr result (λ fault.
         is_some (line_of (map S.text words.now)) ≡ true → fault ≡ LineFault.NoMemory) }
 {
-    let matches = program(alloc)?.try_get_matches_from(words)?;
-    let (command, arguments) = matches.subcommand().unwrap();
+    let matches = matches_of(alloc, words)?;
+    let (command, found) = matches.subcommand().unwrap();
     match command {
         "judge" => {
-            let perms = arguments.get_str("PERMS").unwrap();
-            let name = arguments.get_str("NAME").unwrap();
+            let (perms, name) = pair_in(found);
             Ok(Line::Judge { perms, name })
         }
-        "run" => {
-            let capacity = arguments.get_one::<u32>("capacity").unwrap();
-            Ok(Line::Run { capacity })
-        }
+        "run" => Ok(Line::Run {
+            capacity: number_in(found, CAPACITY.name),
+        }),
         "compile" => Ok(Line::Compile),
         "check" => Ok(Line::Check),
         "match" => {
-            let perms = arguments.get_str("PERMS").unwrap();
-            let name = arguments.get_str("NAME").unwrap();
+            let (perms, name) = pair_in(found);
             Ok(Line::Match { perms, name })
         }
         _ => unreachable!(),
     }
 }
 
+/// What the parser finds in the words.
+fn matches_of<'a, S: AsStr>(alloc: Global, words: &'a [S]) -> Result<ArgMatches<'a>, LineFault>
+    ensures ok { IfOk result (IsReadAs (map S.text words.now)) }
+    ensures err { IfErr result (λ fault.
+        is_some (line_of (map S.text words.now)) ≡ true → fault ≡ LineFault.NoMemory) }
+{
+    let matches = program(alloc)?.try_get_matches_from(words)?;
+    Ok(matches)
+}
+
+/// The two arguments of a command, PERMS and NAME.
+fn pair_in<'a>(found: &ArgMatches<'a>) -> (&'a str, &'a str)
+    requires perms { is_some (first_value (found_of found.now) (codes "PERMS")) ≡ true }
+    requires name { is_some (first_value (found_of found.now) (codes "NAME")) ≡ true }
+    ensures perms { first_value (found_of found.now) (codes "PERMS") ≡ Some result.0.now }
+    ensures name { first_value (found_of found.now) (codes "NAME") ≡ Some result.1.now }
+{
+    let perms = found.get_str("PERMS").unwrap();
+    let name = found.get_str("NAME").unwrap();
+    (perms, name)
+}
+
+/// The number of an option.
+fn number_in(found: &ArgMatches, name: &str) -> u32
+    requires { is_some (number_read name.now (rows_of (found_of found.now))) ≡ true }
+    ensures { number_read name.now (rows_of (found_of found.now)) ≡ Some result }
+{
+    found.get_one::<u32>(name).unwrap()
+}
+
 /// The commands of the program.
 fn program<'a>(alloc: Global) -> Result<Command<'a>, AllocError>
     ensures { IfOk result (λ command. app_of command ≡ program_app) }
 {
-    let judge = judge_command(alloc)?;
-    let run = run_command(alloc)?;
-    let matching = match_command(alloc)?;
+    let judge = pair_command(
+        alloc,
+        "judge",
+        "Judges a name by the profile on standard input",
+    )?;
+    let run = numbers_command(
+        alloc,
+        "run",
+        "Runs a script of tree changes, policies and opens on standard input",
+        &[CAPACITY],
+    )?;
+    let compile = numbers_command(
+        alloc,
+        "compile",
+        "Writes the image of the profile on standard input",
+        &[],
+    )?;
+    let check = numbers_command(alloc, "check", "Tests the image on standard input", &[])?;
+    let matching = pair_command(
+        alloc,
+        "match",
+        "Judges a name by the image on standard input",
+    )?;
     Command::new(alloc, "aa-trace")
         .about("Judges names by profiles of file rules")
         .subcommand_required(true)
         .subcommand(judge)?
         .subcommand(run)?
-        .subcommand(compile_command(alloc))?
-        .subcommand(check_command(alloc))?
+        .subcommand(compile)?
+        .subcommand(check)?
         .subcommand(matching)
 }
 
-/// What `judge` takes.
-fn judge_command<'a>(alloc: Global) -> Result<Command<'a>, AllocError>
-    ensures { IfOk result (λ command. app_of command ≡ judge_app) }
+/// A command that takes PERMS and NAME.
+fn pair_command<'a>(alloc: Global, name: &'a str, about: &'a str) -> Result<Command<'a>, AllocError>
+    ensures { IfOk result (λ command. app_of command ≡ pair_app name.now) }
 {
     let perms = Arg::new(alloc, "PERMS").required(true).help(
-        "The permissions that are asked, by their letters: r, w, l, k, m",
-    );
-    let name = Arg::new(alloc, "NAME")
-        .required(true)
-        .help("The name that is judged, from its first slash on");
-    Command::new(alloc, "judge")
-        .about("Judges a name by the profile on standard input")
-        .arg(perms)?
-        .arg(name)
-}
-
-/// What `run` takes.
-fn run_command<'a>(alloc: Global) -> Result<Command<'a>, AllocError>
-    ensures { IfOk result (λ command. app_of command ≡ run_app) }
-{
-    let capacity = Arg::new(alloc, "capacity")
-        .long("capacity")
-        .value_name("N")
-        .value_parser(value_parser!(u32).range(1..=16384))
-        .default_value("1024")
-        .help("The number of entries that the tree has room for, 1 to 16384");
-    Command::new(alloc, "run")
-        .about("Runs a script of tree changes, policies and opens on standard input")
-        .arg(capacity)
-}
-
-/// What `compile` takes: nothing.
-fn compile_command<'a>(alloc: Global) -> Command<'a>
-    ensures { app_of result ≡ compile_app }
-{
-    Command::new(alloc, "compile").about("Writes the image of the profile on standard input")
-}
-
-/// What `check` takes: nothing.
-fn check_command<'a>(alloc: Global) -> Command<'a>
-    ensures { app_of result ≡ check_app }
-{
-    Command::new(alloc, "check").about("Tests the image on standard input")
-}
-
-/// What `match` takes.
-fn match_command<'a>(alloc: Global) -> Result<Command<'a>, AllocError>
-    ensures { IfOk result (λ command. app_of command ≡ match_app) }
-{
-    let asked = Arg::new(alloc, "PERMS").required(true).help(
         "The permissions that are asked, by their letters: r, w, l, k, m",
     );
     let judged = Arg::new(alloc, "NAME")
         .required(true)
         .help("The name that is judged, from its first slash on");
-    Command::new(alloc, "match")
-        .about("Judges a name by the image on standard input")
-        .arg(asked)?
+    Command::new(alloc, name)
+        .about(about)
+        .arg(perms)?
         .arg(judged)
+}
+
+/// A command that takes options with numbers.
+fn numbers_command<'a>(
+    alloc: Global,
+    name: &'a str,
+    about: &'a str,
+    options: &[NumberOption],
+) -> Result<Command<'a>, AllocError>
+    ensures { IfOk result (λ command. app_of command ≡ numbers_app name.now (map number_option options.now)) }
+{
+    let mut command = Command::new(alloc, name).about(about);
+    for option in options {
+        command = command.arg(number_argument(alloc, *option))?;
+    }
+    Ok(command)
+}
+
+/// An option as the parser knows it.
+fn number_argument<'a>(alloc: Global, option: NumberOption) -> Arg<'a>
+    ensures rule { rule_of result ≡ number_rule (number_option option) }
+    ensures global { result.global ≡ false }
+{
+    let bounds = ValueParser::signed(i64::from(option.least), i64::from(option.most));
+    Arg::new(alloc, option.name)
+        .long(option.name)
+        .value_name("N")
+        .value_parser(bounds)
+        .default_value(option.default)
+        .help(option.help)
 }

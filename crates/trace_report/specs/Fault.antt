@@ -5,10 +5,10 @@ use Rattle.std.specs.declared.io.Error.{Error}
 use Rattle.std.specs.declared.io.ErrorKind.TheVariants.{OutOfMemory}
 use Rattle.matcher.specs.declared.fault.MakeFault.{MakeFault}
 use Rattle.matcher.specs.declared.fault.MakeFault.TheVariants as making
-use Rattle.rule_text.specs.declared.fault.ReadFault.{ReadFault}
-use Rattle.rule_text.specs.declared.fault.ReadFault.TheVariants as reading
-use Rattle.table_image.specs.declared.fault.ImageFault.{ImageFault}
-use Rattle.table_image.specs.declared.fault.ImageFault.TheVariants as image
+use Rattle.rule_reader.specs.declared.fault.ReadFault.{ReadFault}
+use Rattle.rule_reader.specs.declared.fault.ReadFault.TheVariants as reading
+use Rattle.tables.specs.declared.fault.ImageFault.{ImageFault}
+use Rattle.tables.specs.declared.fault.ImageFault.TheVariants as image
 use Rattle.trace_report.specs.declared.status.Status.{Status}
 use Rattle.trace_report.specs.declared.status.Status.TheVariants.{BadArguments, Refused, InputFailed, NoMemory}
 use Rattle.trace_report.specs.declared.fault.Fault.{Fault}

@@ -2,10 +2,10 @@
 use Rattle.std.specs.Prelude.{ℕ, List, [], ◌++◌, Option, Some, None, codes, decimal, unwrap_or}
 use Rattle.matcher.specs.declared.fault.MakeFault.{MakeFault}
 use Rattle.matcher.specs.Making.{fault_number as compile_number}
-use Rattle.rule_text.specs.declared.fault.ReadFault.{ReadFault}
-use Rattle.rule_text.specs.FaultNumber.{fault_number, fault_offset}
-use Rattle.table_image.specs.Bounds.{fault_index, fault_number as image_number}
-use Rattle.table_image.specs.declared.fault.ImageFault.{ImageFault}
+use Rattle.rule_reader.specs.declared.fault.ReadFault.{ReadFault}
+use Rattle.rule_reader.specs.FaultNumber.{fault_number, fault_offset}
+use Rattle.tables.specs.Bounds.{fault_index, fault_number as image_number}
+use Rattle.tables.specs.declared.fault.ImageFault.{ImageFault}
 use Rattle.trace_report.specs.declared.status.Status.{Status}
 use Rattle.trace_report.specs.declared.status.Status.TheVariants.{Done}
 

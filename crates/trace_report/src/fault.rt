@@ -4,10 +4,10 @@ ghost use Rattle.trace_report.specs.Fault.{fault_text, fault_status, IsFaultOfRe
 
 use crate::status::Status;
 use matcher::MakeFault;
-use rule_text::ReadFault;
+use rule_reader::ReadFault;
 use std::io::ErrorKind;
 use std::{fmt, io};
-use table_image::ImageFault;
+use tables::ImageFault;
 
 /// Why a command has no answer.
 #[derive(Clone, Copy, Debug, PartialEq, Eq)]

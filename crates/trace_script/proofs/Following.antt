@@ -9,102 +9,104 @@ use Rattle.std.proofs.lemmas.List.Folds.{concat-append}
 use Rattle.glob_automaton.specs.Automata.{StateLimit}
 use Rattle.names.specs.declared.errors.Errno.{Errno}
 use Rattle.names.specs.Errors.{errno_text}
-use Rattle.path_walk.specs.declared.change.Change.{Change}
-use Rattle.path_walk.specs.Apply.{Changed}
-use Rattle.path_walk.specs.Plain.{outcome}
-use Rattle.rule_text.specs.Profile.{ProfileValue}
+use Rattle.directory_tree.specs.declared.change.Change.{Change}
+use Rattle.directory_tree.specs.Apply.{Changed}
+use Rattle.directory_tree.specs.Plain.{outcome}
+use Rattle.rule_reader.specs.Profile.{ProfileValue}
 use Rattle.trace_script.specs.declared.stop.Stop.{Stop}
-use Rattle.trace_script.specs.declared.stop.Stop.TheVariants.{NoCommand, Input, Memory, Output}
-use Rattle.trace_script.specs.declared.place.Place.{Place as PlaceHere}
-use Rattle.trace_script.specs.declared.place.Place.TheVariants.{Within}
-use Rattle.trace_script.specs.Following.{Followed, followed, silent_line, printed_line, place_value, is_open_at, IsClosed, IsFollowed, IsShortOf, IsLineFollowed, IsPrinted, IsPut}
+use Rattle.trace_script.specs.declared.stop.Stop.TheVariants.{NoCommand, Input, TooLong, Memory, Output}
+use Rattle.trace_script.specs.declared.section.Section.{Section as SectionHere}
+use Rattle.trace_script.specs.declared.section.Section.TheVariants.{Within}
+use Rattle.trace_script.specs.inner.Following.{Followed, followed, silent_line, printed_line, section_value, is_open_at, IsClosed, IsFollowed, IsShortOf, IsLineFollowed, IsPrinted, IsPut}
 use Rattle.trace_report.specs.Output.{line}
-use Rattle.plain_bench.specs.Known.{Known, policy_version, with_change, with_deed, after_link, tree_version}
+use Rattle.mediation.specs.History.{History, policy_version, with_change, with_deed, after_link, tree_version}
 use Rattle.trace_script.specs.RunOutput.{Printed, printed, printed_lines, text_of_lines, drop_printed, change_printed}
-use Rattle.plain_bench.specs.Linking.{LinkAnswered, made, not_allowed, failed, no_profile}
-use Rattle.plain_bench.specs.Published.{published, removed}
-use Rattle.trace_script.specs.Script.{Place, outside, within, Command, publish, Said, nothing, opens_policy, command, no_command, said, words_of, is_end, line_feed, Script, script_of, script_from, first_command, stops_at, lines_of}
+use Rattle.mediation.specs.Linking.{LinkAnswered, made, not_allowed, failed, no_profile}
+use Rattle.mediation.specs.Deeds.{published_rules, removed}
+use Rattle.trace_script.specs.Script.{Section, outside, within, Command, publish, LineKind, ignored, opens_policy, command, no_command, line_kind, words_of, is_end, line_feed, Script, script_of, script_from, first_command, stops_at, lines_of}
 use Rattle.trace_report.specs.Streams.{AppendsFront}
 use Rattle.trace_report.proofs.Fronts.{Appends-more, Appends-kept}
 
 -- what a line outside a policy comes to, by what it says
-abbrev pub followed_said : StateLimit → Known → ℕ → Said → Result Followed ℕ
-followed_said limit known number s = elim s [
-  | nothing ↦ Ok (silent_line known outside)
-  | opens_policy ↦ Ok (silent_line known (within number []))
-  | command c ↦ Ok (printed_line (printed limit known c))
+abbrev pub followed_kind : StateLimit → History → ℕ → LineKind → Result Followed ℕ
+followed_kind limit history number s = elim s [
+  | ignored ↦ Ok (silent_line history outside)
+  | opens_policy ↦ Ok (silent_line history (within number []))
+  | command c ↦ Ok (printed_line (printed limit history c))
   | no_command ↦ Err number
 ]
 
-pub outside_says : (limit : StateLimit) (known : Known) (number : ℕ) (line : List ℕ) (s : Said) → s ≡ said (words_of line) → followed limit known outside number line ≡ followed_said limit known number s
-outside_says limit known number line s e = ap (followed_said limit known number) (sym e)
+pub outside_kind : (limit : StateLimit) (history : History) (number : ℕ) (line : List ℕ) (s : LineKind) → s ≡ line_kind (words_of line) → followed limit history outside number line ≡ followed_kind limit history number s
+outside_kind limit history number line s e = ap (followed_kind limit history number) (sym e)
 
 -- what a line of a policy comes to
-abbrev pub followed_within : StateLimit → Known → ℕ → List ℕ → List ℕ → Bool → Result Followed ℕ
-followed_within limit known start text line ends = cond ends (Ok (printed_line (printed limit known (publish text)))) (Ok (silent_line known (within start (text ++ line ++ line_feed ∷ []))))
+abbrev pub followed_within : StateLimit → History → ℕ → List ℕ → List ℕ → Bool → Result Followed ℕ
+followed_within limit history start text line ends = cond ends (Ok (printed_line (printed limit history (publish text)))) (Ok (silent_line history (within start (text ++ line ++ line_feed ∷ []))))
 
 -- one line is the text of its list
 pub one_line : (text : List ℕ) → line text ≡ text_of_lines (text ∷ [])
 one_line text = sym (append-nil (line text))
 
 -- a command that was printed_line on a line outside
-pub answered_whole : (p : Printed) (known : Known) (before after : Option (List ℕ)) → known ≡ p.known → Appends before after (line p.text)
-    → (known ≡ (printed_line p).known) × Appends before after (text_of_lines (printed_line p).lines)
-answered_whole p known before after e h = (e, rw (← one_line p.text) h)
+pub answered_whole : (p : Printed) (history : History) (before after : Option (List ℕ)) → history ≡ p.history → Appends before after (line p.text)
+    → (history ≡ (printed_line p).history) × Appends before after (text_of_lines (printed_line p).lines)
+answered_whole p history before after e h = (e, rw (← one_line p.text) h)
 
-pub printed_stop : (p : Printed) (known : Known) (wanted : Result Followed ℕ) (before after : Option (List ℕ)) (stop : Stop)
-    → wanted ≡ Ok (printed_line p) → IsPrinted {T = Unit {0}} p known before after (Err stop) → IsLineFollowed wanted known before after (Err stop)
-printed_stop p known wanted before after (NoCommand number) e h = absurd h
-printed_stop p known wanted before after Input e h = absurd h
-printed_stop p known wanted before after Memory e h = h
-printed_stop p known wanted before after Output e h = (printed_line p, e, rw (← one_line p.text) h)
+pub printed_stop : (p : Printed) (history : History) (wanted : Result Followed ℕ) (before after : Option (List ℕ)) (stop : Stop)
+    → wanted ≡ Ok (printed_line p) → IsPrinted {T = Unit {0}} p history before after (Err stop) → IsLineFollowed wanted history before after (Err stop)
+printed_stop p history wanted before after (NoCommand number) e h = absurd h
+printed_stop p history wanted before after Input e h = absurd h
+printed_stop p history wanted before after TooLong e h = absurd h
+printed_stop p history wanted before after Memory e h = h
+printed_stop p history wanted before after Output e h = (printed_line p, e, rw (← one_line p.text) h)
 
 -- a composed line that was written, or not
-pub printed_by : {T : Type 0} (p : Printed) (known : Known) (before after : Option (List ℕ)) (bytes : List ℕ) (result : Result T Stop)
-    → bytes ≡ line p.text → known ≡ p.known → IsPut before after bytes result → IsPrinted p known before after result
-printed_by p known before after bytes (Ok done) e k h = (k, rw e at h)
-printed_by p known before after bytes (Err (NoCommand number)) e k h = absurd h
-printed_by p known before after bytes (Err Input) e k h = absurd h
-printed_by p known before after bytes (Err Memory) e k h = absurd h
-printed_by p known before after bytes (Err Output) e k h = rw e at h
+pub printed_by : {T : Type 0} (p : Printed) (history : History) (before after : Option (List ℕ)) (bytes : List ℕ) (result : Result T Stop)
+    → bytes ≡ line p.text → history ≡ p.history → IsPut before after bytes result → IsPrinted p history before after result
+printed_by p history before after bytes (Ok done) e k h = (k, rw e at h)
+printed_by p history before after bytes (Err (NoCommand number)) e k h = absurd h
+printed_by p history before after bytes (Err Input) e k h = absurd h
+printed_by p history before after bytes (Err TooLong) e k h = absurd h
+printed_by p history before after bytes (Err Memory) e k h = absurd h
+printed_by p history before after bytes (Err Output) e k h = rw e at h
 
 -- a change that was accepted
-abbrev changed_printed : Known → Change → Changed → Printed
-changed_printed known c o = elim o [
-  | Ok t ↦ record { text = codes "ok " ++ decimal (tree_version known + 1); known = with_change known c }
-  | Err errno ↦ record { text = errno_text errno; known = known }
+abbrev changed_printed : History → Change → Changed → Printed
+changed_printed history c o = elim o [
+  | Ok t ↦ record { text = codes "ok " ++ decimal (tree_version history + 1); history = with_change history c }
+  | Err errno ↦ record { text = errno_text errno; history = history }
 ]
 
-pub accepted : (known after : Known) (c : Change) (version : ℕ) → IsOk (outcome known.tree c) → after ≡ with_change known c → version ≡ tree_version after
-    → (line (codes "ok " ++ decimal version) ≡ line (change_printed known (Ok c)).text) × (after ≡ (change_printed known (Ok c)).known)
-accepted known after c version ok e v = by (outcome known.tree c) ok
+pub accepted : (history after : History) (c : Change) (version : ℕ) → IsOk (outcome history.tree c) → after ≡ with_change history c → version ≡ tree_version after
+    → (line (codes "ok " ++ decimal version) ≡ line (change_printed history (Ok c)).text) × (after ≡ (change_printed history (Ok c)).history)
+accepted history after c version ok e v = by (outcome history.tree c) ok
   where
-    counted : version ≡ tree_version known + 1
-    counted = v ∙ ap tree_version e ∙ length-append known.tree.history (c ∷ [])
+    counted : version ≡ tree_version history + 1
+    counted = v ∙ ap tree_version e ∙ length-append history.tree.history (c ∷ [])
 
-    by : (o : Changed) → IsOk o → (line (codes "ok " ++ decimal version) ≡ line (changed_printed known c o).text) × (after ≡ (changed_printed known c o).known)
+    by : (o : Changed) → IsOk o → (line (codes "ok " ++ decimal version) ≡ line (changed_printed history c o).text) × (after ≡ (changed_printed history c o).history)
     by (Ok t) h = (ap (λ n. line (codes "ok " ++ decimal n)) counted, e)
     by (Err errno) h = cc
 
 -- a line within a policy
-pub within_ends : (limit : StateLimit) (known : Known) (place : PlaceHere) (start : ℕ) (text : Vec ℕ Global) (number : ℕ) (line : List ℕ) → place ≡ Within start text → is_end line ≡ true
-    → followed limit known (place_value place) number line ≡ Ok (printed_line (printed limit known (publish text.items)))
-within_ends limit known place start text number line e ends = ap (λ p. followed limit known (place_value p) number line) e ∙ ap (followed_within limit known start text.items line) ends
+pub within_ends : (limit : StateLimit) (history : History) (section : SectionHere) (start : ℕ) (text : Vec ℕ Global) (number : ℕ) (line : List ℕ) → section ≡ Within start text → is_end line ≡ true
+    → followed limit history (section_value section) number line ≡ Ok (printed_line (printed limit history (publish text.items)))
+within_ends limit history section start text number line e ends = ap (λ p. followed limit history (section_value p) number line) e ∙ ap (followed_within limit history start text.items line) ends
 
-pub within_goes_on : (limit : StateLimit) (known : Known) (place : PlaceHere) (start : ℕ) (text : Vec ℕ Global) (number : ℕ) (line : List ℕ) → place ≡ Within start text → is_end line ≡ false
-    → followed limit known (place_value place) number line ≡ Ok (silent_line known (within start (text.items ++ line ++ line_feed ∷ [])))
-within_goes_on limit known place start text number line e ends = ap (λ p. followed limit known (place_value p) number line) e ∙ ap (followed_within limit known start text.items line) ends
+pub within_goes_on : (limit : StateLimit) (history : History) (section : SectionHere) (start : ℕ) (text : Vec ℕ Global) (number : ℕ) (line : List ℕ) → section ≡ Within start text → is_end line ≡ false
+    → followed limit history (section_value section) number line ≡ Ok (silent_line history (within start (text.items ++ line ++ line_feed ∷ [])))
+within_goes_on limit history section start text number line e ends = ap (λ p. followed limit history (section_value p) number line) e ∙ ap (followed_within limit history start text.items line) ends
 
 -- a script, by what its next line comes to
-abbrev Agrees : StateLimit → Known → Script → ℕ → List (List ℕ) → Result Followed ℕ → Type 0
-Agrees limit known script number left (Ok f) =
-    (printed_lines limit known script.commands ≡ f.lines ++ printed_lines limit f.known (script_from f.place number left).commands)
-    × (script.stopped ≡ (script_from f.place number left).stopped)
-Agrees limit known script number left (Err stopped) = (script.commands ≡ []) × (script.stopped ≡ Some stopped)
+abbrev Agrees : StateLimit → History → Script → ℕ → List (List ℕ) → Result Followed ℕ → Type 0
+Agrees limit history script number left (Ok f) =
+    (printed_lines limit history script.commands ≡ f.lines ++ printed_lines limit f.history (script_from f.section number left).commands)
+    × (script.stopped ≡ (script_from f.section number left).stopped)
+Agrees limit history script number left (Err stopped) = (script.commands ≡ []) × (script.stopped ≡ Some stopped)
 
-abbrev script_said : ℕ → List (List ℕ) → Said → Script
-script_said before left s = elim s [
-  | nothing ↦ script_from outside (before + 1) left
+abbrev script_kind : ℕ → List (List ℕ) → LineKind → Script
+script_kind before left s = elim s [
+  | ignored ↦ script_from outside (before + 1) left
   | opens_policy ↦ script_from (within (before + 1) []) (before + 1) left
   | command c ↦ first_command c (script_from outside (before + 1) left)
   | no_command ↦ stops_at (before + 1)
@@ -113,36 +115,36 @@ script_said before left s = elim s [
 abbrev script_within : ℕ → List ℕ → ℕ → List ℕ → List (List ℕ) → Bool → Script
 script_within start text before line left ends = cond ends (first_command (publish text) (script_from outside (before + 1) left)) (script_from (within start (text ++ line ++ line_feed ∷ [])) (before + 1) left)
 
-next_line : (limit : StateLimit) (known : Known) (place : Place) (before : ℕ) (line : List ℕ) (left : List (List ℕ))
-    → Agrees limit known (script_from place before (line ∷ left)) (before + 1) left (followed limit known place (before + 1) line)
-next_line limit known outside before line left = by (said (words_of line))
+next_line : (limit : StateLimit) (history : History) (section : Section) (before : ℕ) (line : List ℕ) (left : List (List ℕ))
+    → Agrees limit history (script_from section before (line ∷ left)) (before + 1) left (followed limit history section (before + 1) line)
+next_line limit history outside before line left = by (line_kind (words_of line))
   where
-    by : (s : Said) → Agrees limit known (script_said before left s) (before + 1) left (followed_said limit known (before + 1) s)
-    by nothing = (refl, refl)
+    by : (s : LineKind) → Agrees limit history (script_kind before left s) (before + 1) left (followed_kind limit history (before + 1) s)
+    by ignored = (refl, refl)
     by opens_policy = (refl, refl)
     by (command c) = (refl, refl)
     by no_command = (refl, refl)
-next_line limit known (within start text) before line left = by (is_end line)
+next_line limit history (within start text) before line left = by (is_end line)
   where
-    by : (b : Bool) → Agrees limit known (script_within start text before line left b) (before + 1) left (followed_within limit known start text line b)
+    by : (b : Bool) → Agrees limit history (script_within start text before line left b) (before + 1) left (followed_within limit history start text line b)
     by true = (refl, refl)
     by false = (refl, refl)
 
 -- The lines that a text prints: these, and then those of the lines that are left.
-pub record IsAhead (limit : StateLimit) (known : Known) (text : List ℕ) (now : Known) (place : Place) (before : ℕ) (lines left : List (List ℕ)) : Type 0 where
-  pub printed : printed_lines limit known (script_of text).commands ≡ lines ++ printed_lines limit now (script_from place before left).commands
-  pub stopped : (script_of text).stopped ≡ (script_from place before left).stopped
+pub record IsAhead (limit : StateLimit) (history : History) (text : List ℕ) (now : History) (section : Section) (before : ℕ) (lines left : List (List ℕ)) : Type 0 where
+  pub printed : printed_lines limit history (script_of text).commands ≡ lines ++ printed_lines limit now (script_from section before left).commands
+  pub stopped : (script_of text).stopped ≡ (script_from section before left).stopped
 
-pub ahead_start : (limit : StateLimit) (known : Known) (text : List ℕ) → IsAhead limit known text known outside 0 [] (lines_of text)
-ahead_start limit known text = record { printed = refl; stopped = refl }
+pub ahead_start : (limit : StateLimit) (history : History) (text : List ℕ) → IsAhead limit history text history outside 0 [] (lines_of text)
+ahead_start limit history text = record { printed = refl; stopped = refl }
 
-pub ahead_next : (limit : StateLimit) (known : Known) (text : List ℕ) (now : Known) (place : Place) (before : ℕ) (lines : List (List ℕ)) (line : List ℕ) (left : List (List ℕ)) (f : Followed)
-    → IsAhead limit known text now place before lines (line ∷ left) → followed limit now place (before + 1) line ≡ Ok f
-    → IsAhead limit known text f.known f.place (before + 1) (lines ++ f.lines) left
-ahead_next limit known text now place before lines line left f ahead e =
-    let next = rw e at (next_line limit now place before line left) in
+pub ahead_next : (limit : StateLimit) (history : History) (text : List ℕ) (now : History) (section : Section) (before : ℕ) (lines : List (List ℕ)) (line : List ℕ) (left : List (List ℕ)) (f : Followed)
+    → IsAhead limit history text now section before lines (line ∷ left) → followed limit now section (before + 1) line ≡ Ok f
+    → IsAhead limit history text f.history f.section (before + 1) (lines ++ f.lines) left
+ahead_next limit history text now section before lines line left f ahead e =
+    let next = rw e at (next_line limit now section before line left) in
     record {
-      printed = ahead.printed ∙ ap (λ l. lines ++ l) next.0 ∙ sym (append_assoc lines f.lines (printed_lines limit f.known (script_from f.place (before + 1) left).commands));
+      printed = ahead.printed ∙ ap (λ l. lines ++ l) next.0 ∙ sym (append_assoc lines f.lines (printed_lines limit f.history (script_from f.section (before + 1) left).commands));
       stopped = ahead.stopped ∙ next.1;
     }
 
@@ -154,19 +156,19 @@ pub wrote_more : (a b c : Option (List ℕ)) (xs ys : List (List ℕ)) → Appen
 wrote_more a b c xs ys p q = rw (text_of_lines-append xs ys) (Appends-more a b c (text_of_lines xs) (text_of_lines ys) p q)
 
 -- each command has one line
-one_each : (limit : StateLimit) (known : Known) (cs : List Command) → length (printed_lines limit known cs) ≡ length cs
-one_each limit known [] = refl
-one_each limit known (c ∷ cs) = ap suc (one_each limit (printed limit known c).known cs)
+one_each : (limit : StateLimit) (history : History) (cs : List Command) → length (printed_lines limit history cs) ≡ length cs
+one_each limit history [] = refl
+one_each limit history (c ∷ cs) = ap suc (one_each limit (printed limit history c).history cs)
 
 -- a line has one command at most
 abbrev FewLeft : ℕ → List (List ℕ) → Type 0
-FewLeft before left = (place : Place) → length (script_from place before left).commands ≤ length left
+FewLeft before left = (section : Section) → length (script_from section before left).commands ≤ length left
 
-few_said : (before : ℕ) (line : List ℕ) (left : List (List ℕ)) → FewLeft (before + 1) left → (s : Said) → length (script_said before left s).commands ≤ length (line ∷ left)
-few_said before line left rest nothing = omega (arith, rest outside)
-few_said before line left rest opens_policy = omega (arith, rest (within (before + 1) []))
-few_said before line left rest (command c) = omega (arith, rest outside)
-few_said before line left rest no_command = omega arith
+few_kind : (before : ℕ) (line : List ℕ) (left : List (List ℕ)) → FewLeft (before + 1) left → (s : LineKind) → length (script_kind before left s).commands ≤ length (line ∷ left)
+few_kind before line left rest ignored = omega (arith, rest outside)
+few_kind before line left rest opens_policy = omega (arith, rest (within (before + 1) []))
+few_kind before line left rest (command c) = omega (arith, rest outside)
+few_kind before line left rest no_command = omega arith
 
 few_within : (start : ℕ) (text : List ℕ) (before : ℕ) (line : List ℕ) (left : List (List ℕ)) → FewLeft (before + 1) left → (b : Bool)
     → length (script_within start text before line left b).commands ≤ length (line ∷ left)
@@ -176,18 +178,18 @@ few_within start text before line left rest false = omega (arith, rest (within s
 few_commands : (before : ℕ) (left : List (List ℕ)) → FewLeft before left
 few_commands before [] outside = omega arith
 few_commands before [] (within start text) = omega arith
-few_commands before (line ∷ left) outside = few_said before line left (few_commands (before + 1) left) (said (words_of line))
+few_commands before (line ∷ left) outside = few_kind before line left (few_commands (before + 1) left) (line_kind (words_of line))
 few_commands before (line ∷ left) (within start text) = few_within start text before line left (few_commands (before + 1) left) (is_end line)
 
 -- of a text all commands are answered but those of the lines that are left
-pub still_few : (limit : StateLimit) (known : Known) (text : List ℕ) (now : Known) (place : Place) (before : ℕ) (lines left : List (List ℕ))
-    → IsAhead limit known text now place before lines left → length left ≤ 1 → length (script_of text).commands ≤ length lines + 1
-still_few limit known text now place before lines left ahead one =
-    let all = one_each limit known (script_of text).commands in
+pub still_few : (limit : StateLimit) (history : History) (text : List ℕ) (now : History) (section : Section) (before : ℕ) (lines left : List (List ℕ))
+    → IsAhead limit history text now section before lines left → length left ≤ 1 → length (script_of text).commands ≤ length lines + 1
+still_few limit history text now section before lines left ahead one =
+    let all = one_each limit history (script_of text).commands in
     let joined = ap length ahead.printed in
-    let sum = length-append lines (printed_lines limit now (script_from place before left).commands) in
-    let more = one_each limit now (script_from place before left).commands in
-    omega (arith, all, joined, sum, more, few_commands before left place, one)
+    let sum = length-append lines (printed_lines limit now (script_from section before left).commands) in
+    let more = one_each limit now (script_from section before left).commands in
+    omega (arith, all, joined, sum, more, few_commands before left section, one)
 
 -- the first lines stand, and no more
 pub short_of : (first after : Option (List ℕ)) (read : List ℕ) (a b : Option (List ℕ)) (all lines more : List (List ℕ)) → Consumes first after read
@@ -206,74 +208,76 @@ cut_at a b c all lines some more e h (front, back, split, appended) = (
 )
 
 -- no line is left
-pub ahead_closed : {T : Type 0} (limit : StateLimit) (first after : Option (List ℕ)) (known : Known) (text : List ℕ) (now : Known) (place : Place) (before : ℕ) (lines : List (List ℕ)) (a b : Option (List ℕ)) (result : Result T Stop)
-    → IsAhead limit known text now place before lines [] → IsClosed place result → Appends a b (text_of_lines lines)
-    → IsFollowed first after (printed_lines limit known (script_of text).commands) (script_of text).stopped a b result
-ahead_closed limit first after known text now place before lines a b result ahead closed h = by result closed
+pub ahead_closed : {T : Type 0} (limit : StateLimit) (first after : Option (List ℕ)) (history : History) (text : List ℕ) (now : History) (section : Section) (before : ℕ) (lines : List (List ℕ)) (a b : Option (List ℕ)) (result : Result T Stop)
+    → IsAhead limit history text now section before lines [] → IsClosed section result → Appends a b (text_of_lines lines)
+    → IsFollowed first after (printed_lines limit history (script_of text).commands) (script_of text).stopped a b result
+ahead_closed limit first after history text now section before lines a b result ahead closed h = by result closed
   where
-    over : (place : Place) → (script_from place before []).stopped ≡ is_open_at place
+    over : (section : Section) → (script_from section before []).stopped ≡ is_open_at section
     over outside = refl
     over (within start text) = refl
 
-    none : (place : Place) → lines ++ printed_lines limit now (script_from place before []).commands ≡ lines
+    none : (section : Section) → lines ++ printed_lines limit now (script_from section before []).commands ≡ lines
     none outside = append-nil lines
     none (within start text) = append-nil lines
 
-    all : Appends a b (text_of_lines (printed_lines limit known (script_of text).commands))
-    all = rw (ahead.printed ∙ none place) h
+    all : Appends a b (text_of_lines (printed_lines limit history (script_of text).commands))
+    all = rw (ahead.printed ∙ none section) h
 
-    by : {T : Type 0} (result : Result T Stop) → IsClosed place result → IsFollowed first after (printed_lines limit known (script_of text).commands) (script_of text).stopped a b result
-    by (Ok done) closed = (ahead.stopped ∙ over place ∙ closed, all)
-    by (Err (NoCommand number)) closed = (ahead.stopped ∙ over place ∙ closed, all)
+    by : {T : Type 0} (result : Result T Stop) → IsClosed section result → IsFollowed first after (printed_lines limit history (script_of text).commands) (script_of text).stopped a b result
+    by (Ok done) closed = (ahead.stopped ∙ over section ∙ closed, all)
+    by (Err (NoCommand number)) closed = (ahead.stopped ∙ over section ∙ closed, all)
     by (Err Input) closed = absurd closed
+    by (Err TooLong) closed = absurd closed
     by (Err Memory) closed = absurd closed
     by (Err Output) closed = absurd closed
 
 -- following stopped at a line
-pub ahead_stopped : (limit : StateLimit) (first taken : Option (List ℕ)) (read : List ℕ) (known : Known) (text : List ℕ) (now after : Known) (place : Place) (before : ℕ) (lines : List (List ℕ)) (line : List ℕ) (left : List (List ℕ)) (a b c : Option (List ℕ)) (stop : Stop)
+pub ahead_stopped : (limit : StateLimit) (first taken : Option (List ℕ)) (read : List ℕ) (history : History) (text : List ℕ) (now after : History) (section : Section) (before : ℕ) (lines : List (List ℕ)) (line : List ℕ) (left : List (List ℕ)) (a b c : Option (List ℕ)) (stop : Stop)
     → Consumes first taken read → length (script_of read).commands ≤ length lines + 1
-    → IsAhead limit known text now place before lines (line ∷ left) → IsLineFollowed (followed limit now place (before + 1) line) after b c (Err stop) → Appends a b (text_of_lines lines)
-    → IsFollowed {T = Unit {0}} first taken (printed_lines limit known (script_of text).commands) (script_of text).stopped a c (Err stop)
-ahead_stopped limit first taken read known text now after place before lines line left a b c (NoCommand number) consumed few ahead (e, kept) h =
-    let next = rw e at (next_line limit now place before line left) in
-    let none : printed_lines limit known (script_of text).commands ≡ lines = ahead.printed ∙ ap (λ cs. lines ++ printed_lines limit now cs) next.0 ∙ append-nil lines in
+    → IsAhead limit history text now section before lines (line ∷ left) → IsLineFollowed (followed limit now section (before + 1) line) after b c (Err stop) → Appends a b (text_of_lines lines)
+    → IsFollowed {T = Unit {0}} first taken (printed_lines limit history (script_of text).commands) (script_of text).stopped a c (Err stop)
+ahead_stopped limit first taken read history text now after section before lines line left a b c (NoCommand number) consumed few ahead (e, kept) h =
+    let next = rw e at (next_line limit now section before line left) in
+    let none : printed_lines limit history (script_of text).commands ≡ lines = ahead.printed ∙ ap (λ cs. lines ++ printed_lines limit now cs) next.0 ∙ append-nil lines in
     (ahead.stopped ∙ next.1, rw none (Appends-kept a b c (text_of_lines lines) h kept))
-ahead_stopped limit first taken read known text now after place before lines line left a b c Input consumed few ahead stopped h = absurd stopped
-ahead_stopped limit first taken read known text now after place before lines line left a b c Memory consumed few ahead kept h =
+ahead_stopped limit first taken read history text now after section before lines line left a b c Input consumed few ahead stopped h = absurd stopped
+ahead_stopped limit first taken read history text now after section before lines line left a b c TooLong consumed few ahead stopped h = absurd stopped
+ahead_stopped limit first taken read history text now after section before lines line left a b c Memory consumed few ahead kept h =
     short_of first taken read a c _ lines _ consumed few ahead.printed (Appends-kept a b c (text_of_lines lines) h kept)
-ahead_stopped limit first taken read known text now after place before lines line left a b c Output consumed few ahead (f, e, front) h =
-    let next = rw e at (next_line limit now place before line left) in
+ahead_stopped limit first taken read history text now after section before lines line left a b c Output consumed few ahead (f, e, front) h =
+    let next = rw e at (next_line limit now section before line left) in
     cut_at a b c _ lines f.lines _ (ahead.printed ∙ ap (λ l. lines ++ l) next.0) h front
 
 -- each command makes one version of the policy at most
-abbrev pub AtMostOneMore : Known → Known → Type 0
-AtMostOneMore known after = policy_version after ≤ policy_version known + 1
+abbrev pub AtMostOneMore : History → History → Type 0
+AtMostOneMore history after = policy_version after ≤ policy_version history + 1
 
-pub drop_few : (known after : Known) (name : List ℕ) → after ≡ (drop_printed known name).known → AtMostOneMore known after
-drop_few known after name e = rw e (omega (arith, length-append known.deeds (removed name ∷ [])))
+pub drop_few : (history after : History) (name : List ℕ) → after ≡ (drop_printed history name).history → AtMostOneMore history after
+drop_few history after name e = rw e (omega (arith, length-append history.deeds (removed name ∷ [])))
 
-pub publish_few : (known after : Known) (profile : ProfileValue) → after ≡ with_deed known (published profile) → AtMostOneMore known after
-publish_few known after profile e = rw e (omega (arith, length-append known.deeds (published profile ∷ [])))
+pub publish_few : (history after : History) (profile : ProfileValue) → after ≡ with_deed history (published_rules profile) → AtMostOneMore history after
+publish_few history after profile e = rw e (omega (arith, length-append history.deeds (published_rules profile ∷ [])))
 
-pub same_few : (known after : Known) → after ≡ known → AtMostOneMore known after
-same_few known after e = rw e (omega arith)
+pub same_few : (history after : History) → after ≡ history → AtMostOneMore history after
+same_few history after e = rw e (omega arith)
 
-pub change_few : (known after : Known) (r : Result Change Errno) → after ≡ (change_printed known r).known → AtMostOneMore known after
-change_few known after r e = rw e (tried r)
+pub change_few : (history after : History) (r : Result Change Errno) → after ≡ (change_printed history r).history → AtMostOneMore history after
+change_few history after r e = rw e (tried r)
   where
-    changed_by : (c : Change) (o : Changed) → AtMostOneMore known (changed_printed known c o).known
+    changed_by : (c : Change) (o : Changed) → AtMostOneMore history (changed_printed history c o).history
     changed_by c (Ok t) = omega arith
     changed_by c (Err errno) = omega arith
 
-    tried : (r : Result Change Errno) → AtMostOneMore known (change_printed known r).known
-    tried (Ok c) = changed_by c (outcome known.tree c)
+    tried : (r : Result Change Errno) → AtMostOneMore history (change_printed history r).history
+    tried (Ok c) = changed_by c (outcome history.tree c)
     tried (Err errno) = omega arith
 
-pub link_few : (known after : Known) (old new : List ℕ) (a : LinkAnswered) → after ≡ after_link known old new a → AtMostOneMore known after
-link_few known after old new a e = rw e (by a)
+pub link_few : (history after : History) (old new : List ℕ) (a : LinkAnswered) → after ≡ after_link history old new a → AtMostOneMore history after
+link_few history after old new a e = rw e (by a)
   where
-    by : (a : LinkAnswered) → AtMostOneMore known (after_link known old new a)
-    by (made node version policy) = omega arith
+    by : (a : LinkAnswered) → AtMostOneMore history (after_link history old new a)
+    by (made j version policy) = omega arith
     by (not_allowed j version policy) = omega arith
     by (failed errno version) = omega arith
     by (no_profile policy) = omega arith

@@ -14,8 +14,8 @@ use Rattle.std.specs.Prelude.{Result, Ok, Err}
 use Rattle.std.specs.Result.{IsErrAnd}
 use Rattle.trace_script.specs.declared.read_line.LineRead.{LineRead}
 use Rattle.trace_script.specs.declared.stop.Stop.{Stop}
-use Rattle.trace_script.specs.declared.stop.Stop.TheVariants.{NoCommand, Input, Memory, Output}
-use Rattle.trace_script.specs.Following.{IsStopOfReading, IsPartRead, IsLineRead}
+use Rattle.trace_script.specs.declared.stop.Stop.TheVariants.{NoCommand, Input, TooLong, Memory, Output}
+use Rattle.trace_script.specs.inner.Following.{IsStopOfReading, IsPartRead, IsLineRead}
 use Rattle.trace_script.specs.Script.{line_feed, lines_of, onto_first_line}
 
 -- what has no line feed is taken whole
@@ -132,6 +132,7 @@ pub stopped_reading : (left after : Option (List ℕ)) (line : List ℕ) (error 
 stopped_reading left after line error (Ok read) is part = absurd is
 stopped_reading left after line error (Err (NoCommand number)) is part = absurd is
 stopped_reading left after line error (Err Input) is part = part
+stopped_reading left after line error (Err TooLong) is part = absurd is
 stopped_reading left after line error (Err Memory) is part = part
 stopped_reading left after line error (Err Output) is part = absurd is
 

@@ -4,12 +4,12 @@ use Rattle.std.specs.Io.KnownBytes.{Appends}
 use Rattle.std.proofs.lemmas.List.{append-nil}
 use Rattle.glob_automaton.specs.Automata.{StateLimit}
 use Rattle.trace_script.specs.declared.stop.Stop.{Stop}
-use Rattle.trace_script.specs.declared.stop.Stop.TheVariants.{NoCommand, Input, Memory, Output}
+use Rattle.trace_script.specs.declared.stop.Stop.TheVariants.{NoCommand, Input, TooLong, Memory, Output}
 use Rattle.trace_report.specs.declared.status.Status.{Status}
 use Rattle.trace_report.specs.declared.status.Status.TheVariants.{Done, Refused}
-use Rattle.trace_script.specs.Following.{IsFollowed, stop_text, stop_status}
+use Rattle.trace_script.specs.inner.Following.{IsFollowed, stop_text, stop_status}
 use Rattle.trace_report.specs.Output.{Output as Written, line}
-use Rattle.plain_bench.specs.Known.{Known}
+use Rattle.mediation.specs.History.{History}
 use Rattle.trace_script.specs.RunOutput.{ScriptEnds, script_output, printed_lines, text_of_lines}
 use Rattle.trace_script.specs.Script.{Script, script_of}
 use Rattle.trace_report.specs.Streams.{AppendsFront, IsTold, IsWritten, Streams}
@@ -22,14 +22,14 @@ stopped_output answers stopped = elim stopped [
   | Some number ↦ record { answers = answers; faults = line (codes "line " ++ decimal number ++ codes ": not a command"); status = Refused }
 ]
 
-output_is : (limit : StateLimit) (known : Known) (script : Script) (stopped : Option ℕ) → script.stopped ≡ stopped → script_output limit known script ≡ stopped_output (text_of_lines (printed_lines limit known script.commands)) stopped
-output_is limit known script stopped e = ap (stopped_output (text_of_lines (printed_lines limit known script.commands))) e
+output_is : (limit : StateLimit) (history : History) (script : Script) (stopped : Option ℕ) → script.stopped ≡ stopped → script_output limit history script ≡ stopped_output (text_of_lines (printed_lines limit history script.commands)) stopped
+output_is limit history script stopped e = ap (stopped_output (text_of_lines (printed_lines limit history script.commands))) e
 
 -- what is written on standard output doesn't depend on why no more is
-answers_are : (limit : StateLimit) (known : Known) (script : Script) → text_of_lines (printed_lines limit known script.commands) ≡ (script_output limit known script).answers
-answers_are limit known script = by script.stopped
+answers_are : (limit : StateLimit) (history : History) (script : Script) → text_of_lines (printed_lines limit history script.commands) ≡ (script_output limit history script).answers
+answers_are limit history script = by script.stopped
   where
-    by : (stopped : Option ℕ) → text_of_lines (printed_lines limit known script.commands) ≡ (stopped_output (text_of_lines (printed_lines limit known script.commands)) stopped).answers
+    by : (stopped : Option ℕ) → text_of_lines (printed_lines limit history script.commands) ≡ (stopped_output (text_of_lines (printed_lines limit history script.commands)) stopped).answers
     by None = refl
     by (Some number) = refl
 
@@ -40,41 +40,43 @@ first_lines a b all count h =
 front_stands : (left after a b : Option (List ℕ)) (all : List (List ℕ)) (stopped : Option ℕ) (stop : Stop) → IsFollowed {T = Unit {0}} left after all stopped a b (Err stop) → AppendsFront a b (text_of_lines all)
 front_stands left after a b all stopped (NoCommand number) h = (text_of_lines all, [], sym (append-nil (text_of_lines all)), h.1)
 front_stands left after a b all stopped Input h = first_lines a b all h.0 h.2
+front_stands left after a b all stopped TooLong h = first_lines a b all h.1.0 h.1.2
 front_stands left after a b all stopped Memory h = first_lines a b all h.0 h.2
 front_stands left after a b all stopped Output h = h
 
-module _ (limit : StateLimit) (known : Known) (text : List ℕ) (left after a b f t : Option (List ℕ)) where
+module _ (limit : StateLimit) (history : History) (text : List ℕ) (left after a b f t : Option (List ℕ)) where
   abbrev streams : Streams
   streams = record { answers_before = a; answers_after = b; faults_before = f; faults_after = t }
 
   abbrev Follows : Stop → Type 0
-  Follows stop = IsFollowed {T = Unit {0}} left after (printed_lines limit known (script_of text).commands) (script_of text).stopped a b (Err stop)
+  Follows stop = IsFollowed {T = Unit {0}} left after (printed_lines limit history (script_of text).commands) (script_of text).stopped a b (Err stop)
 
-  told_so : (stop : Stop) → Follows stop → Appends f t (line (stop_text stop)) → ScriptEnds limit streams left after known text (stop_status stop)
+  told_so : (stop : Stop) → Follows stop → Appends f t (line (stop_text stop)) → ScriptEnds limit streams left after history text (stop_status stop)
   told_so (NoCommand number) h told =
-      let wanted = output_is limit known (script_of text) (Some number) h.0 in
-      let written : IsWritten streams (stopped_output (text_of_lines (printed_lines limit known (script_of text).commands)) (Some number)) Refused = record { answers = h.1; faults = told; ends = refl } in
+      let wanted = output_is limit history (script_of text) (Some number) h.0 in
+      let written : IsWritten streams (stopped_output (text_of_lines (printed_lines limit history (script_of text).commands)) (Some number)) Refused = record { answers = h.1; faults = told; ends = refl } in
       let P : Written → Type 0 = λ output. IsWritten streams output Refused in
       subst P (sym wanted) written
   told_so Input h told = record { count = h.0; read = h.1; answers = h.2; faults = told }
+  told_so TooLong h told = record { count = h.1.0; read = h.1.1; answers = h.1.2; faults = told }
   told_so Memory h told = record { count = h.0; read = h.1; answers = h.2; faults = told }
-  told_so Output h told = record { answers = rw (answers_are limit known (script_of text)) at h; faults = told }
+  told_so Output h told = record { answers = rw (answers_are limit history (script_of text)) at h; faults = told }
 
-  pub script_ends : (stop : Stop) (status : Status) → Follows stop → IsTold f t (stop_text stop) (stop_status stop) status → ScriptEnds limit streams left after known text status
+  pub script_ends : (stop : Stop) (status : Status) → Follows stop → IsTold f t (stop_text stop) (stop_status stop) status → ScriptEnds limit streams left after history text status
   script_ends stop status h (inl e) =
       let front = front_stands left after a b _ _ stop h in
-      let P : Status → Type 0 = λ status. ScriptEnds limit streams left after known text status in
-      subst P (sym e) (rw (answers_are limit known (script_of text)) at front)
+      let P : Status → Type 0 = λ status. ScriptEnds limit streams left after history text status in
+      subst P (sym e) (rw (answers_are limit history (script_of text)) at front)
   script_ends stop status h (inr (e, told)) =
-      let P : Status → Type 0 = λ status. ScriptEnds limit streams left after known text status in
+      let P : Status → Type 0 = λ status. ScriptEnds limit streams left after history text status in
       subst P (sym e) (told_so stop h told)
 
 -- a script that was followed to its end
-pub script_done : (limit : StateLimit) (known : Known) (text : List ℕ) (a b f : Option (List ℕ)) → (script_of text).stopped ≡ None
-    → Appends a b (text_of_lines (printed_lines limit known (script_of text).commands))
-    → IsWritten (record { answers_before = a; answers_after = b; faults_before = f; faults_after = f }) (script_output limit known (script_of text)) Done
-script_done limit known text a b f e h =
+pub script_done : (limit : StateLimit) (history : History) (text : List ℕ) (a b f : Option (List ℕ)) → (script_of text).stopped ≡ None
+    → Appends a b (text_of_lines (printed_lines limit history (script_of text).commands))
+    → IsWritten (record { answers_before = a; answers_after = b; faults_before = f; faults_after = f }) (script_output limit history (script_of text)) Done
+script_done limit history text a b f e h =
     let streams : Streams = record { answers_before = a; answers_after = b; faults_before = f; faults_after = f } in
-    let written : IsWritten streams (stopped_output (text_of_lines (printed_lines limit known (script_of text).commands)) None) Done = record { answers = h; faults = appends_nothing f; ends = refl } in
+    let written : IsWritten streams (stopped_output (text_of_lines (printed_lines limit history (script_of text).commands)) None) Done = record { answers = h; faults = appends_nothing f; ends = refl } in
     let P : Written → Type 0 = λ output. IsWritten streams output Done in
-    subst P (sym (output_is limit known (script_of text) None e)) written
+    subst P (sym (output_is limit history (script_of text) None e)) written

@@ -1,5 +1,5 @@
 pub mod Script
+pub mod AnswerText
 pub mod RunOutput
-pub mod Line
-pub mod Following
 pub mod Rows
+pub mod inner

@@ -8,27 +8,28 @@ use Rattle.matcher.specs.declared.fault.MakeFault.TheVariants.{TooManyStates}
 use Rattle.names.specs.declared.errors.Errno.{Errno}
 use Rattle.names.specs.Errors.{errno_text}
 use Rattle.names.specs.declared.permissions.Perms.{Perms}
-use Rattle.path_walk.specs.declared.change.Change.{Change}
-use Rattle.path_walk.specs.declared.change.Change.TheVariants as tree
-use Rattle.path_walk.specs.Plain.{tree_of, outcome}
-use Rattle.path_walk.specs.Apply.{and_then}
-use Rattle.rule_text.specs.declared.fault.ReadFault.{ReadFault}
-use Rattle.rule_text.specs.Profile.{ProfileValue}
-use Rattle.rule_text.specs.Reading.{outcome_of}
+use Rattle.directory_tree.specs.declared.change.Change.{Change}
+use Rattle.directory_tree.specs.declared.change.Change.TheVariants as tree
+use Rattle.directory_tree.specs.Plain.{outcome}
+use Rattle.directory_tree.specs.Apply.{and_then}
+use Rattle.rule_reader.specs.declared.fault.ReadFault.{ReadFault}
+use Rattle.rule_reader.specs.Profile.{ProfileValue}
+use Rattle.rule_reader.specs.Reading.{outcome_of}
 use Rattle.trace_report.specs.declared.status.Status.{Status}
 use Rattle.trace_report.specs.declared.status.Status.TheVariants.{Done, BadArguments, Refused, InputFailed, OutputFailed, FaultsFailed, NoMemory}
 use Rattle.trace_report.specs.Output.{Output, line, refusal, compile_refusal}
 use Rattle.trace_report.specs.Streams.{Streams, IsWritten, AppendsFront}
 use Rattle.trace_script.specs.Script.{ChangeWords, Command, Script, mkdir, create, symlink, link, unlink, rmdir, rename, publish, remove, alter, judge_open, judge_link, script_of}
-use Rattle.plain_bench.specs.Known.{Known, new_known, with_deed, with_change, after_link, tree_version, policy_version}
-use Rattle.plain_bench.specs.Published.{published, removed, policy_after}
-use Rattle.plain_bench.specs.Opening.{path_of, answered_by, answered_text}
-use Rattle.plain_bench.specs.Linking.{LinkAnswered, link_answered, link_answered_text}
+use Rattle.mediation.specs.History.{History, new_history, with_deed, with_change, after_link, tree_version, policy_version, open_answer, link_answer}
+use Rattle.mediation.specs.Deeds.{published_rules, removed}
+use Rattle.mediation.specs.Opening.{path_of}
+use Rattle.mediation.specs.Linking.{LinkAnswered}
+use Rattle.trace_script.specs.AnswerText.{answered_text, link_answered_text}
 
--- a line that is printed, and what is known then
+-- a line that is printed, and what was done then
 pub record Printed : Type 0 where
   pub text : List ℕ
-  pub known : Known
+  pub history : History
 
 -- a change with checked paths, or the first fault of a path, the old one's before the new one's
 abbrev pub change_of : ChangeWords → Result Change Errno
@@ -41,85 +42,84 @@ change_of (rmdir path) = and_then (path_of path) (λ p. Ok (tree.Rmdir p))
 change_of (rename old new) = and_then (path_of old) (λ a. and_then (path_of new) (λ b. Ok (tree.Rename a b)))
 
 -- `ok V`, with the tree's new version, or why the change is refused
-abbrev pub change_printed : Known → Result Change Errno → Printed
-change_printed known (Err errno) = record { text = errno_text errno; known = known }
-change_printed known (Ok c) = elim (outcome known.tree c) [
-  | Ok t ↦ record { text = codes "ok " ++ decimal (tree_version known + 1); known = with_change known c }
-  | Err errno ↦ record { text = errno_text errno; known = known }
+abbrev pub change_printed : History → Result Change Errno → Printed
+change_printed history (Err errno) = record { text = errno_text errno; history = history }
+change_printed history (Ok c) = elim (outcome history.tree c) [
+  | Ok t ↦ record { text = codes "ok " ++ decimal (tree_version history + 1); history = with_change history c }
+  | Err errno ↦ record { text = errno_text errno; history = history }
 ]
 
 -- a profile that isn't over the limit is published: `policy NAME version V`, with the policy's new version; one that is over
 -- it is refused: `policy refused: compile 1`
-abbrev pub profile_printed : Known → ProfileValue → Bool → Printed
-profile_printed known profile is_over =
+abbrev pub profile_printed : History → ProfileValue → Bool → Printed
+profile_printed history profile is_over =
     if is_over
-    then record { text = codes "policy " ++ compile_refusal TooManyStates; known = known }
+    then record { text = codes "policy " ++ compile_refusal TooManyStates; history = history }
     else record {
-      text = codes "policy " ++ profile.name ++ codes " version " ++ decimal (policy_version known + 1);
-      known = with_deed known (published profile);
+      text = codes "policy " ++ profile.name ++ codes " version " ++ decimal (policy_version history + 1);
+      history = with_deed history (published_rules profile);
     }
 
 -- what is printed of a profile, or `policy refused: read N at OFFSET`; a refusal changes nothing
-abbrev pub policy_printed : StateLimit → Known → Result ProfileValue ReadFault → Printed
-policy_printed limit known (Ok profile) = profile_printed known profile (limit.is_over profile.rules)
-policy_printed limit known (Err fault) = record { text = codes "policy " ++ refusal fault; known = known }
+abbrev pub policy_printed : StateLimit → History → Result ProfileValue ReadFault → Printed
+policy_printed limit history (Ok profile) = profile_printed history profile (limit.is_over profile.rules)
+policy_printed limit history (Err fault) = record { text = codes "policy " ++ refusal fault; history = history }
 
 -- `policy NAME removed version V`, whether or not there was such a profile
-abbrev pub drop_printed : Known → List ℕ → Printed
-drop_printed known name = record {
-  text = codes "policy " ++ name ++ codes " removed version " ++ decimal (policy_version known + 1);
-  known = with_deed known (removed name);
+abbrev pub drop_printed : History → List ℕ → Printed
+drop_printed history name = record {
+  text = codes "policy " ++ name ++ codes " removed version " ++ decimal (policy_version history + 1);
+  history = with_deed history (removed name);
 }
 
 -- an answer to a judged link
-abbrev pub link_printed : Known → List ℕ → List ℕ → LinkAnswered → Printed
-link_printed known old new answer = record { text = link_answered_text answer; known = after_link known old new answer }
+abbrev pub link_printed : History → List ℕ → List ℕ → LinkAnswered → Printed
+link_printed history old new answer = record { text = link_answered_text answer; history = after_link history old new answer }
 
 -- an answer to an open
-abbrev pub open_printed : Known → List ℕ → List ℕ → Perms → Printed
-open_printed known profile path ask = record {
-  text = answered_text (answered_by (tree_of known.tree) (tree_version known) (policy_version known) path ask (policy_after known.deeds profile));
-  known = known;
+abbrev pub open_printed : History → List ℕ → List ℕ → Perms → Printed
+open_printed history profile path ask = record {
+  text = answered_text (open_answer history profile path ask);
+  history = history;
 }
 
 -- an answer to a judged link, by the profile of a name
-abbrev pub judged_printed : Known → List ℕ → List ℕ → List ℕ → Printed
-judged_printed known profile old new =
-    link_printed known old new (link_answered known.tree (policy_version known) old new (policy_after known.deeds profile))
+abbrev pub judged_printed : History → List ℕ → List ℕ → List ℕ → Printed
+judged_printed history profile old new = link_printed history old new (link_answer history profile old new)
 
-abbrev pub printed : StateLimit → Known → Command → Printed
-printed limit known (publish text) = policy_printed limit known (outcome_of text)
-printed limit known (remove name) = drop_printed known name
-printed limit known (alter words) = change_printed known (change_of words)
-printed limit known (judge_open profile path ask) = open_printed known profile path ask
-printed limit known (judge_link profile old new) = judged_printed known profile old new
+abbrev pub printed : StateLimit → History → Command → Printed
+printed limit history (publish text) = policy_printed limit history (outcome_of text)
+printed limit history (remove name) = drop_printed history name
+printed limit history (alter words) = change_printed history (change_of words)
+printed limit history (judge_open profile path ask) = open_printed history profile path ask
+printed limit history (judge_link profile old new) = judged_printed history profile old new
 
 -- one line for each command, by what the commands before it have done
-abbrev pub printed_lines : StateLimit → Known → List Command → List (List ℕ)
-printed_lines limit known [] = []
-printed_lines limit known (c ∷ cs) = (printed limit known c).text ∷ printed_lines limit (printed limit known c).known cs
+abbrev pub printed_lines : StateLimit → History → List Command → List (List ℕ)
+printed_lines limit history [] = []
+printed_lines limit history (c ∷ cs) = (printed limit history c).text ∷ printed_lines limit (printed limit history c).history cs
 
 -- the bytes of lines, each with its line feed
 abbrev pub text_of_lines : List (List ℕ) → List ℕ
 text_of_lines lines = concat (map line lines)
 
 -- a script that runs to its end, or to a line that is no command
-abbrev pub script_output : StateLimit → Known → Script → Output
-script_output limit known script = elim (script.stopped) [
-  | None ↦ record { answers = text_of_lines (printed_lines limit known script.commands); faults = []; status = Done }
+abbrev pub script_output : StateLimit → History → Script → Output
+script_output limit history script = elim (script.stopped) [
+  | None ↦ record { answers = text_of_lines (printed_lines limit history script.commands); faults = []; status = Done }
   | Some number ↦ record {
-    answers = text_of_lines (printed_lines limit known script.commands);
+    answers = text_of_lines (printed_lines limit history script.commands);
     faults = line (codes "line " ++ decimal number ++ codes ": not a command");
     status = Refused;
   }
 ]
 
 abbrev pub run_output : StateLimit → ℕ → List ℕ → Output
-run_output limit capacity text = script_output limit (new_known capacity) (script_of text)
+run_output limit capacity text = script_output limit (new_history capacity) (script_of text)
 
 -- the lines of all commands of a script
 abbrev pub run_lines : StateLimit → ℕ → List ℕ → List (List ℕ)
-run_lines limit capacity text = printed_lines limit (new_known capacity) (script_of text).commands
+run_lines limit capacity text = printed_lines limit (new_history capacity) (script_of text).commands
 
 -- Of what was taken from the reader, where that is known, all commands are answered but for the last one at most, if so
 -- many answers stand.
@@ -139,19 +139,19 @@ pub record IsCut (streams : Streams) (output : Output) : Type 0 where
   pub answers : AppendsFront streams.answers_before streams.answers_after output.answers
   pub faults : Appends streams.faults_before streams.faults_after (line (codes "refused: output"))
 
--- How a script ends that is answered when this is known. `left_before` and `left_after` are the reader's bytes.
-abbrev pub ScriptEnds : StateLimit → Streams → Option (List ℕ) → Option (List ℕ) → Known → List ℕ → Status → Type 0
-ScriptEnds limit streams left_before left_after known text Done = IsWritten streams (script_output limit known (script_of text)) Done
-ScriptEnds limit streams left_before left_after known text BadArguments = ⊥
-ScriptEnds limit streams left_before left_after known text Refused = IsWritten streams (script_output limit known (script_of text)) Refused
-ScriptEnds limit streams left_before left_after known text InputFailed =
-    IsBrokenOff streams left_before left_after (printed_lines limit known (script_of text).commands) (codes "refused: input")
-ScriptEnds limit streams left_before left_after known text NoMemory =
-    IsBrokenOff streams left_before left_after (printed_lines limit known (script_of text).commands) (codes "no memory")
-ScriptEnds limit streams left_before left_after known text OutputFailed = IsCut streams (script_output limit known (script_of text))
-ScriptEnds limit streams left_before left_after known text FaultsFailed =
-    AppendsFront streams.answers_before streams.answers_after (script_output limit known (script_of text)).answers
+-- How a script ends that is answered after this history. `left_before` and `left_after` are the reader's bytes.
+abbrev pub ScriptEnds : StateLimit → Streams → Option (List ℕ) → Option (List ℕ) → History → List ℕ → Status → Type 0
+ScriptEnds limit streams left_before left_after history text Done = IsWritten streams (script_output limit history (script_of text)) Done
+ScriptEnds limit streams left_before left_after history text BadArguments = ⊥
+ScriptEnds limit streams left_before left_after history text Refused = IsWritten streams (script_output limit history (script_of text)) Refused
+ScriptEnds limit streams left_before left_after history text InputFailed =
+    IsBrokenOff streams left_before left_after (printed_lines limit history (script_of text).commands) (codes "refused: input")
+ScriptEnds limit streams left_before left_after history text NoMemory =
+    IsBrokenOff streams left_before left_after (printed_lines limit history (script_of text).commands) (codes "no memory")
+ScriptEnds limit streams left_before left_after history text OutputFailed = IsCut streams (script_output limit history (script_of text))
+ScriptEnds limit streams left_before left_after history text FaultsFailed =
+    AppendsFront streams.answers_before streams.answers_after (script_output limit history (script_of text)).answers
 
 -- How `run` ends. Bad arguments are found before.
 abbrev pub RunEnds : StateLimit → Streams → Option (List ℕ) → Option (List ℕ) → ℕ → List ℕ → Status → Type 0
-RunEnds limit streams left_before left_after capacity text status = ScriptEnds limit streams left_before left_after (new_known capacity) text status
+RunEnds limit streams left_before left_after capacity text status = ScriptEnds limit streams left_before left_after (new_history capacity) text status

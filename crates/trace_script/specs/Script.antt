@@ -47,19 +47,19 @@ pub data Command : Type 0 where
   judge_link : List ℕ → List ℕ → List ℕ → Command
 
 -- what a line is, by itself
-pub data Said : Type 0 where
+pub data LineKind : Type 0 where
   -- an empty line, or a comment
-  nothing : Said
+  ignored : LineKind
   -- `policy`: the lines from the next one on are a profile's text
-  opens_policy : Said
-  command : Command → Said
-  no_command : Said
+  opens_policy : LineKind
+  command : Command → LineKind
+  no_command : LineKind
 
-abbrev pub said_by_one : List ℕ → Said
-said_by_one word = if bytes_eq (codes "policy") word then opens_policy else no_command
+abbrev pub kind_of_one : List ℕ → LineKind
+kind_of_one word = if bytes_eq (codes "policy") word then opens_policy else no_command
 
-abbrev pub said_by_two : List ℕ → List ℕ → Said
-said_by_two word first =
+abbrev pub kind_of_two : List ℕ → List ℕ → LineKind
+kind_of_two word first =
     if bytes_eq (codes "drop") word then command (remove first)
     else (if bytes_eq (codes "mkdir") word then command (alter (mkdir first))
     else (if bytes_eq (codes "create") word then command (alter (create first))
@@ -67,20 +67,20 @@ said_by_two word first =
     else (if bytes_eq (codes "rmdir") word then command (alter (rmdir first))
     else no_command))))
 
-abbrev pub said_by_three : List ℕ → List ℕ → List ℕ → Said
-said_by_three word first second =
+abbrev pub kind_of_three : List ℕ → List ℕ → List ℕ → LineKind
+kind_of_three word first second =
     if bytes_eq (codes "symlink") word then command (alter (symlink first second))
     else (if bytes_eq (codes "link") word then command (alter (link first second))
     else (if bytes_eq (codes "rename") word then command (alter (rename first second))
     else no_command))
 
-abbrev pub opening : List ℕ → List ℕ → Option Perms → Said
-opening profile path None = no_command
-opening profile path (Some ask) = command (judge_open profile path ask)
+abbrev pub kind_of_open : List ℕ → List ℕ → Option Perms → LineKind
+kind_of_open profile path None = no_command
+kind_of_open profile path (Some ask) = command (judge_open profile path ask)
 
-abbrev pub said_by_four : List ℕ → List ℕ → List ℕ → List ℕ → Said
-said_by_four word first second third =
-    if bytes_eq (codes "open") word then opening first second (perms_of third)
+abbrev pub kind_of_four : List ℕ → List ℕ → List ℕ → List ℕ → LineKind
+kind_of_four word first second third =
+    if bytes_eq (codes "open") word then kind_of_open first second (perms_of third)
     else (if bytes_eq (codes "judged-link") word then command (judge_link first second third)
     else no_command)
 
@@ -88,16 +88,16 @@ said_by_four word first second third =
 abbrev pub is_comment : List ℕ → Bool
 is_comment word = slice_index word 0 == 35
 
-abbrev pub said_by : List (List ℕ) → Said
-said_by (a ∷ []) = said_by_one a
-said_by (a ∷ b ∷ []) = said_by_two a b
-said_by (a ∷ b ∷ c ∷ []) = said_by_three a b c
-said_by (a ∷ b ∷ c ∷ d ∷ []) = said_by_four a b c d
-said_by _ = no_command
+abbrev pub kind_of_words : List (List ℕ) → LineKind
+kind_of_words (a ∷ []) = kind_of_one a
+kind_of_words (a ∷ b ∷ []) = kind_of_two a b
+kind_of_words (a ∷ b ∷ c ∷ []) = kind_of_three a b c
+kind_of_words (a ∷ b ∷ c ∷ d ∷ []) = kind_of_four a b c d
+kind_of_words _ = no_command
 
-abbrev pub said : List (List ℕ) → Said
-said [] = nothing
-said (word ∷ words) = if is_comment word then nothing else said_by (word ∷ words)
+abbrev pub line_kind : List (List ℕ) → LineKind
+line_kind [] = ignored
+line_kind (word ∷ words) = if is_comment word then ignored else kind_of_words (word ∷ words)
 
 -- The commands of a script, up to its end or to a line that is no command, whose number then stands there. Lines are
 -- counted from 1.
@@ -115,20 +115,20 @@ abbrev pub first_command : Command → Script → Script
 first_command c script = record { commands = c ∷ script.commands; stopped = script.stopped }
 
 -- Where reading stands between two lines: outside a policy, or within one that began at a line, with its text so far.
-pub data Place : Type 0 where
-  outside : Place
-  within : ℕ → List ℕ → Place
+pub data Section : Type 0 where
+  outside : Section
+  within : ℕ → List ℕ → Section
 
 -- a policy's text ends before a line of a dot alone
 abbrev pub is_end : List ℕ → Bool
 is_end line = bytes_eq line (codes ".")
 
 -- a script's lines from a place on, the lines before being so many
-abbrev pub script_from : Place → ℕ → List (List ℕ) → Script
+abbrev pub script_from : Section → ℕ → List (List ℕ) → Script
 script_from outside before [] = whole
 script_from (within start text) before [] = stops_at start
-script_from outside before (line ∷ lines) = elim (said (words_of line)) [
-  | nothing ↦ script_from outside (before + 1) lines
+script_from outside before (line ∷ lines) = elim (line_kind (words_of line)) [
+  | ignored ↦ script_from outside (before + 1) lines
   | opens_policy ↦ script_from (within (before + 1) []) (before + 1) lines
   | command c ↦ first_command c (script_from outside (before + 1) lines)
   | no_command ↦ stops_at (before + 1)

@@ -1,9 +1,9 @@
 //! The commands of a script, done on a bench, and their answers.
 ghost use Rattle.std.specs.Prelude.{◌+◌, ◌<◌, ◌≤◌, ◌^◌, OnOk};
 ghost use Rattle.glob_automaton.specs.Automata.{StateLimit};
-ghost use Rattle.trace_script.specs.Following.{IsPrinted, IsPut};
-ghost use Rattle.trace_script.specs.Line.{command_value};
-ghost use Rattle.plain_bench.specs.Known.{policy_version};
+ghost use Rattle.trace_script.specs.inner.Following.{IsPrinted, IsPut};
+ghost use Rattle.trace_script.specs.inner.Line.{command_value};
+ghost use Rattle.mediation.specs.History.{policy_version};
 ghost use Rattle.trace_script.specs.RunOutput.{printed};
 ghost use Rattle.trace_script.specs.Script.{publish};
 
@@ -22,10 +22,10 @@ pub(crate) fn answer_command<B: Bench, A: Write>(
     command: Command<'_>,
     answers: &mut A,
 ) -> Result<(), Stop>
-    requires { policy_version (B.known bench.old) + 1 < 2 ^ 60 }
-    ensures line { (limit : StateLimit) → IsPrinted (printed limit (B.known bench.old) (command_value command.entry)) (B.known bench.new)
+    requires { policy_version (B.history bench.old) + 1 < 2 ^ 60 }
+    ensures line { (limit : StateLimit) → IsPrinted (printed limit (B.history bench.old) (command_value command.entry)) (B.history bench.new)
         (A.contents answers.old) (A.contents answers.new) result }
-    ensures few { OnOk result (policy_version (B.known bench.new) ≤ policy_version (B.known bench.old) + 1) }
+    ensures few { OnOk result (policy_version (B.history bench.new) ≤ policy_version (B.history bench.old) + 1) }
 {
     let line = match command {
         Command::Remove(name) => drop_line(alloc, bench, name)?,
@@ -43,10 +43,10 @@ pub(crate) fn answer_policy<B: Bench, A: Write>(
     text: &[u8],
     answers: &mut A,
 ) -> Result<(), Stop>
-    requires { policy_version (B.known bench.old) + 1 < 2 ^ 60 }
-    ensures line { (limit : StateLimit) → IsPrinted (printed limit (B.known bench.old) (publish text.now)) (B.known bench.new)
+    requires { policy_version (B.history bench.old) + 1 < 2 ^ 60 }
+    ensures line { (limit : StateLimit) → IsPrinted (printed limit (B.history bench.old) (publish text.now)) (B.history bench.new)
         (A.contents answers.old) (A.contents answers.new) result }
-    ensures few { OnOk result (policy_version (B.known bench.new) ≤ policy_version (B.known bench.old) + 1) }
+    ensures few { OnOk result (policy_version (B.history bench.new) ≤ policy_version (B.history bench.old) + 1) }
 {
     let line = policy_line(alloc, bench, text)?;
     print_line(answers, &line)

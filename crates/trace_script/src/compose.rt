@@ -1,23 +1,24 @@
 //! The lines that answer commands, each composed whole before it is written.
 ghost use Rattle.std.specs.Prelude.{◌+◌, ◌≡◌, ◌<◌, ◌≤◌, ◌^◌, ◌++◌, IfOk, OnOk, Ok, codes, decimal};
-ghost use Rattle.plain_bench.specs.Opening.{versions_text};
-ghost use Rattle.trace_script.specs.Following.{IsComposed, IsText};
+ghost use Rattle.trace_script.specs.AnswerText.{versions_text};
+ghost use Rattle.trace_script.specs.inner.Following.{IsComposed, IsText};
 ghost use Rattle.glob_automaton.specs.Automata.{StateLimit};
 ghost use Rattle.names.specs.Errors.{errno_text};
-ghost use Rattle.rule_text.specs.Profile.{profile_value};
+ghost use Rattle.rule_reader.specs.Profile.{profile_value};
 ghost use Rattle.trace_report.specs.Fault.{fault_text};
-ghost use Rattle.trace_script.specs.Line.{change_words};
-ghost use Rattle.plain_bench.specs.Known.{policy_version};
+ghost use Rattle.trace_script.specs.inner.Line.{change_words};
+ghost use Rattle.mediation.specs.History.{policy_version};
 ghost use Rattle.trace_script.specs.RunOutput.{printed, policy_printed, drop_printed, change_of, change_printed, open_printed, judged_printed};
 ghost use Rattle.trace_script.specs.Script.{publish};
 
 use crate::line::ChangeWords;
 use crate::stop::Stop;
+use directory_tree::{Change, LinkBytes};
 use matcher::MakeFault;
+use mediation::{Answer, LinkAnswer};
 use names::{Errno, Path, Perms};
-use path_walk::{Change, LinkBytes};
-use plain_bench::{Answer, Bench, LinkAnswer};
-use rule_text::{Profile, ReadFault, read};
+use plain_bench::Bench;
+use rule_reader::{Profile, ReadFault, read};
 use std::alloc::{AllocError, Global};
 use trace_report::Fault;
 
@@ -27,9 +28,9 @@ pub(crate) fn policy_line<B: Bench>(
     bench: &mut B,
     text: &[u8],
 ) -> Result<Vec<u8>, Stop>
-    requires { policy_version (B.known bench.old) + 1 < 2 ^ 60 }
-    ensures line { (limit : StateLimit) → IsComposed (printed limit (B.known bench.old) (publish text.now)) (B.known bench.new) result }
-    ensures few { OnOk result (policy_version (B.known bench.new) ≤ policy_version (B.known bench.old) + 1) }
+    requires { policy_version (B.history bench.old) + 1 < 2 ^ 60 }
+    ensures line { (limit : StateLimit) → IsComposed (printed limit (B.history bench.old) (publish text.now)) (B.history bench.new) result }
+    ensures few { OnOk result (policy_version (B.history bench.new) ≤ policy_version (B.history bench.old) + 1) }
 {
     match read(alloc, text) {
         Ok(profile) => profile_line(alloc, bench, profile),
@@ -40,9 +41,9 @@ pub(crate) fn policy_line<B: Bench>(
 
 /// Publishes a profile, if it can be compiled. Its line is begun before, so that want of memory for that publishes nothing.
 fn profile_line<B: Bench>(alloc: Global, bench: &mut B, profile: Profile) -> Result<Vec<u8>, Stop>
-    requires { policy_version (B.known bench.old) + 1 < 2 ^ 60 }
-    ensures line { (limit : StateLimit) → IsComposed (policy_printed limit (B.known bench.old) (Ok (profile_value profile))) (B.known bench.new) result }
-    ensures few { OnOk result (policy_version (B.known bench.new) ≤ policy_version (B.known bench.old) + 1) }
+    requires { policy_version (B.history bench.old) + 1 < 2 ^ 60 }
+    ensures line { (limit : StateLimit) → IsComposed (policy_printed limit (B.history bench.old) (Ok (profile_value profile))) (B.history bench.new) result }
+    ensures few { OnOk result (policy_version (B.history bench.new) ≤ policy_version (B.history bench.old) + 1) }
 {
     let mut line = joined(alloc, "policy ", profile.name(), " version ")?;
     match bench.publish(profile) {
@@ -70,8 +71,8 @@ pub(crate) fn drop_line<B: Bench>(
     bench: &mut B,
     name: &[u8],
 ) -> Result<Vec<u8>, Stop>
-    requires { policy_version (B.known bench.old) + 1 < 2 ^ 60 }
-    ensures { IsComposed (drop_printed (B.known bench.old) name.now) (B.known bench.new) result }
+    requires { policy_version (B.history bench.old) + 1 < 2 ^ 60 }
+    ensures { IsComposed (drop_printed (B.history bench.old) name.now) (B.history bench.new) result }
 {
     let version = bench.remove(name)?;
     let end = format!(in alloc; " removed version {version}\n")?;
@@ -85,7 +86,7 @@ pub(crate) fn change_line<B: Bench>(
     bench: &mut B,
     words: ChangeWords<'_>,
 ) -> Result<Vec<u8>, Stop>
-    ensures { IsComposed (change_printed (B.known bench.old) (change_of (change_words words.entry))) (B.known bench.new) result }
+    ensures { IsComposed (change_printed (B.history bench.old) (change_of (change_words words.entry))) (B.history bench.new) result }
 {
     match change_of(words) {
         Ok(change) => accepted_line(alloc, bench, &change),
@@ -99,7 +100,7 @@ fn accepted_line<B: Bench>(
     bench: &mut B,
     change: &Change<'_>,
 ) -> Result<Vec<u8>, Stop>
-    ensures { IsComposed (change_printed (B.known bench.old) (Ok change.now)) (B.known bench.new) result }
+    ensures { IsComposed (change_printed (B.history bench.old) (Ok change.now)) (B.history bench.new) result }
 {
     match bench.change(change) {
         Ok(version) => {
@@ -119,7 +120,7 @@ pub(crate) fn open_line<B: Bench>(
     path: &[u8],
     ask: Perms,
 ) -> Result<Vec<u8>, Stop>
-    ensures { IsComposed (open_printed (B.known bench.old) profile.now path.now ask) (B.known bench.new) result }
+    ensures { IsComposed (open_printed (B.history bench.old) profile.now path.now ask) (B.history bench.new) result }
 {
     match bench.open(profile, path, ask) {
         Answer::Judged {
@@ -128,9 +129,9 @@ pub(crate) fn open_line<B: Bench>(
             tree_version,
             policy_version,
         } => {
-            let told = format!(in alloc; "{verdict}")?;
+            let report = format!(in alloc; "{verdict}")?;
             let name = bench.name();
-            named_line(alloc, &told, name, node, tree_version, policy_version)
+            named_line(alloc, &report, name, node, tree_version, policy_version)
         }
         Answer::Failed {
             errno,
@@ -148,7 +149,7 @@ pub(crate) fn link_line<B: Bench>(
     old: &[u8],
     new: &[u8],
 ) -> Result<Vec<u8>, Stop>
-    ensures { IsComposed (judged_printed (B.known bench.old) profile.now old.now new.now) (B.known bench.new) result }
+    ensures { IsComposed (judged_printed (B.history bench.old) profile.now old.now new.now) (B.history bench.new) result }
 {
     match bench.link(profile, old, new)? {
         LinkAnswer::Linked {
@@ -167,9 +168,9 @@ pub(crate) fn link_line<B: Bench>(
             tree_version,
             policy_version,
         } => {
-            let told = format!(in alloc; "{verdict}")?;
+            let report = format!(in alloc; "{verdict}")?;
             let name = bench.name();
-            named_line(alloc, &told, name, node, tree_version, policy_version)
+            named_line(alloc, &report, name, node, tree_version, policy_version)
         }
         LinkAnswer::Failed {
             errno,
@@ -205,18 +206,18 @@ fn change_of(words: ChangeWords<'_>) -> Result<Change<'_>, Errno>
     }
 }
 
-/// What is told of a name, with the node and both versions, as a line.
+/// A report on a name, with the node and both versions, as a line.
 fn named_line(
     alloc: Global,
-    told: &str,
+    report: &str,
     name: &[u8],
     node: u64,
     tree_version: u64,
     policy_version: u64,
 ) -> Result<Vec<u8>, Stop>
-    ensures { IsText (told.now ++ codes " " ++ name.now ++ versions_text node tree_version policy_version) result }
+    ensures { IsText (report.now ++ codes " " ++ name.now ++ versions_text node tree_version policy_version) result }
 {
-    let start = format!(in alloc; "{told} ")?;
+    let start = format!(in alloc; "{report} ")?;
     let end = format!(in alloc; " node {node} tree {tree_version} policy {policy_version}\n")?;
     let line = joined(alloc, &start, name, &end)?;
     Ok(line)

@@ -1,17 +1,17 @@
 //! What a line of a script says by itself.
 ghost use Rattle.std.specs.Prelude.{◌≡◌, bytes_eq};
 ghost use Rattle.names.specs.Permissions.{perms_of};
-ghost use Rattle.trace_script.specs.Script.{words_of, said, is_comment, said_by_one, said_by_two, said_by_three, said_by_four, opening};
-ghost use Rattle.trace_script.specs.Line.{said_value};
+ghost use Rattle.trace_script.specs.Script.{words_of, line_kind, is_comment, kind_of_one, kind_of_two, kind_of_three, kind_of_four, kind_of_open};
+ghost use Rattle.trace_script.specs.inner.Line.{kind_value};
 
 use crate::words::Words;
 use names::Perms;
 
 /// What a line is, by itself.
 #[derive(Clone, Copy, Debug, PartialEq, Eq)]
-pub(crate) enum Said<'a> {
+pub(crate) enum LineKind<'a> {
     /// An empty line, or a comment.
-    Nothing,
+    Ignored,
     /// The lines from the next one on are a profile's text.
     OpensPolicy,
     /// A command that stands on one line.
@@ -54,29 +54,29 @@ pub(crate) enum ChangeWords<'a> {
 }
 
 /// What a line says. No memory is taken.
-pub(crate) fn said_by_line(line: &[u8]) -> Said<'_>
-    ensures { said_value result ≡ said (words_of line.now) }
+pub(crate) fn parse_line(line: &[u8]) -> LineKind<'_>
+    ensures { kind_value result ≡ line_kind (words_of line.now) }
 {
     let mut words = Words::of(line);
     let Some(word) = words.next() else {
-        return Said::Nothing;
+        return LineKind::Ignored;
     };
     if is_comment(word) {
-        return Said::Nothing;
+        return LineKind::Ignored;
     }
     let Some(first) = words.next() else {
-        return said_by_one(word);
+        return kind_of_one(word);
     };
     let Some(second) = words.next() else {
-        return said_by_two(word, first);
+        return kind_of_two(word, first);
     };
     let Some(third) = words.next() else {
-        return said_by_three(word, first, second);
+        return kind_of_three(word, first, second);
     };
     if words.next().is_some() {
-        return Said::NoCommand;
+        return LineKind::NoCommand;
     }
-    said_by_four(word, first, second, third)
+    kind_of_four(word, first, second, third)
 }
 
 /// Whether a line is a comment, by its first word.
@@ -94,77 +94,82 @@ fn is_word(text: &str, word: &[u8]) -> bool
 }
 
 /// What one word says.
-fn said_by_one(word: &[u8]) -> Said<'static>
-    ensures { said_value result ≡ said_by_one word.now }
+fn kind_of_one(word: &[u8]) -> LineKind<'static>
+    ensures { kind_value result ≡ kind_of_one word.now }
 {
     if is_word("policy", word) {
-        Said::OpensPolicy
+        LineKind::OpensPolicy
     } else {
-        Said::NoCommand
+        LineKind::NoCommand
     }
 }
 
 /// What two words say.
-fn said_by_two<'a>(word: &[u8], first: &'a [u8]) -> Said<'a>
-    ensures { said_value result ≡ said_by_two word.now first.now }
+fn kind_of_two<'a>(word: &[u8], first: &'a [u8]) -> LineKind<'a>
+    ensures { kind_value result ≡ kind_of_two word.now first.now }
 {
     if is_word("drop", word) {
-        return Said::Command(Command::Remove(first));
+        return LineKind::Command(Command::Remove(first));
     }
     if is_word("mkdir", word) {
-        return Said::Command(Command::Alter(ChangeWords::Mkdir(first)));
+        return LineKind::Command(Command::Alter(ChangeWords::Mkdir(first)));
     }
     if is_word("create", word) {
-        return Said::Command(Command::Alter(ChangeWords::Create(first)));
+        return LineKind::Command(Command::Alter(ChangeWords::Create(first)));
     }
     if is_word("unlink", word) {
-        return Said::Command(Command::Alter(ChangeWords::Unlink(first)));
+        return LineKind::Command(Command::Alter(ChangeWords::Unlink(first)));
     }
     if is_word("rmdir", word) {
-        return Said::Command(Command::Alter(ChangeWords::Rmdir(first)));
+        return LineKind::Command(Command::Alter(ChangeWords::Rmdir(first)));
     }
-    Said::NoCommand
+    LineKind::NoCommand
 }
 
 /// What three words say.
-fn said_by_three<'a>(word: &[u8], first: &'a [u8], second: &'a [u8]) -> Said<'a>
-    ensures { said_value result ≡ said_by_three word.now first.now second.now }
+fn kind_of_three<'a>(word: &[u8], first: &'a [u8], second: &'a [u8]) -> LineKind<'a>
+    ensures { kind_value result ≡ kind_of_three word.now first.now second.now }
 {
     if is_word("symlink", word) {
-        return Said::Command(Command::Alter(ChangeWords::Symlink(first, second)));
+        return LineKind::Command(Command::Alter(ChangeWords::Symlink(first, second)));
     }
     if is_word("link", word) {
-        return Said::Command(Command::Alter(ChangeWords::Link(first, second)));
+        return LineKind::Command(Command::Alter(ChangeWords::Link(first, second)));
     }
     if is_word("rename", word) {
-        return Said::Command(Command::Alter(ChangeWords::Rename(first, second)));
+        return LineKind::Command(Command::Alter(ChangeWords::Rename(first, second)));
     }
-    Said::NoCommand
+    LineKind::NoCommand
 }
 
 /// What four words say.
-fn said_by_four<'a>(word: &[u8], profile: &'a [u8], second: &'a [u8], third: &'a [u8]) -> Said<'a>
-    ensures { said_value result ≡ said_by_four word.now profile.now second.now third.now }
+fn kind_of_four<'a>(
+    word: &[u8],
+    profile: &'a [u8],
+    second: &'a [u8],
+    third: &'a [u8],
+) -> LineKind<'a>
+    ensures { kind_value result ≡ kind_of_four word.now profile.now second.now third.now }
 {
     if is_word("open", word) {
-        return opening(profile, second, third);
+        return kind_of_open(profile, second, third);
     }
     if is_word("judged-link", word) {
-        return Said::Command(Command::JudgeLink {
+        return LineKind::Command(Command::JudgeLink {
             profile,
             old: second,
             new: third,
         });
     }
-    Said::NoCommand
+    LineKind::NoCommand
 }
 
 /// What an open says, whose permissions are given by letters.
-fn opening<'a>(profile: &'a [u8], path: &'a [u8], letters: &[u8]) -> Said<'a>
-    ensures { said_value result ≡ opening profile.now path.now (perms_of letters.now) }
+fn kind_of_open<'a>(profile: &'a [u8], path: &'a [u8], letters: &[u8]) -> LineKind<'a>
+    ensures { kind_value result ≡ kind_of_open profile.now path.now (perms_of letters.now) }
 {
     match Perms::from_letters(letters) {
-        Some(ask) => Said::Command(Command::JudgeOpen { profile, path, ask }),
-        None => Said::NoCommand,
+        Some(ask) => LineKind::Command(Command::JudgeOpen { profile, path, ask }),
+        None => LineKind::NoCommand,
     }
 }

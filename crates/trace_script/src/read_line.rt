@@ -1,5 +1,5 @@
 ghost use Rattle.std.specs.Prelude.{◌≡◌};
-ghost use Rattle.trace_script.specs.Following.{IsLineRead};
+ghost use Rattle.trace_script.specs.inner.Following.{IsLineRead};
 
 use crate::stop::Stop;
 use std::io::BufRead;

@@ -4,10 +4,10 @@ ghost use Rattle.std.specs.Prelude.{◌≡◌, ◌+◌, List, [], ◌∷◌, ◌
 ghost use Rattle.glob_automaton.specs.Automata.{StateLimit};
 ghost use Rattle.names.specs.declared.errors.Errno.TheVariants.{ENOENT, EEXIST, ENOTDIR, EINVAL, ENOSPC};
 ghost use Rattle.names.specs.Errors.{errno_text};
-ghost use Rattle.plain_bench.specs.Known.{Known, new_known, policy_version, with_deed};
+ghost use Rattle.mediation.specs.History.{History, new_history, policy_version, with_deed};
 ghost use Rattle.trace_script.specs.RunOutput.{policy_printed, printed_lines, run_lines};
-ghost use Rattle.rule_text.specs.Profile.{ProfileValue};
-ghost use Rattle.plain_bench.specs.Published.{published};
+ghost use Rattle.rule_reader.specs.Profile.{ProfileValue};
+ghost use Rattle.mediation.specs.Deeds.{published_rules};
 ghost use Rattle.trace_script.specs.Rows.{allow_rule};
 ghost use Rattle.trace_script.specs.Script.{script_of, publish, remove};
 
@@ -32,8 +32,8 @@ pub fn commands_are_answered()
 
 /// Opens, where a profile without rules is published.
 pub fn opens_are_answered()
-    ensures { (limit : StateLimit) → let known = with_deed (new_known 9) (published (record { name = codes "q"; rules = [] })) in
-        printed_lines limit known (script_of (codes "mkdir /a\ncreate /a/f\nopen q /a/./f r\nopen q /a rw\nopen q /a/g l\nopen q /a/g r\nopen p /a/g l\n")).commands
+    ensures { (limit : StateLimit) → let history = with_deed (new_history 9) (published_rules (record { name = codes "q"; rules = [] })) in
+        printed_lines limit history (script_of (codes "mkdir /a\ncreate /a/f\nopen q /a/./f r\nopen q /a rw\nopen q /a/g l\nopen q /a/g r\nopen p /a/g l\n")).commands
         ≡ (codes "ok " ++ decimal 1) ∷ (codes "ok " ++ decimal 2)
         ∷ (codes "no rule for r /a/f node " ++ decimal 3 ++ codes " tree " ++ decimal 2 ++ codes " policy " ++ decimal 1)
         ∷ (codes "no rule for rw /a/ node " ++ decimal 2 ++ codes " tree " ++ decimal 2 ++ codes " policy " ++ decimal 1)
@@ -45,8 +45,8 @@ pub fn opens_are_answered()
 /// Judged links, where a profile of three rules is published.
 pub fn links_are_answered()
     ensures { (limit : StateLimit) → let rules = allow_rule (codes "/f") (codes "rk") ∷ allow_rule (codes "/g") (codes "wrlm") ∷ allow_rule (codes "/h") (codes "rl") ∷ [] in
-        let known = with_deed (new_known 9) (published (record { name = codes "q"; rules = rules })) in
-        printed_lines limit known (script_of (codes "create /f\njudged-link q /f /x\njudged-link q /f /g\njudged-link q /f /h\njudged-link q /f /h\njudged-link p f /h\njudged-link q /f h\nunlink /f\n")).commands
+        let history = with_deed (new_history 9) (published_rules (record { name = codes "q"; rules = rules })) in
+        printed_lines limit history (script_of (codes "create /f\njudged-link q /f /x\njudged-link q /f /g\njudged-link q /f /h\njudged-link q /f /h\njudged-link p f /h\njudged-link q /f h\nunlink /f\n")).commands
         ≡ (codes "ok " ++ decimal 1)
         ∷ (codes "no rule for l /x node " ++ decimal 2 ++ codes " tree " ++ decimal 1 ++ codes " policy " ++ decimal 1)
         ∷ (codes "wider by wm /g node " ++ decimal 2 ++ codes " tree " ++ decimal 1 ++ codes " policy " ++ decimal 1)
@@ -58,13 +58,13 @@ pub fn links_are_answered()
 {}
 
 /// Profiles that were read, published or refused by the test for too many states.
-pub fn profiles_are_told()
-    ensures refused { (limit : StateLimit) (known : Known) (profile : ProfileValue) → IsTrue (limit.is_over profile.rules) →
-        policy_printed limit known (Ok profile) ≡ record { text = codes "policy refused: compile " ++ decimal 1; known = known } }
-    ensures published { (limit : StateLimit) (known : Known) (profile : ProfileValue) → limit.is_over profile.rules ≡ false →
-        policy_printed limit known (Ok profile) ≡ record {
-          text = codes "policy " ++ profile.name ++ codes " version " ++ decimal (policy_version known + 1);
-          known = with_deed known (published profile);
+pub fn profiles_are_answered()
+    ensures refused { (limit : StateLimit) (history : History) (profile : ProfileValue) → IsTrue (limit.is_over profile.rules) →
+        policy_printed limit history (Ok profile) ≡ record { text = codes "policy refused: compile " ++ decimal 1; history = history } }
+    ensures published { (limit : StateLimit) (history : History) (profile : ProfileValue) → limit.is_over profile.rules ≡ false →
+        policy_printed limit history (Ok profile) ≡ record {
+          text = codes "policy " ++ profile.name ++ codes " version " ++ decimal (policy_version history + 1);
+          history = with_deed history (published_rules profile);
         } }
 {}
 

@@ -1,14 +1,14 @@
 //! `run --capacity N`: a script of tree changes, policies and opens, answered line by line.
 ghost use Rattle.std.specs.Prelude.{◌≡◌, ℕ, List};
 ghost use Rattle.glob_automaton.specs.Automata.{StateLimit};
-ghost use Rattle.trace_script.specs.Following.{IsFollowed};
-ghost use Rattle.plain_bench.specs.Known.{policy_version};
+ghost use Rattle.trace_script.specs.inner.Following.{IsFollowed};
+ghost use Rattle.mediation.specs.History.{policy_version};
 ghost use Rattle.trace_script.specs.RunOutput.{RunEnds, ScriptEnds, printed_lines};
 ghost use Rattle.trace_script.specs.Script.{script_of};
 ghost use Rattle.trace_report.specs.Streams.{IsTextOf};
 
-use crate::place::{Place, follow_line};
 use crate::read_line::{LineRead, read_line};
+use crate::section::{Section, follow_line};
 use crate::stop::Stop;
 use names::NoMemory;
 use plain_bench::{Bench, PlainBench};
@@ -53,7 +53,7 @@ pub fn run_script<B: Bench, R: BufRead, A: Write, F: Write>(
     answers: &mut A,
     faults: &mut F,
 ) -> Status
-    requires { policy_version (B.known bench.old) ≡ 0 }
+    requires { policy_version (B.history bench.old) ≡ 0 }
     ensures { (limit : StateLimit) → (text : List ℕ) × IsTextOf (R.remaining input.old) text × ScriptEnds limit
         (record {
           answers_before = A.contents answers.old;
@@ -61,7 +61,7 @@ pub fn run_script<B: Bench, R: BufRead, A: Write, F: Write>(
           faults_before = F.contents faults.old;
           faults_after = F.contents faults.new;
         })
-        (R.remaining input.old) (R.remaining input.new) (B.known bench.old) text result }
+        (R.remaining input.old) (R.remaining input.new) (B.history bench.old) text result }
 {
     match follow(alloc, bench, input, answers) {
         Ok(()) => Status::Done,
@@ -76,24 +76,24 @@ fn follow<B: Bench, R: BufRead, A: Write>(
     input: &mut R,
     answers: &mut A,
 ) -> Result<(), Stop>
-    requires { policy_version (B.known bench.old) ≡ 0 }
+    requires { policy_version (B.history bench.old) ≡ 0 }
     ensures { (limit : StateLimit) → (text : List ℕ) × IsTextOf (R.remaining input.old) text
-        × IsFollowed (R.remaining input.old) (R.remaining input.new) (printed_lines limit (B.known bench.old) (script_of text).commands) (script_of text).stopped
+        × IsFollowed (R.remaining input.old) (R.remaining input.new) (printed_lines limit (B.history bench.old) (script_of text).commands) (script_of text).stopped
         (A.contents answers.old) (A.contents answers.new) result }
 {
-    let mut place = Place::Outside;
+    let mut section = Section::Outside;
     let mut line = Vec::new(alloc);
     for before in 0..MOST_LINES {
         match read_line(input, &mut line)? {
             LineRead::Whole => {
-                place = follow_line(alloc, bench, place, before + 1, &line, answers)?;
+                section = follow_line(alloc, bench, section, before + 1, &line, answers)?;
             }
             LineRead::Last => {
-                return follow_line(alloc, bench, place, before + 1, &line, answers)?.close();
+                return follow_line(alloc, bench, section, before + 1, &line, answers)?.close();
             }
-            LineRead::End => return place.close(),
+            LineRead::End => return section.close(),
         }
     }
     // Only after MOST_LINES, so never in practice.
-    Err(Stop::Input)
+    Err(Stop::TooLong)
 }

@@ -1,5 +1,5 @@
 ghost use Rattle.std.specs.Prelude.{◌≡◌, Some};
-ghost use Rattle.trace_script.specs.Following.{stop_text, stop_status, IsStopOfReading};
+ghost use Rattle.trace_script.specs.inner.Following.{stop_text, stop_status, IsStopOfReading};
 
 use names::NoMemory;
 use std::alloc::{AllocError, AllocFailed};
@@ -14,6 +14,8 @@ pub(crate) enum Stop {
     NoCommand(u64),
     /// Reading failed.
     Input,
+    /// There are more lines than are read.
+    TooLong,
     /// Memory was refused.
     Memory,
     /// An answer couldn't be written, or not all of it.
@@ -27,7 +29,7 @@ impl Stop {
     {
         match self {
             Stop::NoCommand(_) => Status::Refused,
-            Stop::Input => Status::InputFailed,
+            Stop::Input | Stop::TooLong => Status::InputFailed,
             Stop::Memory => Status::NoMemory,
             Stop::Output => Status::OutputFailed,
         }
@@ -83,7 +85,7 @@ impl fmt::Display for Stop {
     fn fmt<W: fmt::Write>(&self, f: &mut fmt::Formatter<W>) -> fmt::Result {
         match self {
             Stop::NoCommand(number) => write!(f, "line {number}: not a command"),
-            Stop::Input => write!(f, "refused: input"),
+            Stop::Input | Stop::TooLong => write!(f, "refused: input"),
             Stop::Memory => write!(f, "no memory"),
             Stop::Output => write!(f, "refused: output"),
         }

@@ -1,12 +1,12 @@
 -- The small tree is a sound one.
 use Rattle.std.proofs.Common.{◌≡◌, List, [], ◌∷◌, refl}
 use Rattle.std.specs.Prelude.{codes, Ok}
-use Rattle.path_walk.specs.declared.change.Change.{Change}
-use Rattle.path_walk.specs.declared.change.Change.TheVariants as change
-use Rattle.path_walk.specs.Tree.{WellFormed}
-use Rattle.path_walk.specs.Apply.{tree_after}
+use Rattle.directory_tree.specs.declared.change.Change.{Change}
+use Rattle.directory_tree.specs.declared.change.Change.TheVariants as change
+use Rattle.directory_tree.specs.Tree.{WellFormed}
+use Rattle.directory_tree.specs.Apply.{tree_after}
 use Rattle.walk_tests.specs.SmallTree.{small_tree}
-use Rattle.path_walk.proofs.Changes.{tree_after_well}
+use Rattle.directory_tree.proofs.Changes.{tree_after_well}
 
 abbrev changes : List Change
 changes =

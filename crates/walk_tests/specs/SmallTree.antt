@@ -1,9 +1,9 @@
 -- A small tree, for tests: a directory with a file, a link to the file and a link to itself, and a link to the directory.
 use Rattle.std.proofs.Common.{◌≡◌, [], ◌∷◌, sym, subst}
 use Rattle.std.specs.Prelude.{codes, Some}
-use Rattle.path_walk.specs.declared.node.NodeKind.TheVariants.{Directory, File, Link}
-use Rattle.path_walk.specs.Tree.{Tree, Entry, find}
-use Rattle.path_walk.specs.World.{World}
+use Rattle.directory_tree.specs.declared.node.NodeKind.TheVariants.{Directory, File, Link}
+use Rattle.directory_tree.specs.Tree.{Tree, Entry, find}
+use Rattle.path_lookup.specs.World.{World}
 
 abbrev pub a : Entry
 a = record { of = 1; component = codes "a"; node = 2; kind = Directory }

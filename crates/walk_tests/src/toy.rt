@@ -1,6 +1,6 @@
 //! A look at one small tree, and a look that comes to an end.
 ghost use Rattle.std.specs.Prelude.{◌≡◌, IfErr};
-ghost use Rattle.path_walk.specs.World.{World};
+ghost use Rattle.path_lookup.specs.World.{World};
 ghost use Rattle.walk_tests.specs.SmallTree.{HasSmall};
 
 use path_walk::{Kind, Look, Torn};
@@ -39,9 +39,9 @@ impl Look for SmallTree {
 
     ghost use Rattle.std.specs.Prelude.{◌≡◌, refl};
     ghost use Rattle.walk_tests.specs.declared.toy.Place.TheVariants as place;
-    ghost use Rattle.path_walk.specs.Walk.{Spot};
-    ghost use Rattle.path_walk.specs.Walk.Spot.{Root, Held};
-    ghost use Rattle.path_walk.specs.World.{Stands};
+    ghost use Rattle.directory_tree.specs.Walk.{Spot};
+    ghost use Rattle.directory_tree.specs.Walk.Spot.{Root, Held};
+    ghost use Rattle.directory_tree.specs.Spots.{Stands};
     ghost use Rattle.walk_tests.specs.SmallTree.{HasSmall, a, f, l, r, d, stands_small};
 
     ghost Kept = { Unit {0} };

@@ -47,9 +47,9 @@ fn classes(rt: HostRuntime) -> Result<(), Fail> {
         let profile = read(alloc, &text)?;
         let rule = profile.rules().get(0).ok_or("no rule")?;
         let class = first_class(rule).ok_or("no class")?;
-        assert_eq!(rt; class.negated, *negated, "{members:?}");
-        assert_eq!(rt; class.ranges.len() * 2, ends.len(), "{members:?}");
-        for (range, pair) in class.ranges.iter().zip(ends.chunks(2)) {
+        assert_eq!(rt; class.is_negated(), *negated, "{members:?}");
+        assert_eq!(rt; class.ranges().len() * 2, ends.len(), "{members:?}");
+        for (range, pair) in class.ranges().iter().zip(ends.chunks(2)) {
             assert_eq!(rt; [range.first, range.last].as_slice(), pair, "{members:?}");
         }
     }

@@ -1,6 +1,6 @@
 //! Faults that were told without a look at the text's end.
 ghost use Rattle.std.specs.List.{All};
-ghost use Rattle.rule_text.specs.ReadFaults.{IsSettled};
+ghost use Rattle.rule_reader.specs.ReadFaults.{IsSettled};
 ghost use Rattle.rule_tests.specs.Settled.{settled_fronts, unsettled_fronts};
 
 use super::*;

@@ -1,6 +1,7 @@
 //! Which states, cells and records a profile's tables have.
 use super::*;
-use glob_automaton::{LeastHits, Record};
+use names::Permission;
+use verdicts::{LeastHits, Record};
 
 // Whether each state has a row of its own, in the order of the states, and no state needs its default.
 fn has_own_rows(table: &RawTable) -> bool {
@@ -25,13 +26,11 @@ fn cells(alloc: Global, states: u16, others: &[(u8, u8, u32)]) -> Result<Vec<u32
 }
 
 fn reading(rule: u16) -> Record {
-    Record {
-        read: LeastHits {
-            allow: rule,
-            deny: 0,
-        },
-        ..Record::NONE
-    }
+    let hits = LeastHits {
+        allow: rule,
+        deny: 0,
+    };
+    Record::none().with_hits(Permission::Read, hits)
 }
 
 #[test]
@@ -61,7 +60,7 @@ fn one_name(rt: HostRuntime) -> Result<(), Fail> {
     )?;
     assert!(rt; table.next == want);
     assert!(rt; table.accept.as_slice() == [0, 0, 0, 0, 0, 0, 0, 0, 0, 0, 0, 0, 1].as_slice());
-    assert!(rt; table.records.as_slice() == [Record::NONE, reading(1)].as_slice());
+    assert!(rt; table.records.as_slice() == [Record::none(), reading(1)].as_slice());
     Ok(())
 }
 
@@ -76,11 +75,8 @@ fn two_names(rt: HostRuntime) -> Result<(), Fail> {
     let want = cells(alloc, 5, &[(1, b'/', 2), (2, b'a', 3), (2, b'b', 4)])?;
     assert!(rt; table.next == want);
     assert!(rt; table.accept.as_slice() == [0, 0, 0, 1, 2].as_slice());
-    let denied = Record {
-        read: LeastHits { allow: 0, deny: 2 },
-        ..Record::NONE
-    };
-    assert!(rt; table.records.as_slice() == [Record::NONE, reading(1), denied].as_slice());
+    let denied = Record::none().with_hits(Permission::Read, LeastHits { allow: 0, deny: 2 });
+    assert!(rt; table.records.as_slice() == [Record::none(), reading(1), denied].as_slice());
     Ok(())
 }
 
@@ -93,7 +89,7 @@ fn equal_records(rt: HostRuntime) -> Result<(), Fail> {
     let moves = [(1, b'/', 2), (2, b'a', 3), (2, b'd', 4), (3, b'c', 5)];
     assert!(rt; table.next == cells(alloc, 6, &moves)?);
     assert!(rt; table.accept.as_slice() == [0, 0, 0, 1, 2, 1].as_slice());
-    assert!(rt; table.records.as_slice() == [Record::NONE, reading(1), reading(2)].as_slice());
+    assert!(rt; table.records.as_slice() == [Record::none(), reading(1), reading(2)].as_slice());
     Ok(())
 }
 
@@ -107,6 +103,6 @@ fn no_rules(rt: HostRuntime) -> Result<(), Fail> {
     assert!(rt; table.accept.as_slice() == [0, 0].as_slice());
     assert_eq!(rt; table.check.len(), 512);
     assert!(rt; table.next == cells(alloc, 2, &[])?);
-    assert!(rt; table.records.as_slice() == [Record::NONE].as_slice());
+    assert!(rt; table.records.as_slice() == [Record::none()].as_slice());
     Ok(())
 }

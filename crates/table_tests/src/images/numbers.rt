@@ -1,6 +1,7 @@
 //! Where the numbers of an image stand, and in which order of bytes.
 use super::*;
-use glob_automaton::{LeastHits, Record};
+use names::Permission;
+use verdicts::{LeastHits, Record};
 
 #[test]
 fn parts(rt: HostRuntime) -> Result<(), Fail> {
@@ -42,28 +43,29 @@ fn records(rt: HostRuntime) -> Result<(), Fail> {
     let hits = b"\x01\x02\x03\x04\x05\x06\x07\x08\x09\x0a\x0b\x0c\x0d\x0e\x0f\x10\x11\x12\x13\xff";
     let image = altered(alloc, &smallest(alloc)?, 2_092, hits)?;
     let table = from_bytes(alloc, &image)?;
-    let want = Record {
-        read: LeastHits {
+    let want = Record::from_hits([
+        LeastHits {
             allow: 0x0201,
             deny: 0x0403,
         },
-        write: LeastHits {
+        LeastHits {
             allow: 0x0605,
             deny: 0x0807,
         },
-        link: LeastHits {
+        LeastHits {
             allow: 0x0a09,
             deny: 0x0c0b,
         },
-        lock: LeastHits {
+        LeastHits {
             allow: 0x0e0d,
             deny: 0x100f,
         },
-        map: LeastHits {
+        LeastHits {
             allow: 0x1211,
             deny: 0xff13,
         },
-    };
+    ]);
+    assert_eq!(rt; want.of(Permission::Lock).allow, 0x0e0d);
     assert!(rt; table.records.as_slice() == [want].as_slice());
     assert!(rt; to_bytes(alloc, &table)? == image);
     Ok(())

@@ -1,6 +1,7 @@
 //! Look-ups in strangers' tables, against rows computed by hand.
 use super::*;
-use glob_automaton::LeastHits;
+use names::Permission;
+use verdicts::LeastHits;
 
 // Two states that share one row. State 1 owns the cells of `a` and of byte 255, and state 0 those of `b` and of byte 0; no
 // state owns another one. What isn't owned leads from state 0 to 1, and from 1 to 0.
@@ -19,10 +20,10 @@ fn shared(alloc: Global) -> Result<RawTable, Fail> {
         put(&mut table.check, cell, owner);
         put(&mut table.next, cell, next);
     }
-    table.records.push(Record {
-        write: LeastHits { allow: 3, deny: 5 },
-        ..Record::NONE
-    })?;
+    let hits = LeastHits { allow: 3, deny: 5 };
+    table
+        .records
+        .push(Record::none().with_hits(Permission::Write, hits))?;
     Ok(table)
 }
 
@@ -74,10 +75,13 @@ fn records(rt: HostRuntime) -> Result<(), Fail> {
     let mut steps = Steps::new();
     let start = table.start();
     let zero = table.look_up(start, b'b', &mut steps);
-    assert_eq!(rt; table.record_of(zero), Record::NONE);
+    assert_eq!(rt; table.record_of(zero), Record::none());
     let record = table.record_of(start);
-    assert_eq!(rt; record.write, LeastHits { allow: 3, deny: 5 });
-    assert_eq!(rt; record.read, LeastHits::NONE);
+    assert_eq!(rt;
+        record.of(Permission::Write),
+        LeastHits { allow: 3, deny: 5 }
+    );
+    assert_eq!(rt; record.of(Permission::Read), LeastHits::NONE);
     Ok(())
 }
 

@@ -72,7 +72,7 @@ fn counted(alloc: Global, states: usize, cells: usize, records: usize) -> Result
         accept: zeros,
         next: Vec::from_elem(alloc, 0, cells)?,
         check: Vec::from_elem(alloc, 0, cells)?,
-        records: Vec::from_elem(alloc, Record::NONE, records)?,
+        records: Vec::from_elem(alloc, Record::none(), records)?,
     })
 }
 

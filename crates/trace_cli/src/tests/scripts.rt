@@ -1,13 +1,14 @@
 //! Scripts, on a bench that has no memory for anything new.
 ghost use Rattle.std.specs.Prelude.{[]};
-ghost use Rattle.plain_bench.specs.Known.{new_known};
 
 use crate::tests::{Failing, Pieces};
+use directory_tree::Change;
 use matcher::MakeFault;
+use mediation::{Answer, LinkAnswer};
 use names::{Errno, NoMemory, Perms};
-use path_walk::Change;
-use plain_bench::{Answer, Bench, LinkAnswer};
-use rule_text::Profile;
+use plain_bench::Bench;
+use plain_tree::PlainTree;
+use rule_reader::Profile;
 use std::alloc::Global;
 use std::io;
 use std::io::{BufReader, ErrorKind};
@@ -17,14 +18,26 @@ use trace_script::run_script;
 
 /// The root alone and no profile, and memory for no more.
 #[derive(Drop)]
-struct FullBench;
+struct FullBench {
+    tree: PlainTree,
+}
+
+impl FullBench {
+    fn new(alloc: Global) -> Result<FullBench, Fail> {
+        match PlainTree::new(alloc, 9) {
+            Ok(tree) => Ok(FullBench { tree }),
+            Err(NoMemory) => Err(Fail::from("no memory")),
+        }
+    }
+}
 
 impl Bench for FullBench {
-    ghost known = { λ _. new_known 0 };
+    ghost history = { λ bench. record { tree = bench.tree; deeds = [] } };
 
     ghost judged_name = { λ _. [] };
 
-    fn change(&mut self, _change: &Change<'_>) -> Result<u64, Errno> {
+    fn change(&mut self, change: &Change<'_>) -> Result<u64, Errno> {
+        self.tree.test(change)?;
         Err(Errno::ENOMEM)
     }
 
@@ -50,16 +63,17 @@ impl Bench for FullBench {
 }
 
 /// A run over memory: its status, and what stands on both streams.
-fn run(alloc: Global, text: &str) -> (Status, Vec<u8>, Vec<u8>) {
-    let mut input = text.as_bytes();
+fn run(alloc: Global, text: &[u8]) -> Result<(Status, Vec<u8>, Vec<u8>), Fail> {
+    let mut bench = FullBench::new(alloc)?;
+    let mut input = text;
     let mut answers = Vec::new(alloc);
     let mut faults = Vec::new(alloc);
-    let status = run_script(alloc, &mut FullBench, &mut input, &mut answers, &mut faults);
-    (status, answers, faults)
+    let status = run_script(alloc, &mut bench, &mut input, &mut answers, &mut faults);
+    Ok((status, answers, faults))
 }
 
 #[test]
-fn scripts_that_end(rt: HostRuntime) {
+fn scripts_that_end(rt: HostRuntime) -> Result<(), Fail> {
     let cases = [
         ("", ""),
         ("# a comment\n\n \t\n  #\n", ""),
@@ -73,15 +87,16 @@ fn scripts_that_end(rt: HostRuntime) {
         ),
     ];
     for (text, wanted) in cases {
-        let (status, answers, faults) = run(rt.alloc(), text);
+        let (status, answers, faults) = run(rt.alloc(), text.as_bytes())?;
         assert_eq!(rt; status, Status::Done, "{text}");
         assert!(rt; answers.as_slice() == wanted.as_bytes(), "{text}");
         assert!(rt; faults.is_empty(), "{text}");
     }
+    Ok(())
 }
 
 #[test]
-fn scripts_that_stop(rt: HostRuntime) {
+fn scripts_that_stop(rt: HostRuntime) -> Result<(), Fail> {
     let answer = "no profile policy 0\n";
     let cases = [
         ("look /a\n", 3, "", "line 1: not a command\n"),
@@ -121,11 +136,25 @@ fn scripts_that_stop(rt: HostRuntime) {
         ),
     ];
     for (text, code, wanted, told) in cases {
-        let (status, answers, faults) = run(rt.alloc(), text);
+        let (status, answers, faults) = run(rt.alloc(), text.as_bytes())?;
         assert_eq!(rt; status.code(), code, "{text}");
         assert!(rt; answers.as_slice() == wanted.as_bytes(), "{text}");
         assert!(rt; faults.as_slice() == told.as_bytes(), "{text}");
     }
+    Ok(())
+}
+
+/// A script is read to its end, and its lines are counted, however many there are.
+#[test]
+fn more_than_a_million_lines(rt: HostRuntime) -> Result<(), Fail> {
+    let alloc = rt.alloc();
+    let mut text = vec![in alloc; b'\n'; 1_100_000]?;
+    text.extend_from_slice(b"open p /a r\nlook /a\n")?;
+    let (status, answers, faults) = run(alloc, &text)?;
+    assert_eq!(rt; status, Status::Refused);
+    assert!(rt; answers.as_slice() == b"no profile policy 0\n".as_slice());
+    assert!(rt; faults.as_slice() == b"line 1100002: not a command\n".as_slice());
+    Ok(())
 }
 
 /// A line is answered before the next one is read.
@@ -150,9 +179,10 @@ fn readers_that_fail(rt: HostRuntime) -> Result<(), Fail> {
             let mut input = BufReader::new(rt.alloc(), pieces)?;
             let mut answers = Vec::new(rt.alloc());
             let mut faults = Vec::new(rt.alloc());
+            let mut bench = FullBench::new(rt.alloc())?;
             let status = run_script(
                 rt.alloc(),
-                &mut FullBench,
+                &mut bench,
                 &mut input,
                 &mut answers,
                 &mut faults,
@@ -166,14 +196,15 @@ fn readers_that_fail(rt: HostRuntime) -> Result<(), Fail> {
 }
 
 #[test]
-fn answers_that_fail(rt: HostRuntime) {
+fn answers_that_fail(rt: HostRuntime) -> Result<(), Fail> {
     let alloc = rt.alloc();
     // Each line of 20 bytes is written in three parts and flushed.
     for calls in 0..9 {
         let mut input = b"open p /a r\nopen p /a r\n".as_slice();
         let mut answers = Failing::after(alloc, 7, calls);
         let mut faults = Vec::new(alloc);
-        let status = run_script(alloc, &mut FullBench, &mut input, &mut answers, &mut faults);
+        let mut bench = FullBench::new(alloc)?;
+        let status = run_script(alloc, &mut bench, &mut input, &mut answers, &mut faults);
         let (wanted, told) = if calls < 8 {
             (Status::OutputFailed, "refused: output\n")
         } else {
@@ -184,17 +215,20 @@ fn answers_that_fail(rt: HostRuntime) {
         let written = 20 * (calls / 4) + 20.min(7 * (calls % 4));
         assert_eq!(rt; answers.taken.len(), written, "{calls}");
     }
+    Ok(())
 }
 
 #[test]
-fn messages_that_fail(rt: HostRuntime) {
+fn messages_that_fail(rt: HostRuntime) -> Result<(), Fail> {
     let alloc = rt.alloc();
     for text in ["look", "mkdir /a"] {
         let mut input = text.as_bytes();
         let mut answers = Vec::new(alloc);
         let mut faults = Failing::after(alloc, 5000, 0);
-        let status = run_script(alloc, &mut FullBench, &mut input, &mut answers, &mut faults);
+        let mut bench = FullBench::new(alloc)?;
+        let status = run_script(alloc, &mut bench, &mut input, &mut answers, &mut faults);
         assert_eq!(rt; status, Status::FaultsFailed);
         assert!(rt; answers.is_empty());
     }
+    Ok(())
 }

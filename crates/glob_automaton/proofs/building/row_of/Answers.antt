@@ -23,7 +23,7 @@ loop-byte-init c = record {
   gathering = c.requires.gathering;
   sets = c.requires.sets;
   kept = ([], sym (append-nil (lists_of c.args.sets.now)));
-  row = row_none c.args.chart.now c.args.alike.now.least c.named_by-named.result c.args.set.now 256 256 (lists_of c.args.sets.now) refl refl;
+  row = row_none c.args.chart.now c.args.classes.now.least c.named_by-named.result c.args.set.now 256 256 (lists_of c.args.sets.now) refl refl;
 }
 
 pub loop-byte-preserved-then-named-byte : goal.loop-byte-preserved-then-named-byte
@@ -33,7 +33,7 @@ loop-byte-preserved-then-named-byte c =
       gathering = c.in_ok-row.ensures.gathering;
       sets = c.in_ok-row.ensures.sets;
       kept = keeps_on (lists_of c.args.sets.now) (lists_of c.loop-byte.sets) (lists_of c.target_of.new.sets) c.loop-byte.invariant.kept c.in_ok-row.ensures.kept;
-      row = row_named c.args.chart.now c.args.alike.now.least c.named_by-named.result c.args.set.now (lists_of c.loop-byte.sets) (lists_of c.target_of.new.sets)
+      row = row_named c.args.chart.now c.args.classes.now.least c.named_by-named.result c.args.set.now (lists_of c.loop-byte.sets) (lists_of c.target_of.new.sets)
           c.loop-byte.others c.loop-byte.row c.loop-byte.byte c.in_ok-row.field-0 c.in_ok-row.ensures.kept small c.loop-byte.invariant.row
           c.in_ok-row.ensures.target;
     }
@@ -41,7 +41,7 @@ loop-byte-preserved-then-named-byte c =
 pub loop-byte-preserved : goal.loop-byte-preserved
 loop-byte-preserved c =
     let chart : Chart = c.args.chart.now in
-    let least : List ℕ = c.args.alike.now.least in
+    let least : List ℕ = c.args.classes.now.least in
     let named : List Bool = c.named_by-named.result in
     let k : ℕ = c.loop-byte.byte in
     let o : ℕ = least_of least k in

@@ -9,5 +9,5 @@ invariant-loop-byte l = record {
   gathering : IsGathering l.chart l.gathering;
   sets : AreFewSets l.chart (lists_of l.sets);
   kept : Keeps (lists_of l.fn.sets) (lists_of l.sets);
-  row : RowBefore l.chart l.alike.least l.named (lists_of l.sets) l.set l.others l.row l.byte;
+  row : RowBefore l.chart l.classes.least l.named (lists_of l.sets) l.set l.others l.row l.byte;
 }

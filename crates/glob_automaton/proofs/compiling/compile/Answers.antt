@@ -1,5 +1,5 @@
 use Rattle.std.proofs.lemmas.Result.{IfOk-weaker, IfErr-weaker}
-use Rattle.rule_text.specs.Profile.{profile_value}
+use Rattle.rule_reader.specs.Profile.{profile_value}
 use Rattle.glob_automaton.proofs.Compiled.{built, not_built, no_memory}
 use Rattle.glob_automaton.proofs.NamePrefixes.{each_with_slash}
 use Rattle.glob_automaton.proofs.compiling.compile.Goals as goal
@@ -13,7 +13,7 @@ returns-clause-ok c =
     let live = c.live_places_go_on.ensures in
     let by_steps = c.live_is_left_first.ensures in
     IfOk-weaker c.build.result _ _ (λ a b. built live.begin live.step by_steps profile.rules c.in_ok-chart.chart c.in_ok-chart.ensures.chart a b
-    (each_with_slash profile c.args.profile.now.readable)) c.build.ensures.ok
+    c.records_are_their_hits.ensures.same (each_with_slash profile c.args.profile.now.readable)) c.build.ensures.ok
 
 pub returns-clause-err : goal.returns-clause-err
 returns-clause-err c =

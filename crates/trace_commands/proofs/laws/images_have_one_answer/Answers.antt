@@ -11,4 +11,4 @@ pub returns-clause-matched : goal.returns-clause-matched
 returns-clause-matched c =
     let images = c.bytes_have_one_outcome.ensures in
     let tables = c.tables_have_one_outcome.ensures in
-    one_match images.one images.either images.one_fault tables.either tables.one_fault c.least_hits_tell_the_verdict.ensures.one
+    one_match images.one images.either images.one_fault tables.either tables.one_fault c.records_tell_one_verdict.ensures

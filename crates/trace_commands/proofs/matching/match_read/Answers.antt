@@ -22,5 +22,5 @@ returns-clause-output g c = (
   c.in_ok-image.image.items,
   c.in_ok-image.ensures,
   match_answer c.args.perms.now c.args.name.now c.in_ok-image.image.items c.as_bytes.result.now c.deref.result.now
-      c.in_ok-ask.ask c.match_image.result c.as_bytes.ensures.value c.deref.ensures.value c.in_ok-ask.ensures c.match_image.ensures,
+      c.in_ok-ask.ask c.match_image.result c.as_bytes.ensures.value c.deref.ensures.value c.in_ok-ask.ensures c.match_image.ensures.output,
 )

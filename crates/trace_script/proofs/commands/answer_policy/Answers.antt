@@ -8,11 +8,11 @@ use Rattle.trace_script.proofs.commands.answer_policy.Goals as goal
 pub returns-in_err-line-clause-line : goal.returns-in_err-line-clause-line
 returns-in_err-line-clause-line g c limit =
     let told : c.from_residual.result ≡ Err c.in_err-line.field-0.0 = search rules in
-    let p = printed limit (g.B.Bench.known c.args.bench.now) (publish c.args.text.now) in
-    rw told (composed_stop p (g.B.Bench.known c.policy_line.new.bench) (g.A.Write.contents c.args.answers.now) c.in_err-line.field-0.0 (c.in_err-line.ensures.line limit))
+    let p = printed limit (g.B.Bench.history c.args.bench.now) (publish c.args.text.now) in
+    rw told (composed_stop p (g.B.Bench.history c.policy_line.new.bench) (g.A.Write.contents c.args.answers.now) c.in_err-line.field-0.0 (c.in_err-line.ensures.line limit))
 
 pub returns-clause-line : goal.returns-clause-line
 returns-clause-line g c limit =
-    let p = printed limit (g.B.Bench.known c.args.bench.now) (publish c.args.text.now) in
+    let p = printed limit (g.B.Bench.history c.args.bench.now) (publish c.args.text.now) in
     let composed = c.in_ok-line.ensures.line limit in
     printed_by p _ _ _ _ c.print_line.result (c.deref.ensures.value ∙ composed.0) composed.1 c.print_line.ensures

@@ -1,14 +1,14 @@
 -- What was read, and what came of it. Each line made one version of the policy at most.
 use Rattle.std.proofs.Common.{◌≤◌}
 use Rattle.glob_automaton.specs.Automata.{StateLimit}
-use Rattle.trace_script.specs.Following.{place_value}
-use Rattle.plain_bench.specs.Known.{policy_version}
+use Rattle.trace_script.specs.inner.Following.{section_value}
+use Rattle.mediation.specs.History.{policy_version}
 use Rattle.trace_script.proofs.ScriptRuns.{IsRunning}
 use Rattle.trace_script.proofs.script.follow.Given as goal
 
 abbrev pub invariant-loop-before : goal.invariant-loop-before
 invariant-loop-before g l = record {
-  few : policy_version (g.B.Bench.known l.bench) ≤ l.before;
-  runs : (limit : StateLimit) → IsRunning limit (g.B.Bench.known l.initial.bench) (g.R.Read.remaining l.initial.input) (g.R.Read.remaining l.input)
-      (g.A.Write.contents l.initial.answers) (g.A.Write.contents l.answers) (g.B.Bench.known l.bench) (place_value l.place) l.before;
+  few : policy_version (g.B.Bench.history l.bench) ≤ l.before;
+  runs : (limit : StateLimit) → IsRunning limit (g.B.Bench.history l.initial.bench) (g.R.Read.remaining l.initial.input) (g.R.Read.remaining l.input)
+      (g.A.Write.contents l.initial.answers) (g.A.Write.contents l.answers) (g.B.Bench.history l.bench) (section_value l.section) l.before;
 }

@@ -1,5 +1,5 @@
 use Rattle.std.proofs.Common.{ℕ, List, subst}
-use Rattle.plain_bench.specs.Known.{Known}
+use Rattle.mediation.specs.History.{History}
 use Rattle.trace_script.specs.RunOutput.{ScriptEnds}
 use Rattle.trace_report.specs.Streams.{IsTextOf}
 use Rattle.trace_report.proofs.Endings.{text_of}
@@ -13,11 +13,11 @@ returns-in-Err g c limit =
 
 pub returns-in-Ok : goal.returns-in-Ok
 returns-in-Ok g c limit =
-    let P : Known → Type 0 = λ known. (text : List ℕ) × IsTextOf (g.R.Read.remaining c.args.input.now) text × ScriptEnds limit
+    let P : History → Type 0 = λ history. (text : List ℕ) × IsTextOf (g.R.Read.remaining c.args.input.now) text × ScriptEnds limit
     (record {
       answers_before = g.A.Write.contents c.args.answers.now;
       answers_after = g.A.Write.contents c.run_script.new.answers;
       faults_before = g.F.Write.contents c.args.faults.now;
       faults_after = g.F.Write.contents c.run_script.new.faults;
-    }) (g.R.Read.remaining c.args.input.now) (g.R.Read.remaining c.run_script.new.input) known text c.run_script.result in
+    }) (g.R.Read.remaining c.args.input.now) (g.R.Read.remaining c.run_script.new.input) history text c.run_script.result in
     subst P c.in-Ok.ensures (c.run_script.ensures limit)

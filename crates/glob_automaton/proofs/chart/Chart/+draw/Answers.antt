@@ -1,7 +1,7 @@
 -- Each item is drawn before what was drawn already.
 use Rattle.std.proofs.Common.{[], ◌∷◌, ap, sym, subst, refl, arith}
-use Rattle.rule_text.specs.Glob.{exactly, not_slash}
-use Rattle.rule_text.specs.Meaning.{meaning, meaning_of, alternatives_meaning}
+use Rattle.rule_globs.specs.Glob.{exactly, not_slash}
+use Rattle.rule_globs.specs.Meaning.{meaning, meaning_of, alternatives_meaning}
 use Rattle.glob_automaton.specs.Drawing.{IsDrawn}
 use Rattle.glob_automaton.specs.declared.chart.Takes.TheVariants as takes
 use Rattle.glob_automaton.proofs.DrawingLaws.{drawn_empty, drawn_none, drawn_cat, drawn_alt, ready_on}

@@ -1,7 +1,7 @@
 -- What the iterator has left, and before what was drawn already: the items from there to the end.
 use Rattle.std.proofs.Common.{◌≡◌, ◌++◌, ◌+◌, ◌*◌, List, Vec, Global}
-use Rattle.rule_text.specs.Meaning.{meaning, meaning_of, alternatives_meaning}
-use Rattle.rule_text.specs.declared.items.Item.{Item}
+use Rattle.rule_globs.specs.Meaning.{meaning, meaning_of, alternatives_meaning}
+use Rattle.rule_globs.specs.declared.items.Item.{Item}
 use Rattle.glob_automaton.specs.Drawing.{IsDrawn}
 use Rattle.glob_automaton.proofs.DrawingItems.{weight}
 use Rattle.glob_automaton.proofs.chart.Chart.+draw.Given as goal

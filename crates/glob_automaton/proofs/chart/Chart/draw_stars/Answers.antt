@@ -1,8 +1,8 @@
 -- The run is drawn, and before it the one byte of a strict one.
 use Rattle.std.proofs.Common.{subst, refl}
 use Rattle.std.proofs.lemmas.Result.{IfOk-weaker}
-use Rattle.rule_text.specs.Glob.{ByteSet, one, run, not_slash}
-use Rattle.rule_text.specs.Meaning.{in_stars, stars_glob}
+use Rattle.rule_globs.specs.Glob.{ByteSet, one, run, not_slash}
+use Rattle.rule_globs.specs.Meaning.{in_stars, stars_glob}
 use Rattle.glob_automaton.specs.Drawing.{IsDrawn, IsKnown, TakesSet}
 use Rattle.glob_automaton.specs.declared.chart.Takes.TheVariants as takes
 use Rattle.glob_automaton.proofs.DrawingLaws.{drawn_cat, stars_all, stars_some, strict_stars, free_stars}

@@ -19,7 +19,7 @@ use denote.RattleType.{owns}
 use denote.Builtin.{RefOf}
 use denote.Shadow.{pure_i}
 use denote.Signature.{plain, types_at, named_lft}
-use Rattle.plain_bench.specs.contracts.deeds.PolicyChange as C
+use Rattle.plain_bench.specs.contracts.deeds.Deed as C
 use denote.Steps.{nothing}
 use denote.Triple.Clauses.{Clauses, closing}
 use denote.Triple.Entry.{alive}
@@ -30,7 +30,7 @@ use Rattle.plain_bench.specs.declared.deeds.Deeds.{Deeds}
 use Rattle.plain_bench.specs.contracts.deeds.Deeds as T
 use Rattle.plain_bench.specs.contracts.deeds.Deeds.and as F
 use Rattle.plain_bench.specs.contracts.deeds.Deeds.and.Key.{name as #self}
-use Rattle.plain_bench.specs.PolicyChanges.{recorded}
+use Rattle.plain_bench.specs.inner.Deeds.{deed_value}
 use Rattle.plain_bench.proofs.deeds.Deeds.and.Statement as stated
 use Rattle.plain_bench.proofs.deeds.Deeds.and.Code as code
 
@@ -57,7 +57,7 @@ module _ {M : Type 1} {𝓤 : Ura M} (𝓛 : Logic 𝓤) (at_mem : Memory → SP
     walks =
         let a = z.0.3 in
         let vss = z.0.4 in
-        let made : Deeds = record { marker = record {}; list = a.0.now.list ++ recorded a.1.0.now ∷ [] } in
+        let made : Deeds = record { marker = record {}; list = a.0.now.list ++ deed_value a.1.0.now ∷ [] } in
         qed 𝓛 ((raw toks ⊛ ‵ (owns (types_at F.ended.signature.params z.0.0) a vss)) ∷ raw ((held z.0.0 a).requires z.1) ∷ []) ∵
         keep ! (0 ∷ []) $ split ! $ move ! (1 ∷ []) $
         fsplit ! $ fsplit ! $ feq_l ! (λ is₀. drop ! $ fsplit ! $ fsplit ! $ feq_l ! (λ is₁. drop ! $ drop ! $

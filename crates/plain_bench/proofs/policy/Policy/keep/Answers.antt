@@ -1,24 +1,26 @@
 use Rattle.std.proofs.Common.{◌≡◌, ◌++◌, ◌∷◌, [], Some, ap, ◌∙◌}
 use Rattle.std.specs.Prelude.{bytes_eq, if◌then◌else◌}
 use Rattle.std.specs.Option.{option_map}
-use Rattle.matcher.specs.declared.compiled.CompiledProfile.{CompiledProfile}
-use Rattle.plain_bench.specs.Deeds.{replaced}
+use Rattle.mediation.specs.Deeds.{published}
+use Rattle.mediation.specs.Profiles.{judge_of}
 use Rattle.plain_bench.proofs.ByteKeys.{updates_bytes}
-use Rattle.plain_bench.proofs.DeedLaws.{mapped_if, then_stored, then_counted}
+use Rattle.plain_bench.proofs.DeedLaws.{mapped_if, then_published, then_counted}
 use Rattle.plain_bench.proofs.policy.Policy.keep.Goals as goal
 
 pub invariant_of-self : goal.invariant_of-self
 invariant_of-self c =
     let old = c.args.self.now in
-    let profile = c.args.compiled.profile in
-    let more : c.and-deeds.result.list ≡ old.deeds.list ++ replaced profile ∷ [] = c.and-deeds.ensures ∙ ap (λ p. old.deeds.list ++ replaced p ∷ []) c.profile-profile.ensures in
-    let key : c.in-Ok.name.items ≡ profile.name.items = c.in-Ok.ensures.items ∙ c.name.ensures ∙ ap (λ p. p.name.items) c.profile-profile.ensures in
+    let name = c.args.name.items in
+    let profile = c.args.profile in
+    let deed = published name (judge_of profile) in
+    let more : c.and-deeds.result.list ≡ old.deeds.list ++ deed ∷ [] =
+    c.and-deeds.ensures ∙ ap (λ bytes. old.deeds.list ++ published bytes (judge_of profile) ∷ []) c.deref.ensures.value in
     record {
       holds = (
-        (λ name. ap (option_map (λ (k : CompiledProfile). k.profile)) (updates_bytes c.in-Ok.name.items old.profiles c.insert.new.self (Some c.args.compiled) c.in-Ok-insert.ensures.updates name)
-            ∙ mapped_if (λ (k : CompiledProfile). k.profile) (bytes_eq c.in-Ok.name.items name) (Some c.args.compiled) _
-            ∙ (λ i. if bytes_eq (key i) name then Some profile else old.holds.0 name i)
-            ∙ then_stored old.deeds.list c.and-deeds.result.list (replaced profile) more name),
-        then_counted old.version old.deeds.list c.and-deeds.result.list (replaced profile) more old.holds.1,
+        (λ other. ap (option_map judge_of) (updates_bytes name old.profiles c.insert.new.self (Some profile) c.in-Ok.ensures.updates other)
+            ∙ mapped_if judge_of (bytes_eq name other) (Some profile) _
+            ∙ (λ i. if bytes_eq name other then Some (judge_of profile) else old.holds.0 other i)
+            ∙ then_published old.deeds.list c.and-deeds.result.list deed more other),
+        then_counted old.version old.deeds.list c.and-deeds.result.list deed more old.holds.1,
       );
     }

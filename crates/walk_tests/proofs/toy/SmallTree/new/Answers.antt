@@ -1,6 +1,6 @@
 use Rattle.std.proofs.Common.{refl}
-use Rattle.path_walk.specs.Walk.Spot.{Root}
-use Rattle.path_walk.specs.World.{World}
+use Rattle.directory_tree.specs.Walk.Spot.{Root}
+use Rattle.path_lookup.specs.World.{World}
 use Rattle.walk_tests.specs.SmallTree.{small_tree}
 use Rattle.walk_tests.proofs.SmallTree.{small_sound}
 use Rattle.walk_tests.proofs.toy.SmallTree.new.Goals as goal

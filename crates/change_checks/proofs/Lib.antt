@@ -1,0 +1,4 @@
+pub mod Faults
+pub mod Climbing
+pub mod Files
+pub mod Replacing

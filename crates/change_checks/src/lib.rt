@@ -1,0 +1,18 @@
+//! The tests of the changes of a directory tree: whether a change would be made, and where it acts, or by which number it is
+//! refused. They are written once, over any way to read a tree.
+#![tactic(auto)]
+
+mod act;
+mod below;
+mod change;
+mod link_text;
+mod look;
+mod place;
+mod removal;
+mod rename;
+mod vacancy;
+
+pub use act::{Act, Move, NewNode};
+pub use change::check_change;
+pub use look::ChangeLook;
+pub use place::Place;

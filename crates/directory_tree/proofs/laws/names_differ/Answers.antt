@@ -1,0 +1,5 @@
+use Rattle.directory_tree.proofs.Standing.{one_name}
+use Rattle.directory_tree.proofs.laws.names_differ.Goals as goal
+
+pub returns : goal.returns
+returns c = one_name

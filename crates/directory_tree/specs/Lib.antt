@@ -1,0 +1,11 @@
+pub mod Components
+pub mod Tree
+pub mod Walk
+pub mod Spots
+pub mod Name
+pub mod Apply
+pub mod Place
+pub mod Moves
+pub mod Followed
+pub mod Plain
+pub mod Script

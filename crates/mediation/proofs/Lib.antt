@@ -1,0 +1,4 @@
+pub mod Asked
+pub mod PermissionSets
+pub mod ToldLaws
+pub mod Telling

@@ -1,0 +1,35 @@
+-- What answers stand for, with the name that was judged.
+use Rattle.std.specs.Prelude.{ℕ, List, []}
+use Rattle.rule_judge.specs.declared.linking.LinkVerdict.TheVariants.{Fine}
+use Rattle.mediation.specs.declared.answer.Answer.{Answer}
+use Rattle.mediation.specs.declared.answer.Answer.TheVariants.{Judged, Failed, NoProfile}
+use Rattle.mediation.specs.declared.answer.LinkAnswer.{LinkAnswer}
+use Rattle.mediation.specs.declared.answer.LinkAnswer.TheVariants as link
+use Rattle.mediation.specs.Opening.{Answered, judged, failed, no_profile}
+use Rattle.mediation.specs.Linking as linking
+use Rattle.mediation.specs.Linking.{LinkAnswered}
+
+abbrev pub answered : List ℕ → Answer → Answered
+answered name (Judged verdict node tree policy) = judged (record { name = name; node = node; verdict = verdict }) tree policy
+answered name (Failed errno tree) = failed errno tree
+answered name (NoProfile policy) = no_profile policy
+
+-- the name that an open judged, empty where none was
+abbrev pub name_opened : Answered → List ℕ
+name_opened (judged j tree policy) = j.name
+name_opened (failed errno tree) = []
+name_opened (no_profile policy) = []
+
+-- an answer to a judged link; the name is the new entry's
+abbrev pub link_answered : List ℕ → LinkAnswer → LinkAnswered
+link_answered name (link.Linked node tree policy) = linking.made (record { name = name; node = node; verdict = Fine }) tree policy
+link_answered name (link.NotAllowed verdict node tree policy) = linking.not_allowed (record { name = name; node = node; verdict = verdict }) tree policy
+link_answered name (link.Failed errno tree) = linking.failed errno tree
+link_answered name (link.NoProfile policy) = linking.no_profile policy
+
+-- the new entry's name where a link was judged, made or not, and else empty
+abbrev pub name_linked : LinkAnswered → List ℕ
+name_linked (linking.made j tree policy) = j.name
+name_linked (linking.not_allowed j tree policy) = j.name
+name_linked (linking.failed errno tree) = []
+name_linked (linking.no_profile policy) = []

@@ -1,0 +1,10 @@
+pub mod Told
+pub mod Judge
+pub mod Profiles
+pub mod Deeds
+pub mod Opening
+pub mod Linking
+pub mod History
+pub mod Answers
+pub mod Judging
+pub mod inner

@@ -1,0 +1,68 @@
+//! What published profiles say of names. No memory is taken.
+ghost use Rattle.std.specs.Prelude.{◌≡◌, Some};
+ghost use Rattle.verdicts.specs.Records.{IsTold};
+ghost use Rattle.mediation.specs.Judge.{verdict_by, allowed_by};
+ghost use Rattle.mediation.specs.Profiles.{judge_of};
+ghost use Rattle.mediation.specs.inner.Telling.{Tells};
+ghost use Rattle.names.specs.Permissions.{only};
+ghost use Rattle.rule_judge.specs.Linking.{is_allowed};
+ghost use Rattle.verdicts.specs.declared.verdict.Verdict.{Verdict};
+ghost use Rattle.tables.specs.Tables.{record_after};
+
+use crate::laws::told_is_the_one_verdict;
+use matcher::{AnyProfile, tables_of_rules_tell_their_verdicts};
+use names::{Permission, Perms};
+use table_runner::record_of_name;
+use table_verifier::{Steps, VerifiedTable};
+use verdicts::{Record, Verdict, told};
+
+/// The verdict on a name.
+pub(crate) fn verdict_by(profile: &AnyProfile, name: &[u8], ask: Perms) -> Verdict
+    ensures { result ≡ verdict_by (judge_of profile.now) name.now ask }
+{
+    told(&record_by(profile, name), ask)
+}
+
+/// The permissions that a name is allowed, each asked by itself.
+pub(crate) fn allowed_by(profile: &AnyProfile, name: &[u8]) -> Perms
+    ensures { result ≡ allowed_by (judge_of profile.now) name.now }
+{
+    let record = record_by(profile, name);
+    let mut perms = Perms::NONE;
+    for permission in &Permission::ALL {
+        if tells_allowed(&record, *permission) {
+            perms = perms.with(*permission);
+        }
+    }
+    perms
+}
+
+/// The record that tells what a profile says of a name: one run serves each question.
+fn record_by(profile: &AnyProfile, name: &[u8]) -> Record
+    ensures { Tells (judge_of profile.now) name.now result }
+{
+    match profile {
+        AnyProfile::Compiled(compiled) => {
+            tables_of_rules_tell_their_verdicts();
+            last_record(compiled.table(), name)
+        }
+        AnyProfile::Loaded(loaded) => {
+            told_is_the_one_verdict();
+            last_record(loaded.table(), name)
+        }
+    }
+}
+
+/// The record of a name's last state.
+fn last_record(table: &VerifiedTable, name: &[u8]) -> Record
+    ensures { record_after table.now name.now ≡ Some result }
+{
+    record_of_name(table, name, &mut Steps::new())
+}
+
+/// Whether a permission is allowed by a record, asked by itself.
+fn tells_allowed(record: &Record, permission: Permission) -> bool
+    ensures { (v : Verdict) × IsTold «record».now (only permission) v × (result ≡ is_allowed v) }
+{
+    matches!(told(record, Perms::NONE.with(permission)), Verdict::Allowed)
+}

@@ -1,0 +1,7 @@
+pub mod Joined
+pub mod Arriving
+pub mod Stepping
+pub mod Naming
+pub mod PlaceNames
+pub mod Splits
+pub mod ShortParts

@@ -1,0 +1,4 @@
+pub mod World
+pub mod Walking
+pub mod Target
+pub mod inner

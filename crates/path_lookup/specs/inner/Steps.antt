@@ -1,0 +1,72 @@
+-- How far a walk has come.
+use Rattle.std.specs.Prelude.{◌≡◌, ℕ, zero, suc, ◌+◌, ◌*◌, ◌<◌, ◌≤◌, List, ◌++◌, Ok, Err, if◌then◌else◌}
+use Rattle.names.specs.declared.errors.Errno.TheVariants.{ELOOP}
+use Rattle.names.specs.Paths.{begins_with_slash}
+use Rattle.path_lookup.specs.declared.arrival.Arrival.{Arrival}
+use Rattle.path_lookup.specs.declared.arrival.Arrival.TheVariants as arrival
+use Rattle.directory_tree.specs.declared.node.Last.{Last}
+use Rattle.directory_tree.specs.declared.node.NodeKind.TheVariants.{Link}
+use Rattle.path_lookup.specs.declared.walk.Progress.{Progress}
+use Rattle.path_lookup.specs.declared.walk.Progress.TheVariants as progress
+use Rattle.directory_tree.specs.Components.{Step, steps_of}
+use Rattle.directory_tree.specs.Apply.{max_text}
+use Rattle.directory_tree.specs.Tree.{Tree}
+use Rattle.directory_tree.specs.Walk.{Spot, Walked, spot_of, start_of, resolve}
+use Rattle.directory_tree.specs.Walk.Spot.{Root}
+use Rattle.directory_tree.specs.Spots.{node_at, kind_at}
+use Rattle.path_lookup.specs.World.{World}
+
+-- the spot is a directory's
+abbrev pub IsDirectory : Tree → Spot → Type 0
+IsDirectory t spot = spot_of t (node_at spot) ≡ spot
+
+-- the answer of a walk that has come to this directory, with so many links and this text left
+abbrev pub onward_from : World → Last → ℕ → Spot → List ℕ → Walked
+onward_from w last links directory left = resolve w.tree last links (node_at directory) (steps_of left)
+
+-- the answer where a link was met, with so many links left before it
+abbrev pub after_link : Tree → Last → ℕ → ℕ → List Step → Walked
+after_link t last zero d xs = Err ELOOP
+after_link t last (suc links) d xs = resolve t last links d xs
+
+-- where the text of a link begins
+abbrev pub start_at : List ℕ → Spot → Spot
+start_at text directory = if begins_with_slash text then Root else directory
+
+module _ {E : Type 0} (means : E → World → Spot) (w : World) (last : Last) where
+  -- what a component of this directory led to gives this answer, with so many links left and these steps after it
+  abbrev pub ArrivesAt : ℕ → ℕ → List Step → Walked → Arrival E → Type 0
+  ArrivesAt links d xs answer (arrival.Directory e) = (answer ≡ resolve w.tree last links (node_at (means e w)) xs) × IsDirectory w.tree (means e w)
+  ArrivesAt links d xs answer (arrival.Link e) = (text : List ℕ) × (kind_at (means e w) ≡ Link text) × (answer ≡ after_link w.tree last links (start_of text d) (steps_of text ++ xs))
+  ArrivesAt links d xs answer (arrival.End e) = answer ≡ Ok (means e w)
+
+  -- the walk that has come so far, with this text left, gives this answer
+  abbrev pub ComesTo : List ℕ → Walked → Progress E → Type 0
+  ComesTo left answer (progress.At e links) = (answer ≡ onward_from w last links (means e w) left) × IsDirectory w.tree (means e w)
+  ComesTo left answer (progress.Done e) = answer ≡ Ok (means e w)
+
+-- the entry that is spoken of
+abbrev pub arrival_entry : {E : Type 0} → Arrival E → E
+arrival_entry (arrival.Directory e) = e
+arrival_entry (arrival.Link e) = e
+arrival_entry (arrival.End e) = e
+
+abbrev pub progress_entry : {E : Type 0} → Progress E → E
+progress_entry (progress.At e links) = e
+progress_entry (progress.Done e) = e
+
+-- the most bytes that are left of a path and the texts of links
+abbrev pub most_left : ℕ
+most_left = 45015
+
+-- there is room for the texts of the links that are left
+abbrev pub HasRoom : ℕ → ℕ → Type 0
+HasRoom left links = left + max_text * links ≤ most_left
+
+-- each step takes a byte, or a link whose text is shorter than what it counts
+abbrev pub work_left : ℕ → ℕ → ℕ
+work_left left links = left + 1024 * links
+
+abbrev pub GoesOn : {E : Type 0} → ℕ → ℕ → ℕ → Progress E → Type 0
+GoesOn before after links (progress.At e links_left) = HasRoom after links_left × (work_left after links_left < work_left before links)
+GoesOn before after links (progress.Done e) = Unit {0}

@@ -1,0 +1,21 @@
+//! The walk of a path and the name of an entry, over any way to read a tree piece by piece.
+//!
+//! What a stranger must believe stands in `specs/` (61 lines); `specs/inner/` has words of private contracts and proofs alone.
+#![tactic(auto)]
+
+mod arrival;
+mod fault;
+mod look;
+mod name;
+mod place;
+mod scratch;
+mod target;
+mod walk;
+
+pub use fault::WalkFault;
+pub use look::{Look, Torn};
+pub use name::{NAME_ROOM, name_of};
+pub use place::{find_directory, name_of_place};
+pub use scratch::Scratch;
+pub use target::{EndSlash, SplitPath, split_path};
+pub use walk::resolve;

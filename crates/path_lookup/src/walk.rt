@@ -1,0 +1,142 @@
+//! The walk along a path.
+ghost use Rattle.std.specs.Prelude.{◌≡◌, ◌≤◌, ◌+◌, ◌*◌, ◌<◌, ◌++◌, ℕ, List, IfOk, IfErr, Ok, length};
+ghost use Rattle.directory_tree.specs.Walk.{walk};
+ghost use Rattle.directory_tree.specs.Spots.{kind_at};
+ghost use Rattle.path_lookup.specs.World.{World, Narrows, IsTorn};
+ghost use Rattle.directory_tree.specs.declared.node.NodeKind.TheVariants.{Link};
+ghost use Rattle.path_lookup.specs.Walking.{IsFault};
+ghost use Rattle.path_lookup.specs.inner.Steps.{IsDirectory, ComesTo, GoesOn, HasRoom, most_left, onward_from, progress_entry, start_at};
+
+use crate::arrival::{Arrival, arrive};
+use crate::fault::WalkFault;
+use crate::look::{Look, Torn};
+use crate::scratch::Scratch;
+use directory_tree::{LONGEST_LINK_TEXT, Last};
+use names::{Errno, LONGEST_PATH, Path, split_component};
+
+/// The most links of one walk (path_resolution(7)).
+pub(crate) const MOST_LINKS: usize = 40;
+
+/// Where a path leads (path_resolution(7)). Symbolic links on the way are followed, at most 40; `last` says whether one
+/// that the last component names is followed, too. No memory is taken.
+pub fn resolve<L: Look>(
+    look: &mut L,
+    path: &Path<'_>,
+    last: Last,
+    scratch: &mut Scratch,
+) -> Result<L::Entry, WalkFault>
+    ensures kept { L.kept look.new ≡ L.kept look.old }
+    ensures narrows { Narrows (L.sees look.old) (L.sees look.new) }
+    ensures keeps { (e : L.Entry) → L.knows look.old e → L.knows look.new e }
+    ensures known { IfOk result (L.knows look.new) }
+    ensures found { IfOk result (λ e. (w : World) → L.sees look.new w → walk w.tree last path.now ≡ Ok (L.means e w)) }
+    ensures fault { IfErr result (IsFault (L.lacks look.new) (L.sees look.new) (λ w. walk w.tree last path.now)) }
+{
+    resolve_text(look, path.as_bytes(), last, scratch)
+}
+
+/// Where any text leads, as [`resolve`] says it of a path. No memory is taken.
+pub(crate) fn resolve_text<L: Look>(
+    look: &mut L,
+    text: &[u8],
+    last: Last,
+    scratch: &mut Scratch,
+) -> Result<L::Entry, WalkFault>
+    requires { length text.now ≤ LONGEST_PATH }
+    ensures kept { L.kept look.new ≡ L.kept look.old }
+    ensures narrows { Narrows (L.sees look.old) (L.sees look.new) }
+    ensures keeps { (e : L.Entry) → L.knows look.old e → L.knows look.new e }
+    ensures known { IfOk result (L.knows look.new) }
+    ensures found { IfOk result (λ e. (w : World) → L.sees look.new w → walk w.tree last text.now ≡ Ok (L.means e w)) }
+    ensures fault { IfErr result (IsFault (L.lacks look.new) (L.sees look.new) (λ w. walk w.tree last text.now)) }
+{
+    scratch.begin(text);
+    let mut directory = look.root();
+    let mut links = MOST_LINKS;
+    loop {
+        match step(look, directory, links, last, scratch)? {
+            Progress::Done(entry) => return Ok(entry),
+            Progress::At(next, links_left) => {
+                directory = next;
+                links = links_left;
+            }
+        }
+    }
+}
+
+/// How far a walk has come.
+enum Progress<E: Copy> {
+    /// It goes on from this directory, with so many links left.
+    At(E, usize),
+    /// It leads here.
+    Done(E),
+}
+
+// Takes the first component that is left, if one is.
+fn step<L: Look>(
+    look: &mut L,
+    directory: L::Entry,
+    links: usize,
+    last: Last,
+    scratch: &mut Scratch,
+) -> Result<Progress<L::Entry>, WalkFault>
+    requires known { L.knows look.old directory }
+    requires directory { (w : World) → L.sees look.old w → IsDirectory w.tree (L.means directory w) }
+    requires room { HasRoom (length scratch.old) links }
+    ensures kept { L.kept look.new ≡ L.kept look.old }
+    ensures narrows { Narrows (L.sees look.old) (L.sees look.new) }
+    ensures keeps { (e : L.Entry) → L.knows look.old e → L.knows look.new e }
+    ensures known { IfOk result (λ progress. L.knows look.new (progress_entry progress)) }
+    ensures goes { IfOk result (GoesOn (length scratch.old) (length scratch.new) links) }
+    ensures answer { IfOk result (λ progress. (w : World) → L.sees look.new w →
+        ComesTo L.means w last scratch.new (onward_from w last links (L.means directory w) scratch.old) progress) }
+    ensures fault { IfErr result (IsFault (L.lacks look.new) (L.sees look.new)
+        (λ w. onward_from w last links (L.means directory w) scratch.old)) }
+{
+    let left = scratch.left();
+    let Some((component, rest)) = split_component(left) else {
+        return Ok(Progress::Done(directory));
+    };
+    let taken = left.len() - rest.len();
+    let arrival = arrive(look, directory, component, last, rest.is_empty())?;
+    scratch.skip(taken);
+    match arrival {
+        Arrival::Directory(next) => Ok(Progress::At(next, links)),
+        Arrival::End(entry) => Ok(Progress::Done(entry)),
+        Arrival::Link(_) if links == 0 => Err(WalkFault::Refused(Errno::ELOOP)),
+        Arrival::Link(link) => {
+            let next = follow(look, directory, link, scratch)?;
+            Ok(Progress::At(next, links - 1))
+        }
+    }
+}
+
+// Puts the text of a link in front of what is left, and answers the directory where it begins.
+fn follow<L: Look>(
+    look: &mut L,
+    directory: L::Entry,
+    link: L::Entry,
+    scratch: &mut Scratch,
+) -> Result<L::Entry, Torn>
+    requires directory { L.knows look.old directory }
+    requires link { L.knows look.old link }
+    requires room { length scratch.old + LONGEST_LINK_TEXT ≤ most_left }
+    ensures kept { L.kept look.new ≡ L.kept look.old }
+    ensures narrows { Narrows (L.sees look.old) (L.sees look.new) }
+    ensures keeps { (e : L.Entry) → L.knows look.old e → L.knows look.new e }
+    ensures known { IfOk result (L.knows look.new) }
+    ensures longer { IfOk result (λ start. length scratch.new ≤ length scratch.old + LONGEST_LINK_TEXT) }
+    ensures text { IfOk result (λ start. (w : World) (text : List ℕ) → L.sees look.new w → kind_at (L.means link w) ≡ Link text →
+        (scratch.new ≡ text ++ scratch.old) × (L.means start w ≡ start_at text (L.means directory w))) }
+    ensures torn { IfErr result (λ _. IsTorn (L.lacks look.new) (L.sees look.new)) }
+{
+    let mut room = [0; LONGEST_LINK_TEXT];
+    let length = look.link_text(link, &mut room)?;
+    let text = &room[..length];
+    scratch.put_in_front(text);
+    if text.first() == Some(&b'/') {
+        Ok(look.root())
+    } else {
+        Ok(directory)
+    }
+}

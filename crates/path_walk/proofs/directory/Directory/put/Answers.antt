@@ -1,6 +1,0 @@
-use Rattle.std.proofs.Common.{Some, refl}
-use Rattle.path_walk.proofs.ByteKeys.{updates_bytes}
-use Rattle.path_walk.proofs.directory.Directory.put.Goals as goal
-
-pub returns-in-Ok-clause-ok : goal.returns-in-Ok-clause-ok
-returns-in-Ok-clause-ok c = record { place = refl; nodes = updates_bytes c.args.component.items c.args.self.now.entries c.insert.new.self (Some c.args.node) c.in-Ok.ensures.updates }

@@ -1,9 +1,0 @@
-use Rattle.std.proofs.Common.{Some, refl}
-use Rattle.path_walk.proofs.ByteKeys.{updates_bytes}
-use Rattle.path_walk.proofs.directory.Directory.set.Goals as goal
-
-pub returns-in-Some : goal.returns-in-Some
-returns-in-Some c = record {
-  place = refl;
-  nodes = updates_bytes c.args.component.now c.args.self.now.entries (c.get_mut.follows.lender c.args.node) (Some c.args.node) ((c.get_mut.follows.holds c.args.node).3 c.requires);
-}

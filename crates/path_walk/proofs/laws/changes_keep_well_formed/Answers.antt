@@ -1,8 +1,0 @@
-use Rattle.path_walk.proofs.Changes.{apply_keeps, tree_after_well}
-use Rattle.path_walk.proofs.laws.changes_keep_well_formed.Goals as goal
-
-pub returns-clause-one : goal.returns-clause-one
-returns-clause-one c = apply_keeps
-
-pub returns-clause-all : goal.returns-clause-all
-returns-clause-all c = tree_after_well

@@ -1,5 +1,0 @@
-use Rattle.path_walk.proofs.NodeKinds.{kind_by_entry}
-use Rattle.path_walk.proofs.laws.kind_is_of_any_entry.Goals as goal
-
-pub returns : goal.returns
-returns c = kind_by_entry

@@ -1,0 +1,3 @@
+pub mod Deeds
+pub mod Policy
+pub mod Settling

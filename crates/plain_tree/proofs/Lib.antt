@@ -1,0 +1,6 @@
+pub mod ByteKeys
+pub mod Mirrors
+pub mod Held
+pub mod Carried
+pub mod Entries
+pub mod Acts

@@ -1,0 +1,3 @@
+pub mod PlainEntry
+pub mod PlainLaws
+pub mod inner

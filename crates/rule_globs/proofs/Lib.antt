@@ -1,0 +1,14 @@
+pub mod Behind
+pub mod ByteBits
+pub mod Sweeps
+pub mod WholeSweeps
+pub mod MeaningLaws
+pub mod Weight
+pub mod PassLaws
+pub mod StepLaws
+pub mod FollowLaws
+pub mod Cuts
+pub mod OneVerdict
+pub mod PlainLaws
+pub mod TokenItems
+pub mod TokenLaws

@@ -1,0 +1,5 @@
+use Rattle.rule_globs.proofs.Cuts.{zero_never}
+use Rattle.rule_globs.proofs.laws.byte_zero_never.Goals as goal
+
+pub returns : goal.returns
+returns c = zero_never

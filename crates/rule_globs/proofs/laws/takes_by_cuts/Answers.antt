@@ -1,0 +1,5 @@
+use Rattle.rule_globs.proofs.Cuts.{by_cuts}
+use Rattle.rule_globs.proofs.laws.takes_by_cuts.Goals as goal
+
+pub returns : goal.returns
+returns c = by_cuts

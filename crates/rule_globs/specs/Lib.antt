@@ -1,0 +1,11 @@
+pub mod Each
+pub mod Glob
+pub mod Meaning
+pub mod Tokens
+pub mod Limits
+pub mod LiveSteps
+pub mod Follow
+pub mod Rules
+pub mod Verdict
+pub mod PlainVerdict
+pub mod inner

@@ -1,0 +1,4 @@
+pub mod Sweep
+pub mod Cursor
+pub mod RuleHits
+pub mod ByteBits

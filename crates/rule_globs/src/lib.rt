@@ -1,0 +1,18 @@
+//! What rules mean: the items of a path and the pattern that they stand for, which names a pattern takes, and the verdict of
+//! rules on a name, as definitions. A name is matched by its live places, in one pass over the items for each byte.
+//!
+//! To be believed are the 460 lines of definitions in `specs/`; those in `specs/inner/` only private contracts speak of.
+#![tactic(auto)]
+
+mod byte_bits;
+mod items;
+mod laws;
+mod live;
+mod path;
+
+pub use items::{ByteRange, Class, Item, Stars};
+pub use laws::{
+    allowed_alone, byte_zero_never, end_is_live, live_is_left_first, live_places_go_on,
+    one_verdict_is_right, takes_by_cuts,
+};
+pub use path::{MAX_ITEMS, MAX_PLACES, RulePath};

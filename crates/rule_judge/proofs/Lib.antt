@@ -1,0 +1,2 @@
+pub mod VerdictSteps
+pub mod LinkLaws

@@ -1,0 +1,182 @@
+-- Links, by what their names are allowed.
+use Rattle.std.proofs.Common.{subst, ◌+◌, ◌<◌, length, take, get_or, ◌≡◌, ◌≢◌, Bool, true, false, ◌&&◌, ◌||◌, ◌==◌, ◌↔◌, ℕ, List, IsTrue, refl, sym, ap, ◌∙◌, true≢false}
+use Rattle.std.specs.Prelude.{not, if◌then◌else◌}
+use Rattle.std.specs.List.{list_any}
+use Rattle.std.proofs.lemmas.Bool.{cases_Bool}
+use Rattle.std.proofs.lemmas.List.Folds.{list_any_more}
+use mathlib.Core.Logic.{⊎_elim}
+use Rattle.names.specs.declared.permissions.Permission.{Permission}
+use Rattle.names.specs.declared.permissions.Permission.TheVariants.{Read, Write, Link, Lock, Map}
+use Rattle.names.specs.declared.permissions.Perms.{Perms}
+use Rattle.names.specs.Permissions.{has, only, letter, set_of, with_permission, all_permissions}
+use Rattle.rule_judge.specs.Linking.{is_allowed, allowed, extra, widening, link_verdict, IsSubset}
+use Rattle.rule_judge.specs.declared.linking.LinkVerdict.TheVariants.{Refused, Wider, Fine}
+use Rattle.verdicts.specs.declared.verdict.Verdict.{Verdict}
+use Rattle.verdicts.specs.declared.verdict.Verdict.TheVariants.{Denied, NoRule, Allowed}
+use Rattle.rule_reader.specs.Profile.{RuleValue}
+use Rattle.rule_globs.specs.PlainVerdict.{verdict}
+use Rattle.rule_globs.specs.Verdict.{IsVerdict, IsAllowed}
+use Rattle.names.proofs.PermsLaws.{has-set_of, found, one_found}
+
+-- a set without members widens nothing
+pub widening_nothing : (s : Perms) → ((p : Permission) → has s p ≡ false) → Fine ≡ widening s
+widening_nothing s nothing = ⊎_elim
+    (λ h. let some = one_found (has s) h in absurd (true≢false (sym some.1 ∙ nothing some.0)))
+    (λ h. sym (ap (λ (b : Bool). if b then Wider s else Fine) h))
+    (cases_Bool (list_any (has s) all_permissions))
+
+-- and one with members does
+pub widening_something : (s : Perms) → (((p : Permission) → has s p ≡ false) → ⊥) → Wider s ≡ widening s
+widening_something s something = ⊎_elim
+    (λ h. sym (ap (λ (b : Bool). if b then Wider s else Fine) h))
+    (λ h. absurd (something (λ p. ⊎_elim
+    (λ t. absurd (true≢false (sym (found (has s) p t) ∙ h)))
+    (λ f. f) (cases_Bool (has s p)))))
+    (cases_Bool (list_any (has s) all_permissions))
+
+-- what is extra is held by the new set, isn't link, and isn't held by the old one
+extra_of : (old new : Perms) (p : Permission) → has (extra old new) p ≡ (has new p && not (has old p || (letter p == letter Link)))
+extra_of old new p =
+    has-set_of (λ q. has new q && not (has (with_permission old Link) q)) p
+    ∙ ap (λ (b : Bool). has new p && not b) (has-set_of (λ q. has old q || (letter q == letter Link)) p)
+
+link_letter : (p : Permission) → p ≢ Link → (letter p == letter Link) ≡ false
+link_letter Read other = refl
+link_letter Write other = refl
+link_letter Link other = absurd (other refl)
+link_letter Lock other = refl
+link_letter Map other = refl
+
+held : (a b : Bool) → a ≡ true → (a && not (b || false)) ≡ false → b ≡ true
+held true true is none = refl
+held true false is none = absurd (true≢false none)
+held false b is none = absurd (true≢false (sym is))
+
+none_extra : (a b : Bool) → (a ≡ true → b ≡ true) → (a && not (b || false)) ≡ false
+none_extra true true given = refl
+none_extra true false given = absurd (true≢false (sym (given refl)))
+none_extra false b given = refl
+
+linked : (a b : Bool) → (a && not (b || true)) ≡ false
+linked true true = refl
+linked true false = refl
+linked false b = refl
+
+-- nothing extra, member by member
+pub subset_of : (old new : Perms) → ((p : Permission) → has (extra old new) p ≡ false) → IsSubset old new
+subset_of old new nothing p other is =
+    held (has new p) (has old p) is
+    (ap (λ (b : Bool). has new p && not (has old p || b)) (sym (link_letter p other)) ∙ sym (extra_of old new p) ∙ nothing p)
+
+not_link : (old new : Perms) (p : Permission) → IsSubset old new → p ≢ Link → has (extra old new) p ≡ false
+not_link old new p subset other =
+    extra_of old new p
+    ∙ ap (λ (b : Bool). has new p && not (has old p || b)) (link_letter p other)
+    ∙ none_extra (has new p) (has old p) (subset p other)
+
+pub nothing_extra : (old new : Perms) → IsSubset old new → (p : Permission) → has (extra old new) p ≡ false
+nothing_extra old new subset Read = not_link old new Read subset (λ e. absurd (cc e))
+nothing_extra old new subset Write = not_link old new Write subset (λ e. absurd (cc e))
+nothing_extra old new subset Link = extra_of old new Link ∙ linked (has new Link) (has old Link)
+nothing_extra old new subset Lock = not_link old new Lock subset (λ e. absurd (cc e))
+nothing_extra old new subset Map = not_link old new Map subset (λ e. absurd (cc e))
+
+wider_is_fine : (s : Perms) → Wider s ≡ Fine → ⊥
+wider_is_fine s e = absurd (cc e)
+
+refused_is_fine : (v : Verdict) → Refused v ≡ Fine → ⊥
+refused_is_fine v e = absurd (cc e)
+
+-- fine links are those whose new name is one to link to and widens nothing
+pub fine : (old new : Perms) (v : Verdict) → (link_verdict old new v ≡ Fine) ↔ ((v ≡ Allowed) × IsSubset old new)
+fine old new (Denied rule) = (λ e. absurd (refused_is_fine (Denied rule) e), λ h. absurd (cc (h.0)))
+fine old new (NoRule missing) = (λ e. absurd (refused_is_fine (NoRule missing) e), λ h. absurd (cc (h.0)))
+fine old new Allowed = (
+  λ e. (
+    refl,
+    subset_of old new (λ p. ⊎_elim
+        (λ is. absurd (wider_is_fine (extra old new) (widening_something (extra old new) (λ nothing. true≢false (sym is ∙ nothing p)) ∙ e)))
+        (λ f. f) (cases_Bool (has (extra old new) p))),
+  ),
+  λ h. sym (widening_nothing (extra old new) (nothing_extra old new h.1)),
+)
+
+allowed_is : (v : Verdict) → is_allowed v ≡ true → v ≡ Allowed
+allowed_is Allowed h = refl
+allowed_is (Denied rule) h = absurd (true≢false (sym h))
+allowed_is (NoRule missing) h = absurd (true≢false (sym h))
+
+-- the set of the permissions that are allowed has just these
+pub allowed_set : ((rules : List RuleValue) (name : List ℕ) (ask : Perms) → IsVerdict rules name ask (verdict rules name ask)) →
+    ((rules : List RuleValue) (name : List ℕ) (ask : Perms) (v w : Verdict) → IsVerdict rules name ask v → IsVerdict rules name ask w → v ≡ w) →
+    (rules : List RuleValue) (name : List ℕ) (p : Permission) → IsTrue (has (allowed rules name) p) ↔ IsAllowed rules name p
+allowed_set verdict_is_right one_verdict rules name p =
+    let of : has (allowed rules name) p ≡ is_allowed (verdict rules name (only p)) = has-set_of (λ q. is_allowed (verdict rules name (only q))) p in
+    let right = verdict_is_right rules name (only p) in (
+      λ h. subst (IsVerdict rules name (only p)) (allowed_is (verdict rules name (only p)) (sym of ∙ h)) right,
+      λ h. of ∙ ap is_allowed (one_verdict rules name (only p) (verdict rules name (only p)) Allowed right h),
+    )
+
+-- p is allowed, asked by itself
+abbrev pub is_allowed_by : List RuleValue → List ℕ → Permission → Bool
+is_allowed_by rules name p = is_allowed (verdict rules name (only p))
+
+-- the set of those of the list that pass the test
+abbrev pub passing : (Permission → Bool) → List Permission → Perms
+passing test ps = set_of (λ q. list_any (λ p. (letter q == letter p) && test p) ps)
+
+or_none : (a b : Bool) → (a || (b && false)) ≡ a
+or_none true b = refl
+or_none false true = refl
+or_none false false = refl
+
+or_same : (a b : Bool) → (a || (b && true)) ≡ (a || b)
+or_same true b = refl
+or_same false true = refl
+or_same false false = refl
+
+more : (test : Permission → Bool) (items : List Permission) (i : ℕ) (d p q : Permission) → i < length items → get_or items i d ≡ p
+    → list_any (λ r. (letter q == letter r) && test r) (take (i + 1) items) ≡ (list_any (λ r. (letter q == letter r) && test r) (take i items) || ((letter q == letter p) && test p))
+more test items i d p q low at =
+    list_any_more (λ r. (letter q == letter r) && test r) items i d low
+    ∙ ap (λ r. list_any (λ s. (letter q == letter s) && test s) (take i items) || ((letter q == letter r) && test r)) at
+
+-- one permission more, that passes
+pub passing_more : (test : Permission → Bool) (items : List Permission) (i : ℕ) (d p : Permission) (s : Perms) → i < length items → get_or items i d ≡ p → test p ≡ true
+    → s ≡ passing test (take i items) → with_permission s p ≡ passing test (take (i + 1) items)
+passing_more test items i d p s low at passes so_far =
+    ap (λ t. with_permission t p) so_far
+    ∙ (λ j. set_of (λ q. each q j))
+  where
+    each : (q : Permission) → (has (passing test (take i items)) q || (letter q == letter p)) ≡ list_any (λ r. (letter q == letter r) && test r) (take (i + 1) items)
+    each q =
+        ap (λ b. b || (letter q == letter p)) (has-set_of (λ r. list_any (λ t. (letter r == letter t) && test t) (take i items)) q)
+        ∙ sym (or_same (list_any (λ r. (letter q == letter r) && test r) (take i items)) (letter q == letter p))
+        ∙ ap (λ b. list_any (λ r. (letter q == letter r) && test r) (take i items) || ((letter q == letter p) && b)) (sym passes)
+        ∙ sym (more test items i d p q low at)
+
+-- and one that doesn't
+pub passing_same : (test : Permission → Bool) (items : List Permission) (i : ℕ) (d p : Permission) (s : Perms) → i < length items → get_or items i d ≡ p → test p ≡ false
+    → s ≡ passing test (take i items) → s ≡ passing test (take (i + 1) items)
+passing_same test items i d p s low at fails so_far = so_far ∙ (λ j. set_of (λ q. each q j))
+  where
+    each : (q : Permission) → list_any (λ r. (letter q == letter r) && test r) (take i items) ≡ list_any (λ r. (letter q == letter r) && test r) (take (i + 1) items)
+    each q =
+        sym (or_none (list_any (λ r. (letter q == letter r) && test r) (take i items)) (letter q == letter p))
+        ∙ ap (λ b. list_any (λ r. (letter q == letter r) && test r) (take i items) || ((letter q == letter p) && b)) (sym fails)
+        ∙ sym (more test items i d p q low at)
+
+or_false : (a : Bool) → (a || false) ≡ a
+or_false true = refl
+or_false false = refl
+
+one_passes : (test : Permission → Bool) (q : Permission) → list_any (λ p. (letter q == letter p) && test p) all_permissions ≡ test q
+one_passes test Read = or_false (test Read)
+one_passes test Write = or_false (test Write)
+one_passes test Link = or_false (test Link)
+one_passes test Lock = or_false (test Lock)
+one_passes test Map = or_false (test Map)
+
+-- of all permissions those that pass
+pub passing_all : (test : Permission → Bool) → passing test all_permissions ≡ set_of test
+passing_all test = λ j. set_of (λ q. one_passes test q j)

@@ -1,0 +1,13 @@
+//! Profiles judged in the plainest way: the verdict on a name by each rule in turn, and the verdict on a hard link by what the
+//! rules say of both its names.
+//!
+//! To be believed are the 46 lines of definitions in `specs/`.
+#![tactic(auto)]
+
+mod judging;
+mod linking;
+
+pub use judging::judge_slow;
+pub use linking::{
+    LinkVerdict, allowed_by_themselves, allowed_perms, fine_links_widen_nothing, judge_link,
+};

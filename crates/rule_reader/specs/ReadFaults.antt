@@ -1,0 +1,25 @@
+-- The fault at which reading from left to right stops.
+use Rattle.std.specs.Prelude.{◌≡◌, ℕ, ◌⊎◌, List, Err, true}
+use Rattle.rule_reader.specs.declared.fault.ReadFault.{ReadFault}
+use Rattle.rule_reader.specs.Profile.{ProfileValue}
+use Rattle.rule_reader.specs.Grammar.{ReadsAs}
+use Rattle.rule_reader.specs.declared.reading.local_fault.LocalFault.{LocalFault}
+use Rattle.rule_reader.specs.Reading.{text_at, outcome_of}
+
+-- reading the text stops first with this fault
+abbrev pub FaultsAs : List ℕ → ReadFault → Type 0
+FaultsAs text fault = outcome_of text ≡ Err fault
+
+-- a profile or a fault
+abbrev pub HasOutcome : List ℕ → Type 0
+HasOutcome text = ((p : ProfileValue) × ReadsAs text p) ⊎ ((fault : ReadFault) × FaultsAs text fault)
+
+-- the text has a fault
+abbrev pub Refused : List ℕ → Type 0
+Refused text = (fault : ReadFault) × FaultsAs text fault
+
+-- The text has a fault that is settled. Not settled are: a Syntax fault at the text's end; a word left out, or told as no
+-- permissions, that the end ends; the comma of missing permissions directly behind a path, as the last byte; and an open class
+-- or group where the end ends the path.
+abbrev pub IsSettled : List ℕ → Type 0
+IsSettled text = (s : LocalFault) × (text_at text ≡ Err s) × (s.settled ≡ true)

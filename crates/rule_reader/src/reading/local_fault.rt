@@ -1,0 +1,83 @@
+//! Where reading stops.
+ghost use Rattle.std.specs.Prelude.{◌≡◌, length};
+ghost use Rattle.rule_reader.specs.ReadSteps.{goes_on};
+ghost use Rattle.rule_reader.specs.declared.reading.local_fault.Failure.TheVariants.{NoMemory};
+
+use std::alloc::{AllocError, AllocFailed};
+
+/// What is wrong with a text.
+#[derive(Clone, Copy, Debug, PartialEq, Eq)]
+pub(crate) enum FaultKind {
+    /// The grammar doesn't go on so.
+    Syntax,
+    /// So many bytes that are not supported.
+    LeftOut(usize),
+    /// A word that is no permissions.
+    Permission,
+    /// A rule without permissions.
+    EmptyPermissions,
+    /// A path that doesn't begin with a slash.
+    NotAbsolute,
+    /// A class that has no members, a reversed range or no end.
+    Class,
+    /// A brace without its partner.
+    Group,
+    /// Groups that are nested too deep.
+    Depth,
+    /// A rule too many begins.
+    TooManyRules,
+    /// An item too many begins.
+    TooManyItems,
+}
+
+/// A fault, and how many bytes are left from its place on. Only the reader of the whole text knows the offset.
+#[derive(Clone, Copy, Debug, PartialEq, Eq)]
+pub(crate) struct LocalFault {
+    pub(crate) kind: FaultKind,
+    pub(crate) left: usize,
+    /// Whether the text stays refused, whatever bytes follow it.
+    pub(crate) settled: bool,
+}
+
+/// Why a part of a text was not read.
+#[derive(Debug, Drop)]
+pub(crate) enum Failure {
+    /// Memory was refused.
+    NoMemory,
+    /// The text has a fault.
+    At(LocalFault),
+}
+
+impl From<AllocError> for Failure {
+    ghost from_gives = { λ _ e. e ≡ NoMemory };
+
+    fn from(_error: AllocError) -> Failure {
+        Failure::NoMemory
+    }
+}
+
+impl<T: Drop> From<AllocFailed<T>> for Failure {
+    ghost from_gives = { λ _ e. e ≡ NoMemory };
+
+    fn from(_error: AllocFailed<T>) -> Failure {
+        Failure::NoMemory
+    }
+}
+
+/// A fault with so many bytes left from its place on, told by what stands at `seen`.
+pub(crate) fn fault_with_left(kind: FaultKind, left: usize, seen: &[u8]) -> Failure
+    ensures { result ≡ Failure.At (record { kind = kind; left = left; settled = goes_on seen.now }) }
+{
+    Failure::At(LocalFault {
+        kind,
+        left,
+        settled: !seen.is_empty(),
+    })
+}
+
+/// The fault at the first byte of what is left, told by that byte.
+pub(crate) fn fault_here(kind: FaultKind, rest: &[u8]) -> Failure
+    ensures { result ≡ Failure.At (record { kind = kind; left = length rest.now; settled = goes_on rest.now }) }
+{
+    fault_with_left(kind, rest.len(), rest)
+}

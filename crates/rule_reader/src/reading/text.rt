@@ -1,0 +1,25 @@
+//! A whole text.
+ghost use Rattle.rule_reader.specs.Profile.{profile_value};
+ghost use Rattle.rule_reader.specs.inner.Gives.{Gives};
+ghost use Rattle.rule_reader.specs.Reading.{text_at};
+
+use super::header::header_of;
+use super::local_fault::{Failure, FaultKind, fault_here};
+use super::rules::rules_of;
+use super::words::after_blank;
+use crate::profile::Profile;
+use std::alloc::Global;
+
+#[tactic(auto, unfolding(crate::specs::Reading::text_at))]
+pub(crate) fn text_of(alloc: Global, bytes: &[u8]) -> Result<Profile, Failure>
+    ensures { Gives profile_value result (text_at bytes.now) }
+{
+    let (name, rest) = header_of(after_blank(bytes)?)?;
+    let (rules, rest) = rules_of(alloc, after_blank(rest)?)?;
+    let rest = after_blank(rest)?;
+    if !rest.is_empty() {
+        return Err(fault_here(FaultKind::Syntax, rest));
+    }
+    let name = Vec::from_slice(alloc, name)?;
+    Ok(Profile { name, rules })
+}

@@ -1,5 +1,0 @@
-use Rattle.rule_text.proofs.PlainLaws.{allowed_by_hits}
-use Rattle.rule_text.proofs.laws.allowed_alone.Goals as goal
-
-pub returns : goal.returns
-returns c = allowed_by_hits

@@ -1,5 +1,0 @@
-use Rattle.rule_text.proofs.WholeSweeps.{end-live}
-use Rattle.rule_text.proofs.laws.end_is_live.Goals as goal
-
-pub returns : goal.returns
-returns c = end-live

@@ -1,9 +1,0 @@
-use Rattle.rule_text.proofs.OneVerdict.{one_verdict}
-use Rattle.rule_text.proofs.PlainLaws.{verdict_is_right}
-use Rattle.rule_text.proofs.laws.one_verdict_is_right.Goals as goal
-
-pub returns-clause-some : goal.returns-clause-some
-returns-clause-some c = verdict_is_right
-
-pub returns-clause-only : goal.returns-clause-only
-returns-clause-only c = one_verdict

@@ -1,5 +1,0 @@
-use Rattle.rule_text.proofs.Cuts.{by_cuts}
-use Rattle.rule_text.proofs.laws.takes_by_cuts.Goals as goal
-
-pub returns : goal.returns
-returns c = by_cuts

@@ -1,7 +1,0 @@
--- Where the code's pass stands, with the bits.
-use Rattle.std.specs.Prelude.{Bool, List}
-use Rattle.rule_text.specs.Sweep.{Pass}
-use Rattle.rule_text.specs.declared.live.Cursor.{Cursor}
-
-abbrev pub pass_at : Cursor → List Bool → Pass
-pass_at cursor live = record { place = cursor.place; reached = cursor.reached; live = live }

@@ -1,7 +1,0 @@
--- What a profile is to a reader: its name, and its rules in order.
-pub use Rattle.rule_text.specs.Rules.{RuleValue, ProfileValue, pattern, holds, rule_value}
-use Rattle.std.specs.Prelude.{map}
-use Rattle.rule_text.specs.declared.profile.Profile.{Profile}
-
-abbrev pub profile_value : Profile → ProfileValue
-profile_value profile = record { name = profile.name.items; rules = map rule_value profile.rules.items }

@@ -1,0 +1,28 @@
+-- The state after one byte more.
+use Rattle.std.proofs.Common.{◌≡◌, ℕ, ◌+◌, ◌<◌, List, [], ◌∷◌, ◌++◌, length, take, get_or, Option, Some, None, refl, ap, ◌∙◌}
+use Rattle.std.specs.Option.{option_and_then}
+use Rattle.std.proofs.lemmas.List.{take_more}
+use Rattle.std.proofs.lemmas.Option.{same_Some}
+use Rattle.tables.specs.Tables.{Table, next_state, state_from, state_after}
+
+stays : (o : Option ℕ) → option_and_then (λ (n : ℕ). Some n) o ≡ o
+stays None = refl
+stays (Some n) = refl
+
+-- what holds from each state holds from the one that a step led to, if it led to one
+goes_through : (t : Table) (n : ℕ) (bytes : List ℕ) (b : ℕ) (o : Option ℕ)
+    → ((m : ℕ) → state_from t m bytes ≡ Some n → state_from t m (bytes ++ b ∷ []) ≡ next_state t n b)
+    → option_and_then (λ (m : ℕ). state_from t m bytes) o ≡ Some n
+    → option_and_then (λ (m : ℕ). state_from t m (bytes ++ b ∷ [])) o ≡ next_state t n b
+goes_through t n bytes b None more at = cc
+goes_through t n bytes b (Some m) more at = more m at
+
+-- from a list's last state one goes on with one byte more
+goes_one_more : (t : Table) (s n : ℕ) (bytes : List ℕ) (b : ℕ) → state_from t s bytes ≡ Some n → state_from t s (bytes ++ b ∷ []) ≡ next_state t n b
+goes_one_more t s n [] b at = stays (next_state t s b) ∙ ap (λ (m : ℕ). next_state t m b) (same_Some s n at)
+goes_one_more t s n (c ∷ bytes) b at = goes_through t n bytes b (next_state t s c) (λ m there. goes_one_more t m n bytes b there) at
+
+pub state_more : (t : Table) (bytes : List ℕ) (i s n : ℕ) → i < length bytes → state_after t (take i bytes) ≡ Some s
+    → next_state t s (get_or bytes i 0) ≡ Some n → state_after t (take (i + 1) bytes) ≡ Some n
+state_more t bytes i s n lt at next =
+    ap (state_after t) (take_more bytes i 0 lt) ∙ goes_one_more t 1 s (take i bytes) (get_or bytes i 0) at ∙ next

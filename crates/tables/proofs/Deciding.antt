@@ -1,0 +1,90 @@
+-- Facts that hold or don't, and the least place of a list where one doesn't.
+use Rattle.std.proofs.Common.{◌≡◌, ℕ, zero, suc, ◌<◌, ◌⊎◌, inl, inr, ⊎_elim, List, [], ◌∷◌, Some, length, get_or, slice_get, refl, sym, ◌∙◌, subst, arith}
+use Rattle.std.proofs.lemmas.Bool.{cases_lt}
+use Rattle.std.proofs.lemmas.Option.{same_Some, slice_get_within, slice_get-get_or}
+use Rattle.tables.specs.Bounds.{InLimits, IsShaped, cell_limit, record_limit, row_length, state_limit}
+use Rattle.tables.specs.Tables.{Table, state_count, cell_count}
+
+-- the fact holds, or it doesn't
+abbrev pub Decided : Type 0 → Type 0
+Decided A = A ⊎ (¬ A)
+
+pub decided_equal : (m n : ℕ) → Decided (m ≡ n)
+decided_equal m n = ⊎_elim
+    (λ lt. inr (λ e. omega (arith, lt, e)))
+    (λ le. ⊎_elim (λ lt. inr (λ e. omega (arith, lt, e))) (λ ge. inl (omega (arith, le, ge))) (cases_lt n m))
+    (cases_lt m n)
+
+pub decided_list : (xs ys : List ℕ) → Decided (xs ≡ ys)
+decided_list [] [] = inl refl
+decided_list [] (y ∷ ys) = inr (λ e. cc e)
+decided_list (x ∷ xs) [] = inr (λ e. cc e)
+decided_list (x ∷ xs) (y ∷ ys) = ⊎_elim
+    (λ e. ⊎_elim (λ f. inl (cc (e, f))) (λ no. inr (λ h. no (cc h))) (decided_list xs ys))
+    (λ no. inr (λ h. no (cc h)))
+    (decided_equal x y)
+
+pub decided_limits : (s c r : ℕ) → Decided (InLimits s c r)
+decided_limits s c r = ⊎_elim
+    (λ lt. inr (λ h. omega (arith, lt, h.two_states)))
+    (λ a. ⊎_elim
+    (λ lt. inr (λ h. omega (arith, lt, h.most_states)))
+    (λ b. ⊎_elim
+    (λ lt. inr (λ h. omega (arith, lt, h.one_row)))
+    (λ d. ⊎_elim
+    (λ lt. inr (λ h. omega (arith, lt, h.most_cells)))
+    (λ e. ⊎_elim
+    (λ lt. inr (λ h. omega (arith, lt, h.one_record)))
+    (λ f. ⊎_elim
+    (λ lt. inr (λ h. omega (arith, lt, h.most_records)))
+    (λ g. inl (record { two_states = a; most_states = b; one_row = d; most_cells = e; one_record = f; most_records = g }))
+    (cases_lt record_limit r))
+    (cases_lt r 1))
+    (cases_lt cell_limit c))
+    (cases_lt c row_length))
+    (cases_lt state_limit s))
+    (cases_lt s 2)
+
+pub decided_shaped : (t : Table) → Decided (IsShaped t)
+decided_shaped t = ⊎_elim
+    (λ a. ⊎_elim
+    (λ b. ⊎_elim
+    (λ d. inl (record { bases = a; accepts = b; checks = d }))
+    (λ no. inr (λ h. no h.checks))
+    (decided_equal (length t.check) (cell_count t)))
+    (λ no. inr (λ h. no h.accepts))
+    (decided_equal (length t.accept) (state_count t)))
+    (λ no. inr (λ h. no h.bases))
+    (decided_equal (length t.base) (state_count t))
+
+-- each number below the bound has the one, or the least that hasn't has the other
+pub all_or_least : (P Q : ℕ → Type 0) (n : ℕ) → ((i : ℕ) → i < n → P i ⊎ Q i) →
+    ((i : ℕ) → i < n → P i) ⊎ ((i : ℕ) × Q i × ((j : ℕ) → j < i → P j))
+all_or_least P Q zero h = inl (λ i lt. absurd (omega (arith, lt)))
+all_or_least P Q (suc n) h = ⊎_elim
+    (λ all. ⊎_elim (λ p. inl (more all p)) (λ q. inr (n, q, all)) (h n (omega arith)))
+    (λ some. inr some)
+    (all_or_least P Q n (λ i lt. h i (omega (arith, lt))))
+  where
+    more : ((i : ℕ) → i < n → P i) → P n → (i : ℕ) → i < suc n → P i
+    more all p i lt = ⊎_elim
+        (λ low. all i low)
+        (λ past. let e : n ≡ i = omega (arith, past, lt) in subst P e p)
+        (cases_lt i n)
+
+-- each number of a list has the one, or the first that hasn't has the other
+pub entries_outcome : (xs : List ℕ) (Low Past : ℕ → Type 0) → ((n : ℕ) → Low n ⊎ Past n) →
+    ((i n : ℕ) → slice_get xs i ≡ Some n → Low n)
+    ⊎ ((i : ℕ) × ((n : ℕ) × (slice_get xs i ≡ Some n) × Past n) × ((j n : ℕ) → j < i → slice_get xs j ≡ Some n → Low n))
+entries_outcome xs Low Past d = ⊎_elim
+    (λ all. inl (λ i n at. all i (slice_get_within xs i n at) n at))
+    (λ some. inr (some.0, some.1, λ j n lt at. some.2 j lt n at))
+    (all_or_least (λ i. (n : ℕ) → slice_get xs i ≡ Some n → Low n) (λ i. (n : ℕ) × (slice_get xs i ≡ Some n) × Past n) (length xs) entry)
+  where
+    entry : (i : ℕ) → i < length xs → ((n : ℕ) → slice_get xs i ≡ Some n → Low n) ⊎ ((n : ℕ) × (slice_get xs i ≡ Some n) × Past n)
+    entry i lt =
+        let at : slice_get xs i ≡ Some (get_or xs i 0) = slice_get-get_or xs i 0 lt in
+        ⊎_elim
+        (λ low. inl (λ n here. subst Low (same_Some (get_or xs i 0) n (sym at ∙ here)) low))
+        (λ past. inr (get_or xs i 0, at, past))
+        (d (get_or xs i 0))

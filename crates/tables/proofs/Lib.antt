@@ -1,0 +1,10 @@
+pub mod Deciding
+pub mod FirstFaults
+pub mod HeaderReads
+pub mod Heads
+pub mod ImageFaults
+pub mod Joined
+pub mod OneImage
+pub mod Pieces
+pub mod Wholes
+pub mod PushedRecords

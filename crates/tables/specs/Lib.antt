@@ -1,0 +1,4 @@
+pub mod Tables
+pub mod Bounds
+pub mod Images
+pub mod inner

@@ -1,0 +1,193 @@
+//! Tables as bytes, and back.
+ghost use Rattle.std.specs.Prelude.{◌≡◌, ◌⊎◌, All, ◌+◌, ◌*◌, ◌<◌, ◌≤◌, ◌++◌, IfOk, IfErr, OnOk, length, map};
+ghost use Rattle.std.specs.List.{concat};
+ghost use Rattle.byteorder.specs.Endian.{little_bytes};
+ghost use Rattle.tables.specs.Bounds.{IsShaped, IsWithinLimits};
+ghost use Rattle.tables.specs.Images.{AreShort, AreWords, IsFirstImageFault, IsImageOf, IsShortRecord, IsWhole, header_of, hits_bytes, record_bytes, word_at, words};
+ghost use Rattle.tables.specs.inner.Reading.{hits_at, record_at, records_at, table_at, words_at};
+ghost use Rattle.tables.specs.Tables.{table_value};
+ghost use Rattle.tables.specs.declared.fault.ImageFault.TheVariants as fault;
+
+use crate::fault::ImageFault;
+use crate::header::{Counts, HEADER_LENGTH, HITS_LENGTH, RECORD_LENGTH, WORD_LENGTH, read_header};
+use crate::table::RawTable;
+use byteorder::{ByteOrder, LittleEndian};
+use names::{NoMemory, Permission, permissions_are_numbered};
+use std::alloc::{AllocError, Global};
+use verdicts::{LeastHits, Record};
+
+/// The image of tables whose counts are within the limits and whose groups are of one length each.
+pub fn to_bytes(alloc: Global, table: &RawTable) -> Result<Vec<u8>, NoMemory>
+    requires shaped { IsShaped (table_value table.now) }
+    requires limits { IsWithinLimits (table_value table.now) }
+    ensures { IfOk result (λ bytes. IsImageOf bytes.items (table_value table.now)) }
+{
+    match write_table(alloc, table) {
+        Ok(bytes) => Ok(bytes),
+        Err(AllocError) => Err(NoMemory),
+    }
+}
+
+fn write_table(alloc: Global, table: &RawTable) -> Result<Vec<u8>, AllocError>
+    requires shaped { IsShaped (table_value table.now) }
+    requires limits { IsWithinLimits (table_value table.now) }
+    ensures { IfOk result (λ bytes. IsImageOf bytes.items (table_value table.now)) }
+{
+    let mut bytes = Vec::new(alloc);
+    push_header(&mut bytes, table)?;
+    push_words(&mut bytes, &table.default)?;
+    push_words(&mut bytes, &table.base)?;
+    push_words(&mut bytes, &table.accept)?;
+    push_words(&mut bytes, &table.next)?;
+    push_words(&mut bytes, &table.check)?;
+    push_records(&mut bytes, &table.records)?;
+    Ok(bytes)
+}
+
+fn push_header(bytes: &mut Vec<u8>, table: &RawTable) -> Result<(), AllocError>
+    requires { IsWithinLimits (table_value table.now) }
+    ensures { OnOk result (bytes.new.items ≡ bytes.old.items ++ header_of (table_value table.now)) }
+{
+    bytes.extend_from_slice(b"PTAB\x01\x00\x00\x00")?;
+    push_word(bytes, table.default.len() as u32)?;
+    push_word(bytes, table.next.len() as u32)?;
+    push_word(bytes, table.records.len() as u32)
+}
+
+fn push_word(bytes: &mut Vec<u8>, word: u32) -> Result<(), AllocError>
+    ensures { OnOk result (bytes.new.items ≡ bytes.old.items ++ little_bytes 4 word) }
+{
+    let mut room = [0; 4];
+    LittleEndian::write_u32(&mut room, word);
+    bytes.extend_from_slice(&room)
+}
+
+fn push_words(bytes: &mut Vec<u8>, numbers: &[u32]) -> Result<(), AllocError>
+    ensures words { OnOk result (bytes.new.items ≡ bytes.old.items ++ words numbers.now) }
+    ensures room { AreWords numbers.now }
+{
+    for number in numbers {
+        push_word(bytes, *number)?;
+    }
+    Ok(())
+}
+
+fn push_short(bytes: &mut Vec<u8>, number: u16) -> Result<(), AllocError>
+    ensures bytes { OnOk result (bytes.new.items ≡ bytes.old.items ++ little_bytes 2 number) }
+    ensures room { number < 65536 }
+{
+    let mut room = [0; 2];
+    LittleEndian::write_u16(&mut room, number);
+    bytes.extend_from_slice(&room)
+}
+
+fn push_hits(bytes: &mut Vec<u8>, hits: LeastHits) -> Result<(), AllocError>
+    ensures bytes { OnOk result (bytes.new.items ≡ bytes.old.items ++ hits_bytes hits) }
+    ensures room { OnOk result (AreShort hits) }
+{
+    push_short(bytes, hits.allow)?;
+    push_short(bytes, hits.deny)
+}
+
+fn push_record(bytes: &mut Vec<u8>, record: &Record) -> Result<(), AllocError>
+    ensures bytes { OnOk result (bytes.new.items ≡ bytes.old.items ++ record_bytes «record».now) }
+    ensures room { OnOk result (IsShortRecord «record».now) }
+{
+    for permission in &Permission::ALL {
+        push_hits(bytes, record.of(*permission))?;
+    }
+    Ok(())
+}
+
+fn push_records(bytes: &mut Vec<u8>, records: &[Record]) -> Result<(), AllocError>
+    ensures bytes { OnOk result (bytes.new.items ≡ bytes.old.items ++ concat (map record_bytes records.now)) }
+    ensures room { OnOk result (All IsShortRecord records.now) }
+{
+    for record in records {
+        push_record(bytes, record)?;
+    }
+    Ok(())
+}
+
+/// The tables of an image, or the first fault of its bytes. No memory is taken before these faults are tested.
+pub fn from_bytes(alloc: Global, bytes: &[u8]) -> Result<RawTable, ImageFault>
+    ensures ok { IfOk result (λ table. IsImageOf bytes.now (table_value table)) }
+    ensures err { IfErr result (λ f. ((f ≡ fault.NoMemory) × IsWhole bytes.now) ⊎ IsFirstImageFault bytes.now f) }
+{
+    let counts = read_header(bytes)?;
+    Ok(read_table(alloc, bytes, counts)?)
+}
+
+// The tables that stand behind a header, whose places follow from its counts.
+fn read_table(alloc: Global, bytes: &[u8], counts: Counts) -> Result<RawTable, AllocError>
+    requires whole { IsWhole bytes.now }
+    requires states { counts.states ≡ word_at bytes.now 8 }
+    requires cells { counts.cells ≡ word_at bytes.now 12 }
+    requires records { counts.records ≡ word_at bytes.now 16 }
+    ensures { IfOk result (λ table. table_value table ≡ table_at bytes.now) }
+{
+    let states = counts.states as usize;
+    let cells = counts.cells as usize;
+    let base_at = HEADER_LENGTH + WORD_LENGTH * states;
+    let accept_at = base_at + WORD_LENGTH * states;
+    let next_at = accept_at + WORD_LENGTH * states;
+    let check_at = next_at + WORD_LENGTH * cells;
+    let records_at = check_at + WORD_LENGTH * cells;
+    Ok(RawTable {
+        default: read_words(alloc, bytes, HEADER_LENGTH, states)?,
+        base: read_words(alloc, bytes, base_at, states)?,
+        accept: read_words(alloc, bytes, accept_at, states)?,
+        next: read_words(alloc, bytes, next_at, cells)?,
+        check: read_words(alloc, bytes, check_at, cells)?,
+        records: read_records(alloc, bytes, records_at, counts.records as usize)?,
+    })
+}
+
+fn read_words(alloc: Global, bytes: &[u8], at: usize, count: usize) -> Result<Vec<u32>, AllocError>
+    requires { at + 4 * count ≤ length bytes.now }
+    ensures { IfOk result (λ v. v.items ≡ words_at bytes.now at count) }
+{
+    let mut words = Vec::with_capacity(alloc, count)?;
+    for place in 0..count {
+        words.push(LittleEndian::read_u32(&bytes[at + WORD_LENGTH * place..]))?;
+    }
+    Ok(words)
+}
+
+fn read_hits(bytes: &[u8], at: usize) -> LeastHits
+    requires { at + 4 ≤ length bytes.now }
+    ensures { result ≡ hits_at bytes.now at }
+{
+    LeastHits {
+        allow: LittleEndian::read_u16(&bytes[at..]),
+        deny: LittleEndian::read_u16(&bytes[at + 2..]),
+    }
+}
+
+fn read_record(bytes: &[u8], at: usize) -> Record
+    requires { at + 20 ≤ length bytes.now }
+    ensures { result ≡ record_at bytes.now at }
+{
+    permissions_are_numbered();
+    let mut hits = [LeastHits::NONE; Permission::COUNT];
+    for place in 0..Permission::COUNT {
+        hits[place] = read_hits(bytes, at + HITS_LENGTH * place);
+    }
+    Record::from_hits(hits)
+}
+
+fn read_records(
+    alloc: Global,
+    bytes: &[u8],
+    at: usize,
+    count: usize,
+) -> Result<Vec<Record>, AllocError>
+    requires { at + 20 * count ≤ length bytes.now }
+    ensures { IfOk result (λ v. v.items ≡ records_at bytes.now at count) }
+{
+    let mut records = Vec::with_capacity(alloc, count)?;
+    for place in 0..count {
+        records.push(read_record(bytes, at + RECORD_LENGTH * place))?;
+    }
+    Ok(records)
+}

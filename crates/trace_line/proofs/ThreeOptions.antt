@@ -1,0 +1,43 @@
+-- A command with three options, by the theorem about any list of them. The program has no such command.
+use Rattle.std.proofs.Common.{◌≡◌, false, List, [], ◌∷◌, Some, None, refl}
+use Rattle.std.specs.Prelude.{codes, map}
+use Rattle.std.specs.Str.{chars}
+use Rattle.clap.specs.Walk.{Text, nothing_held, idle}
+use Rattle.trace_line.specs.CommandLine.{NumberOption, given_by, number_of}
+use Rattle.trace_line.proofs.LeafWalk.{ComesTo, leaf_shape, walk_at}
+use Rattle.trace_line.proofs.OptionRules.{built_rules}
+use Rattle.trace_line.proofs.OptionWalk.{HasGiven, numbers_walk}
+
+abbrev three : List NumberOption
+three = record { name = codes "sessions"; default = codes "4"; least = 1; most = 16 }
+    ∷ record { name = codes "opens"; default = codes "1000"; least = 1; most = 100000 }
+    ∷ record { name = codes "changes"; default = codes "1000"; least = 0; most = 100000 } ∷ []
+
+-- clap reads the words behind the command's name as `given_by` says
+three_walk : (name : Text) (words : List Text)
+    → ComesTo (HasGiven three) (leaf_shape name (built_rules three)) [] (walk_at idle 1 false nothing_held) words (given_by three [] words)
+three_walk name words = numbers_walk name three refl words
+
+-- in any order, in one word or in two, and a last `--` says nothing
+any_order : given_by three [] (codes "--opens=+07" ∷ codes "--sessions" ∷ codes "3" ∷ codes "--" ∷ [])
+    ≡ Some ((codes "opens", codes "+07") ∷ (codes "sessions", codes "3") ∷ [])
+unfolding chars
+any_order = refl
+
+-- their numbers, and the default of the one that isn't given
+their_numbers : map (number_of ((codes "opens", codes "+07") ∷ (codes "sessions", codes "3") ∷ [])) three ≡ 3 ∷ 7 ∷ 1000 ∷ []
+their_numbers = refl
+
+-- an option twice
+twice : given_by three [] (codes "--opens=1" ∷ codes "--changes=0" ∷ codes "--opens" ∷ codes "1" ∷ []) ≡ None
+unfolding chars
+twice = refl
+
+-- a number over the greatest
+too_great : given_by three [] (codes "--sessions=17" ∷ []) ≡ None
+too_great = refl
+
+-- no number behind a name
+no_number : given_by three [] (codes "--sessions" ∷ codes "--opens=1" ∷ []) ≡ None
+unfolding chars
+no_number = refl

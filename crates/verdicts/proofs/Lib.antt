@@ -1,0 +1,6 @@
+pub mod LeastSteps
+pub mod PermsTests
+pub mod ToldLaws
+pub mod RecordLaws
+pub mod FilledRecords
+pub mod EqualRecords

@@ -1,0 +1,112 @@
+-- What a record tells: one verdict.
+use Rattle.std.proofs.Common.{◌≡◌, ◌≢◌, ◌==◌, ◌&&◌, ◌↔◌, ⊎_elim, ℕ, ◌≤◌, Bool, true, false, IsTrue, refl, sym, ap, ◌∙◌, arith, eq-eqb, true≢false}
+use Rattle.std.proofs.lemmas.Bool.{and_parts, and_from, cases_Bool, eqb-true}
+use Rattle.names.specs.declared.permissions.Permission.{Permission}
+use Rattle.names.specs.declared.permissions.Permission.TheVariants.{Read, Write, Link, Lock, Map}
+use Rattle.names.specs.declared.permissions.Perms.{Perms}
+use Rattle.names.specs.Permissions.{has, set_of}
+use Rattle.verdicts.specs.declared.verdict.Verdict.{Verdict}
+use Rattle.verdicts.specs.declared.verdict.Verdict.TheVariants.{Denied, NoRule, Allowed}
+use Rattle.verdicts.specs.declared.record.Record.{Record}
+use Rattle.verdicts.specs.Least.{hits_of, IsLeastOrNone}
+use Rattle.verdicts.specs.Records.{IsTold, ToldDenied, ToldMissing, NothingToldDenied}
+use Rattle.verdicts.proofs.PermsTests.{has-set_of, same_perms}
+
+-- two tests for the same are the same
+same_test : (a b : Bool) {A : Type 0} → (IsTrue a ↔ A) → (IsTrue b ↔ A) → a ≡ b
+same_test true true f g = refl
+same_test true false f g = sym (g.1 (f.0 refl))
+same_test false true f g = f.1 (g.0 refl)
+same_test false false f g = refl
+
+-- a record tells at most one verdict
+pub one_told : (r : Record) (ask : Perms) (v w : Verdict) → IsTold r ask v → IsTold r ask w → v ≡ w
+one_told r ask (Denied n) (Denied m) f g = let e : n ≡ m = omega (arith, f.1 m g.0, g.1 n f.0) in ap Denied e
+one_told r ask (Denied n) (NoRule m) f g = absurd (g.0 n f.0)
+one_told r ask (Denied n) Allowed f g = absurd (g.0 n f.0)
+one_told r ask (NoRule m) (Denied n) f g = absurd (f.0 n g.0)
+one_told r ask (NoRule m) (NoRule l) f g = ap NoRule (same_perms m l (λ p. same_test (has m p) (has l p) (f.2 p) (g.2 p)))
+one_told r ask (NoRule m) Allowed f g = absurd (g.1 f.1.0 ((f.2 f.1.0).0 f.1.1))
+one_told r ask Allowed (Denied n) f g = absurd (f.0 n g.0)
+one_told r ask Allowed (NoRule m) f g = absurd (f.1 g.1.0 ((g.2 g.1.0).0 g.1.1))
+one_told r ask Allowed Allowed f g = refl
+
+-- the least of a set that isn't empty is its member, and no member is less
+least_there : (S : ℕ → Type 0) (n m : ℕ) → IsLeastOrNone S n → S m → S n × (n ≤ m)
+least_there S n m least s = ⊎_elim (λ h. absurd (h.1 m s)) (λ h. (h.0, h.1 m s)) least
+
+-- the least number of a set without 0 is 0 only where the set is empty
+least_none : (S : ℕ → Type 0) (n : ℕ) → ((m : ℕ) → S m → m ≢ 0) → IsLeastOrNone S n → n ≡ 0 → (m : ℕ) → S m → ⊥
+least_none S n nonzero least zero m s = nonzero n (least_there S n m least s).0 zero
+
+-- a least number that isn't 0 is a member
+least_some : (S : ℕ → Type 0) (n : ℕ) → IsLeastOrNone S n → n ≢ 0 → S n
+least_some S n least nonzero = ⊎_elim (λ h. absurd (nonzero h.0)) (λ h. h.0) least
+
+-- a set without members has no least number
+none_least : (S : ℕ → Type 0) (n : ℕ) → IsLeastOrNone S n → ((m : ℕ) → S m → ⊥) → n ≡ 0
+none_least S n least none = ⊎_elim (λ h. h.0) (λ h. absurd (none n h.0)) least
+
+-- a least number that isn't 0 is told
+pub told-denied : (r : Record) (ask : Perms) (n : ℕ) → IsLeastOrNone (ToldDenied r ask) n → n ≢ 0 → IsTold r ask (Denied n)
+told-denied r ask n least nonzero = ⊎_elim (λ h. absurd (nonzero h.0)) (λ h. h) least
+
+-- where the least number is 0 none is told
+nothing_told : (r : Record) (ask : Perms) (n : ℕ) → IsLeastOrNone (ToldDenied r ask) n → n ≡ 0 → NothingToldDenied r ask
+nothing_told r ask n least zero = least_none (ToldDenied r ask) n (λ m t. t.0) least zero
+
+abbrev pub has_no_allow : Record → Perms → Permission → Bool
+has_no_allow r ask p = has ask p && ((hits_of r p).allow == 0)
+
+-- the test tells what is asked and has no allow number
+missing-told : (r : Record) (ask missing : Perms) (p : Permission) → missing ≡ set_of (has_no_allow r ask) →
+    IsTrue (has missing p) ↔ ToldMissing r ask p
+missing-told r ask missing p is =
+    let same : has missing p ≡ has_no_allow r ask p = ap (λ s. has s p) is ∙ has-set_of (has_no_allow r ask) p in (
+      λ h. let both = and_parts (has ask p) ((hits_of r p).allow == 0) (sym same ∙ h) in (both.0, eqb-true (hits_of r p).allow 0 both.1),
+      λ t. same ∙ and_from (has ask p) ((hits_of r p).allow == 0) t.0 (eq-eqb (hits_of r p).allow 0 t.1),
+    )
+
+-- nothing is missing
+pub told-allowed : (r : Record) (ask missing : Perms) (n : ℕ) → IsLeastOrNone (ToldDenied r ask) n → n ≡ 0 → missing ≡ set_of (has_no_allow r ask) →
+    ((p : Permission) → has missing p ≡ false) → IsTold r ask Allowed
+told-allowed r ask missing n least zero is nothing = (
+  nothing_told r ask n least zero,
+  λ p t. true≢false (sym ((missing-told r ask missing p is).1 t) ∙ nothing p),
+)
+
+-- what holds of each holds of all
+each : (P : Permission → Type 0) → P Read → P Write → P Link → P Lock → P Map → (p : Permission) → P p
+each P r w l k m Read = r
+each P r w l k m Write = w
+each P r w l k m Link = l
+each P r w l k m Lock = k
+each P r w l k m Map = m
+
+-- a set that isn't empty has a member
+some_member : (s : Perms) → (((p : Permission) → has s p ≡ false) → ⊥) → (p : Permission) × IsTrue (has s p)
+some_member s not_empty = ⊎_elim
+    (λ h. (Read, h))
+    (λ r. ⊎_elim
+    (λ h. (Write, h))
+    (λ w. ⊎_elim
+    (λ h. (Link, h))
+    (λ l. ⊎_elim
+    (λ h. (Lock, h))
+    (λ k. ⊎_elim
+    (λ h. (Map, h))
+    (λ m. absurd (not_empty (each (λ p. has s p ≡ false) r w l k m)))
+    (cases_Bool (has s Map)))
+    (cases_Bool (has s Lock)))
+    (cases_Bool (has s Link)))
+    (cases_Bool (has s Write)))
+    (cases_Bool (has s Read))
+
+-- something is missing
+pub told-no_rule : (r : Record) (ask missing : Perms) (n : ℕ) → IsLeastOrNone (ToldDenied r ask) n → n ≡ 0 → missing ≡ set_of (has_no_allow r ask) →
+    (((p : Permission) → has missing p ≡ false) → ⊥) → IsTold r ask (NoRule missing)
+told-no_rule r ask missing n least zero is something = (
+  nothing_told r ask n least zero,
+  some_member missing something,
+  λ p. missing-told r ask missing p is,
+)

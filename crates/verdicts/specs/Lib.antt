@@ -1,0 +1,4 @@
+pub mod Least
+pub mod Hits
+pub mod Records
+pub mod VerdictText

@@ -1,0 +1,6 @@
+/// What a rule does with its permissions (apparmor.d(5), "Rule Qualifiers").
+#[derive(Clone, Copy, Debug, PartialEq, Eq)]
+pub enum RuleKind {
+    Allow,
+    Deny,
+}

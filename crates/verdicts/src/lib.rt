@@ -1,0 +1,16 @@
+//! Verdicts, and the records that tell them: the least numbers of the rules that allow and that deny each permission.
+//!
+//! Nothing here takes memory. What a stranger must believe stands in `specs/`, some 100 lines.
+#![tactic(auto)]
+
+mod judging;
+mod kind;
+mod laws;
+mod record;
+mod verdict;
+
+pub use judging::told;
+pub use kind::RuleKind;
+pub use laws::{equal_records_are_one, records_are_their_hits, records_tell_one_verdict};
+pub use record::{LeastHits, Record};
+pub use verdict::Verdict;
