@@ -1,30 +1,24 @@
 #!/bin/sh
-# Proves each crate that the program stands on, as many side by side as there are processors and memory for them, and builds
-# ./aa-trace. What was proved before and hasn't changed is kept.
+# Proves each crate that the program stands on, those that don't depend on each other side by side, and builds ./aa-trace. What
+# was proved before and hasn't changed is kept.
 set -eu
-cd "$(dirname "$0")/.."
-work=$(mktemp -d)
-trap 'rm -rf "$work"' EXIT
+cd "$(dirname "$0")/../crates/trace_cli"
+log=$(mktemp)
+trap 'rm -f "$log"' EXIT
 
-# A rule for make for each crate of the repository below trace_cli: the crates that it stands on come first.
-awk '
-    /^[a-z]/ {
-        name = $1
-        sub(/:.*/, "", name)
-        for (i = 2; i <= NF; i++) below[name, ++count[name]] = $i
-        known[name] = 1
-    }
-    function rule(name, i) {
-        if (done[name]++) return
-        line = name ":"
-        for (i = 1; i <= count[name]; i++) if (below[name, i] in known) line = line " " below[name, i]
-        print line "\n\t@sh tools/prove.sh " name
-        for (i = 1; i <= count[name]; i++) if (below[name, i] in known) rule(below[name, i])
-    }
-    END { rule("trace_cli") }
-' crates.txt >"$work/rules"
+# quietly WHAT COMMAND..: one line for a step that works, and all that it said for one that doesn't
+quietly() {
+    echo "$1 .."
+    shift
+    if ! "$@" >"$log" 2>&1; then
+        cat "$log"
+        exit 1
+    fi
+}
 
-# A proof takes up to 3 GB.
+# As many at once as there are processors and memory: a proof takes up to 3 GB.
 jobs=$(awk -v processors="$(nproc)" '/MemAvailable/ { most = int($2 / 3000000); print most < 1 ? 1 : most < processors ? most : processors }' /proc/meminfo)
-make --no-print-directory -s -f "$work/rules" -j "$jobs" trace_cli
-cp crates/trace_cli/out/trace_cli aa-trace
+quietly "proving the program and the crates that it stands on, $jobs at once" rt all check --jobs "$jobs"
+# rt run builds what was proved and runs it once.
+quietly 'building it' sh -c 'rt run -- judge rw /etc/passwd <../../examples/passwd.profile'
+cp out/trace_cli ../../aa-trace
