@@ -11,9 +11,9 @@ use table_image::{ImageFault, to_bytes};
 use table_verifier::{Steps, VerifiedTable};
 
 mod agreeing;
-mod agreeing;
 mod images;
 mod making;
+mod same_verdicts;
 
 // `profile p {`, these rules and `}`, read.
 fn profile_of(alloc: Global, rules: &[u8]) -> Result<Profile, Fail> {

@@ -1,79 +1,78 @@
-//! Verdicts worked out by hand, and the steps to them.
+//! Compiled profiles, loaded ones and the plain judge, over all short names and all sets of permissions.
 use super::*;
+use rule_text::judge_slow;
 
-// Whether both profiles, the compiled one and that of its image, tell this.
-fn tells(
+// The list of this number, where the lists of these six bytes are counted by their lengths.
+fn counted(alloc: Global, alphabet: [u8; 6], number: usize) -> Result<Vec<u8>, Fail> {
+    let mut bytes = Vec::new(alloc);
+    let mut left = number;
+    for _ in 0..8 {
+        if left == 0 {
+            break;
+        }
+        bytes.push(alphabet[(left - 1) % 6])?;
+        left = (left - 1) / 6;
+    }
+    Ok(bytes)
+}
+
+// The set of the permissions that stand for the ones in a number's binary digits.
+fn perms_of(number: u8) -> Perms {
+    let mut perms = Perms::NONE;
+    let mut left = number;
+    for permission in &Permission::ALL {
+        if left % 2 == 1 {
+            perms = perms.with(*permission);
+        }
+        left /= 2;
+    }
+    perms
+}
+
+// Whether the plain judge and both tables tell the same of a name, whatever is asked but nothing.
+fn agree(compiled: &CompiledProfile, loaded: &VerifiedTable, name: &[u8]) -> bool {
+    for number in 1..32 {
+        let ask = perms_of(number);
+        let want = judge_slow(compiled.profile(), name, ask);
+        if judge(compiled.table(), name, ask) != want || judge(loaded, name, ask) != want {
+            return false;
+        }
+    }
+    true
+}
+
+// The first name of at most three bytes of which something else is told.
+fn first_difference(
     alloc: Global,
     rules: &[u8],
-    name: &[u8],
-    letters: &[u8],
-    want: &str,
-) -> Result<bool, Fail> {
+    alphabet: [u8; 6],
+) -> Result<Option<Vec<u8>>, Fail> {
     let compiled = compiled_of(alloc, rules)?;
     let loaded = LoadedProfile::make(alloc, &image_of(alloc, &compiled)?)?;
-    let ask = Perms::from_letters(letters).ok_or("letters")?;
-    let one = judge(compiled.table(), name, ask).to_string(alloc)?;
-    let other = judge(loaded.table(), name, ask).to_string(alloc)?;
-    Ok(one.as_str() == want && other.as_str() == want)
-}
-
-#[test]
-fn worked_verdicts(rt: HostRuntime) -> Result<(), Fail> {
-    let alloc = rt.alloc();
-    let passwd: &[u8] = b"/etc/passwd r,";
-    let keys: &[u8] = b"/a/** rw, deny /a/k* w,";
-    let swapped: &[u8] = b"deny /a/k* w, /a/** rw,";
-    let all: &[u8] = b"/tmp/** r,";
-    let twice: &[u8] = b"/a rw, deny /a w, deny /a r, deny /a m,";
-    for (rules, name, letters, want) in [
-        (
-            passwd,
-            b"/etc/passwd".as_slice(),
-            b"r".as_slice(),
-            "allowed",
-        ),
-        (passwd, b"/etc/passwd", b"rw", "no rule for w"),
-        (passwd, b"/etc/passwd", b"mklw", "no rule for wlkm"),
-        (passwd, b"/etc/passw", b"r", "no rule for r"),
-        (passwd, b"/etc/passwd\0", b"r", "no rule for r"),
-        (keys, b"/a/key", b"rw", "denied by rule 2"),
-        (keys, b"/a/key", b"r", "allowed"),
-        (keys, b"/a/", b"r", "no rule for r"),
-        (keys, b"/a/key/x", b"rw", "allowed"),
-        (keys, b"/a/key", b"rwl", "denied by rule 2"),
-        (swapped, b"/a/key", b"rw", "denied by rule 1"),
-        (all, b"/tmp/", b"r", "no rule for r"),
-        (all, b"/tmp/d/", b"r", "allowed"),
-        (all, b"/tmp/\xff", b"r", "allowed"),
-        (twice, b"/a", b"rw", "denied by rule 2"),
-        (twice, b"/a", b"r", "denied by rule 3"),
-        (twice, b"/a", b"mk", "denied by rule 4"),
-        (b"", b"/x", b"rm", "no rule for rm"),
-        (b"", b"", b"k", "no rule for k"),
-    ] {
-        assert!(rt;
-            tells(alloc, rules, name, letters, want)?,
-            "{want} at {name:?}"
-        );
+    // One empty list, 6 of one byte, 36 of two and 216 of three.
+    for number in 0..259 {
+        let name = counted(alloc, alphabet, number)?;
+        if !agree(&compiled, loaded.table(), &name) {
+            return Ok(Some(name));
+        }
     }
-    Ok(())
+    Ok(None)
 }
 
 #[test]
-fn one_step_for_each_byte(rt: HostRuntime) -> Result<(), Fail> {
+fn short_names(rt: HostRuntime) -> Result<(), Fail> {
     let alloc = rt.alloc();
-    let compiled = compiled_of(alloc, b"/etc/passwd r,")?;
-    // State 12 is that of the whole name, and state 0 is dead.
-    for (name, state, count) in [
-        (b"".as_slice(), 1, 0),
-        (b"/", 2, 1),
-        (b"/etc/passwd", 12, 11),
-        (b"/etc/passwd/", 0, 12),
-        (b"\0\xff", 0, 2),
+    for rules in [
+        b"".as_slice(),
+        b"/a rwlkm, deny /ab w,",
+        b"/ r, /a rw, /aa m, deny /ab w, /b lk,",
+        b"/** rw, deny /k* w, deny /?a m, /*/ l,",
+        b"/* r, deny /** k, /[ab] w, /[^a] lm, deny /k r,",
+        b"/{a,b,}{k,} rw, deny /{a,}b m, /a m, /[\x80-\xff]* k,",
+        b"deny /** rwlkm, /a r,",
     ] {
-        let mut steps = Steps::new();
-        assert_eq!(rt; run(compiled.table(), name, &mut steps), state);
-        assert_eq!(rt; steps.count(), count);
+        let found = first_difference(alloc, rules, [b'/', b'a', b'b', b'k', 0, 255])?;
+        assert!(rt; found.is_none(), "{rules:?}");
     }
     Ok(())
 }
