@@ -1,4 +1,6 @@
 //! Compiles the profile text on standard input, and prints how many states its automaton has, or why it has none.
+//!
+//! To be believed are the 17 lines of definitions in `specs/`.
 #![tactic(auto)]
 
 ghost use Rattle.std.specs.Prelude.{◌≡◌, ◌⊎◌, IfOk, IfErr};

@@ -1,6 +1,8 @@
 //! A directory tree as the list of its entries: what a walk of a path leads to, the names of entries, what a change makes of
 //! the tree or why it is refused, and the laws of all this. The functions of the laws and of the examples do nothing: each
 //! stands for its contract.
+//!
+//! To be believed are about 540 lines of definitions in `specs/`, of which about 80 are the worked examples.
 #![tactic(auto)]
 
 mod change;

@@ -3,12 +3,12 @@ use Rattle.std.proofs.Common.{◌≡◌, ℕ, ◌<◌, ◌≤◌, ◌+◌, ◌==
 use Rattle.std.proofs.Math.ListN.{replicate}
 use Rattle.std.proofs.lemmas.Bool.Decides.{leb_tells, eqb_tells}
 use Rattle.std.proofs.lemmas.List.{get_or-replicate, length-replicate, get_or-set_other, get_or-set_same}
-use Rattle.glob_automaton.specs.Alike.{IsAlike, AreAlike, IsSplit, NamesNone, least_of}
-use Rattle.glob_automaton.specs.Chart.{takes_byte}
-use Rattle.glob_automaton.specs.Drawing.{IsKnown}
+use Rattle.glob_automaton.specs.inner.Alike.{IsAlike, AreAlike, IsSplit, NamesNone, least_of}
+use Rattle.glob_automaton.specs.inner.Chart.{takes_byte}
+use Rattle.glob_automaton.specs.inner.Drawing.{IsKnown}
 use Rattle.glob_automaton.specs.declared.chart.Chart.{Chart}
-use Rattle.glob_automaton.specs.declared.chart.Takes.{Takes}
-use Rattle.glob_automaton.specs.declared.chart.Takes.TheVariants as takes
+use Rattle.glob_automaton.specs.declared.chart.Label.{Label}
+use Rattle.glob_automaton.specs.declared.chart.Label.TheVariants as label
 use Rattle.glob_automaton.proofs.Splitting.{and_last}
 
 -- the test says the same of a byte and of its least one
@@ -92,14 +92,14 @@ above : (least : List ℕ) (b : ℕ) → Together (λ b. b == 0) least → b < 2
 above least b zeros lt = above_zero (least_of least b) ∙ ap not (zeros b lt) ∙ sym (above_zero b)
 
 -- whatever isn't one byte alone takes a byte and its least one alike
-taken_together : (chart : Chart) (least : List ℕ) (b : ℕ) (by : Takes) → PartedBefore chart.classes.items least (length chart.classes.items) →
+taken_together : (chart : Chart) (least : List ℕ) (b : ℕ) (by : Label) → PartedBefore chart.classes.items least (length chart.classes.items) →
     b < 256 → IsKnown chart by → NamesNone by → takes_byte chart.classes.items by (least_of least b) ≡ takes_byte chart.classes.items by b
-taken_together chart least b (takes.Byte a) is lt known none = absurd none
-taken_together chart least b takes.InComponent is lt known none =
+taken_together chart least b (label.Byte a) is lt known none = absurd none
+taken_together chart least b label.InComponent is lt known none =
     ap (λ z. z && not (least_of least b == 47)) (above least b is.zeros lt) ∙ ap (λ z. nat_lt 0 b && not z) (is.slashes b lt)
-taken_together chart least b takes.Any is lt known none = ap (λ z. z && true) (above least b is.zeros lt)
-taken_together chart least b (takes.Class n) is lt known none = is.tables n known b lt
-taken_together chart least b takes.Nothing is lt known none = refl
+taken_together chart least b label.Any is lt known none = ap (λ z. z && true) (above least b is.zeros lt)
+taken_together chart least b (label.Class n) is lt known none = is.tables n known b lt
+taken_together chart least b label.Nothing is lt known none = refl
 
 -- so it is when all classes have parted them
 pub parted_by_all : (chart : Chart) (least : List ℕ) (k : ℕ) → length chart.classes.items ≤ k →

@@ -2,7 +2,7 @@
 use Rattle.std.proofs.Common.{◌≡◌, ℕ, zero, suc, ◌<◌, ◌⊎◌, ◌↔◌, inl, inr, ⊎_elim, List, [], ◌∷◌, refl, sym, ap₂, ◌∙◌, subst, arith}
 use Rattle.std.specs.List.{Contains}
 use Rattle.std.proofs.lemmas.List.{get_or_default}
-use Rattle.glob_automaton.specs.Gathering.{IsAscending}
+use Rattle.glob_automaton.specs.inner.Gathering.{IsAscending}
 
 -- a member is the first one or one of the others
 contains_cases : (x : ℕ) (xs : List ℕ) (q : ℕ) → Contains (x ∷ xs) q → (x ≡ q) ⊎ Contains xs q

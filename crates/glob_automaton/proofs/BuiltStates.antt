@@ -6,9 +6,9 @@ use Rattle.std.proofs.lemmas.Bool.{cases_lt}
 use Rattle.glob_automaton.specs.declared.chart.Chart.{Chart}
 use Rattle.verdicts.specs.declared.record.Record.{Record}
 use Rattle.glob_automaton.specs.Automata.{Automaton}
-use Rattle.glob_automaton.specs.Building.{IsStartOf, IsStepOf, begins, IsRecordOf, IsBuilt}
-use Rattle.glob_automaton.specs.Gathering.{IsAscending}
-use Rattle.glob_automaton.specs.States.{IsNumbered, AreFewSets, Keeps, IsTargetOf, IsRowOf}
+use Rattle.glob_automaton.specs.inner.Building.{IsStartOf, IsStepOf, begins, IsRecordOf, IsBuilt}
+use Rattle.glob_automaton.specs.inner.Gathering.{IsAscending}
+use Rattle.glob_automaton.specs.inner.States.{IsNumbered, AreFewSets, Keeps, IsTargetOf, IsRowOf}
 use Rattle.glob_automaton.proofs.EmptySets.{all_empty}
 use Rattle.glob_automaton.proofs.LiveNumbers.{reached_ascends}
 use Rattle.glob_automaton.proofs.RuleNumbers.{neither_less}

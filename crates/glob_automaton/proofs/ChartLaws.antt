@@ -4,7 +4,7 @@ use Rattle.std.specs.List.{slice_get}
 use Rattle.std.proofs.lemmas.Option.{slice_get_within}
 use Rattle.rule_globs.specs.Glob.{Glob, empty, one, run, cat, none, alt, places}
 use Rattle.rule_globs.specs.Follow.{Numbers, Starts, TakesAt, Goes}
-use Rattle.glob_automaton.specs.Chart.{IsIn, at_place, at_run, past_run, one_side, other_side, IsOrdered}
+use Rattle.glob_automaton.specs.inner.Chart.{IsIn, at_place, at_run, past_run, one_side, other_side, IsOrdered}
 use Rattle.glob_automaton.specs.declared.chart.Entry.{Entry}
 use Rattle.glob_automaton.specs.declared.chart.Entry.TheVariants as entry
 

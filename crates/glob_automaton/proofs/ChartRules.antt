@@ -6,12 +6,12 @@ use Rattle.std.proofs.lemmas.Bool.{cases_lt}
 use Rattle.rule_globs.specs.Glob.{places}
 use Rattle.rule_globs.specs.Follow.{Starts, TakesAt, Goes}
 use Rattle.rule_globs.specs.Rules.{RuleValue, pattern}
-use Rattle.glob_automaton.specs.Chart.{IsIn, at_place, IsOrdered, takes_byte}
-use Rattle.glob_automaton.specs.Drawing.{Grows, IsKnown, IsDrawn, HasRule, HasRules, IsChartOf}
+use Rattle.glob_automaton.specs.inner.Chart.{IsIn, at_place, IsOrdered, takes_byte}
+use Rattle.glob_automaton.specs.inner.Drawing.{Grows, IsKnown, IsDrawn, HasRule, HasRules, IsChartOf}
 use Rattle.glob_automaton.specs.declared.chart.Chart.{Chart}
-use Rattle.glob_automaton.specs.declared.chart.Place.{Place}
+use Rattle.glob_automaton.specs.declared.chart.ChartPlace.{ChartPlace}
 use Rattle.glob_automaton.specs.declared.chart.ChartRule.{ChartRule}
-use Rattle.glob_automaton.specs.declared.chart.Takes.TheVariants as takes
+use Rattle.glob_automaton.specs.declared.chart.Label.TheVariants as label
 use Rattle.glob_automaton.specs.declared.chart.Entry.TheVariants as entry
 use Rattle.glob_automaton.proofs.ChartLaws.{get_left, get_last, get_right, starts_by, goes_by, takes_own}
 use Rattle.glob_automaton.proofs.DrawingLaws.{grows_on, grows_not, grown_length, live_as_before, old_or_new, takes_on, known_on, in_place}
@@ -22,18 +22,18 @@ with_rules chart rules = record { places = chart.places; entries = chart.entries
 
 -- what the chart's places refer to is there
 abbrev pub RefersWithin : Chart → Type 0
-RefersWithin chart = (p : ℕ) (place : Place) → slice_get chart.places.items p ≡ Some place → (place.behind < length chart.entries.items) × IsKnown chart place.takes
+RefersWithin chart = (p : ℕ) (place : ChartPlace) → slice_get chart.places.items p ≡ Some place → (place.behind < length chart.entries.items) × IsKnown chart place.takes
 
 -- the place of a rule's end
-abbrev pub end_place : Place
-end_place = record { takes = takes.Nothing; behind = 0 }
+abbrev pub end_place : ChartPlace
+end_place = record { takes = label.Nothing; behind = 0 }
 
 -- a rule that stands in the chart stays when the chart grows
 pub kept_rule : (old new : Chart) (rule : RuleValue) (d : ChartRule) → IsOrdered old.entries.items → RefersWithin old →
     Grows old.places.items new.places.items → Grows old.entries.items new.entries.items → Grows old.classes.items new.classes.items →
     HasRule old rule d → HasRule new rule d
 kept_rule old new rule d ordered within more_places more_entries more_classes has =
-    let before : (p : ℕ) (place : Place) → p ≤ d.end + places (pattern rule) → slice_get new.places.items p ≡ Some place → slice_get old.places.items p ≡ Some place =
+    let before : (p : ℕ) (place : ChartPlace) → p ≤ d.end + places (pattern rule) → slice_get new.places.items p ≡ Some place → slice_get old.places.items p ≡ Some place =
     λ p place le h. sym (ap (λ z. slice_get z p) more_places.1 ∙ get_left old.places.items more_places.0 p (omega (arith, le, has.fits))) ∙ h in
     record {
       kind = has.kind;
@@ -91,7 +91,7 @@ new_rule s0 s2 s3 all rule d last pushed is kind perms at_last dr =
           sym (ap (λ z. slice_get z p) dr.places_stay.1 ∙ get_left s2.places.items dr.places_stay.0 p less) ∙ h in
           let w : (p ≡ length s0.places.items) × (end_place ≡ place) =
           get_right s0.places.items end_place place p (omega (arith, le, is)) (sym (ap (λ z. slice_get z p) pushed) ∙ was) in
-          let nothing : takes_byte s3.classes.items place.takes b ≡ false = ap (λ (z : Place). takes_byte s3.classes.items z.takes b) (sym w.1) in (
+          let nothing : takes_byte s3.classes.items place.takes b ≡ false = ap (λ (z : ChartPlace). takes_byte s3.classes.items z.takes b) (sym w.1) in (
             λ u. absurd (cc (u, nothing)),
             λ u. absurd (omega (arith, w.0, is, (takes_own (pattern rule) (d.end + 1) p b u).0)),
           ))
@@ -140,7 +140,7 @@ chart_more s0 s2 s3 all rules rule d last chart pushed is kind perms is_last gro
           (λ le.
           let w : (p ≡ length s0.places.items) × (end_place ≡ place) =
           get_right s0.places.items end_place place p le (sym (ap (λ z. slice_get z p) pushed) ∙ t.0) in
-          subst (λ (z : Place). (z.behind < length s3.entries.items) × IsKnown (with_rules s3 all) z.takes) w.1 (omega (arith, dr.ready.there), tt))
+          subst (λ (z : ChartPlace). (z.behind < length s3.entries.items) × IsKnown (with_rules s3 all) z.takes) w.1 (omega (arith, dr.ready.there), tt))
           (old_or_new s0.places.items s2.places.items p place (end_place ∷ [], pushed) t.0))
           (λ le.
           let was = dr.there p place le h in

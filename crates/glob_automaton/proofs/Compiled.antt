@@ -16,8 +16,8 @@ use Rattle.glob_automaton.specs.declared.fault.CompileFault.{CompileFault}
 use Rattle.glob_automaton.specs.declared.fault.CompileFault.TheVariants.{TooManyStates, NoMemory}
 use Rattle.verdicts.specs.declared.record.Record.{Record}
 use Rattle.glob_automaton.specs.Automata.{Automaton, target, goes_to, state_after, most_sets, IsAutomatonOf, IsCompileFault}
-use Rattle.glob_automaton.specs.Building.{IsReached, begins, goes_on, EndsIn, IsRecordOf, IsBuilt, IsBuildFault}
-use Rattle.glob_automaton.specs.Drawing.{HasRule, IsChartOf}
+use Rattle.glob_automaton.specs.inner.Building.{IsReached, begins, goes_on, EndsIn, IsRecordOf, IsBuilt, IsBuildFault}
+use Rattle.glob_automaton.specs.inner.Drawing.{HasRule, IsChartOf}
 use Rattle.verdicts.specs.Least.{hits_of, IsLeastOrNone}
 use Rattle.glob_automaton.specs.Least.{IsLeastRecord}
 use Rattle.names.specs.Bytes.{are_bytes}

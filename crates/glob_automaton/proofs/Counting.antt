@@ -5,8 +5,8 @@ use Rattle.std.proofs.lemmas.List.Elements.{All-nil, All-cons}
 use Rattle.std.proofs.lemmas.Map.Steps.{length-le_from_distinct_below}
 use Rattle.rule_reader.specs.Profile.{RuleValue}
 use Rattle.glob_automaton.specs.declared.chart.Chart.{Chart}
-use Rattle.glob_automaton.specs.Building.{IsReached, AreSets}
-use Rattle.glob_automaton.specs.Drawing.{IsChartOf}
+use Rattle.glob_automaton.specs.inner.Building.{IsReached, AreSets}
+use Rattle.glob_automaton.specs.inner.Drawing.{IsChartOf}
 use Rattle.glob_automaton.specs.Sets.{NoneLive, IsPrefixOfName, AreDifferent}
 use Rattle.glob_automaton.proofs.Ascending.{some_member}
 use Rattle.glob_automaton.proofs.LiveByParts.{LeftFirst}

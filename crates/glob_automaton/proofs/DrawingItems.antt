@@ -9,9 +9,9 @@ use Rattle.rule_globs.specs.Meaning.{meaning, node_meaning, meaning_of, alt_all,
 use Rattle.rule_globs.specs.declared.items.Item.{Item, Item-F, fold-roll-Item}
 use Rattle.rule_globs.specs.declared.items.Item.TheVariants as v
 use Rattle.rule_globs.specs.declared.items.Item.TheVariants.{rolls-Byte, rolls-AnyByte, rolls-Group}
-use Rattle.glob_automaton.specs.Drawing.{TakesSet, IsKnown, IsDrawn}
+use Rattle.glob_automaton.specs.inner.Drawing.{TakesSet, IsKnown, IsDrawn}
 use Rattle.glob_automaton.specs.declared.chart.Chart.{Chart}
-use Rattle.glob_automaton.specs.declared.chart.Takes.{Takes}
+use Rattle.glob_automaton.specs.declared.chart.Label.{Label}
 
 -- The equations of `meaning`, for the items that the search doesn't unfold.
 pub of_byte : (item : Item) (b : ℕ) → item ≡ v.Byte b → one (exactly b) ≡ meaning item
@@ -57,7 +57,7 @@ all_done all [] back e f = e
 all_done all (x ∷ left) back e f = absurd (omega (arith, f))
 
 -- a place that takes one byte draws an item that does
-pub item_of_one : {E : Type 0} (old new : Chart) (r : Result ℕ E) (taken : Takes) (set : ByteSet) (behind : ℕ) (g : Glob) → one set ≡ g →
+pub item_of_one : {E : Type 0} (old new : Chart) (r : Result ℕ E) (taken : Label) (set : ByteSet) (behind : ℕ) (g : Glob) → one set ≡ g →
     IsKnown old taken → TakesSet old taken set →
     IfOk r (λ start. (any : ByteSet) → IsKnown old taken → TakesSet old taken any → IsDrawn old new (one any) behind start) →
     IfOk r (IsDrawn old new g behind)

@@ -10,12 +10,12 @@ use Rattle.std.proofs.lemmas.Bool.{cases_lt}
 use Rattle.rule_globs.specs.Glob.{Glob, empty, one, run, cat, none, alt, fits, places, ByteSet, not_slash}
 use Rattle.rule_globs.specs.Meaning.{in_stars, stars_glob}
 use Rattle.rule_globs.specs.Follow.{Starts, TakesAt, Goes}
-use Rattle.glob_automaton.specs.Chart.{IsIn, at_place, at_run, past_run, one_side, other_side, IsOrdered, refers_below, takes_byte}
-use Rattle.glob_automaton.specs.Drawing.{IsReady, TakesSet, Grows, IsKnown, IsDrawn}
+use Rattle.glob_automaton.specs.inner.Chart.{IsIn, at_place, at_run, past_run, one_side, other_side, IsOrdered, refers_below, takes_byte}
+use Rattle.glob_automaton.specs.inner.Drawing.{IsReady, TakesSet, Grows, IsKnown, IsDrawn}
 use Rattle.glob_automaton.specs.declared.chart.Chart.{Chart}
-use Rattle.glob_automaton.specs.declared.chart.Place.{Place}
-use Rattle.glob_automaton.specs.declared.chart.Takes.{Takes}
-use Rattle.glob_automaton.specs.declared.chart.Takes.TheVariants as takes
+use Rattle.glob_automaton.specs.declared.chart.ChartPlace.{ChartPlace}
+use Rattle.glob_automaton.specs.declared.chart.Label.{Label}
+use Rattle.glob_automaton.specs.declared.chart.Label.TheVariants as label
 use Rattle.glob_automaton.specs.declared.chart.Entry.{Entry}
 use Rattle.glob_automaton.specs.declared.chart.Entry.TheVariants as entry
 use Rattle.glob_automaton.proofs.ChartLaws.{get_left, get_last, get_right, Agree, was_in, still_in, starts_by, goes_by, takes_own, goes_own}
@@ -51,23 +51,23 @@ old_or_new old new i x g h = ⊎_elim
     (slice_get_cases old i).1
 
 -- a place takes what it took when there are more classes
-pub takes_on : (old new : Chart) (takes : Takes) (b : ℕ) → Grows old.classes.items new.classes.items → IsKnown old takes →
+pub takes_on : (old new : Chart) (takes : Label) (b : ℕ) → Grows old.classes.items new.classes.items → IsKnown old takes →
     takes_byte new.classes.items takes b ≡ takes_byte old.classes.items takes b
-takes_on old new (takes.Byte a) b g k = refl
-takes_on old new takes.InComponent b g k = refl
-takes_on old new takes.Any b g k = refl
-takes_on old new (takes.Class n) b g k =
+takes_on old new (label.Byte a) b g k = refl
+takes_on old new label.InComponent b g k = refl
+takes_on old new label.Any b g k = refl
+takes_on old new (label.Class n) b g k =
     ap (λ z. slice_index_or z b false)
     (ap (λ z. slice_index_or z n []) g.1 ∙ get_or_append_left old.classes.items g.0 [] n k)
-takes_on old new takes.Nothing b g k = refl
+takes_on old new label.Nothing b g k = refl
 
 -- a class that was there is there when there are more
-pub known_on : (old new : Chart) (takes : Takes) → Grows old.classes.items new.classes.items → IsKnown old takes → IsKnown new takes
-known_on old new (takes.Byte a) g k = k
-known_on old new takes.InComponent g k = k
-known_on old new takes.Any g k = k
-known_on old new (takes.Class n) g k = omega (arith, k, grown_length old.classes.items new.classes.items g)
-known_on old new takes.Nothing g k = k
+pub known_on : (old new : Chart) (takes : Label) → Grows old.classes.items new.classes.items → IsKnown old takes → IsKnown new takes
+known_on old new (label.Byte a) g k = k
+known_on old new label.InComponent g k = k
+known_on old new label.Any g k = k
+known_on old new (label.Class n) g k = omega (arith, k, grown_length old.classes.items new.classes.items g)
+known_on old new label.Nothing g k = k
 
 -- one entry more that refers to entries before it
 pub ordered_on : (old new : List Entry) (x : Entry) → IsOrdered old → refers_below (length old) x → new ≡ old ++ x ∷ [] → IsOrdered new
@@ -114,7 +114,7 @@ in_either entries e x y q is (other_side _ _ first other _ h more) =
 
 -- a place of two drawings is one of the first, or of the second
 pub taken_join : (s1 s2 s3 : Chart) (a b : Glob) (k1 m1 k2 m2 : ℕ) → IsDrawn s1 s2 b k1 m1 → IsDrawn s2 s3 a k2 m2 →
-    (p c : ℕ) (place : Place) → length s1.places.items ≤ p → slice_get s3.places.items p ≡ Some place → c < 256 →
+    (p c : ℕ) (place : ChartPlace) → length s1.places.items ≤ p → slice_get s3.places.items p ≡ Some place → c < 256 →
     IsTrue (takes_byte s3.classes.items place.takes c)
     ↔ (TakesAt a (length s1.places.items + places b) p c ⊎ TakesAt b (length s1.places.items) p c)
 taken_join s1 s2 s3 a b k1 m1 k2 m2 d1 d2 p c place le h lt = ⊎_elim
@@ -140,7 +140,7 @@ taken_join s1 s2 s3 a b k1 m1 k2 m2 d1 d2 p c place le h lt = ⊎_elim
 
 -- where it leads is where the one of them says
 pub goes_join : (s1 s2 s3 : Chart) (a b : Glob) (k1 m1 k2 m2 : ℕ) → IsDrawn s1 s2 b k1 m1 → IsDrawn s2 s3 a k2 m2 →
-    (p q : ℕ) (place : Place) → length s1.places.items ≤ p → slice_get s3.places.items p ≡ Some place →
+    (p q : ℕ) (place : ChartPlace) → length s1.places.items ≤ p → slice_get s3.places.items p ≡ Some place →
     IsIn s3.entries.items place.behind q
     ↔ (Goes a (length s1.places.items + places b) (IsIn s2.entries.items k2) p q ⊎ Goes b (length s1.places.items) (IsIn s1.entries.items k1) p q)
 goes_join s1 s2 s3 a b k1 m1 k2 m2 d1 d2 p q place le h = ⊎_elim
@@ -166,7 +166,7 @@ goes_join s1 s2 s3 a b k1 m1 k2 m2 d1 d2 p q place le h = ⊎_elim
 
 -- and what it refers to is there
 pub there_join : (s1 s2 s3 : Chart) (a b : Glob) (k1 m1 k2 m2 : ℕ) → IsDrawn s1 s2 b k1 m1 → IsDrawn s2 s3 a k2 m2 →
-    (p : ℕ) (place : Place) → length s1.places.items ≤ p → slice_get s3.places.items p ≡ Some place →
+    (p : ℕ) (place : ChartPlace) → length s1.places.items ≤ p → slice_get s3.places.items p ≡ Some place →
     (place.behind < length s3.entries.items) × IsKnown s3 place.takes
 there_join s1 s2 s3 a b k1 m1 k2 m2 d1 d2 p place le h = ⊎_elim
     (λ t.
@@ -254,7 +254,7 @@ drawn_alt s1 s2 s3 s4 a b behind other first start ready d1 d2 is grown same_pla
     let known : Grows s3.classes.items s4.classes.items = grows_not s3.classes.items s4.classes.items classes in
     let behind_stays : (q : ℕ) → IsIn s2.entries.items behind q ↔ IsIn s1.entries.items behind q =
     λ q. live_as_before s1.entries.items s2.entries.items behind q ready.ordered d1.entries_stay ready.there in
-    let before : (p : ℕ) (place : Place) → slice_get s4.places.items p ≡ Some place → slice_get s3.places.items p ≡ Some place =
+    let before : (p : ℕ) (place : ChartPlace) → slice_get s4.places.items p ≡ Some place → slice_get s3.places.items p ≡ Some place =
     λ p place h. sym (ap (λ z. slice_get z p) items) ∙ h in
     record {
       places_stay = grows_on s1.places.items s2.places.items s4.places.items d1.places_stay
@@ -316,7 +316,7 @@ drawn_none old new behind start ready is grown same_places same_classes same_rul
     let here : slice_get new.entries.items start ≡ Some entry.Nothing =
     ap (λ z. slice_get z start) grown ∙ ap (λ z. slice_get (old.entries.items ++ entry.Nothing ∷ []) z) is
     ∙ get_last old.entries.items entry.Nothing in
-    let never : (p : ℕ) (place : Place) → length old.places.items ≤ p → slice_get new.places.items p ≡ Some place → ⊥ =
+    let never : (p : ℕ) (place : ChartPlace) → length old.places.items ≤ p → slice_get new.places.items p ≡ Some place → ⊥ =
     λ p place le h. omega (arith, le, slice_get_within new.places.items p place h, ap length items) in
     record {
       places_stay = grows_not old.places.items new.places.items items;
@@ -335,7 +335,7 @@ drawn_none old new behind start ready is grown same_places same_classes same_rul
     }
 
 -- a place that takes one byte
-pub drawn_one : (old new : Chart) (takes : Takes) (set : ByteSet) (behind start : ℕ) → IsReady old behind → IsKnown old takes →
+pub drawn_one : (old new : Chart) (takes : Label) (set : ByteSet) (behind start : ℕ) → IsReady old behind → IsKnown old takes →
     TakesSet old takes set →
     new.places.items ≡ old.places.items ++ record { takes = takes; behind = behind } ∷ [] →
     start ≡ length old.entries.items →
@@ -343,7 +343,7 @@ pub drawn_one : (old new : Chart) (takes : Takes) (set : ByteSet) (behind start 
     new.classes ≡ old.classes → new.rules ≡ old.rules → IsDrawn old new (one set) behind start
 drawn_one old new takes set behind start ready known takes_set pushed is grown same_classes same_rules =
     let x : Entry = entry.Place (length old.places.items) in
-    let last : Place = record { takes = takes; behind = behind } in
+    let last : ChartPlace = record { takes = takes; behind = behind } in
     let more : Grows old.entries.items new.entries.items = (entry.Place (length old.places.items) ∷ [], grown) in
     let classes : new.classes.items ≡ old.classes.items = ap (λ z. z.items) same_classes in
     let same : Grows old.classes.items new.classes.items = grows_not old.classes.items new.classes.items classes in
@@ -352,7 +352,7 @@ drawn_one old new takes set behind start ready known takes_set pushed is grown s
     let here : slice_get new.entries.items start ≡ Some (entry.Place (length old.places.items)) =
     ap (λ z. slice_get z start) grown ∙ ap (λ z. slice_get (old.entries.items ++ entry.Place (length old.places.items) ∷ []) z) is
     ∙ get_last old.entries.items (entry.Place (length old.places.items)) in
-    let only : (p : ℕ) (place : Place) → length old.places.items ≤ p → slice_get new.places.items p ≡ Some place →
+    let only : (p : ℕ) (place : ChartPlace) → length old.places.items ≤ p → slice_get new.places.items p ≡ Some place →
     (p ≡ length old.places.items) × (last ≡ place) =
     λ p place le h. get_right old.places.items last place p le (sym (ap (λ z. slice_get z p) pushed) ∙ h) in
     record {
@@ -372,22 +372,22 @@ drawn_one old new takes set behind start ready known takes_set pushed is grown s
       taken = λ p b place le h lt.
           let w : (p ≡ length old.places.items) × (last ≡ place) = only p place le h in
           let e : takes_byte new.classes.items place.takes b ≡ fits set b =
-          ap (λ (z : Place). takes_byte new.classes.items z.takes b) (sym w.1) ∙ takes_on old new takes b same known ∙ takes_set b lt in
+          ap (λ (z : ChartPlace). takes_byte new.classes.items z.takes b) (sym w.1) ∙ takes_on old new takes b same known ∙ takes_set b lt in
           (λ u. (w.0, sym e ∙ u), λ u. e ∙ u.1);
       goes = λ p q place le h.
           let w : (p ≡ length old.places.items) × (last ≡ place) = only p place le h in
           let stays = live_as_before old.entries.items new.entries.items behind q ready.ordered more ready.there in (
-            λ u. (w.0, stays.0 (subst (λ (z : Place). IsIn new.entries.items z.behind q) (sym w.1) u)),
-            λ u. subst (λ (z : Place). IsIn new.entries.items z.behind q) w.1 (stays.1 u.1),
+            λ u. (w.0, stays.0 (subst (λ (z : ChartPlace). IsIn new.entries.items z.behind q) (sym w.1) u)),
+            λ u. subst (λ (z : ChartPlace). IsIn new.entries.items z.behind q) w.1 (stays.1 u.1),
           );
       there = λ p place le h.
           let w : (p ≡ length old.places.items) × (last ≡ place) = only p place le h in
-          subst (λ (z : Place). (z.behind < length new.entries.items) × IsKnown new z.takes) w.1
+          subst (λ (z : ChartPlace). (z.behind < length new.entries.items) × IsKnown new z.takes) w.1
           (omega (arith, ready.there, count), known_on old new takes same known);
     }
 
 -- a place that takes any number of bytes
-pub drawn_run : (old new : Chart) (takes : Takes) (set : ByteSet) (behind start : ℕ) → IsReady old behind → IsKnown old takes →
+pub drawn_run : (old new : Chart) (takes : Label) (set : ByteSet) (behind start : ℕ) → IsReady old behind → IsKnown old takes →
     TakesSet old takes set →
     new.places.items ≡ old.places.items ++ record { takes = takes; behind = start } ∷ [] →
     start ≡ length old.entries.items →
@@ -395,7 +395,7 @@ pub drawn_run : (old new : Chart) (takes : Takes) (set : ByteSet) (behind start 
     new.classes ≡ old.classes → new.rules ≡ old.rules → IsDrawn old new (run set) behind start
 drawn_run old new takes set behind start ready known takes_set pushed is grown same_classes same_rules =
     let x : Entry = entry.Run (length old.places.items) behind in
-    let last : Place = record { takes = takes; behind = start } in
+    let last : ChartPlace = record { takes = takes; behind = start } in
     let more : Grows old.entries.items new.entries.items = (entry.Run (length old.places.items) behind ∷ [], grown) in
     let classes : new.classes.items ≡ old.classes.items = ap (λ z. z.items) same_classes in
     let same : Grows old.classes.items new.classes.items = grows_not old.classes.items new.classes.items classes in
@@ -404,7 +404,7 @@ drawn_run old new takes set behind start ready known takes_set pushed is grown s
     let here : slice_get new.entries.items start ≡ Some (entry.Run (length old.places.items) behind) =
     ap (λ z. slice_get z start) grown ∙ ap (λ z. slice_get (old.entries.items ++ entry.Run (length old.places.items) behind ∷ []) z) is
     ∙ get_last old.entries.items (entry.Run (length old.places.items) behind) in
-    let only : (p : ℕ) (place : Place) → length old.places.items ≤ p → slice_get new.places.items p ≡ Some place →
+    let only : (p : ℕ) (place : ChartPlace) → length old.places.items ≤ p → slice_get new.places.items p ≡ Some place →
     (p ≡ length old.places.items) × (last ≡ place) =
     λ p place le h. get_right old.places.items last place p le (sym (ap (λ z. slice_get z p) pushed) ∙ h) in
     let at_start : (q : ℕ) → IsIn new.entries.items start q ↔ ((q ≡ length old.places.items) ⊎ IsIn old.entries.items behind q) =
@@ -429,16 +429,16 @@ drawn_run old new takes set behind start ready known takes_set pushed is grown s
       taken = λ p b place le h lt.
           let w : (p ≡ length old.places.items) × (last ≡ place) = only p place le h in
           let e : takes_byte new.classes.items place.takes b ≡ fits set b =
-          ap (λ (z : Place). takes_byte new.classes.items z.takes b) (sym w.1) ∙ takes_on old new takes b same known ∙ takes_set b lt in
+          ap (λ (z : ChartPlace). takes_byte new.classes.items z.takes b) (sym w.1) ∙ takes_on old new takes b same known ∙ takes_set b lt in
           (λ u. (w.0, sym e ∙ u), λ u. e ∙ u.1);
       goes = λ p q place le h.
           let w : (p ≡ length old.places.items) × (last ≡ place) = only p place le h in (
-            λ u. (w.0, (at_start q).0 (subst (λ (z : Place). IsIn new.entries.items z.behind q) (sym w.1) u)),
-            λ u. subst (λ (z : Place). IsIn new.entries.items z.behind q) w.1 ((at_start q).1 u.1),
+            λ u. (w.0, (at_start q).0 (subst (λ (z : ChartPlace). IsIn new.entries.items z.behind q) (sym w.1) u)),
+            λ u. subst (λ (z : ChartPlace). IsIn new.entries.items z.behind q) w.1 ((at_start q).1 u.1),
           );
       there = λ p place le h.
           let w : (p ≡ length old.places.items) × (last ≡ place) = only p place le h in
-          subst (λ (z : Place). (z.behind < length new.entries.items) × IsKnown new z.takes) w.1
+          subst (λ (z : ChartPlace). (z.behind < length new.entries.items) × IsKnown new z.takes) w.1
           (omega (arith, is, count), known_on old new takes same known);
     }
 
@@ -473,12 +473,12 @@ if_ok (Ok x) P Q R f p q = f x p q
 if_ok (Err e) P Q R f p q = tt
 
 -- The bytes of a run of stars, where it crosses slashes and where it doesn't.
-pub stars_all : (chart : Chart) (crosses : Bool) (taken : Takes) → crosses ≡ true → taken ≡ takes.Any →
+pub stars_all : (chart : Chart) (crosses : Bool) (taken : Label) → crosses ≡ true → taken ≡ label.Any →
     IsKnown chart taken × TakesSet chart taken (in_stars crosses)
 stars_all chart crosses taken e f =
     (subst (λ z. IsKnown chart z) (sym f) tt, λ b lt. ap (λ z. takes_byte chart.classes.items z b) f ∙ ap (λ z. fits (in_stars z) b) (sym e))
 
-pub stars_some : (chart : Chart) (crosses : Bool) (taken : Takes) → crosses ≡ false → taken ≡ takes.InComponent →
+pub stars_some : (chart : Chart) (crosses : Bool) (taken : Label) → crosses ≡ false → taken ≡ label.InComponent →
     IsKnown chart taken × TakesSet chart taken (in_stars crosses)
 stars_some chart crosses taken e f =
     (subst (λ z. IsKnown chart z) (sym f) tt, λ b lt. ap (λ z. takes_byte chart.classes.items z b) f ∙ ap (λ z. fits (in_stars z) b) (sym e))
@@ -506,7 +506,7 @@ pub drawn_class : {E : Type 0} (old mid new : Chart) (r : Result ℕ E) (set : B
     number ≡ length old.classes.items → mid.classes.items ≡ old.classes.items ++ table ∷ [] →
     mid.places ≡ old.places → mid.entries ≡ old.entries → mid.rules ≡ old.rules →
     ((k : ℕ) → k < 256 → slice_index_or table k false ≡ fits set k) →
-    IfOk r (λ start. (any : ByteSet) → IsKnown mid (takes.Class number) → TakesSet mid (takes.Class number) any →
+    IfOk r (λ start. (any : ByteSet) → IsKnown mid (label.Class number) → TakesSet mid (label.Class number) any →
     IsDrawn mid new (one any) behind start) →
     IfOk r (IsDrawn old new (one set) behind)
 drawn_class old mid new r set table number behind is pushed same_places same_entries same_rules told h =
@@ -517,7 +517,7 @@ drawn_class old mid new r set table number behind is pushed same_places same_ent
     ap (λ z. slice_index_or z number []) pushed ∙ ap (λ z. slice_index_or (old.classes.items ++ table ∷ []) z []) is
     ∙ get_or-append_seam old.classes.items table [] [] in
     IfOk-weaker r
-    (λ start. (any : ByteSet) → IsKnown mid (takes.Class number) → TakesSet mid (takes.Class number) any → IsDrawn mid new (one any) behind start)
+    (λ start. (any : ByteSet) → IsKnown mid (label.Class number) → TakesSet mid (label.Class number) any → IsDrawn mid new (one any) behind start)
     (IsDrawn old new (one set) behind)
     (λ start drawn. drawn_past_class old mid new (one set) behind start same_places same_entries same_rules (table ∷ [], pushed)
     (drawn set there (λ b lt. ap (λ z. slice_index_or z b false) found ∙ told b lt))) h

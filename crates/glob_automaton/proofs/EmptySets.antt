@@ -6,7 +6,7 @@ use Rattle.verdicts.specs.declared.kind.RuleKind.{RuleKind}
 use Rattle.verdicts.specs.declared.kind.RuleKind.TheVariants.{Allow, Deny}
 use Rattle.glob_automaton.specs.declared.chart.Chart.{Chart}
 use Rattle.verdicts.specs.declared.record.Record.{Record}
-use Rattle.glob_automaton.specs.Building.{IsStartOf, IsStepOf, IsReached, begins, goes_on, EndsIn, IsRecordOf}
+use Rattle.glob_automaton.specs.inner.Building.{IsStartOf, IsStepOf, IsReached, begins, goes_on, EndsIn, IsRecordOf}
 use Rattle.verdicts.specs.Hits.{no_hits}
 use Rattle.verdicts.specs.Least.{hits_of, IsLeastOrNone}
 use Rattle.glob_automaton.proofs.Ascending.{no_members, contains_none}

@@ -14,9 +14,9 @@ use Rattle.glob_automaton.specs.declared.chart.Chart.{Chart}
 use Rattle.glob_automaton.specs.declared.chart.ChartRule.{ChartRule}
 use Rattle.verdicts.specs.declared.record.LeastHits.{LeastHits}
 use Rattle.verdicts.specs.declared.record.Record.{Record}
-use Rattle.glob_automaton.specs.Building.{EndsIn, IsRecordOf}
-use Rattle.glob_automaton.specs.Drawing.{IsPartOfChart}
-use Rattle.glob_automaton.specs.Gathering.{IsAscending}
+use Rattle.glob_automaton.specs.inner.Building.{EndsIn, IsRecordOf}
+use Rattle.glob_automaton.specs.inner.Drawing.{IsPartOfChart}
+use Rattle.glob_automaton.specs.inner.Gathering.{IsAscending}
 use Rattle.verdicts.specs.Hits.{first_number, hits_with, record_with, no_hits}
 use Rattle.verdicts.specs.Least.{hits_of, IsLeastOrNone}
 use Rattle.glob_automaton.proofs.HitSteps.{number_of, after, hits_of-with, least-first, none-of}

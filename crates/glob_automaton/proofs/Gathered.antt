@@ -17,9 +17,9 @@ use Rattle.glob_automaton.specs.declared.chart.Chart.{Chart}
 use Rattle.glob_automaton.specs.declared.sets.Gathering.{Gathering}
 use Rattle.glob_automaton.proofs.Ascending.{contains_none}
 use Rattle.glob_automaton.specs.declared.chart.Entry.TheVariants as entry
-use Rattle.glob_automaton.specs.Chart.{IsIn, at_place, at_run, past_run, one_side, other_side}
+use Rattle.glob_automaton.specs.inner.Chart.{IsIn, at_place, at_run, past_run, one_side, other_side}
 use Rattle.glob_automaton.proofs.DrawingLaws.{in_nothing, in_place, in_run, in_either}
-use Rattle.glob_automaton.specs.Gathering.{IsGathering, IsAscending}
+use Rattle.glob_automaton.specs.inner.Gathering.{IsGathering, IsAscending}
 
 -- a sorted list in which no two neighbours are alike ascends
 pub sorted_ascends : (xs ys : List ℕ) → IsSorted nat_cmp xs → IsFiltered (DiffersFromLast nat_eq) [] xs ys → IsAscending ys

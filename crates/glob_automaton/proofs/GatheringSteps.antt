@@ -6,11 +6,11 @@ use Rattle.std.proofs.lemmas.Option.{same_Some, slice_get_read, slice_get_within
 use Rattle.std.proofs.lemmas.List.{get_or_default}
 use Rattle.glob_automaton.specs.declared.chart.Chart.{Chart}
 use Rattle.glob_automaton.specs.declared.chart.ChartRule.{ChartRule}
-use Rattle.glob_automaton.specs.declared.chart.Place.{Place}
-use Rattle.glob_automaton.specs.Chart.{IsIn, takes_byte}
-use Rattle.glob_automaton.specs.Drawing.{IsPartOfChart}
-use Rattle.glob_automaton.specs.Gathering.{IsAscending}
-use Rattle.glob_automaton.specs.Building.{ArePlaces, IsStartOf, IsStepOf}
+use Rattle.glob_automaton.specs.declared.chart.ChartPlace.{ChartPlace}
+use Rattle.glob_automaton.specs.inner.Chart.{IsIn, takes_byte}
+use Rattle.glob_automaton.specs.inner.Drawing.{IsPartOfChart}
+use Rattle.glob_automaton.specs.inner.Gathering.{IsAscending}
+use Rattle.glob_automaton.specs.inner.Building.{ArePlaces, IsStartOf, IsStepOf}
 use Rattle.glob_automaton.proofs.RuleNumbers.{rule_of, rule_stands}
 
 -- q is live at the beginning of one of the first i rules
@@ -19,7 +19,7 @@ StartsBefore chart i q = (n : ℕ) × (d : ChartRule) × (n < i) × (slice_get c
 
 -- q is live behind one of the first i places of the set, which takes the byte
 abbrev pub StepsBefore : Chart → List ℕ → ℕ → ℕ → ℕ → Type 0
-StepsBefore chart set b i q = (k : ℕ) × (place : Place) × (k < i) × (k < length set) × (slice_get chart.places.items (get_or set k 0) ≡ Some place)
+StepsBefore chart set b i q = (k : ℕ) × (place : ChartPlace) × (k < i) × (k < length set) × (slice_get chart.places.items (get_or set k 0) ≡ Some place)
     × IsTrue (takes_byte chart.classes.items place.takes b) × IsIn chart.entries.items place.behind q
 
 -- where a rule begins is an entry
@@ -72,7 +72,7 @@ module _ (chart : Chart) where
 
   module _ (set : List ℕ) (b : ℕ) where
     -- the place that is read
-    pub read_place : ArePlaces chart set → (i : ℕ) (place : Place) → i < length set → place ≡ get_or chart.places.items (get_or set i 0) place →
+    pub read_place : ArePlaces chart set → (i : ℕ) (place : ChartPlace) → i < length set → place ≡ get_or chart.places.items (get_or set i 0) place →
         slice_get chart.places.items (get_or set i 0) ≡ Some place
     read_place are i place lt is =
         slice_get_read chart.places.items _ (get_or set i 0) place refl (are (get_or set i 0) (member_at set i lt)) is
@@ -82,7 +82,7 @@ module _ (chart : Chart) where
     number_there are i lt = are (get_or set i 0) (member_at set i lt)
 
     -- The place takes the byte, and what is live behind it comes in.
-    pub steps_more : (old new : List ℕ) (i : ℕ) (place : Place) → i < length set → slice_get chart.places.items (get_or set i 0) ≡ Some place →
+    pub steps_more : (old new : List ℕ) (i : ℕ) (place : ChartPlace) → i < length set → slice_get chart.places.items (get_or set i 0) ≡ Some place →
         takes_byte chart.classes.items place.takes b ≡ true → ((q : ℕ) → Contains old q ↔ StepsBefore chart set b i q) →
         ((q : ℕ) → Contains new q ↔ (Contains old q ⊎ IsIn chart.entries.items place.behind q)) →
         (q : ℕ) → Contains new q ↔ StepsBefore chart set b (i + 1) q
@@ -95,12 +95,12 @@ module _ (chart : Chart) where
           (λ lt. inl ((before q).1 (s.0, s.1, lt, s.3, s.4, s.5, s.6)))
           (λ le. let at : s.0 ≡ i = omega (arith, s.2, le) in
           let one : s.1 ≡ place = same_Some s.1 place (sym s.4 ∙ ap (λ z. slice_get chart.places.items (get_or set z 0)) at ∙ read) in
-          inr (subst (λ (z : Place). IsIn chart.entries.items z.behind q) one s.6))
+          inr (subst (λ (z : ChartPlace). IsIn chart.entries.items z.behind q) one s.6))
           (cases_lt s.0 i)),
     )
 
     -- The place doesn't take the byte.
-    pub steps_skip : (old : List ℕ) (i : ℕ) (place : Place) → slice_get chart.places.items (get_or set i 0) ≡ Some place →
+    pub steps_skip : (old : List ℕ) (i : ℕ) (place : ChartPlace) → slice_get chart.places.items (get_or set i 0) ≡ Some place →
         takes_byte chart.classes.items place.takes b ≡ false → ((q : ℕ) → Contains old q ↔ StepsBefore chart set b i q) →
         (q : ℕ) → Contains old q ↔ StepsBefore chart set b (i + 1) q
     steps_skip old i place read takes before q = (
@@ -109,7 +109,7 @@ module _ (chart : Chart) where
           (λ lt. (s.0, s.1, lt, s.3, s.4, s.5, s.6))
           (λ le. let at : s.0 ≡ i = omega (arith, s.2, le) in
           let one : s.1 ≡ place = same_Some s.1 place (sym s.4 ∙ ap (λ z. slice_get chart.places.items (get_or set z 0)) at ∙ read) in
-          absurd (true≢false (sym s.5 ∙ ap (λ (z : Place). takes_byte chart.classes.items z.takes b) one ∙ takes)))
+          absurd (true≢false (sym s.5 ∙ ap (λ (z : ChartPlace). takes_byte chart.classes.items z.takes b) one ∙ takes)))
           (cases_lt s.0 i)),
     )
 

@@ -7,9 +7,9 @@ use Rattle.rule_globs.specs.Follow.{Starts, TakesAt, Goes}
 use Rattle.rule_reader.specs.Profile.{RuleValue, pattern}
 use Rattle.glob_automaton.specs.declared.chart.Chart.{Chart}
 use Rattle.glob_automaton.specs.declared.chart.ChartRule.{ChartRule}
-use Rattle.glob_automaton.specs.Building.{IsStartOf, IsStepOf, IsReached, begins, goes_on}
-use Rattle.glob_automaton.specs.Drawing.{HasRule, IsChartOf}
-use Rattle.glob_automaton.specs.Gathering.{IsAscending}
+use Rattle.glob_automaton.specs.inner.Building.{IsStartOf, IsStepOf, IsReached, begins, goes_on}
+use Rattle.glob_automaton.specs.inner.Drawing.{HasRule, IsChartOf}
+use Rattle.glob_automaton.specs.inner.Gathering.{IsAscending}
 use Rattle.glob_automaton.proofs.PatternPlaces.{starts_within, goes_within, takes_within}
 use Rattle.glob_automaton.proofs.RuleNumbers.{rule_stands, rule_of}
 

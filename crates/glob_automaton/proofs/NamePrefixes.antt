@@ -11,8 +11,8 @@ use Rattle.rule_reader.specs.Readable.{begins_with_slash, are_tokens, is_path, i
 use Rattle.rule_globs.specs.Tokens.{Token, pattern_of}
 use Rattle.glob_automaton.specs.declared.chart.Chart.{Chart}
 use Rattle.glob_automaton.specs.declared.chart.ChartRule.{ChartRule}
-use Rattle.glob_automaton.specs.Building.{IsStepOf, IsReached, begins, goes_on}
-use Rattle.glob_automaton.specs.Drawing.{HasRule, IsChartOf}
+use Rattle.glob_automaton.specs.inner.Building.{IsStepOf, IsReached, begins, goes_on}
+use Rattle.glob_automaton.specs.inner.Drawing.{HasRule, IsChartOf}
 use Rattle.glob_automaton.specs.Sets.{IsPrefixOfName}
 use Rattle.glob_automaton.proofs.LiveNumbers.{LiveAtFirst, LiveAfterByte, IsNumber, stands_so, live_numbers}
 use Rattle.glob_automaton.proofs.PatternPlaces.{takes_within, first_is_slash}

@@ -7,14 +7,14 @@ use Rattle.std.proofs.lemmas.Grind.{get_or-set_at}
 use Rattle.std.proofs.lemmas.List.{get_or_default, get_or-set_other, length-set}
 use Rattle.std.proofs.lemmas.Option.{same_Some}
 use Rattle.glob_automaton.specs.declared.chart.Chart.{Chart}
-use Rattle.glob_automaton.specs.declared.chart.Place.{Place}
-use Rattle.glob_automaton.specs.declared.chart.Takes.TheVariants as takes
-use Rattle.glob_automaton.specs.Alike.{AreNamed}
+use Rattle.glob_automaton.specs.declared.chart.ChartPlace.{ChartPlace}
+use Rattle.glob_automaton.specs.declared.chart.Label.TheVariants as label
+use Rattle.glob_automaton.specs.inner.Alike.{AreNamed}
 
 -- each byte that one of the first i places of the set takes alone is marked
 pub record NamedBefore (chart : Chart) (set : List ℕ) (named : List Bool) (i : ℕ) : Type 0 where
   pub long : length named ≡ 256
-  pub each : (k b : ℕ) (place : Place) → k < i → k < length set → slice_get chart.places.items (get_or set k 0) ≡ Some place → place.takes ≡ takes.Byte b → b < 256 →
+  pub each : (k b : ℕ) (place : ChartPlace) → k < i → k < length set → slice_get chart.places.items (get_or set k 0) ≡ Some place → place.takes ≡ label.Byte b → b < 256 →
       slice_index_or named b false ≡ true
 
 -- a mark that stands stays, whichever is set beside it
@@ -25,7 +25,7 @@ mark_stays named byte b room marked = ⊎_elim
     (eqb_tells b byte)
 
 -- the byte that a place takes alone
-byte_of : (place : Place) (a b : ℕ) → place.takes ≡ takes.Byte a → place.takes ≡ takes.Byte b → b ≡ a
+byte_of : (place : ChartPlace) (a b : ℕ) → place.takes ≡ label.Byte a → place.takes ≡ label.Byte b → b ≡ a
 byte_of place a b one other = cc
 
 module _ (chart : Chart) (places : List ℕ) where
@@ -33,14 +33,14 @@ module _ (chart : Chart) (places : List ℕ) where
   pub named_none : (named : List Bool) → length named ≡ 256 → NamedBefore chart places named 0
   named_none named long = record { long = long; each = λ k b place lt within at is small. absurd (omega (arith, lt)) }
 
-  module _ (named : List Bool) (i : ℕ) (place : Place) (read : slice_get chart.places.items (get_or places i 0) ≡ Some place)
+  module _ (named : List Bool) (i : ℕ) (place : ChartPlace) (read : slice_get chart.places.items (get_or places i 0) ≡ Some place)
       (is : NamedBefore chart places named i) where
     -- what is read at the last index
-    read_same : (k : ℕ) (other : Place) → k ≡ i → slice_get chart.places.items (get_or places k 0) ≡ Some other → other ≡ place
+    read_same : (k : ℕ) (other : ChartPlace) → k ≡ i → slice_get chart.places.items (get_or places k 0) ≡ Some other → other ≡ place
     read_same k other at there = same_Some other place (sym there ∙ ap (λ z. slice_get chart.places.items (get_or places z 0)) at ∙ read)
 
     -- the place takes this byte alone
-    pub named_more : (byte : ℕ) → place.takes ≡ takes.Byte byte → NamedBefore chart places (set named byte true) (i + 1)
+    pub named_more : (byte : ℕ) → place.takes ≡ label.Byte byte → NamedBefore chart places (set named byte true) (i + 1)
     named_more byte takes_it = record {
       long = length-set named byte true ∙ is.long;
       each = λ k b other lt within at alone small. ⊎_elim
@@ -48,20 +48,20 @@ module _ (chart : Chart) (places : List ℕ) where
           (λ le.
           let last : k ≡ i = omega (arith, lt, le) in
           let one : other ≡ place = read_same k other last at in
-          let same : b ≡ byte = byte_of place byte b takes_it (ap (λ (z : Place). z.takes) (sym one) ∙ alone) in
+          let same : b ≡ byte = byte_of place byte b takes_it (ap (λ (z : ChartPlace). z.takes) (sym one) ∙ alone) in
           get_or-set_at named byte b true false same (omega (arith, small, same, is.long)))
           (cases_lt k i);
     }
 
     -- the place takes no byte alone
-    pub named_skip : ((b : ℕ) → place.takes ≢ takes.Byte b) → NamedBefore chart places named (i + 1)
+    pub named_skip : ((b : ℕ) → place.takes ≢ label.Byte b) → NamedBefore chart places named (i + 1)
     named_skip none = record {
       long = is.long;
       each = λ k b other lt within at alone small. ⊎_elim
           (λ before. is.each k b other before within at alone small)
           (λ le.
           let last : k ≡ i = omega (arith, lt, le) in
-          absurd (none b (ap (λ (z : Place). z.takes) (sym (read_same k other last at)) ∙ alone)))
+          absurd (none b (ap (λ (z : ChartPlace). z.takes) (sym (read_same k other last at)) ∙ alone)))
           (cases_lt k i);
     }
 

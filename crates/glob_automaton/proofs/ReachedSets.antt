@@ -7,8 +7,8 @@ use Rattle.rule_reader.specs.Profile.{RuleValue, pattern}
 use Rattle.rule_globs.specs.Verdict.{IsRuleAt}
 use Rattle.glob_automaton.specs.declared.chart.Chart.{Chart}
 use Rattle.glob_automaton.specs.declared.chart.ChartRule.{ChartRule}
-use Rattle.glob_automaton.specs.Building.{IsReached}
-use Rattle.glob_automaton.specs.Drawing.{IsChartOf}
+use Rattle.glob_automaton.specs.inner.Building.{IsReached}
+use Rattle.glob_automaton.specs.inner.Drawing.{IsChartOf}
 use Rattle.glob_automaton.specs.Sets.{SameSet, NoneLive}
 use Rattle.glob_automaton.proofs.Ascending.{same_lists, no_members, contains_none}
 use Rattle.glob_automaton.proofs.LiveByParts.{LeftFirst, IsLiveByParts, SameByParts, NoneByParts, same_by_parts, none_by_parts}

@@ -7,14 +7,14 @@ use Rattle.std.proofs.lemmas.Grind.{get_or-set_at}
 use Rattle.std.proofs.lemmas.List.{get_or-set_other, length-set, length-replicate}
 use Rattle.std.proofs.lemmas.Option.{same_Some, none-some}
 use Rattle.glob_automaton.specs.declared.chart.Chart.{Chart}
-use Rattle.glob_automaton.specs.declared.chart.Place.{Place}
-use Rattle.glob_automaton.specs.declared.chart.Takes.{Takes}
-use Rattle.glob_automaton.specs.declared.chart.Takes.TheVariants as takes
-use Rattle.glob_automaton.specs.Alike.{least_of, AreAlike, AreNamed, NamesNone}
-use Rattle.glob_automaton.specs.Building.{IsStepOf}
-use Rattle.glob_automaton.specs.Chart.{takes_byte}
-use Rattle.glob_automaton.specs.Drawing.{IsKnown, IsPartOfChart}
-use Rattle.glob_automaton.specs.States.{Keeps, IsTargetOf}
+use Rattle.glob_automaton.specs.declared.chart.ChartPlace.{ChartPlace}
+use Rattle.glob_automaton.specs.declared.chart.Label.{Label}
+use Rattle.glob_automaton.specs.declared.chart.Label.TheVariants as label
+use Rattle.glob_automaton.specs.inner.Alike.{least_of, AreAlike, AreNamed, NamesNone}
+use Rattle.glob_automaton.specs.inner.Building.{IsStepOf}
+use Rattle.glob_automaton.specs.inner.Chart.{takes_byte}
+use Rattle.glob_automaton.specs.inner.Drawing.{IsKnown, IsPartOfChart}
+use Rattle.glob_automaton.specs.inner.States.{Keeps, IsTargetOf}
 use Rattle.glob_automaton.proofs.SetSteps.{still_target}
 
 -- where each is absent, none is there
@@ -24,7 +24,7 @@ none_at (suc n) zero = refl
 none_at (suc n) (suc o) = none_at n o
 
 -- another byte than its own is not taken
-other_byte : (classes : List (List Bool)) (a b : ℕ) → a ≢ b → takes_byte classes (takes.Byte a) b ≡ false
+other_byte : (classes : List (List Bool)) (a b : ℕ) → a ≢ b → takes_byte classes (label.Byte a) b ≡ false
 other_byte classes a b other = ⊎_elim
     (λ same. absurd (other same.1))
     (λ apart. ap (λ z. nat_lt 0 b && z) apart.0 ∙ and-false (nat_lt 0 b))
@@ -32,25 +32,25 @@ other_byte classes a b other = ⊎_elim
 
 module _ (chart : Chart) (least : List ℕ) (part : IsPartOfChart chart) (alike : AreAlike chart least) where
   -- what doesn't take one byte alone takes both or none of two that are alike
-  both_or_none : (by : Takes) (b c : ℕ) → b < 256 → c < 256 → least_of least b ≡ least_of least c → IsKnown chart by → NamesNone by →
+  both_or_none : (by : Label) (b c : ℕ) → b < 256 → c < 256 → least_of least b ≡ least_of least c → IsKnown chart by → NamesNone by →
       takes_byte chart.classes.items by b ≡ takes_byte chart.classes.items by c
   both_or_none by b c small other same known none =
       sym (alike.taken_alike b by small known none) ∙ ap (λ z. takes_byte chart.classes.items by z) same ∙ alike.taken_alike c by other known none
 
   -- so does what takes a third byte alone
-  unnamed_alike : (by : Takes) (b c : ℕ) → b < 256 → c < 256 → least_of least b ≡ least_of least c → IsKnown chart by →
-      by ≢ takes.Byte b → by ≢ takes.Byte c → takes_byte chart.classes.items by b ≡ takes_byte chart.classes.items by c
-  unnamed_alike (takes.Byte a) b c small other same known one two =
-      other_byte chart.classes.items a b (λ e. one (ap takes.Byte e)) ∙ sym (other_byte chart.classes.items a c (λ e. two (ap takes.Byte e)))
-  unnamed_alike takes.InComponent b c small other same known one two = both_or_none takes.InComponent b c small other same known tt
-  unnamed_alike takes.Any b c small other same known one two = both_or_none takes.Any b c small other same known tt
-  unnamed_alike (takes.Class n) b c small other same known one two = both_or_none (takes.Class n) b c small other same known tt
-  unnamed_alike takes.Nothing b c small other same known one two = both_or_none takes.Nothing b c small other same known tt
+  unnamed_alike : (by : Label) (b c : ℕ) → b < 256 → c < 256 → least_of least b ≡ least_of least c → IsKnown chart by →
+      by ≢ label.Byte b → by ≢ label.Byte c → takes_byte chart.classes.items by b ≡ takes_byte chart.classes.items by c
+  unnamed_alike (label.Byte a) b c small other same known one two =
+      other_byte chart.classes.items a b (λ e. one (ap label.Byte e)) ∙ sym (other_byte chart.classes.items a c (λ e. two (ap label.Byte e)))
+  unnamed_alike label.InComponent b c small other same known one two = both_or_none label.InComponent b c small other same known tt
+  unnamed_alike label.Any b c small other same known one two = both_or_none label.Any b c small other same known tt
+  unnamed_alike (label.Class n) b c small other same known one two = both_or_none (label.Class n) b c small other same known tt
+  unnamed_alike label.Nothing b c small other same known one two = both_or_none label.Nothing b c small other same known tt
 
   module _ (places : List ℕ) (named : List Bool) (marks : AreNamed chart places named) where
     -- a byte that isn't marked is taken alone by no place of the set
-    not_alone : (p b : ℕ) (place : Place) → Contains places p → slice_get chart.places.items p ≡ Some place → b < 256 →
-        slice_index_or named b false ≡ false → place.takes ≢ takes.Byte b
+    not_alone : (p b : ℕ) (place : ChartPlace) → Contains places p → slice_get chart.places.items p ≡ Some place → b < 256 →
+        slice_index_or named b false ≡ false → place.takes ≢ label.Byte b
     not_alone p b place there at small unmarked alone = true≢false (sym (marks.each p b place there at alone small) ∙ unmarked)
 
     -- two bytes that are alike and aren't marked lead to the same set
@@ -64,7 +64,7 @@ module _ (chart : Chart) (least : List ℕ) (part : IsPartOfChart chart) (alike 
       );
     }
       where
-        taken_alike : (p : ℕ) (place : Place) → Contains places p → slice_get chart.places.items p ≡ Some place →
+        taken_alike : (p : ℕ) (place : ChartPlace) → Contains places p → slice_get chart.places.items p ≡ Some place →
             takes_byte chart.classes.items place.takes b ≡ takes_byte chart.classes.items place.takes c
         taken_alike p place there at = unnamed_alike place.takes b c small other same (part.1.there p place at).1
             (not_alone p b place there at small one) (not_alone p c place there at other two)

@@ -5,7 +5,7 @@ use Rattle.rule_globs.specs.Glob.{places}
 use Rattle.rule_reader.specs.Profile.{RuleValue, pattern}
 use Rattle.glob_automaton.specs.declared.chart.Chart.{Chart}
 use Rattle.glob_automaton.specs.declared.chart.ChartRule.{ChartRule}
-use Rattle.glob_automaton.specs.Drawing.{HasRules}
+use Rattle.glob_automaton.specs.inner.Drawing.{HasRules}
 
 as_many : (chart : Chart) (rules : List RuleValue) (ds : List ChartRule) (at : ℕ) → HasRules chart at rules ds → length ds ≡ length rules
 as_many chart [] [] at h = refl

@@ -6,8 +6,8 @@ use Rattle.std.proofs.lemmas.Bool.{cases_lt}
 use Rattle.glob_automaton.specs.declared.chart.Chart.{Chart}
 use Rattle.glob_automaton.specs.declared.fault.CompileFault.{CompileFault}
 use Rattle.glob_automaton.specs.declared.fault.CompileFault.TheVariants.{TooManyStates, NoMemory}
-use Rattle.glob_automaton.specs.Building.{IsStepOf, IsReached, goes_on, AreSets, IsBuildFault}
-use Rattle.glob_automaton.specs.States.{IsNumbered, IsNumberFault, AreFewSets, Keeps, IsTargetOf}
+use Rattle.glob_automaton.specs.inner.Building.{IsStepOf, IsReached, goes_on, AreSets, IsBuildFault}
+use Rattle.glob_automaton.specs.inner.States.{IsNumbered, IsNumberFault, AreFewSets, Keeps, IsTargetOf}
 use Rattle.glob_automaton.proofs.Ascending.{no_members, contains_none}
 
 -- some bytes reach the set, or it is empty

@@ -7,7 +7,7 @@ use Rattle.std.proofs.lemmas.Bool.Decides.{eqb_tells}
 use Rattle.std.proofs.lemmas.List.{get_or-set_other, length-set, length-replicate}
 use Rattle.std.proofs.lemmas.Grind.{get_or-set_at}
 use Rattle.std.proofs.lemmas.Option.{same_Some, none-some}
-use Rattle.glob_automaton.specs.Alike.{IsAlike, IsSplit, least_of}
+use Rattle.glob_automaton.specs.inner.Alike.{IsAlike, IsSplit, least_of}
 
 -- The bytes before k are parted, the others are as they were.
 pub record SplitBefore (old : List ℕ) (taken : List Bool) (other : List (Option ℕ)) (least : List ℕ) (k : ℕ) : Type 0 where

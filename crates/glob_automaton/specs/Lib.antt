@@ -1,10 +1,5 @@
 pub mod Least
 pub mod Sets
 pub mod Automata
-pub mod Chart
-pub mod Drawing
-pub mod Alike
-pub mod Gathering
-pub mod Building
-pub mod States
 pub mod Faults
+pub mod inner

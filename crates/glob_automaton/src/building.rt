@@ -1,15 +1,15 @@
 //! The subset construction: a state for each set of places that is live after some bytes.
 ghost use Rattle.std.specs.Prelude.{◌≡◌, ◌↔◌, ◌<◌, ◌≤◌, ◌++◌, ◌∷◌, [], IfOk, IfErr, IsTrue, OnOk, Contains, length, map, slice_index_or};
-ghost use Rattle.glob_automaton.specs.Alike.{AreAlike, AreNamed};
+ghost use Rattle.glob_automaton.specs.inner.Alike.{AreAlike, AreNamed};
 ghost use Rattle.glob_automaton.specs.Automata.{most_sets};
-ghost use Rattle.glob_automaton.specs.Building.{ArePlaces, IsStartOf, IsStepOf, IsRecordOf, IsBuilt, IsBuildFault};
-ghost use Rattle.glob_automaton.specs.Drawing.{IsPartOfChart};
-ghost use Rattle.glob_automaton.specs.Gathering.{IsGathering, IsAscending};
-ghost use Rattle.glob_automaton.specs.States.{lists_of, AreFewSets, Keeps, IsNumbered, IsNumberFault, IsTargetOf, IsRowOf};
+ghost use Rattle.glob_automaton.specs.inner.Building.{ArePlaces, IsStartOf, IsStepOf, IsRecordOf, IsBuilt, IsBuildFault};
+ghost use Rattle.glob_automaton.specs.inner.Drawing.{IsPartOfChart};
+ghost use Rattle.glob_automaton.specs.inner.Gathering.{IsGathering, IsAscending};
+ghost use Rattle.glob_automaton.specs.inner.States.{lists_of, AreFewSets, Keeps, IsNumbered, IsNumberFault, IsTargetOf, IsRowOf};
 
 use crate::automaton::Dfa;
 use crate::bytes::ByteClasses;
-use crate::chart::{Chart, Takes};
+use crate::chart::{Chart, Label};
 use crate::fault::CompileFault;
 use crate::sets::Gathering;
 use indexmap::IndexSet;
@@ -150,7 +150,7 @@ fn named_by(chart: &Chart, set: &[usize]) -> [bool; 256]
 {
     let mut named = [false; 256];
     for place in set {
-        if let Takes::Byte(byte) = chart.places[*place].takes {
+        if let Label::Byte(byte) = chart.places[*place].takes {
             named[byte as usize] = true;
         }
     }

@@ -1,6 +1,6 @@
 //! Classes of bytes that all places take alike, places that take one byte alone aside.
 ghost use Rattle.std.specs.Prelude.{◌≡◌, ◌==◌, ◌<◌, ℕ, false, slice_index_or};
-ghost use Rattle.glob_automaton.specs.Alike.{IsAlike, AreAlike, IsSplit};
+ghost use Rattle.glob_automaton.specs.inner.Alike.{IsAlike, AreAlike, IsSplit};
 
 use crate::chart::Chart;
 

@@ -4,8 +4,8 @@ ghost use Rattle.std.specs.Prelude.{◌≡◌, ◌≤◌, ◌++◌, ◌∷◌, [
 ghost use Rattle.rule_globs.specs.Glob.{ByteSet, one, run};
 ghost use Rattle.rule_globs.specs.Meaning.{meaning, meaning_of, stars_glob, alternatives_meaning};
 ghost use Rattle.rule_reader.specs.Profile.{profile_value, rule_value};
-ghost use Rattle.glob_automaton.specs.Chart.{takes_byte};
-ghost use Rattle.glob_automaton.specs.Drawing.{IsReady, IsDrawn, IsPartOfChart, HasOneMore, IsChartOf, IsKnown, TakesSet};
+ghost use Rattle.glob_automaton.specs.inner.Chart.{takes_byte};
+ghost use Rattle.glob_automaton.specs.inner.Drawing.{IsReady, IsDrawn, IsPartOfChart, HasOneMore, IsChartOf, IsKnown, TakesSet};
 
 use names::Perms;
 use rule_globs::{Class, Item, Stars};
@@ -15,7 +15,7 @@ use verdicts::RuleKind;
 
 /// Which bytes a place takes.
 #[derive(Clone, Copy, Debug, PartialEq, Eq)]
-pub(crate) enum Takes {
+pub(crate) enum Label {
     /// That byte.
     Byte(u8),
     /// Any byte but a slash.
@@ -43,8 +43,8 @@ pub(crate) enum Entry {
 
 /// A place: the bytes that it takes, and the entry behind it.
 #[derive(Clone, Copy, Debug)]
-pub(crate) struct Place {
-    pub takes: Takes,
+pub(crate) struct ChartPlace {
+    pub takes: Label,
     pub behind: usize,
 }
 
@@ -60,7 +60,7 @@ pub(crate) struct ChartRule {
 /// The places of all rules, rule after rule: each rule's end, and then its places from the last to the first.
 #[derive(Drop)]
 pub(crate) struct Chart {
-    pub places: Vec<Place>,
+    pub places: Vec<ChartPlace>,
     pub entries: Vec<Entry>,
     /// Which bytes each class takes.
     pub classes: Vec<[bool; 256]>,
@@ -92,8 +92,8 @@ impl Chart {
     {
         let end = self.places.len();
         // An end takes nothing, so nothing goes on from it, whatever stands behind.
-        self.places.push(Place {
-            takes: Takes::Nothing,
+        self.places.push(ChartPlace {
+            takes: Label::Nothing,
             behind: 0,
         })?;
         let last = self.entry(Entry::Place(end))?;
@@ -126,8 +126,8 @@ impl Chart {
         ensures { IfOk result (IsDrawn self.old self.new (meaning item.now) behind) }
     {
         match item {
-            Item::Byte(byte) => self.draw_one(Takes::Byte(*byte), behind),
-            Item::AnyByte => self.draw_one(Takes::InComponent, behind),
+            Item::Byte(byte) => self.draw_one(Label::Byte(*byte), behind),
+            Item::AnyByte => self.draw_one(Label::InComponent, behind),
             Item::Class(class) => self.draw_class(class, behind),
             Item::Stars(stars) => self.draw_stars(*stars, behind),
             Item::Group(alternatives) => self.draw_alternatives(alternatives, behind),
@@ -163,7 +163,7 @@ impl Chart {
         }
         let number = self.classes.len();
         self.classes.push(taken)?;
-        self.draw_one(Takes::Class(number), behind)
+        self.draw_one(Label::Class(number), behind)
     }
 
     // Draws a run of stars.
@@ -172,38 +172,38 @@ impl Chart {
         ensures { IfOk result (IsDrawn self.old self.new (stars_glob stars.crosses_slashes stars.strict) behind) }
     {
         let takes = if stars.crosses_slashes {
-            Takes::Any
+            Label::Any
         } else {
-            Takes::InComponent
+            Label::InComponent
         };
         let run = self.draw_run(takes, behind)?;
         if stars.strict {
-            self.draw_one(Takes::InComponent, run)
+            self.draw_one(Label::InComponent, run)
         } else {
             Ok(run)
         }
     }
 
     // Draws a place that takes one byte.
-    fn draw_one(&mut self, takes: Takes, behind: usize) -> Result<usize, AllocError>
+    fn draw_one(&mut self, takes: Label, behind: usize) -> Result<usize, AllocError>
         requires { IsReady self.old behind }
         ensures drawn { IfOk result (λ start. (set : ByteSet) → IsKnown self.old takes → TakesSet self.old takes set → IsDrawn self.old self.new (one set) behind start) }
         ensures classes { self.new.classes ≡ self.old.classes }
     {
         let place = self.places.len();
-        self.places.push(Place { takes, behind })?;
+        self.places.push(ChartPlace { takes, behind })?;
         self.entry(Entry::Place(place))
     }
 
     // Draws a place that takes any number of bytes.
-    fn draw_run(&mut self, takes: Takes, behind: usize) -> Result<usize, AllocError>
+    fn draw_run(&mut self, takes: Label, behind: usize) -> Result<usize, AllocError>
         requires { IsReady self.old behind }
         ensures drawn { IfOk result (λ start. (set : ByteSet) → IsKnown self.old takes → TakesSet self.old takes set → IsDrawn self.old self.new (run set) behind start) }
         ensures classes { self.new.classes ≡ self.old.classes }
     {
         let place = self.places.len();
         let entry = self.entry(Entry::Run { place, behind })?;
-        self.places.push(Place {
+        self.places.push(ChartPlace {
             takes,
             behind: entry,
         })?;
@@ -211,16 +211,16 @@ impl Chart {
     }
 
     /// Whether a byte is one of those.
-    pub(crate) fn takes(&self, takes: Takes, byte: u8) -> bool
+    pub(crate) fn takes(&self, takes: Label, byte: u8) -> bool
         requires { IsKnown self.now takes }
         ensures { result ≡ takes_byte self.now.classes.items takes byte }
     {
         match takes {
-            Takes::Byte(taken) => byte == taken && byte != 0,
-            Takes::InComponent => byte != b'/' && byte != 0,
-            Takes::Any => byte != 0,
-            Takes::Class(class) => self.classes[class][byte as usize],
-            Takes::Nothing => false,
+            Label::Byte(taken) => byte == taken && byte != 0,
+            Label::InComponent => byte != b'/' && byte != 0,
+            Label::Any => byte != 0,
+            Label::Class(class) => self.classes[class][byte as usize],
+            Label::Nothing => false,
         }
     }
 

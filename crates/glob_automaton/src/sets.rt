@@ -1,7 +1,7 @@
 //! Sets of live places.
 ghost use Rattle.std.specs.Prelude.{◌≡◌, ◌↔◌, ◌⊎◌, ◌<◌, ℕ, [], length, IfOk, OnOk, Contains};
-ghost use Rattle.glob_automaton.specs.Chart.{IsIn, IsOrdered};
-ghost use Rattle.glob_automaton.specs.Gathering.{IsGathering, IsAscending};
+ghost use Rattle.glob_automaton.specs.inner.Chart.{IsIn, IsOrdered};
+ghost use Rattle.glob_automaton.specs.inner.Gathering.{IsGathering, IsAscending};
 
 use crate::chart::{Chart, Entry};
 use std::alloc::{AllocError, Global};
@@ -43,7 +43,7 @@ impl Gathering {
         self.places.clear();
     }
 
-    /// Takes in what is live at an entry.
+    /// Label in what is live at an entry.
     pub(crate) fn enter(&mut self, chart: &Chart, entry: usize) -> Result<(), AllocError>
         requires gathering { IsGathering chart.now self.old }
         requires ordered { IsOrdered chart.now.entries.items }

@@ -64,3 +64,10 @@ link_answered plain policy old new (Some judge) = elim (link_judged plain judge 
   | Ok j ↦ answer_by_verdict j (length plain.history) policy j.verdict
   | Err errno ↦ failed errno (length plain.history)
 ]
+
+-- a link that is made
+abbrev pub IsMade : LinkAnswered → Type 0
+IsMade (made j tree policy) = Unit {0}
+IsMade (not_allowed j tree policy) = ⊥
+IsMade (failed errno tree) = ⊥
+IsMade (no_profile policy) = ⊥

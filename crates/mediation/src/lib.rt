@@ -1,7 +1,8 @@
 //! Judged opens and links, apart from who asks for them: the published policy as a list of deeds, what an open and a judged
 //! link are answered, and the functions that judge over any look at a tree.
 //!
-//! What a stranger must believe stands in `specs/`, some 320 lines; `specs/inner/` has what only private contracts say.
+//! To be believed are about 280 lines of definitions in `specs/`; those in `specs/inner/` are of private contracts and
+//! proofs.
 #![tactic(auto)]
 
 mod answer;

@@ -1,6 +1,6 @@
 //! The walk of a path and the name of an entry, over any way to read a tree piece by piece.
 //!
-//! What a stranger must believe stands in `specs/` (61 lines); `specs/inner/` has words of private contracts and proofs alone.
+//! To be believed are about 50 lines of definitions in `specs/`; those in `specs/inner/` are of private contracts and proofs.
 #![tactic(auto)]
 
 mod arrival;

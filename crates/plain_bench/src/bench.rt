@@ -6,6 +6,7 @@ ghost use Rattle.matcher.specs.Making.{IsMakeFault};
 ghost use Rattle.mediation.specs.Answers.{answered, name_opened, link_answered, name_linked};
 ghost use Rattle.mediation.specs.Deeds.{published_rules, removed};
 ghost use Rattle.mediation.specs.History.{History, with_change, with_deed, tree_version, policy_version, open_answer, link_answer, after_link};
+ghost use Rattle.mediation.specs.Linking.{IsMade};
 ghost use Rattle.directory_tree.specs.Plain.{outcome, Refused};
 ghost use Rattle.rule_reader.specs.Profile.{profile_value};
 
@@ -37,14 +38,16 @@ pub trait Bench {
         ensures answer { answered (judged_name self.new) result ≡ open_answer (history self.old) profile.now path.now ask }
         ensures name { judged_name self.new ≡ name_opened (open_answer (history self.old) profile.now path.now ask) };
 
-    /// Makes one more entry of a file, where a published profile allows it.
+    /// Makes one more entry of a file, where a published profile allows it. Memory is wanted for a link that would be made
+    /// alone.
     fn link(&mut self, profile: &[u8], old: &[u8], new: &[u8]) -> Result<LinkAnswer, NoMemory>
         ensures ok { IfOk result (λ answer. link_answered (judged_name self.new) answer
             ≡ link_answer (history self.old) profile.now old.now new.now) }
         ensures name { OnOk result (judged_name self.new ≡ name_linked (link_answer (history self.old) profile.now old.now new.now)) }
         ensures history { OnOk result (history self.new
             ≡ after_link (history self.old) old.now new.now (link_answer (history self.old) profile.now old.now new.now)) }
-        ensures err { OnErr result ((history self.new ≡ history self.old) × (judged_name self.new ≡ [])) };
+        ensures err { OnErr result ((history self.new ≡ history self.old) × (judged_name self.new ≡ [])
+            × IsMade (link_answer (history self.old) profile.now old.now new.now)) };
 
     /// The name that the last open or link judged: of a link, the name of its new entry, whether or not it was made. It is
     /// empty where none was judged: the profile isn't published, there was a failure, or memory was refused.

@@ -2,8 +2,7 @@
 //!
 //! [`Bench`] is what a script works on, and [`PlainBench`] its first implementation.
 //!
-//! What a stranger must believe stands in `specs/`, 6 lines beside those of `mediation`; `specs/inner/` has what only private
-//! contracts say.
+//! To be believed are the 5 lines of definitions in `specs/`; those in `specs/inner/` are of private contracts and proofs.
 #![tactic(auto)]
 
 mod bench;

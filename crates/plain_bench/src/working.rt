@@ -84,7 +84,7 @@ fn settle(
     ensures tree { OnOk result (tree.new ≡ settled tree.old change.now judged.now.verdict) }
     ensures answer { IfOk result (λ answer. (room : List ℕ) → link_answered (take judged.now.name_length room) answer
         ≡ answer_by_verdict (link_of room judged.now) (length tree.old.history) policy_version judged.now.verdict) }
-    ensures err { OnErr result (tree.new ≡ tree.old) }
+    ensures err { OnErr result ((tree.new ≡ tree.old) × (judged.now.verdict ≡ LinkVerdict.Fine)) }
 {
     match judged.verdict {
         LinkVerdict::Fine => match tree.apply(change) {

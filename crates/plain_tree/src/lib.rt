@@ -1,6 +1,6 @@
 //! A directory tree in plain memory, as a look, and the changes of it.
 //!
-//! What a stranger must believe stands in `specs/` (68 lines); `specs/inner/` has words of private contracts and proofs alone.
+//! To be believed are about 60 lines of definitions in `specs/`; those in `specs/inner/` are of private contracts and proofs.
 #![tactic(auto)]
 
 mod directory;

@@ -1,7 +1,7 @@
-//! Profiles judged in the plainest way: the verdict on a name by each rule in turn, and the verdict on a hard link by what the
-//! rules say of both its names.
+//! Profiles judged in the plainest way: the verdict on a name by each rule in turn, and the verdict on a hard link by what
+//! the rules say of both its names.
 //!
-//! To be believed are the 46 lines of definitions in `specs/`.
+//! To be believed are about 40 lines of definitions in `specs/`.
 #![tactic(auto)]
 
 mod judging;

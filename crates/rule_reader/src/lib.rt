@@ -1,8 +1,8 @@
 //! Profile texts read: the grammar, the faults of a text by number and place, and the profiles that reading makes. Nothing
 //! else makes a profile.
 //!
-//! To be believed are the 1,280 lines of definitions in `specs/`, of which the grammar and its profiles are some 600 and the
-//! rest says which fault is the first; those in `specs/inner/` only private contracts speak of.
+//! To be believed are about 1,080 lines of definitions in `specs/`, of which the grammar and its profiles are about 600 and
+//! the rest says which fault is the first; those in `specs/inner/` are of private contracts and proofs.
 #![tactic(auto)]
 
 mod fault;

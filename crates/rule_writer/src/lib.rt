@@ -1,6 +1,6 @@
 //! The canonical text of a profile.
 //!
-//! To be believed are the 43 lines of definitions in `specs/`.
+//! To be believed are about 40 lines of definitions in `specs/`.
 #![tactic(auto)]
 
 mod laws;

@@ -1,6 +1,6 @@
 //! Tables whose bounds are verified: no index leaves them, whatever the bytes that they run on.
 //!
-//! What a stranger must believe stands in `specs/`, 11 lines, over the definitions of `tables`.
+//! To be believed are the 9 lines of definitions in `specs/`; those in `specs/inner/` are of private contracts and proofs.
 #![tactic(auto)]
 
 mod laws;

@@ -1,7 +1,9 @@
 //! Tables of automata, and the images that they are stored as.
 //!
-//! A user of images needs neither the parser nor the compiler. What a stranger must believe stands in `specs/`, some 245
-//! lines; what `specs/inner/` has is of the proofs' own.
+//! A user of images needs neither the parser nor the compiler.
+//!
+//! To be believed are about 200 lines of definitions in `specs/`; those in `specs/inner/` are of private contracts and
+//! proofs.
 #![tactic(auto)]
 
 mod bytes;

@@ -5,6 +5,8 @@
 //! input, and `aa-trace match PERMS NAME` judges a name by it. `aa-trace run --capacity N` answers the script on standard
 //! input line by line: changes of a tree, profiles, and judged opens. Faults go to standard error, and the exit status is 0
 //! for answers, 2 for a bad command line, 3 for a refused text, profile, image or stream, and 4 for want of memory.
+//!
+//! To be believed are about 50 lines of definitions in `specs/`.
 #![tactic(auto)]
 
 mod program;

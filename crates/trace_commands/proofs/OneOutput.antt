@@ -16,7 +16,7 @@ use Rattle.names.specs.declared.permissions.Perms.{Perms}
 use Rattle.rule_reader.specs.Profile.{ProfileValue}
 use Rattle.rule_reader.specs.Reading.{outcome_of}
 use Rattle.rule_reader.specs.declared.fault.ReadFault.{ReadFault}
-use Rattle.trace_commands.specs.Answers.{AreGood, IsAnswered, IsFaultOfOne}
+use Rattle.trace_commands.specs.inner.Answers.{AreGood, IsAnswered, IsFaultOfOne}
 use Rattle.trace_report.specs.Fault.{fault_of_image, fault_text, fault_status}
 use Rattle.trace_commands.specs.Judge.{ask_of}
 use Rattle.trace_report.specs.Output.{Output, compile_refusal, fault, image_refusal, refusal, whole_answer}

@@ -1,3 +1,3 @@
 pub mod Tables
 pub mod Judge
-pub mod Answers
+pub mod inner

@@ -1,6 +1,6 @@
 //! `check`: whether the image that is read can be run.
 ghost use Rattle.std.specs.Prelude.{◌≡◌, ◌≢◌, ◌⊎◌, ℕ, List, IfErr, IfOk, Some};
-ghost use Rattle.trace_commands.specs.Answers.{IsAnswered};
+ghost use Rattle.trace_commands.specs.inner.Answers.{IsAnswered};
 ghost use Rattle.trace_report.specs.Output.{line};
 ghost use Rattle.trace_report.specs.Streams.{EndsInOne, IsTextOf};
 ghost use Rattle.trace_commands.specs.Tables.{IsCheckOutput, IsMemoryOfWhole, counts_text};

@@ -1,6 +1,6 @@
 //! `compile`: the image of the profile that is read.
 ghost use Rattle.std.specs.Prelude.{◌≡◌, ◌≢◌, ◌⊎◌, ℕ, List, Some};
-ghost use Rattle.trace_commands.specs.Answers.{IsAnswered};
+ghost use Rattle.trace_commands.specs.inner.Answers.{IsAnswered};
 ghost use Rattle.trace_report.specs.Streams.{EndsInOne, IsTextOf};
 ghost use Rattle.trace_commands.specs.Tables.{IsCompileOutput};
 

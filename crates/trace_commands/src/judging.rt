@@ -6,7 +6,7 @@ ghost use Rattle.verdicts.specs.VerdictText.{verdict_text};
 ghost use Rattle.trace_commands.specs.Judge.{ask_of, asked_by, is_absolute, judge_output};
 ghost use Rattle.trace_report.specs.Output.{answer};
 ghost use Rattle.trace_report.specs.Streams.{Ends, IsTextOf};
-ghost use Rattle.trace_commands.specs.Answers.{IsJudged, IsAsked, IsTextRead};
+ghost use Rattle.trace_commands.specs.inner.Answers.{IsJudged, IsAsked, IsTextRead};
 
 use names::Perms;
 use rule_judge::judge_slow;

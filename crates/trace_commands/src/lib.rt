@@ -1,4 +1,7 @@
 //! The commands that read a whole text or image and then answer: `judge`, `compile`, `check` and `match`, over any streams.
+//!
+//! To be believed are about 100 lines of definitions in `specs/`; those in `specs/inner/` are of private contracts and
+//! proofs.
 #![tactic(auto)]
 
 mod checking;

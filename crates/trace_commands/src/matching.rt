@@ -2,7 +2,7 @@
 ghost use Rattle.std.specs.Prelude.{◌≡◌, ◌≢◌, ◌⊎◌, ℕ, List, IsErr, IfErr, IfOk, Some};
 ghost use Rattle.std.specs.Io.KnownBytes.{Keeps};
 ghost use Rattle.verdicts.specs.declared.verdict.Verdict.{Verdict};
-ghost use Rattle.trace_commands.specs.Answers.{IsAnswered};
+ghost use Rattle.trace_commands.specs.inner.Answers.{IsAnswered};
 ghost use Rattle.trace_commands.specs.Judge.{ask_of};
 ghost use Rattle.trace_report.specs.Output.{whole_answer};
 ghost use Rattle.trace_report.specs.Streams.{EndsInOne, IsTextOf};

@@ -1,6 +1,7 @@
 //! The command line of `aa-trace`: the words that it is called with, and what they ask for.
 //!
-//! What its contracts mean stands in the 147 lines of `specs/CommandLine.antt`; `specs/inner/` is of private contracts and proofs.
+//! To be believed are about 120 lines of definitions in `specs/`; those in `specs/inner/` are of private contracts and
+//! proofs.
 #![tactic(auto)]
 
 mod line;

@@ -1,6 +1,6 @@
 //! What the words of a command line ask for.
 ghost use Rattle.std.specs.Prelude.{◌≡◌, IfOk, IfErr, is_some, true, false, map, codes};
-ghost use Rattle.clap.specs.Words.{app_of, first_value, found_of, rows_of, rule_of};
+ghost use Rattle.clap.specs.Words.{app_of, first_value, found_of, rows_of, rule_of, with_subcommand};
 ghost use Rattle.trace_line.specs.CommandLine.{line_of, line_value, line_fault_number};
 ghost use Rattle.trace_line.specs.inner.Parser.{IsLineFaultOf, IsReadAs, number_option, number_read, number_rule, numbers_app, pair_app, program_app};
 
@@ -148,41 +148,75 @@ fn number_in(found: &ArgMatches, name: &str) -> u32
     found.get_one::<u32>(name).unwrap()
 }
 
-/// The commands of the program.
+/// The commands of the program. Each is added to the program before the next one is made, so that one command at a time has
+/// to be given up where memory is refused.
 fn program<'a>(alloc: Global) -> Result<Command<'a>, AllocError>
     ensures { IfOk result (λ command. app_of command ≡ program_app) }
 {
-    let judge = pair_command(
+    let bare = Command::new(alloc, "aa-trace")
+        .about("Judges names by profiles of file rules")
+        .subcommand_required(true);
+    let judging = with_pair(
+        bare,
         alloc,
         "judge",
         "Judges a name by the profile on standard input",
     )?;
-    let run = numbers_command(
+    let running = with_numbers(
+        judging,
         alloc,
         "run",
         "Runs a script of tree changes, policies and opens on standard input",
         &[CAPACITY],
     )?;
-    let compile = numbers_command(
+    let compiling = with_numbers(
+        running,
         alloc,
         "compile",
         "Writes the image of the profile on standard input",
         &[],
     )?;
-    let check = numbers_command(alloc, "check", "Tests the image on standard input", &[])?;
-    let matching = pair_command(
+    let checking = with_numbers(
+        compiling,
+        alloc,
+        "check",
+        "Tests the image on standard input",
+        &[],
+    )?;
+    with_pair(
+        checking,
         alloc,
         "match",
         "Judges a name by the image on standard input",
-    )?;
-    Command::new(alloc, "aa-trace")
-        .about("Judges names by profiles of file rules")
-        .subcommand_required(true)
-        .subcommand(judge)?
-        .subcommand(run)?
-        .subcommand(compile)?
-        .subcommand(check)?
-        .subcommand(matching)
+    )
+}
+
+/// The program with one more command, which takes PERMS and NAME.
+fn with_pair<'a>(
+    program: Command<'a>,
+    alloc: Global,
+    name: &'a str,
+    about: &'a str,
+) -> Result<Command<'a>, AllocError>
+    ensures { IfOk result (λ command. app_of command ≡ with_subcommand (app_of program.entry) (pair_app name.now).top) }
+{
+    let command = pair_command(alloc, name, about)?;
+    program.subcommand(command)
+}
+
+/// The program with one more command, which takes options with numbers.
+fn with_numbers<'a>(
+    program: Command<'a>,
+    alloc: Global,
+    name: &'a str,
+    about: &'a str,
+    options: &[NumberOption],
+) -> Result<Command<'a>, AllocError>
+    ensures { IfOk result (λ command. app_of command
+        ≡ with_subcommand (app_of program.entry) (numbers_app name.now (map number_option options.now)).top) }
+{
+    let command = numbers_command(alloc, name, about, options)?;
+    program.subcommand(command)
 }
 
 /// A command that takes PERMS and NAME.

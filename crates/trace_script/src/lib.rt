@@ -1,6 +1,7 @@
 //! Scripts: changes of a tree, profiles, and judged opens and links, answered line by line.
 //!
-//! What a stranger must believe stands in `specs/`, some 340 lines; `specs/inner/` has what only private contracts say.
+//! To be believed are about 290 lines of definitions in `specs/`; those in `specs/inner/` are of private contracts and
+//! proofs.
 #![tactic(auto)]
 
 mod commands;

@@ -1,6 +1,8 @@
 //! Verdicts, and the records that tell them: the least numbers of the rules that allow and that deny each permission.
 //!
-//! Nothing here takes memory. What a stranger must believe stands in `specs/`, some 100 lines.
+//! Nothing here takes memory.
+//!
+//! To be believed are about 80 lines of definitions in `specs/`.
 #![tactic(auto)]
 
 mod judging;

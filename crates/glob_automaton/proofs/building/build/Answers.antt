@@ -1,8 +1,8 @@
 -- One state more for each set, until there is one for each.
 use Rattle.std.proofs.Common.{◌∙◌, ◌+◌, ◌≤◌, ℕ, List, ap, sym, subst, subst₂, map, length, arith}
 use Rattle.verdicts.specs.declared.record.Record.{Record}
-use Rattle.glob_automaton.specs.Building.{IsStartOf, IsRecordOf}
-use Rattle.glob_automaton.specs.States.{lists_of, IsRowOf}
+use Rattle.glob_automaton.specs.inner.Building.{IsStartOf, IsRecordOf}
+use Rattle.glob_automaton.specs.inner.States.{lists_of, IsRowOf}
 use Rattle.glob_automaton.proofs.BuiltStates.{AreStates, empty_set_alone, no_states, set_read, set_ascends, one_state_more, built_states, no_more}
 use Rattle.glob_automaton.proofs.building.build.Goals as goal
 use Rattle.glob_automaton.proofs.building.build.Goals.{else-loop-state-test, then-loop-state-test+in_ok-copy+then-not-branch}

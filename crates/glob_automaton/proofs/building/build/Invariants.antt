@@ -1,6 +1,6 @@
 -- The states so far, and what gathers the next ones.
-use Rattle.glob_automaton.specs.Gathering.{IsGathering}
-use Rattle.glob_automaton.specs.States.{lists_of}
+use Rattle.glob_automaton.specs.inner.Gathering.{IsGathering}
+use Rattle.glob_automaton.specs.inner.States.{lists_of}
 use Rattle.glob_automaton.proofs.BuiltStates.{AreStates}
 use Rattle.glob_automaton.proofs.building.build.Given as goal
 

@@ -1,7 +1,7 @@
 -- What is live where the rules so far begin.
 use Rattle.std.proofs.Common.{ℕ, ◌↔◌}
 use Rattle.std.specs.List.{Contains}
-use Rattle.glob_automaton.specs.Gathering.{IsGathering}
+use Rattle.glob_automaton.specs.inner.Gathering.{IsGathering}
 use Rattle.glob_automaton.proofs.GatheringSteps.{StartsBefore}
 use Rattle.glob_automaton.proofs.building.gather_start.Given as goal
 

@@ -1,7 +1,7 @@
 -- What is live behind each place that takes the byte comes in.
 use Rattle.std.proofs.Common.{sym, ◌∙◌, ◌↔◌, ℕ, ◌+◌, arith, subst}
 use Rattle.std.specs.List.{Contains}
-use Rattle.glob_automaton.specs.Gathering.{IsGathering}
+use Rattle.glob_automaton.specs.inner.Gathering.{IsGathering}
 use Rattle.glob_automaton.specs.declared.sets.Gathering.{Gathering}
 use Rattle.glob_automaton.proofs.GatheringSteps.{StepsBefore, number_there, read_place, steps_more, steps_skip, steps_all}
 use Rattle.glob_automaton.proofs.building.gather_step.Goals as goal

@@ -1,7 +1,7 @@
 -- What is live behind the places so far that take the byte.
 use Rattle.std.proofs.Common.{ℕ, ◌↔◌}
 use Rattle.std.specs.List.{Contains}
-use Rattle.glob_automaton.specs.Gathering.{IsGathering}
+use Rattle.glob_automaton.specs.inner.Gathering.{IsGathering}
 use Rattle.glob_automaton.proofs.GatheringSteps.{StepsBefore}
 use Rattle.glob_automaton.proofs.building.gather_step.Given as goal
 

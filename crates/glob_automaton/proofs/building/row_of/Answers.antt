@@ -4,9 +4,9 @@ use Rattle.std.proofs.Math.ListN.{set}
 use Rattle.std.proofs.lemmas.List.{append-nil}
 use Rattle.glob_automaton.specs.declared.building.Sets.{Sets}
 use Rattle.glob_automaton.specs.declared.chart.Chart.{Chart}
-use Rattle.glob_automaton.specs.Alike.{least_of}
-use Rattle.glob_automaton.specs.Gathering.{IsGathering}
-use Rattle.glob_automaton.specs.States.{lists_of, AreFewSets, Keeps}
+use Rattle.glob_automaton.specs.inner.Alike.{least_of}
+use Rattle.glob_automaton.specs.inner.Gathering.{IsGathering}
+use Rattle.glob_automaton.specs.inner.States.{lists_of, AreFewSets, Keeps}
 use Rattle.glob_automaton.proofs.RowSteps.{RowBefore, row_none, row_named, row_shared}
 use Rattle.glob_automaton.proofs.SetPlaces.{set_places}
 use Rattle.glob_automaton.proofs.SetSteps.{keeps_on}

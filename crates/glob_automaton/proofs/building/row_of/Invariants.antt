@@ -1,6 +1,6 @@
 -- The bytes before this one have their targets.
-use Rattle.glob_automaton.specs.Gathering.{IsGathering}
-use Rattle.glob_automaton.specs.States.{lists_of, AreFewSets, Keeps}
+use Rattle.glob_automaton.specs.inner.Gathering.{IsGathering}
+use Rattle.glob_automaton.specs.inner.States.{lists_of, AreFewSets, Keeps}
 use Rattle.glob_automaton.proofs.RowSteps.{RowBefore}
 use Rattle.glob_automaton.proofs.building.row_of.Given as goal
 

@@ -1,6 +1,6 @@
 -- The step is gathered, and it has its number.
 use Rattle.std.proofs.Common.{◌<◌, arith}
-use Rattle.glob_automaton.specs.States.{lists_of}
+use Rattle.glob_automaton.specs.inner.States.{lists_of}
 use Rattle.glob_automaton.proofs.SetPlaces.{set_places}
 use Rattle.glob_automaton.proofs.SetSteps.{target_sets, target_kept, target_is, target_fault}
 use Rattle.glob_automaton.proofs.building.target_of.Goals as goal

@@ -3,7 +3,7 @@ use Rattle.std.specs.Cmp.Lexicographic.{pointwise}
 use Rattle.std.proofs.Common.{◌≡◌, ◌∙◌, ◌++◌, ◌∷◌, [], ℕ, false, ap, sym, subst, nat_eq, arith, if◌then◌else◌, IfOk}
 use Rattle.std.specs.List.{list_any}
 use Rattle.std.proofs.lemmas.List.{length-map}
-use Rattle.glob_automaton.specs.States.{lists_of, IsNumbered}
+use Rattle.glob_automaton.specs.inner.States.{lists_of, IsNumbered}
 use Rattle.glob_automaton.proofs.StateLists.{all_distinct, not_there, numbered_found, numbered_new, same_numbers, equal_itself}
 use Rattle.glob_automaton.proofs.building.Sets.number.Goals as goal
 use Rattle.glob_automaton.proofs.building.Sets.number.Goals.{in-Ok, in-Err}

@@ -1,6 +1,6 @@
 -- Byte 0 and the slash part the bytes, and then each class does.
 use Rattle.std.proofs.Common.{[], ◌≤◌, length, slice_index_or, refl, subst}
-use Rattle.glob_automaton.specs.Alike.{IsSplit}
+use Rattle.glob_automaton.specs.inner.Alike.{IsSplit}
 use Rattle.glob_automaton.proofs.AlikeBytes.{all_alike, no_class, next_class, parted_by_all}
 use Rattle.glob_automaton.proofs.bytes.ByteClasses.of.Goals as goal
 

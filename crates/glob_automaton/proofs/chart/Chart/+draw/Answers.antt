@@ -2,8 +2,8 @@
 use Rattle.std.proofs.Common.{[], ◌∷◌, ap, sym, subst, refl, arith}
 use Rattle.rule_globs.specs.Glob.{exactly, not_slash}
 use Rattle.rule_globs.specs.Meaning.{meaning, meaning_of, alternatives_meaning}
-use Rattle.glob_automaton.specs.Drawing.{IsDrawn}
-use Rattle.glob_automaton.specs.declared.chart.Takes.TheVariants as takes
+use Rattle.glob_automaton.specs.inner.Drawing.{IsDrawn}
+use Rattle.glob_automaton.specs.declared.chart.Label.TheVariants as label
 use Rattle.glob_automaton.proofs.DrawingLaws.{drawn_empty, drawn_none, drawn_cat, drawn_alt, ready_on}
 use Rattle.glob_automaton.proofs.DrawingItems.{of_byte, of_any_byte, of_group, weight, lighter_item, lighter_alternative, all_left, one_more_done, all_done, item_of_one, item_of}
 use Rattle.glob_automaton.proofs.chart.Chart.+draw.Goals as goal
@@ -51,12 +51,12 @@ draw_alternatives-returns t c =
 
 pub draw_item-returns-in-Byte : goal.draw_item-returns-in-Byte
 draw_item-returns-in-Byte t c =
-    item_of_one c.args.self.now c.draw_one.new.self c.draw_one.result (takes.Byte c.in-Byte.byte) (exactly c.in-Byte.byte) c.args.behind
+    item_of_one c.args.self.now c.draw_one.new.self c.draw_one.result (label.Byte c.in-Byte.byte) (exactly c.in-Byte.byte) c.args.behind
     (meaning c.args.item.now) (of_byte c.args.item.now c.in-Byte.byte c.in-Byte.is) tt (λ b lt. refl) c.draw_one.ensures.drawn
 
 pub draw_item-returns-in-AnyByte : goal.draw_item-returns-in-AnyByte
 draw_item-returns-in-AnyByte t c =
-    item_of_one c.args.self.now c.draw_one-in-AnyByte.new.self c.draw_one-in-AnyByte.result takes.InComponent not_slash c.args.behind
+    item_of_one c.args.self.now c.draw_one-in-AnyByte.new.self c.draw_one-in-AnyByte.result label.InComponent not_slash c.args.behind
     (meaning c.args.item.now) (of_any_byte c.args.item.now c.in-AnyByte.is) tt (λ b lt. refl) c.draw_one-in-AnyByte.ensures.drawn
 
 pub draw_item-draw_alternatives-requires : goal.draw_item-draw_alternatives-requires

@@ -3,8 +3,8 @@ use Rattle.std.proofs.Common.{subst, refl}
 use Rattle.std.proofs.lemmas.Result.{IfOk-weaker}
 use Rattle.rule_globs.specs.Glob.{ByteSet, one, run, not_slash}
 use Rattle.rule_globs.specs.Meaning.{in_stars, stars_glob}
-use Rattle.glob_automaton.specs.Drawing.{IsDrawn, IsKnown, TakesSet}
-use Rattle.glob_automaton.specs.declared.chart.Takes.TheVariants as takes
+use Rattle.glob_automaton.specs.inner.Drawing.{IsDrawn, IsKnown, TakesSet}
+use Rattle.glob_automaton.specs.declared.chart.Label.TheVariants as label
 use Rattle.glob_automaton.proofs.DrawingLaws.{drawn_cat, stars_all, stars_some, strict_stars, free_stars}
 use Rattle.glob_automaton.proofs.chart.Chart.draw_stars.Goals as goal
 use Rattle.glob_automaton.proofs.chart.Chart.draw_stars.Goals.{then-stars, else-stars}
@@ -28,7 +28,7 @@ returns-then-stars-2 c =
     let drawn : IsDrawn c.args.self.now c.draw_run.new.self (run (in_stars c.args.stars.crosses_slashes)) c.args.behind c.in_ok-run.run' =
     c.in_ok-run.ensures.drawn (in_stars c.args.stars.crosses_slashes) facts.0 facts.1 in
     IfOk-weaker c.draw_one.result
-    (λ start. (set : ByteSet) → IsKnown c.draw_run.new.self takes.InComponent → TakesSet c.draw_run.new.self takes.InComponent set →
+    (λ start. (set : ByteSet) → IsKnown c.draw_run.new.self label.InComponent → TakesSet c.draw_run.new.self label.InComponent set →
     IsDrawn c.draw_run.new.self c.draw_one.new.self (one set) c.in_ok-run.run' start)
     (λ start. IsDrawn c.args.self.now c.draw_one.new.self (stars_glob c.args.stars.crosses_slashes c.args.stars.strict) c.args.behind start)
     (λ start h. subst (λ z. IsDrawn c.args.self.now c.draw_one.new.self z c.args.behind start)

@@ -1,7 +1,7 @@
 -- The rules so far are drawn.
 use Rattle.std.proofs.Common.{map, take}
 use Rattle.rule_reader.specs.Profile.{rule_value}
-use Rattle.glob_automaton.specs.Drawing.{IsChartOf}
+use Rattle.glob_automaton.specs.inner.Drawing.{IsChartOf}
 use Rattle.glob_automaton.proofs.chart.Chart.of.Given as goal
 
 abbrev pub invariant-loop-rule : goal.invariant-loop-rule

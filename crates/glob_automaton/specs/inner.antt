@@ -1,0 +1,6 @@
+pub mod Chart
+pub mod Drawing
+pub mod Alike
+pub mod Gathering
+pub mod Building
+pub mod States

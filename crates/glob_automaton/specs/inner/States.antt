@@ -1,0 +1,46 @@
+-- The sets so far, each with its number, and the row of one of them.
+use Rattle.std.specs.Prelude.{◌≡◌, ◌≢◌, ◌⊎◌, ℕ, ◌<◌, ◌≤◌, List, [], ◌∷◌, ◌++◌, length, map, slice_index_or, Contains}
+use Rattle.glob_automaton.specs.declared.chart.Chart.{Chart}
+use Rattle.glob_automaton.specs.declared.building.Sets.{Sets}
+use Rattle.glob_automaton.specs.declared.fault.CompileFault.{CompileFault}
+use Rattle.glob_automaton.specs.declared.fault.CompileFault.TheVariants.{TooManyStates, NoMemory}
+use Rattle.glob_automaton.specs.Automata.{most_sets}
+use Rattle.glob_automaton.specs.inner.Building.{IsStepOf, AreSets}
+
+-- the sets, in the order of their numbers
+abbrev pub lists_of : Sets → List (List ℕ)
+lists_of s = map (λ v. v.items) s.sets.keys
+
+-- no two are the same
+abbrev pub AreDistinct : List (List ℕ) → Type 0
+AreDistinct sets = (i j : ℕ) → i < j → j < length sets → slice_index_or sets i [] ≢ slice_index_or sets j []
+
+-- The set has its number. If it is new, it is the last.
+pub record IsNumbered (old new : List (List ℕ)) (set : List ℕ) (number : ℕ) : Type 0 where
+  pub there : number < length new
+  pub at : slice_index_or new number [] ≡ set
+  pub few : length new ≤ most_sets
+  pub distinct : AreDistinct new
+  pub grows : (new ≡ old) ⊎ ((new ≡ old ++ set ∷ []) × ¬ (Contains old set))
+
+-- why a set has no number
+abbrev pub IsNumberFault : List (List ℕ) → List ℕ → CompileFault → Type 0
+IsNumberFault old set TooManyStates = (length old ≡ most_sets) × AreDistinct old × ¬ (Contains old set)
+IsNumberFault old set NoMemory = Unit {0}
+
+-- sets of the chart, not too many
+abbrev pub AreFewSets : Chart → List (List ℕ) → Type 0
+AreFewSets chart sets = AreSets chart sets × (length sets ≤ most_sets)
+
+-- the sets that were there have their numbers still
+abbrev pub Keeps : List (List ℕ) → List (List ℕ) → Type 0
+Keeps old new = (more : List (List ℕ)) × (new ≡ old ++ more)
+
+-- the byte leads from the set to the set of this number
+abbrev pub IsTargetOf : Chart → List (List ℕ) → List ℕ → ℕ → ℕ → Type 0
+IsTargetOf chart sets set b target = (target < length sets) × IsStepOf chart set b (slice_index_or sets target [])
+
+-- each byte leads from the set to the set of its target
+pub record IsRowOf (chart : Chart) (sets : List (List ℕ)) (set row : List ℕ) : Type 0 where
+  pub long : length row ≡ 256
+  pub targets : (b : ℕ) → b < 256 → IsTargetOf chart sets set b (slice_index_or row b 0)
