@@ -7,6 +7,7 @@ ghost use Rattle.std.specs.Prelude.{◌≡◌, ◌⊎◌, IfOk, IfErr};
 ghost use Rattle.compile_bench.specs.States.{HasStates, IsRefusal};
 
 use glob_automaton::{CompileFault, compile};
+use names::NoMemory;
 use rule_reader::{ReadFault, read};
 use std::alloc::{AllocError, Global};
 use std::io;
@@ -22,7 +23,7 @@ enum Refusal {
 fn main(rt: HostRuntime) -> io::Result<()> {
     let mut text = Vec::new(rt.alloc());
     rt.reader().read_to_end(&mut text)?;
-    let line = told(rt.alloc(), states(rt.alloc(), &text))?;
+    let line = report(rt.alloc(), states(rt.alloc(), &text))?;
     println!(rt; "{line}")
 }
 
@@ -41,12 +42,12 @@ fn states(alloc: Global, text: &[u8]) -> Result<u32, Refusal>
     }
 }
 
-/// The line that tells it.
-fn told(alloc: Global, states: Result<u32, Refusal>) -> Result<String, AllocError> {
+/// The line that is printed.
+fn report(alloc: Global, states: Result<u32, Refusal>) -> Result<String, AllocError> {
     match states {
         Ok(states) => format!(in alloc; "states {states}"),
         Err(Refusal::Text(ReadFault::NoMemory)) | Err(Refusal::Profile(CompileFault::NoMemory)) => {
-            format!(in alloc; "no memory")
+            format!(in alloc; "{}", NoMemory)
         }
         Err(Refusal::Text(fault)) => {
             let number = fault.number();

@@ -1,6 +1,7 @@
 ghost use Rattle.std.specs.Prelude.{◌≡◌};
 ghost use Rattle.glob_automaton.specs.Faults.{fault_number};
 
+use names::NoMemory;
 use std::alloc::AllocError;
 use thiserror::Error;
 
@@ -11,7 +12,7 @@ pub enum CompileFault {
     #[error("too many states")]
     TooManyStates,
     /// Memory was refused; nothing is said of the profile.
-    #[error("no memory")]
+    #[error("{}", NoMemory)]
     NoMemory,
 }
 

@@ -13,7 +13,7 @@ pub enum MakeFault {
     #[error("too many states")]
     TooManyStates,
     /// Memory was refused; nothing is said of the profile.
-    #[error("no memory")]
+    #[error("{}", NoMemory)]
     NoMemory,
 }
 

@@ -1,5 +1,5 @@
 -- What was done: to the tree and to the policy.
-use Rattle.std.specs.Prelude.{ℕ, List, [], ◌∷◌, ◌++◌, length}
+use Rattle.std.specs.Prelude.{ℕ, List, [], ◌∷◌, ◌++◌, ◌+◌, ◌^◌, ◌<◌, length}
 use Rattle.names.specs.declared.permissions.Perms.{Perms}
 use Rattle.directory_tree.specs.declared.change.Change.{Change}
 use Rattle.directory_tree.specs.declared.change.Change.TheVariants as tree
@@ -29,6 +29,10 @@ tree_version history = length history.tree.history
 
 abbrev pub policy_version : History → ℕ
 policy_version history = length history.deeds
+
+-- one more change of the policy has a number
+abbrev pub MayChangePolicy : List Deed → Type 0
+MayChangePolicy deeds = length deeds + 1 < 2 ^ 60
 
 -- what an open of a path is answered, by the profile of a name
 abbrev pub open_answer : History → List ℕ → List ℕ → Perms → Answered

@@ -15,7 +15,7 @@ use crate::profiles::{allowed_by, verdict_by};
 use directory_tree::Last;
 use matcher::AnyProfile;
 use names::{Path, Permission, Perms};
-use path_lookup::{Look, Scratch, WalkFault, name_of, name_of_place, resolve};
+use path_lookup::{Look, NAME_ROOM, Scratch, WalkFault, name_of, name_of_place, resolve};
 use rule_judge::{LinkVerdict, judge_link};
 
 /// The verdict on a link, the node of its file, and the length of its new entry's name.
@@ -37,7 +37,7 @@ pub fn judge_names<L: Look>(
     old: &Path<'_>,
     new: &Path<'_>,
     scratch: &mut Scratch,
-    room: &mut [u8; 4096],
+    room: &mut [u8; NAME_ROOM],
 ) -> Result<JudgedLink, WalkFault>
     ensures kept { L.kept look.new ≡ L.kept look.old }
     ensures narrows { Narrows (L.sees look.old) (L.sees look.new) }

@@ -10,7 +10,7 @@ use crate::profiles::verdict_by;
 use directory_tree::Last;
 use matcher::AnyProfile;
 use names::{Errno, Path, Permission, Perms};
-use path_lookup::{Look, Scratch, WalkFault, name_of, resolve};
+use path_lookup::{Look, NAME_ROOM, Scratch, WalkFault, name_of, resolve};
 use verdicts::Verdict;
 
 /// The verdict on a file that was reached, its node, and the length of its name.
@@ -31,7 +31,7 @@ pub fn judge_file<L: Look>(
     path: &[u8],
     ask: Perms,
     scratch: &mut Scratch,
-    room: &mut [u8; 4096],
+    room: &mut [u8; NAME_ROOM],
 ) -> Result<Judged, WalkFault>
     ensures kept { L.kept look.new ≡ L.kept look.old }
     ensures narrows { Narrows (L.sees look.old) (L.sees look.new) }
@@ -65,7 +65,7 @@ fn judge_path<L: Look>(
     path: &Path<'_>,
     ask: Perms,
     scratch: &mut Scratch,
-    room: &mut [u8; 4096],
+    room: &mut [u8; NAME_ROOM],
 ) -> Result<Judged, WalkFault>
     ensures kept { L.kept look.new ≡ L.kept look.old }
     ensures narrows { Narrows (L.sees look.old) (L.sees look.new) }
@@ -86,7 +86,7 @@ fn judge_entry<L: Look>(
     entry: L::Entry,
     profile: &AnyProfile,
     ask: Perms,
-    room: &mut [u8; 4096],
+    room: &mut [u8; NAME_ROOM],
 ) -> Result<Judged, WalkFault>
     requires { L.knows look.old entry }
     ensures kept { L.kept look.new ≡ L.kept look.old }

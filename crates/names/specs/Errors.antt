@@ -38,3 +38,7 @@ errno_name EOVERFLOW = codes "EOVERFLOW"
 -- as it is printed: the name, a space and the number
 abbrev pub errno_text : Errno → List ℕ
 errno_text e = errno_name e ++ codes " " ++ decimal (errno_number e)
+
+-- how want of memory is told, everywhere
+abbrev pub no_memory_text : List ℕ
+no_memory_text = codes "no memory"

@@ -95,9 +95,9 @@ impl Error for Errno {}
 pub struct NoMemory;
 
 impl fmt::Display for NoMemory {
-    ghost use Rattle.std.specs.Prelude.{codes};
+    ghost use Rattle.names.specs.Errors.{no_memory_text};
 
-    ghost output = { λ _. Some (codes "no memory") };
+    ghost output = { λ _. Some no_memory_text };
 
     fn fmt<W: fmt::Write>(&self, f: &mut fmt::Formatter<W>) -> fmt::Result {
         write!(f, "no memory")

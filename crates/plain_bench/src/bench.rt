@@ -5,7 +5,7 @@ ghost use Rattle.glob_automaton.specs.Sets.{AreMoreThan};
 ghost use Rattle.matcher.specs.Making.{IsMakeFault};
 ghost use Rattle.mediation.specs.Answers.{answered, name_opened, link_answered, name_linked};
 ghost use Rattle.mediation.specs.Deeds.{published_rules, removed};
-ghost use Rattle.mediation.specs.History.{History, with_change, with_deed, tree_version, policy_version, open_answer, link_answer, after_link};
+ghost use Rattle.mediation.specs.History.{History, MayChangePolicy, with_change, with_deed, tree_version, policy_version, open_answer, link_answer, after_link};
 ghost use Rattle.mediation.specs.Linking.{IsMade};
 ghost use Rattle.directory_tree.specs.Plain.{outcome, Refused};
 ghost use Rattle.rule_reader.specs.Profile.{profile_value};
@@ -56,14 +56,14 @@ pub trait Bench {
 
     /// Publishes a profile under its name, if it can be compiled, and answers the policy's new version.
     fn publish(&mut self, profile: Profile) -> Result<u64, MakeFault>
-        requires { policy_version (history self.old) + 1 < 2 ^ 60 }
+        requires { MayChangePolicy (history self.old).deeds }
         ensures ok { IfOk result (λ version. (history self.new ≡ with_deed (history self.old) (published_rules (profile_value profile)))
             × (version ≡ policy_version (history self.new)) × ¬ (AreMoreThan most_sets (profile_value profile).rules)) }
         ensures err { IfErr result (λ fault. (history self.new ≡ history self.old) × IsMakeFault (profile_value profile).rules fault) };
 
     /// Takes the profile of a name away, and answers the policy's new version.
     fn remove(&mut self, name: &[u8]) -> Result<u64, NoMemory>
-        requires { policy_version (history self.old) + 1 < 2 ^ 60 }
+        requires { MayChangePolicy (history self.old).deeds }
         ensures ok { IfOk result (λ version. (history self.new ≡ with_deed (history self.old) (removed name.now))
             × (version ≡ policy_version (history self.new))) }
         ensures err { OnErr result (history self.new ≡ history self.old) };

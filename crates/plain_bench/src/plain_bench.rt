@@ -2,7 +2,7 @@
 ghost use Rattle.std.specs.Prelude.{◌≤◌};
 
 use crate::policy::Policy;
-use path_lookup::Scratch;
+use path_lookup::{NAME_ROOM, Scratch};
 use plain_tree::PlainTree;
 
 /// A tree and the published profiles, with the room that walks and names need.
@@ -12,7 +12,7 @@ pub struct PlainBench {
     pub(crate) policy: Policy,
     pub(crate) scratch: Scratch,
     // The name that was judged last stands at the front.
-    pub(crate) name: [u8; 4096],
+    pub(crate) name: [u8; NAME_ROOM],
     pub(crate) name_length: usize,
     ghost fits: { name_length ≤ 4095 },
 }

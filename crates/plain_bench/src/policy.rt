@@ -6,6 +6,7 @@ ghost use Rattle.glob_automaton.specs.Automata.{most_sets};
 ghost use Rattle.glob_automaton.specs.Sets.{AreMoreThan};
 ghost use Rattle.matcher.specs.Making.{IsMakeFault};
 ghost use Rattle.mediation.specs.Deeds.{published, published_rules, removed, policy_after};
+ghost use Rattle.mediation.specs.History.{MayChangePolicy};
 ghost use Rattle.mediation.specs.Profiles.{judge_of};
 ghost use Rattle.plain_bench.specs.inner.Policy.{Holds};
 ghost use Rattle.rule_reader.specs.Profile.{profile_value};
@@ -57,7 +58,7 @@ impl Policy {
 
     /// Publishes a profile under its name, if it can be compiled, and answers the new version.
     pub(crate) fn publish(&mut self, profile: Profile) -> Result<u64, MakeFault>
-        requires { length self.old.deeds.list + 1 < 2 ^ 60 }
+        requires { MayChangePolicy self.old.deeds.list }
         ensures ok { IfOk result (λ version. (self.new.deeds.list ≡ self.old.deeds.list ++ published_rules (profile_value profile) ∷ [])
             × (version ≡ length self.new.deeds.list) × ¬ (AreMoreThan most_sets (profile_value profile).rules)) }
         ensures err { IfErr result (λ fault. (self.new.deeds.list ≡ self.old.deeds.list) × IsMakeFault (profile_value profile).rules fault) }
@@ -74,7 +75,7 @@ impl Policy {
 
     // Publishes a profile under a name.
     fn keep(&mut self, name: Vec<u8>, profile: AnyProfile) -> Result<u64, NoMemory>
-        requires { length self.old.deeds.list + 1 < 2 ^ 60 }
+        requires { MayChangePolicy self.old.deeds.list }
         ensures ok { IfOk result (λ version. (self.new.deeds.list ≡ self.old.deeds.list ++ published name.items (judge_of profile) ∷ [])
             × (version ≡ length self.new.deeds.list)) }
         ensures err { OnErr result (self.new.deeds.list ≡ self.old.deeds.list) }
@@ -92,7 +93,7 @@ impl Policy {
 
     /// Takes the profile of a name away, if there is one, and answers the new version.
     pub(crate) fn remove(&mut self, name: &[u8]) -> u64
-        requires { length self.old.deeds.list + 1 < 2 ^ 60 }
+        requires { MayChangePolicy self.old.deeds.list }
         ensures new { self.new.deeds.list ≡ self.old.deeds.list ++ removed name.now ∷ [] }
         ensures version { result ≡ length self.new.deeds.list }
     {

@@ -17,7 +17,7 @@ use directory_tree::{Change, links_are_found, plain_trees_are_well_formed};
 use matcher::{AnyProfile, MakeFault};
 use mediation::{Answer, JudgedLink, LinkAnswer, judge_file, judge_names};
 use names::{Errno, NoMemory, Path, Perms};
-use path_lookup::{Scratch, WalkFault};
+use path_lookup::{NAME_ROOM, Scratch, WalkFault};
 use plain_tree::PlainTree;
 use rule_judge::LinkVerdict;
 use rule_reader::Profile;
@@ -32,7 +32,7 @@ impl PlainBench {
             tree: PlainTree::new(alloc, capacity)?,
             policy: Policy::new(alloc),
             scratch: Scratch::new(),
-            name: [0; 4096],
+            name: [0; NAME_ROOM],
             name_length: 0,
         })
     }
@@ -46,7 +46,7 @@ fn judge_tested<'a>(
     old: &'a [u8],
     new: &'a [u8],
     scratch: &mut Scratch,
-    room: &mut [u8; 4096],
+    room: &mut [u8; NAME_ROOM],
 ) -> Result<(Change<'a>, JudgedLink), Errno>
     ensures same { tree.new ≡ tree.old }
     ensures fits { IfOk result (λ tested. tested.1.name_length ≤ 4095) }

@@ -5,7 +5,7 @@ use Rattle.names.specs.Permissions.{perms_of}
 use Rattle.verdicts.specs.declared.kind.RuleKind.{RuleKind}
 use Rattle.verdicts.specs.declared.kind.RuleKind.TheVariants.{Allow, Deny}
 use Rattle.rule_reader.specs.GrammarPaths.{WrittenPath, print_path, IsPath, path_means}
-use Rattle.rule_reader.specs.GrammarWords.{Piece, print_blank, IsBlank, IsGap, Stands, print_last, IsLast, WrittenName, print_name, name_means, IsName, IsNameCell, IsFirst, BeginsWithSlash}
+use Rattle.rule_reader.specs.GrammarWords.{Piece, print_blank, IsBlank, IsGap, Stands, print_last, IsLast, WrittenName, print_name, name_means, IsWrittenName, IsNameCell, IsFirst, BeginsWithSlash}
 use Rattle.rule_globs.specs.Each.{Each}
 use Rattle.rule_reader.specs.Limits.{max_rules}
 use Rattle.rule_reader.specs.Profile.{RuleValue, ProfileValue}
@@ -137,8 +137,8 @@ IsAttachment (Some a) = Each (IsNameCell a.name.quoted) a.name.cells × BeginsWi
 
 abbrev pub IsHeader : WrittenHeader → Type 0
 IsHeader (named gap name behind attachment) =
-    IsGap gap × IsName name × IsFirst name.quoted name.cells × IsGapBehind name behind × IsAttachment attachment
-IsHeader (by_path name behind) = IsName name × BeginsWithSlash name.cells × IsGapBehind name behind
+    IsGap gap × IsWrittenName name × IsFirst name.quoted name.cells × IsGapBehind name behind × IsAttachment attachment
+IsHeader (by_path name behind) = IsWrittenName name × BeginsWithSlash name.cells × IsGapBehind name behind
 
 abbrev pub header_means : WrittenHeader → List ℕ
 header_means (named gap name behind attachment) = name_means name

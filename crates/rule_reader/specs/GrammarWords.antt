@@ -117,7 +117,7 @@ BeginsWithSlash [] = ⊥
 BeginsWithSlash (c ∷ cells) = is_plain 47 c ≡ true
 
 -- at least one byte, and no more than fit
-pub record IsName (n : WrittenName) : Type 0 where
+pub record IsWrittenName (n : WrittenName) : Type 0 where
   pub cells : Each (IsNameCell n.quoted) n.cells
   pub some : 0 < length n.cells
   pub fits : length (print_cells n.cells) ≤ max_name

@@ -9,7 +9,7 @@ use Rattle.names.specs.Permissions.{letter, has, letters, perms_of, all_permissi
 use Rattle.rule_writer.specs.Canonical.{token_text, kind_text, rule_line, canonical}
 use Rattle.rule_reader.specs.Grammar.{Qualifier, none, deny, print_qualifier, IsQualifier, kind_of, IsWord, WrittenRule, print_rule, IsRule, rule_means, print_rules, AreRules, rules_mean, behind_rule, named, WrittenText, print_text, IsText, text_means, ReadsAs}
 use Rattle.rule_reader.specs.GrammarPaths.{print_items, path_means}
-use Rattle.rule_reader.specs.GrammarWords.{Piece, white, print_blank, IsBlank, Cell, plain, escaped, print_cells, WrittenName, IsName, IsFirst}
+use Rattle.rule_reader.specs.GrammarWords.{Piece, white, print_blank, IsBlank, Cell, plain, escaped, print_cells, WrittenName, IsWrittenName, IsFirst}
 use Rattle.rule_reader.specs.Profile.{RuleValue, ProfileValue}
 use Rattle.rule_reader.specs.Readable.{are_name_bytes, is_name, is_path, is_rule, is_profile}
 use Rattle.verdicts.specs.declared.kind.RuleKind.{RuleKind}
@@ -43,7 +43,7 @@ first_cell (plain a ∷ cells) b bytes e h =
 first_cell (escaped a ∷ cells) b bytes e h = refl
 
 pub record CanonicalName (name : List ℕ) : Type 0 where
-  pub valid : IsName (canonical_name name)
+  pub valid : IsWrittenName (canonical_name name)
   pub first : IsFirst true (name_cells false name)
   pub prints : print_cells (name_cells false name) ≡ name
 

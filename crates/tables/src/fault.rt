@@ -2,6 +2,7 @@
 ghost use Rattle.std.specs.Prelude.{◌≡◌};
 ghost use Rattle.tables.specs.Bounds.{fault_index, fault_number};
 
+use names::NoMemory;
 use std::alloc::AllocError;
 use thiserror::Error;
 
@@ -41,7 +42,7 @@ pub enum ImageFault {
     #[error("the next of cell {cell} is no state")]
     Next { cell: u32 },
     /// Memory was refused; nothing is said of the image.
-    #[error("no memory")]
+    #[error("{}", NoMemory)]
     NoMemory,
 }
 

@@ -1,5 +1,6 @@
 -- What a run of the program comes to, by its words and the text on standard input.
-use Rattle.std.specs.Prelude.{◌≡◌, ◌⊎◌, ℕ, Bool, true, false, List, Option, Some, None, codes, is_err, ⊤}
+use Rattle.names.specs.Errors.{no_memory_text}
+use Rattle.std.specs.Prelude.{◌≡◌, ◌⊎◌, ℕ, Bool, true, false, List, Option, Some, None, is_err, ⊤}
 use Rattle.std.specs.Io.KnownBytes.{Keeps, Appends}
 use Rattle.glob_automaton.specs.Automata.{StateLimit}
 use Rattle.trace_line.specs.CommandLine.{LineValue, judge, run, compile, check, match_name}
@@ -14,12 +15,12 @@ use Rattle.trace_report.specs.declared.status.Status.TheVariants.{BadArguments, 
 -- no answer was written, and standard error has `no memory`
 pub record IsOutOfMemory (streams : Streams) : Type 0 where
   pub answers : Keeps streams.answers_before streams.answers_after
-  pub faults : Appends streams.faults_before streams.faults_after (line (codes "no memory"))
+  pub faults : Appends streams.faults_before streams.faults_after (line no_memory_text)
 
 -- How it is told that the words are no command line: by a text of the parser, which is left open.
 abbrev pub TellsUsage : Option (List ℕ) → Option (List ℕ) → Status → Type 0
 TellsUsage before after BadArguments = (text : List ℕ) × Appends before after (line text)
-TellsUsage before after NoMemory = Appends before after (line (codes "no memory"))
+TellsUsage before after NoMemory = Appends before after (line no_memory_text)
 TellsUsage before after FaultsFailed = ⊤
 TellsUsage before after _ = ⊥
 

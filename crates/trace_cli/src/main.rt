@@ -11,6 +11,7 @@
 
 mod program;
 
+use names::NoMemory;
 use program::run_words;
 use std::io::{BufReader, ErrorKind, Input, Print, Write};
 use std::process::ExitCode;
@@ -23,7 +24,7 @@ fn main(rt: HostRuntime) -> ExitCode {
     let status = match words(&rt) {
         Ok(words) => run_on_streams(&rt, &words, &mut faults),
         Err(error) if error.kind() == ErrorKind::OutOfMemory => {
-            fail(&mut faults, "no memory", Status::NoMemory)
+            fail(&mut faults, NoMemory, Status::NoMemory)
         }
         Err(_) => fail(
             &mut faults,
@@ -42,7 +43,7 @@ fn run_on_streams<R: Input + Print + AllocGlobal, F: Write>(
 ) -> Status {
     match BufReader::new(rt.alloc(), rt.reader()) {
         Ok(mut input) => run_words(rt.alloc(), words, &mut input, &mut io::writer(rt), faults),
-        Err(_) => fail(faults, "no memory", Status::NoMemory),
+        Err(_) => fail(faults, NoMemory, Status::NoMemory),
     }
 }
 

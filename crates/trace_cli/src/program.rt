@@ -6,6 +6,7 @@ ghost use Rattle.trace_line.specs.CommandLine.{line_of};
 ghost use Rattle.trace_cli.specs.Program.{ProgramEnds, TellsUsage, reads_nothing};
 ghost use Rattle.trace_report.specs.Streams.{IsTextOf};
 
+use names::NoMemory;
 use std::alloc::Global;
 use std::convert::AsStr;
 use std::io::{BufRead, Write};
@@ -39,17 +40,17 @@ pub fn run_words<S: AsStr, R: BufRead, A: Write, F: Write>(
         Ok(Line::Compile) => compile(alloc, input, answers, faults),
         Ok(Line::Check) => check(alloc, input, answers, faults),
         Ok(Line::Match { perms, name }) => match_name(alloc, perms, name, input, answers, faults),
-        Err(LineFault::Usage(error)) => tell_usage(alloc, faults, &error),
-        Err(LineFault::NoMemory) => fail(faults, "no memory", Status::NoMemory),
+        Err(LineFault::Usage(error)) => report_usage(alloc, faults, &error),
+        Err(LineFault::NoMemory) => fail(faults, NoMemory, Status::NoMemory),
     }
 }
 
 /// Tells how the program is called, or what is wrong with the words.
-fn tell_usage<F: Write>(alloc: Global, faults: &mut F, error: &clap::Error) -> Status
+fn report_usage<F: Write>(alloc: Global, faults: &mut F, error: &clap::Error) -> Status
     ensures { TellsUsage (F.contents faults.old) (F.contents faults.new) result }
 {
     match error.to_string(alloc) {
         Ok(text) => fail(faults, text.trim_end(), Status::BadArguments),
-        Err(_) => fail(faults, "no memory", Status::NoMemory),
+        Err(_) => fail(faults, NoMemory, Status::NoMemory),
     }
 }

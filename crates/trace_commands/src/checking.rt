@@ -12,7 +12,7 @@ use std::io::{Read, Write};
 use table_runner::LoadedProfile;
 use table_verifier::VerifiedTable;
 use tables::images_are_whole;
-use trace_report::{Fault, Status, fail, give};
+use trace_report::{Fault, Status, fail, write_answer};
 
 /// Reads an image from `input` and writes to `answers` how many states, cells and records it has. Its first fault is told on
 /// `faults` in place of that.
@@ -32,7 +32,7 @@ pub fn check<R: Read, A: Write, F: Write>(
         (IsCheckOutput text) result }
 {
     match counts_read(alloc, input) {
-        Ok(line) => give(answers, faults, &line),
+        Ok(line) => write_answer(answers, faults, &line),
         Err(fault) => fail(faults, fault, fault.status()),
     }
 }

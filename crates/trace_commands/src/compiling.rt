@@ -11,7 +11,7 @@ use rule_reader::read;
 use std::alloc::Global;
 use std::io::{Read, Write};
 use tables::to_bytes;
-use trace_report::{Fault, Status, fail, give};
+use trace_report::{Fault, Status, fail, write_answer};
 
 /// Reads a profile from `input` and writes the image of its table to `answers`. A fault is told on `faults` in place of it.
 pub fn compile<R: Read, A: Write, F: Write>(
@@ -30,7 +30,7 @@ pub fn compile<R: Read, A: Write, F: Write>(
         (IsCompileOutput text) result }
 {
     match image_read(alloc, input) {
-        Ok(image) => give(answers, faults, &image),
+        Ok(image) => write_answer(answers, faults, &image),
         Err(fault) => fail(faults, fault, fault.status()),
     }
 }

@@ -8,12 +8,12 @@ ghost use Rattle.trace_report.specs.Output.{answer};
 ghost use Rattle.trace_report.specs.Streams.{Ends, IsTextOf};
 ghost use Rattle.trace_commands.specs.inner.Answers.{IsJudged, IsAsked, IsTextRead};
 
-use names::Perms;
+use names::{NoMemory, Perms};
 use rule_judge::judge_slow;
 use rule_reader::{ReadFault, read};
 use std::alloc::Global;
 use std::io::{Read, Write};
-use trace_report::{Fault, Status, fail, give};
+use trace_report::{Fault, Status, fail, write_answer};
 use verdicts::Verdict;
 
 /// Reads a profile from `input` and writes to `answers` what it says of the name and the permissions that are asked.
@@ -60,9 +60,9 @@ fn answer<A: Write, F: Write>(
         (answer (verdict_text verdict)) result }
 {
     let Ok(line) = format!(in alloc; "{verdict}\n") else {
-        return fail(faults, "no memory", Status::NoMemory);
+        return fail(faults, NoMemory, Status::NoMemory);
     };
-    give(answers, faults, line.as_bytes())
+    write_answer(answers, faults, line.as_bytes())
 }
 
 /// The verdict on the name, or why there is none.

@@ -15,7 +15,7 @@ use std::io::{Read, Write};
 use table_runner::{LoadedProfile, record_of_name};
 use table_verifier::{Steps, VerifiedTable};
 use tables::images_are_whole;
-use trace_report::{Fault, Status, fail, give};
+use trace_report::{Fault, Status, fail, write_answer};
 use verdicts::told;
 
 /// Reads an image from `input` and writes to `answers` what it says of the name and the permissions that are asked, and how
@@ -40,7 +40,7 @@ pub fn match_name<R: Read, A: Write, F: Write>(
         → Keeps (R.remaining input.old) (R.remaining input.new) }
 {
     match match_read(alloc, perms, name, input) {
-        Ok(lines) => give(answers, faults, &lines),
+        Ok(lines) => write_answer(answers, faults, &lines),
         Err(fault) => fail(faults, fault, fault.status()),
     }
 }

@@ -13,7 +13,7 @@ use Rattle.clap.proofs.FaultLemmas.{stopped_fault}
 use Rattle.clap.proofs.WalkLemmas.{both, find-map}
 use Rattle.clap.specs.Faults.{built_fault, walk_fault, settle_fault, defaults_fault, check_fault, entered_fault, level_fault, turn_fault}
 use Rattle.clap.specs.declared.error.kind.ErrorKind.TheVariants.{DisplayHelp, InvalidSubcommand, MissingSubcommand, UnknownArgument}
-use Rattle.trace_line.specs.CommandLine.{CommandForm, LineValue, Takes, arguments_of, command_named, commands, given_by, line_by, line_of, number_of, numbers, pair, pair_of}
+use Rattle.trace_line.specs.CommandLine.{CommandForm, LineValue, Arguments, arguments_of, command_named, commands, given_by, line_by, line_of, number_of, numbers, pair, pair_of}
 use Rattle.trace_line.specs.inner.Parser.{GivesLine, program_app}
 use Rattle.trace_line.proofs.Named.{find_made, found_name, found_passes, or_false}
 use Rattle.trace_line.proofs.WordKinds.{Kind, is_dashes, is_long, is_short, is_plain, kind_of_word}
@@ -28,11 +28,11 @@ start = walk_at idle 1 false nothing_held
 
 -- ---- one command
 
-abbrev pub rules_by : Takes → List Rule
+abbrev pub rules_by : Arguments → List Rule
 rules_by (pair line) = pair_rules
 rules_by (numbers options line) = built_rules options
 
-abbrev has_sound_options : Takes → Bool
+abbrev has_sound_options : Arguments → Bool
 has_sound_options (pair line) = true
 has_sound_options (numbers options line) = list_all is_sound options
 
@@ -41,7 +41,7 @@ abbrev pub leaf : CommandForm → Shape
 leaf command = leaf_shape command.name (rules_by command.takes)
 
 -- clap reads the words behind a command's name as `line_by` says
-takes_walk : (name : Text) (takes : Takes) → has_sound_options takes ≡ true → (words : List Text)
+takes_walk : (name : Text) (takes : Arguments) → has_sound_options takes ≡ true → (words : List Text)
     → ComesTo (GivesLine takes) (leaf_shape name (rules_by takes)) [] start words (line_by takes words)
 takes_walk name (pair line) sound words =
     comes_as HasPair (GivesLine (pair line)) (λ asked. line asked.0 asked.1) (leaf_shape name pair_rules) start words

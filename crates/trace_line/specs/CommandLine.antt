@@ -110,15 +110,15 @@ number_of given option = digits_value 10 (without_leading_sign (unwrap_or (text_
 -- ---- the commands
 
 -- what the words behind a command's name are
-pub data Takes : Type 0 where
+pub data Arguments : Type 0 where
   -- two arguments, which give the line
-  pair : (List ℕ → List ℕ → LineValue) → Takes
+  pair : (List ℕ → List ℕ → LineValue) → Arguments
   -- options, whose numbers give the line
-  numbers : List NumberOption → ((NumberOption → ℕ) → LineValue) → Takes
+  numbers : List NumberOption → ((NumberOption → ℕ) → LineValue) → Arguments
 
 pub record CommandForm : Type 0 where
   pub name : List ℕ
-  pub takes : Takes
+  pub takes : Arguments
 
 abbrev pub capacity : NumberOption
 capacity = record { name = codes "capacity"; default = codes "1024"; least = 1; most = 16384 }
@@ -133,7 +133,7 @@ commands = record { name = codes "judge"; takes = pair judge }
 abbrev pub command_named : List CommandForm → List ℕ → Option CommandForm
 command_named commands name = find (λ command. bytes_eq command.name name) commands
 
-abbrev pub line_by : Takes → List (List ℕ) → Option LineValue
+abbrev pub line_by : Arguments → List (List ℕ) → Option LineValue
 line_by (pair line) words = option_map (λ asked. line asked.0 asked.1) (pair_of (arguments_of words))
 line_by (numbers options line) words = option_map (λ given. line (number_of given)) (given_by options [] words)
 

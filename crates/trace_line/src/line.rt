@@ -7,6 +7,7 @@ ghost use Rattle.trace_line.specs.inner.Parser.{IsLineFaultOf, IsReadAs, number_
 use clap::builder::ValueParser;
 use clap::error::ErrorKind;
 use clap::{Arg, ArgMatches, Command};
+use names::NoMemory;
 use std::alloc::{AllocError, Global};
 use std::convert::AsStr;
 use thiserror::Error;
@@ -33,7 +34,7 @@ pub enum LineFault {
     #[error("{0}")]
     Usage(clap::Error),
     /// Memory was refused; nothing is said of the words.
-    #[error("no memory")]
+    #[error("{}", NoMemory)]
     NoMemory,
 }
 

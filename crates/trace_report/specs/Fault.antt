@@ -1,4 +1,5 @@
 -- How a fault is told, and what it says of what is to be written.
+use Rattle.names.specs.Errors.{no_memory_text}
 use Rattle.std.specs.Prelude.{◌≡◌, ◌≢◌, ℕ, List, codes}
 use Rattle.std.specs.IoError.{error_kind}
 use Rattle.std.specs.declared.io.Error.{Error}
@@ -22,7 +23,7 @@ fault_text (Text f) = refusal f
 fault_text (Compiling f) = compile_refusal f
 fault_text (Image f) = image_refusal f
 fault_text Input = codes "refused: input"
-fault_text Memory = codes "no memory"
+fault_text Memory = no_memory_text
 
 abbrev pub fault_status : Fault → Status
 fault_status Permissions = BadArguments

@@ -1,4 +1,5 @@
 -- How a command leaves its streams.
+use Rattle.names.specs.Errors.{no_memory_text}
 use Rattle.std.specs.Prelude.{◌≡◌, ◌≢◌, ◌⊎◌, ℕ, List, ◌++◌, Option, codes, IfSome}
 use Rattle.std.specs.Io.KnownBytes.{Keeps, Appends}
 use Rattle.trace_report.specs.Output.{Output, line}
@@ -45,7 +46,7 @@ Ends streams output Done = IsWritten streams output Done
 Ends streams output BadArguments = IsWritten streams output BadArguments
 Ends streams output Refused = IsWritten streams output Refused
 Ends streams output InputFailed = IsCutShort streams output (codes "refused: input")
-Ends streams output NoMemory = IsCutShort streams output (codes "no memory")
+Ends streams output NoMemory = IsCutShort streams output no_memory_text
 Ends streams output OutputFailed = IsUnanswered streams output
 Ends streams output FaultsFailed = IsUntold streams output
 
@@ -70,7 +71,7 @@ EndsInOne streams Wanted Done = (output : Output) × Wanted output × IsWritten 
 EndsInOne streams Wanted BadArguments = (output : Output) × Wanted output × IsWritten streams output BadArguments
 EndsInOne streams Wanted Refused = (output : Output) × Wanted output × IsWritten streams output Refused
 EndsInOne streams Wanted InputFailed = AreCutShort streams Wanted (codes "refused: input")
-EndsInOne streams Wanted NoMemory = AreCutShort streams Wanted (codes "no memory")
+EndsInOne streams Wanted NoMemory = AreCutShort streams Wanted no_memory_text
 EndsInOne streams Wanted OutputFailed = (output : Output) × Wanted output × IsUnanswered streams output
 EndsInOne streams Wanted FaultsFailed = Keeps streams.answers_before streams.answers_after
     ⊎ ((output : Output) × Wanted output × IsUntold streams output)

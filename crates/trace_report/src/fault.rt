@@ -4,6 +4,7 @@ ghost use Rattle.trace_report.specs.Fault.{fault_text, fault_status, IsFaultOfRe
 
 use crate::status::Status;
 use matcher::MakeFault;
+use names::NoMemory;
 use rule_reader::ReadFault;
 use std::io::ErrorKind;
 use std::{fmt, io};
@@ -114,7 +115,7 @@ impl fmt::Display for Fault {
                 }
             }
             Fault::Input => write!(f, "refused: input"),
-            Fault::Memory => write!(f, "no memory"),
+            Fault::Memory => write!(f, "{}", NoMemory),
         }
     }
 }

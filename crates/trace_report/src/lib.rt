@@ -9,4 +9,4 @@ mod telling;
 
 pub use fault::Fault;
 pub use status::Status;
-pub use telling::{fail, give, write_through};
+pub use telling::{fail, write_answer, write_through};

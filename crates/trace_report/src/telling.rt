@@ -34,7 +34,7 @@ pub fn write_through<W: Write>(to: &mut W, bytes: &[u8]) -> io::Result<()>
 }
 
 /// Writes the text as a line, and has it stand where it goes to.
-fn tell<W: Write, D: Display + Drop>(to: &mut W, text: D) -> io::Result<()>
+fn write_line<W: Write, D: Display + Drop>(to: &mut W, text: D) -> io::Result<()>
     ensures { OnOk result (IfSome (D.output text)
         (λ text. Appends (W.contents to.old) (W.contents to.new) (line text))) }
 {
@@ -47,14 +47,14 @@ pub fn fail<F: Write, D: Display + Drop>(faults: &mut F, message: D, status: Sta
     ensures { IfSome (D.output message)
         (λ told. IsTold (F.contents faults.old) (F.contents faults.new) told status result) }
 {
-    match tell(faults, message) {
+    match write_line(faults, message) {
         Ok(()) => status,
         Err(_) => Status::FaultsFailed,
     }
 }
 
 /// Writes the bytes of an answer. Where that fails, a front part of them was written.
-pub fn give<A: Write, F: Write>(answers: &mut A, faults: &mut F, bytes: &[u8]) -> Status
+pub fn write_answer<A: Write, F: Write>(answers: &mut A, faults: &mut F, bytes: &[u8]) -> Status
     ensures { Ends
         (record {
           answers_before = A.contents answers.old;

@@ -1,5 +1,6 @@
 -- What `run` writes, memory and failures of the streams aside: a line for each command of the script. Which profiles have
 -- too many states is told by a test, `limit`: there is one, and any two answer alike.
+use Rattle.names.specs.Errors.{no_memory_text}
 use Rattle.std.specs.Prelude.{ℕ, Bool, ◌+◌, ◌≤◌, Option, List, [], ◌∷◌, ◌++◌, map, take, length, codes, decimal, Some, None, Result, Ok, Err, if◌then◌else◌}
 use Rattle.std.specs.List.{concat}
 use Rattle.std.specs.Io.KnownBytes.{Appends, Consumes}
@@ -147,7 +148,7 @@ ScriptEnds limit streams left_before left_after history text Refused = IsWritten
 ScriptEnds limit streams left_before left_after history text InputFailed =
     IsBrokenOff streams left_before left_after (printed_lines limit history (script_of text).commands) (codes "refused: input")
 ScriptEnds limit streams left_before left_after history text NoMemory =
-    IsBrokenOff streams left_before left_after (printed_lines limit history (script_of text).commands) (codes "no memory")
+    IsBrokenOff streams left_before left_after (printed_lines limit history (script_of text).commands) no_memory_text
 ScriptEnds limit streams left_before left_after history text OutputFailed = IsCut streams (script_output limit history (script_of text))
 ScriptEnds limit streams left_before left_after history text FaultsFailed =
     AppendsFront streams.answers_before streams.answers_after (script_output limit history (script_of text)).answers

@@ -3,7 +3,7 @@ ghost use Rattle.std.specs.Prelude.{◌+◌, ◌<◌, ◌≤◌, ◌^◌, OnOk};
 ghost use Rattle.glob_automaton.specs.Automata.{StateLimit};
 ghost use Rattle.trace_script.specs.inner.Following.{IsPrinted, IsPut};
 ghost use Rattle.trace_script.specs.inner.Line.{command_value};
-ghost use Rattle.mediation.specs.History.{policy_version};
+ghost use Rattle.mediation.specs.History.{MayChangePolicy, policy_version};
 ghost use Rattle.trace_script.specs.RunOutput.{printed};
 ghost use Rattle.trace_script.specs.Script.{publish};
 
@@ -22,7 +22,7 @@ pub(crate) fn answer_command<B: Bench, A: Write>(
     command: Command<'_>,
     answers: &mut A,
 ) -> Result<(), Stop>
-    requires { policy_version (B.history bench.old) + 1 < 2 ^ 60 }
+    requires { MayChangePolicy (B.history bench.old).deeds }
     ensures line { (limit : StateLimit) → IsPrinted (printed limit (B.history bench.old) (command_value command.entry)) (B.history bench.new)
         (A.contents answers.old) (A.contents answers.new) result }
     ensures few { OnOk result (policy_version (B.history bench.new) ≤ policy_version (B.history bench.old) + 1) }
@@ -43,7 +43,7 @@ pub(crate) fn answer_policy<B: Bench, A: Write>(
     text: &[u8],
     answers: &mut A,
 ) -> Result<(), Stop>
-    requires { policy_version (B.history bench.old) + 1 < 2 ^ 60 }
+    requires { MayChangePolicy (B.history bench.old).deeds }
     ensures line { (limit : StateLimit) → IsPrinted (printed limit (B.history bench.old) (publish text.now)) (B.history bench.new)
         (A.contents answers.old) (A.contents answers.new) result }
     ensures few { OnOk result (policy_version (B.history bench.new) ≤ policy_version (B.history bench.old) + 1) }

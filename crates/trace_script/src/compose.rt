@@ -7,7 +7,7 @@ ghost use Rattle.names.specs.Errors.{errno_text};
 ghost use Rattle.rule_reader.specs.Profile.{profile_value};
 ghost use Rattle.trace_report.specs.Fault.{fault_text};
 ghost use Rattle.trace_script.specs.inner.Line.{change_words};
-ghost use Rattle.mediation.specs.History.{policy_version};
+ghost use Rattle.mediation.specs.History.{MayChangePolicy, policy_version};
 ghost use Rattle.trace_script.specs.RunOutput.{printed, policy_printed, drop_printed, change_of, change_printed, open_printed, judged_printed};
 ghost use Rattle.trace_script.specs.Script.{publish};
 
@@ -28,7 +28,7 @@ pub(crate) fn policy_line<B: Bench>(
     bench: &mut B,
     text: &[u8],
 ) -> Result<Vec<u8>, Stop>
-    requires { policy_version (B.history bench.old) + 1 < 2 ^ 60 }
+    requires { MayChangePolicy (B.history bench.old).deeds }
     ensures line { (limit : StateLimit) → IsComposed (printed limit (B.history bench.old) (publish text.now)) (B.history bench.new) result }
     ensures few { OnOk result (policy_version (B.history bench.new) ≤ policy_version (B.history bench.old) + 1) }
 {
@@ -41,7 +41,7 @@ pub(crate) fn policy_line<B: Bench>(
 
 /// Publishes a profile, if it can be compiled. Its line is begun before, so that want of memory for that publishes nothing.
 fn profile_line<B: Bench>(alloc: Global, bench: &mut B, profile: Profile) -> Result<Vec<u8>, Stop>
-    requires { policy_version (B.history bench.old) + 1 < 2 ^ 60 }
+    requires { MayChangePolicy (B.history bench.old).deeds }
     ensures line { (limit : StateLimit) → IsComposed (policy_printed limit (B.history bench.old) (Ok (profile_value profile))) (B.history bench.new) result }
     ensures few { OnOk result (policy_version (B.history bench.new) ≤ policy_version (B.history bench.old) + 1) }
 {
@@ -71,7 +71,7 @@ pub(crate) fn drop_line<B: Bench>(
     bench: &mut B,
     name: &[u8],
 ) -> Result<Vec<u8>, Stop>
-    requires { policy_version (B.history bench.old) + 1 < 2 ^ 60 }
+    requires { MayChangePolicy (B.history bench.old).deeds }
     ensures { IsComposed (drop_printed (B.history bench.old) name.now) (B.history bench.new) result }
 {
     let version = bench.remove(name)?;

@@ -2,7 +2,7 @@
 ghost use Rattle.std.specs.Prelude.{◌+◌, ◌≡◌, ◌<◌, ◌≤◌, ◌^◌, ◌++◌, ◌∷◌, [], IfOk, OnOk};
 ghost use Rattle.glob_automaton.specs.Automata.{StateLimit};
 ghost use Rattle.trace_script.specs.inner.Following.{section_value, followed, IsLineFollowed, IsClosed};
-ghost use Rattle.mediation.specs.History.{policy_version};
+ghost use Rattle.mediation.specs.History.{MayChangePolicy, policy_version};
 ghost use Rattle.trace_script.specs.Script.{outside, line_feed};
 
 use crate::commands::{answer_command, answer_policy};
@@ -30,7 +30,7 @@ pub(crate) fn follow_line<B: Bench, A: Write>(
     line: &[u8],
     answers: &mut A,
 ) -> Result<Section, Stop>
-    requires { policy_version (B.history bench.old) + 1 < 2 ^ 60 }
+    requires { MayChangePolicy (B.history bench.old).deeds }
     ensures line { (limit : StateLimit) → IsLineFollowed (followed limit (B.history bench.old) (section_value section) number line.now)
         (B.history bench.new) (A.contents answers.old) (A.contents answers.new) result }
     ensures few { OnOk result (policy_version (B.history bench.new) ≤ policy_version (B.history bench.old) + 1) }
@@ -56,7 +56,7 @@ fn follow_command<B: Bench, A: Write>(
     line: &[u8],
     answers: &mut A,
 ) -> Result<Section, Stop>
-    requires { policy_version (B.history bench.old) + 1 < 2 ^ 60 }
+    requires { MayChangePolicy (B.history bench.old).deeds }
     ensures line { (limit : StateLimit) → IsLineFollowed (followed limit (B.history bench.old) outside number line.now)
         (B.history bench.new) (A.contents answers.old) (A.contents answers.new) result }
     ensures few { OnOk result (policy_version (B.history bench.new) ≤ policy_version (B.history bench.old) + 1) }

@@ -86,7 +86,7 @@ impl fmt::Display for Stop {
         match self {
             Stop::NoCommand(number) => write!(f, "line {number}: not a command"),
             Stop::Input | Stop::TooLong => write!(f, "refused: input"),
-            Stop::Memory => write!(f, "no memory"),
+            Stop::Memory => write!(f, "{}", NoMemory),
             Stop::Output => write!(f, "refused: output"),
         }
     }

@@ -1,7 +1,6 @@
 -- Records that a comparison finds equal are one record.
 use Rattle.std.proofs.Common.{◌≡◌, ◌<◌, ℕ, true, refl, ap, get_or, rules}
 use Rattle.std.proofs.lemmas.Slice.Eq.{slice_eq-Decides}
-use Rattle.std.specs.Cmp.Lexicographic.{pointwise}
 use Rattle.std.specs.Bool.{Decides}
 use Rattle.names.specs.declared.permissions.Permission.{Permission}
 use Rattle.names.specs.Permissions.{all_permissions, index, permission_count}

@@ -46,7 +46,7 @@ impl Bench for FullBench {
     }
 
     fn link(&mut self, _profile: &[u8], _old: &[u8], _new: &[u8]) -> Result<LinkAnswer, NoMemory> {
-        Err(NoMemory)
+        Ok(LinkAnswer::NoProfile { policy_version: 0 })
     }
 
     fn name(&self) -> &[u8] {
@@ -123,9 +123,9 @@ fn scripts_that_stop(rt: HostRuntime) -> Result<(), Fail> {
         ),
         ("open p /a r\ndrop p\n", 4, answer, "no memory\n"),
         (
-            "open p /a r\njudged-link p /a /b\nopen p /a r\n",
+            "judged-link p /a /b\nlink /a /b\nmkdir /a\nopen p /a r\n",
             4,
-            answer,
+            "no profile policy 0\nENOENT 2\n",
             "no memory\n",
         ),
         (

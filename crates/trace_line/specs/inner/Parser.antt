@@ -7,7 +7,7 @@ use Rattle.clap.specs.declared.parser.matches.ArgMatches.{ArgMatches}
 use Rattle.clap.specs.declared.builder.value_parser.ValueParser.TheVariants.{Signed}
 use Rattle.clap.specs.declared.error.Error.{Error}
 use Rattle.clap.specs.declared.error.kind.ErrorKind.TheVariants.{OutOfMemory}
-use Rattle.trace_line.specs.CommandLine.{CommandForm, LineValue, NumberOption, Takes, command_named, commands, line_of, numbers, option_named, pair}
+use Rattle.trace_line.specs.CommandLine.{CommandForm, LineValue, NumberOption, Arguments, command_named, commands, line_of, numbers, option_named, pair}
 use Rattle.trace_line.specs.declared.line.LineFault.{LineFault}
 use Rattle.trace_line.specs.declared.line.LineFault.TheVariants.{Usage, NoMemory}
 use Rattle.trace_line.specs.declared.line.NumberOption as declared
@@ -40,7 +40,7 @@ pair_app name = with_rule (with_rule (new_app name) (required_rule (codes "PERMS
 abbrev pub numbers_app : List ℕ → List NumberOption → App
 numbers_app name options = fold with_rule (new_app name) (map number_rule options)
 
-abbrev pub app_by : List ℕ → Takes → App
+abbrev pub app_by : List ℕ → Arguments → App
 app_by name (pair line) = pair_app name
 app_by name (numbers options line) = numbers_app name options
 
@@ -70,7 +70,7 @@ abbrev pub HasNumbers : List NumberOption → List Row → (NumberOption → ℕ
 HasNumbers options rows number = (option : NumberOption) → option_named options option.name ≡ Some option → number_read option.name rows ≡ Some (number option)
 
 -- the rows of a command's matches give this line
-abbrev pub GivesLine : Takes → List Row → LineValue → Type 0
+abbrev pub GivesLine : Arguments → List Row → LineValue → Type 0
 GivesLine (pair line) rows value = (perms : List ℕ) × (name : List ℕ) × (first_of (codes "PERMS") rows ≡ Some perms)
     × (first_of (codes "NAME") rows ≡ Some name) × (value ≡ line perms name)
 GivesLine (numbers options line) rows value = (number : NumberOption → ℕ) × HasNumbers options rows number × (value ≡ line number)

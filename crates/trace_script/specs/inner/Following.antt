@@ -1,4 +1,5 @@
 -- How a script is followed, line by line: what a line comes to, and why following may stop.
+use Rattle.names.specs.Errors.{no_memory_text}
 use Rattle.std.specs.Prelude.{◌≡◌, ◌≢◌, ℕ, ◌<◌, ◌≤◌, List, [], ◌∷◌, ◌++◌, ◌^◌, ◌-◌, length, take, All, codes, decimal, Option, Some, None, Result, Ok, Err, Vec, IfSome, if◌then◌else◌, ⊤}
 use Rattle.std.specs.Io.KnownBytes.{Keeps, Appends, Consumes}
 use Rattle.std.specs.IoError.{error_kind}
@@ -54,7 +55,7 @@ abbrev pub stop_text : Stop → List ℕ
 stop_text (NoCommand number) = codes "line " ++ decimal number ++ codes ": not a command"
 stop_text Input = codes "refused: input"
 stop_text TooLong = codes "refused: input"
-stop_text Memory = codes "no memory"
+stop_text Memory = no_memory_text
 stop_text Output = codes "refused: output"
 
 abbrev pub stop_status : Stop → Status

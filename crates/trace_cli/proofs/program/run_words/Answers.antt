@@ -9,7 +9,7 @@ pub returns-in-Err-Usage-clause-output : goal.returns-in-Err-Usage-clause-output
 returns-in-Err-Usage-clause-output g c limit =
     let text = text_of (g.R.Read.remaining c.args.input.now) in
     let no_line : is_some (line_of (map g.S.AsStr.text c.args.words.now)) ≡ true → ⊥ = λ some. cc (c.in-Err-Usage.ensures.err some) in
-    (text.0, text.1, usage_ends limit _ text.0 _ _ _ _ c.tell_usage.result no_line c.tell_usage.ensures)
+    (text.0, text.1, usage_ends limit _ text.0 _ _ _ _ c.report_usage.result no_line c.report_usage.ensures)
 
 pub returns-in-Err-NoMemory-clause-output : goal.returns-in-Err-NoMemory-clause-output
 returns-in-Err-NoMemory-clause-output g c limit =

@@ -6,4 +6,4 @@ use Rattle.trace_commands.proofs.judging.answer.Goals as goal
 pub returns : goal.returns
 returns g c =
     let bytes : c.as_bytes.result.now ≡ line (verdict_text c.args.verdict) = search rules in
-    rw bytes at c.give.ensures
+    rw bytes at c.write_answer.ensures
