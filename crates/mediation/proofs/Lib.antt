@@ -1,4 +1,3 @@
 pub mod Asked
-pub mod PermissionSets
 pub mod ToldLaws
 pub mod Telling

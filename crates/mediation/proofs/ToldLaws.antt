@@ -6,7 +6,7 @@ use Rattle.std.proofs.lemmas.Bool.{and_parts, and_from, eqb-true, ltb-true, ltb-
 use Rattle.verdicts.specs.Least.{hits_of}
 use Rattle.verdicts.specs.Records.{IsTold, ToldDenied, ToldMissing, NothingToldDenied}
 use Rattle.verdicts.specs.declared.record.Record.{Record}
-use Rattle.mediation.proofs.PermissionSets.{has-set_of, some_of, none_of}
+use Rattle.names.proofs.PermsLaws.{has-set_of, none_found, one_found}
 use Rattle.mediation.specs.Told.{lesser, least_deny, missing_in, told_by, told}
 use Rattle.names.specs.Permissions.{has, all_permissions}
 use Rattle.names.specs.declared.permissions.Permission.{Permission}
@@ -120,8 +120,8 @@ module _ (r : Record) (ask : Perms) where
       )
 
   by_missing : (some : Bool) → list_any (has missing) all_permissions ≡ some → NothingToldDenied r ask → IsTold r ask (if some then NoRule missing else Allowed)
-  by_missing true e nothing = (nothing, some_of (has missing) e, missing_is)
-  by_missing false e nothing = (nothing, λ p h. true≢false (sym ((missing_is p).1 h) ∙ none_of (has missing) e p))
+  by_missing true e nothing = (nothing, one_found (has missing) e, missing_is)
+  by_missing false e nothing = (nothing, λ p h. true≢false (sym ((missing_is p).1 h) ∙ none_found (has missing) e p))
 
   by_least : (none : Bool) → (least == 0) ≡ none → IsTold r ask (if none then (if list_any (has missing) all_permissions then NoRule missing else Allowed) else Denied least)
   by_least true e = by_missing (list_any (has missing) all_permissions) refl (λ n h. (above n h).0 (eqb-true least 0 e))

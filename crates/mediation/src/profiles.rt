@@ -11,7 +11,7 @@ ghost use Rattle.tables.specs.Tables.{record_after};
 
 use crate::laws::told_is_the_one_verdict;
 use matcher::{AnyProfile, tables_of_rules_tell_their_verdicts};
-use names::{Permission, Perms};
+use names::{Permission, Perms, permissions_are_numbered};
 use table_runner::record_of_name;
 use table_verifier::{Steps, VerifiedTable};
 use verdicts::{Record, Verdict, told};
@@ -27,6 +27,7 @@ pub(crate) fn verdict_by(profile: &AnyProfile, name: &[u8], ask: Perms) -> Verdi
 pub(crate) fn allowed_by(profile: &AnyProfile, name: &[u8]) -> Perms
     ensures { result ≡ allowed_by (judge_of profile.now) name.now }
 {
+    permissions_are_numbered();
     let record = record_by(profile, name);
     let mut perms = Perms::NONE;
     for permission in &Permission::ALL {

@@ -2,3 +2,4 @@ pub mod PathLemmas
 pub mod PathLaws
 pub mod Positions
 pub mod PermsLaws
+pub mod PermsTests

@@ -27,6 +27,10 @@ found test Map h = list_any_at test all_permissions 4 Read (omega arith) h
 pub one_found : (test : Permission → Bool) → list_any test all_permissions ≡ true → (p : Permission) × (test p ≡ true)
 one_found test h = let some = Any-from_list_any test all_permissions h in (some.1, some.4)
 
+-- where none is found, this one doesn't pass
+pub none_found : (test : Permission → Bool) → list_any test all_permissions ≡ false → (p : Permission) → test p ≡ false
+none_found test h p = ⊎_elim (λ is. let never : true ≡ false = sym (found test p is) ∙ h in let e : ⊥ = cc (never) in absurd e) (λ f. f) (cases_Bool (test p))
+
 -- the computed form of `Shares`
 pub shares_by_any : (s t : Perms) → IsTrue (list_any (λ p. has s p && has t p) all_permissions) ↔ Shares s t
 shares_by_any s t = (
@@ -51,11 +55,13 @@ letter_again Link = refl
 letter_again Lock = refl
 letter_again Map = refl
 
+pub same_letter : (p q : Permission) → letter p ≡ letter q → p ≡ q
+same_letter p q h =
+    let e : Some p ≡ Some q = sym (letter_again p) ∙ ap permission_of h ∙ letter_again q in
+    cc (e)
+
 pub has-only : (p : Permission) → IsTrue (has (only p) p)
 has-only p = has-set_of (λ q. letter q == letter p) p ∙ eq-eqb (letter p) (letter p) refl
 
 pub only_one : (p q : Permission) → IsTrue (has (only p) q) → q ≡ p
-only_one p q h =
-    let same_letter : letter q ≡ letter p = eqb-true (letter q) (letter p) (sym (has-set_of (λ r. letter r == letter p) q) ∙ h) in
-    let e : Some q ≡ Some p = sym (letter_again q) ∙ ap permission_of same_letter ∙ letter_again p in
-    cc (e)
+only_one p q h = same_letter q p (eqb-true (letter q) (letter p) (sym (has-set_of (λ r. letter r == letter p) q) ∙ h))

@@ -11,7 +11,7 @@ ghost use Rattle.verdicts.specs.declared.verdict.Verdict.{Verdict};
 ghost use Rattle.verdicts.specs.declared.verdict.Verdict.TheVariants.{Allowed};
 
 use crate::judging::judge_slow;
-use names::{Permission, Perms};
+use names::{Permission, Perms, permissions_are_numbered};
 use rule_globs::one_verdict_is_right;
 use rule_reader::Profile;
 use std::fmt;
@@ -33,6 +33,7 @@ pub enum LinkVerdict {
 pub fn allowed_perms(profile: &Profile, name: &[u8]) -> Perms
     ensures { result ≡ allowed (profile_value profile.now).rules name.now }
 {
+    permissions_are_numbered();
     let mut perms = Perms::NONE;
     for permission in &Permission::ALL {
         if is_allowed(profile, name, *permission) {

@@ -1,5 +1,4 @@
 pub mod LeastSteps
-pub mod PermsTests
 pub mod ToldLaws
 pub mod RecordLaws
 pub mod FilledRecords

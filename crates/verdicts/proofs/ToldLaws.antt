@@ -10,7 +10,8 @@ use Rattle.verdicts.specs.declared.verdict.Verdict.TheVariants.{Denied, NoRule, 
 use Rattle.verdicts.specs.declared.record.Record.{Record}
 use Rattle.verdicts.specs.Least.{hits_of, IsLeastOrNone}
 use Rattle.verdicts.specs.Records.{IsTold, ToldDenied, ToldMissing, NothingToldDenied}
-use Rattle.verdicts.proofs.PermsTests.{has-set_of, same_perms}
+use Rattle.names.proofs.PermsLaws.{has-set_of}
+use Rattle.names.proofs.PermsTests.{same_perms}
 
 -- two tests for the same are the same
 same_test : (a b : Bool) {A : Type 0} → (IsTrue a ↔ A) → (IsTrue b ↔ A) → a ≡ b

@@ -2,7 +2,7 @@
 use Rattle.std.proofs.Common.{◌&&◌, ◌==◌}
 use Rattle.names.specs.Permissions.{has}
 use Rattle.verdicts.specs.Least.{hits_of}
-use Rattle.verdicts.proofs.PermsTests.{passed-all}
+use Rattle.names.proofs.PermsTests.{passed-all}
 use Rattle.verdicts.proofs.judging.missing_of.Goals as goal
 
 pub returns : goal.returns

@@ -2,7 +2,7 @@
 use Rattle.std.proofs.Common.{◌&&◌, ◌==◌}
 use Rattle.names.specs.Permissions.{has}
 use Rattle.verdicts.specs.Least.{hits_of}
-use Rattle.verdicts.proofs.PermsTests.{IsPassedBefore}
+use Rattle.names.proofs.PermsTests.{IsPassedBefore}
 use Rattle.verdicts.proofs.judging.missing_of.Given as goal
 
 abbrev pub invariant-loop-permission : goal.invariant-loop-permission

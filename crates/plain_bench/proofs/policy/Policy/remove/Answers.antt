@@ -3,7 +3,7 @@ use Rattle.std.specs.Prelude.{bytes_eq, if◌then◌else◌}
 use Rattle.std.specs.Option.{option_map}
 use Rattle.mediation.specs.Deeds.{removed}
 use Rattle.mediation.specs.Profiles.{judge_of}
-use Rattle.plain_bench.proofs.ByteKeys.{updates_bytes}
+use Rattle.plain_tree.proofs.ByteKeys.{updates_bytes}
 use Rattle.plain_bench.proofs.DeedLaws.{mapped_if, then_published, then_counted}
 use Rattle.plain_bench.proofs.policy.Policy.remove.Goals as goal
 
