@@ -8,25 +8,10 @@ use Rattle.verdicts.specs.declared.kind.RuleKind.TheVariants.{Allow, Deny}
 use Rattle.verdicts.specs.declared.verdict.Verdict.{Verdict}
 use Rattle.verdicts.specs.declared.verdict.Verdict.TheVariants.{Denied, NoRule, Allowed}
 use Rattle.verdicts.specs.declared.record.Record.{Record}
+use Rattle.verdicts.proofs.LeastNumbers.{least_there, least_none, least_some, none_least}
 use Rattle.verdicts.specs.Least.{hits_of, IsLeastOrNone}
 use Rattle.glob_automaton.specs.Least.{IsLeastRecord}
 use Rattle.verdicts.specs.Records.{IsTold, ToldDenied, ToldMissing, NothingToldDenied}
-
--- the least of a set that isn't empty is its member, and no member is less
-least_there : (S : ℕ → Type 0) (n m : ℕ) → IsLeastOrNone S n → S m → S n × (n ≤ m)
-least_there S n m least s = ⊎_elim (λ h. absurd (h.1 m s)) (λ h. (h.0, h.1 m s)) least
-
--- the least number of a set without 0 is 0 only where the set is empty
-least_none : (S : ℕ → Type 0) (n : ℕ) → ((m : ℕ) → S m → m ≢ 0) → IsLeastOrNone S n → n ≡ 0 → (m : ℕ) → S m → ⊥
-least_none S n nonzero least zero m s = nonzero n (least_there S n m least s).0 zero
-
--- a least number that isn't 0 is a member
-least_some : (S : ℕ → Type 0) (n : ℕ) → IsLeastOrNone S n → n ≢ 0 → S n
-least_some S n least nonzero = ⊎_elim (λ h. absurd (nonzero h.0)) (λ h. h.0) least
-
--- a set without members has no least number
-none_least : (S : ℕ → Type 0) (n : ℕ) → IsLeastOrNone S n → ((m : ℕ) → S m → ⊥) → n ≡ 0
-none_least S n least none = ⊎_elim (λ h. h.0) (λ h. absurd (none n h.0)) least
 
 module _ (rules : List RuleValue) (name : List ℕ) (r : Record) (ask : Perms) (least : IsLeastRecord rules name r) where
   -- a rule that denies has no number 0

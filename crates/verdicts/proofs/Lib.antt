@@ -1,4 +1,5 @@
 pub mod LeastSteps
+pub mod LeastNumbers
 pub mod ToldLaws
 pub mod RecordLaws
 pub mod FilledRecords

@@ -8,6 +8,7 @@ use Rattle.names.specs.Permissions.{has, set_of}
 use Rattle.verdicts.specs.declared.verdict.Verdict.{Verdict}
 use Rattle.verdicts.specs.declared.verdict.Verdict.TheVariants.{Denied, NoRule, Allowed}
 use Rattle.verdicts.specs.declared.record.Record.{Record}
+use Rattle.verdicts.proofs.LeastNumbers.{least_none}
 use Rattle.verdicts.specs.Least.{hits_of, IsLeastOrNone}
 use Rattle.verdicts.specs.Records.{IsTold, ToldDenied, ToldMissing, NothingToldDenied}
 use Rattle.names.proofs.PermsLaws.{has-set_of}
@@ -31,22 +32,6 @@ one_told r ask (NoRule m) Allowed f g = absurd (g.1 f.1.0 ((f.2 f.1.0).0 f.1.1))
 one_told r ask Allowed (Denied n) f g = absurd (f.0 n g.0)
 one_told r ask Allowed (NoRule m) f g = absurd (f.1 g.1.0 ((g.2 g.1.0).0 g.1.1))
 one_told r ask Allowed Allowed f g = refl
-
--- the least of a set that isn't empty is its member, and no member is less
-least_there : (S : ℕ → Type 0) (n m : ℕ) → IsLeastOrNone S n → S m → S n × (n ≤ m)
-least_there S n m least s = ⊎_elim (λ h. absurd (h.1 m s)) (λ h. (h.0, h.1 m s)) least
-
--- the least number of a set without 0 is 0 only where the set is empty
-least_none : (S : ℕ → Type 0) (n : ℕ) → ((m : ℕ) → S m → m ≢ 0) → IsLeastOrNone S n → n ≡ 0 → (m : ℕ) → S m → ⊥
-least_none S n nonzero least zero m s = nonzero n (least_there S n m least s).0 zero
-
--- a least number that isn't 0 is a member
-least_some : (S : ℕ → Type 0) (n : ℕ) → IsLeastOrNone S n → n ≢ 0 → S n
-least_some S n least nonzero = ⊎_elim (λ h. absurd (nonzero h.0)) (λ h. h.0) least
-
--- a set without members has no least number
-none_least : (S : ℕ → Type 0) (n : ℕ) → IsLeastOrNone S n → ((m : ℕ) → S m → ⊥) → n ≡ 0
-none_least S n least none = ⊎_elim (λ h. h.0) (λ h. absurd (none n h.0)) least
 
 -- a least number that isn't 0 is told
 pub told-denied : (r : Record) (ask : Perms) (n : ℕ) → IsLeastOrNone (ToldDenied r ask) n → n ≢ 0 → IsTold r ask (Denied n)
