@@ -1,6 +1,7 @@
 //! Texts as they are read, and the faults of those that are no profile.
-use rule_text::{Item, ReadFault, Rule, RuleKind, Stars, read};
+use rule_text::{Item, Profile, ReadFault, Rule, RuleKind, Stars, read};
 use std::alloc::Global;
+use std::process::Abort;
 use std::test::Fail;
 
 mod faults;
@@ -32,6 +33,21 @@ fn text_of_parts(
     Ok(text)
 }
 
+/// A text of three parts, read.
+fn profile_between(
+    alloc: Global,
+    before: &[u8],
+    part: &[u8],
+    behind: &[u8],
+) -> Result<Profile, Fail> {
+    let text = text_of_parts(alloc, before, part, 1, behind)?;
+    Ok(read(alloc, &text)?)
+}
+
+fn first_rule(profile: &Profile) -> Result<&Rule, Fail> {
+    Ok(profile.rules().get(0).ok_or("no rule")?)
+}
+
 /// The first run of stars of a path.
 fn first_run(rule: &Rule) -> Option<Stars> {
     for item in rule.items() {
@@ -61,20 +77,27 @@ fn runs_of_stars(rt: HostRuntime) -> Result<(), Fail> {
         (b"/a/*/", 5, false, true),
     ];
     for (path, items, crosses_slashes, strict) in &table {
-        let text = text_of_parts(alloc, b"profile p {", path, 1, b" r,}")?;
-        let profile = read(alloc, &text)?;
-        let rules = profile.rules();
-        assert_eq!(rt; rules.len(), 1);
-        assert_eq!(rt; rules[0].items().len(), *items);
-        let stars = first_run(&rules[0]).ok_or("no stars")?;
-        assert_eq!(rt;
-            stars,
-            Stars {
-                crosses_slashes: *crosses_slashes,
-                strict: *strict
-            }
-        );
+        let run = Stars {
+            crosses_slashes: *crosses_slashes,
+            strict: *strict,
+        };
+        expect_run(&rt, alloc, path, *items, run)?;
     }
+    Ok(())
+}
+
+fn expect_run(
+    rt: &impl Abort,
+    alloc: Global,
+    path: &[u8],
+    items: usize,
+    run: Stars,
+) -> Result<(), Fail> {
+    let profile = profile_between(alloc, b"profile p {", path, b" r,}")?;
+    assert_eq!(rt; profile.rules().len(), 1);
+    let rule = first_rule(&profile)?;
+    assert_eq!(rt; rule.items().len(), items);
+    assert_eq!(rt; first_run(rule), Some(run));
     Ok(())
 }
 

@@ -1,6 +1,7 @@
 //! The items that paths are read as.
 use super::*;
 use rule_text::{ByteRange, Class};
+use std::process::Abort;
 
 /// The first class of a path's items, as its ranges in pairs of bytes.
 fn first_class(rule: &Rule) -> Option<&Class> {
@@ -10,6 +11,24 @@ fn first_class(rule: &Rule) -> Option<&Class> {
         }
     }
     None
+}
+
+/// A path of one class, read: whether that is negated, and its ranges.
+fn expect_class(
+    rt: &impl Abort,
+    alloc: Global,
+    members: &[u8],
+    negated: bool,
+    ends: &[u8],
+) -> Result<(), Fail> {
+    let profile = profile_between(alloc, b"profile p {/[", members, b"] r,}")?;
+    let class = first_class(first_rule(&profile)?).ok_or("no class")?;
+    assert_eq!(rt; class.is_negated(), negated, "{members:?}");
+    assert_eq!(rt; class.ranges().len() * 2, ends.len(), "{members:?}");
+    for (range, pair) in class.ranges().iter().zip(ends.chunks(2)) {
+        assert_eq!(rt; [range.first, range.last].as_slice(), pair, "{members:?}");
+    }
+    Ok(())
 }
 
 #[test]
@@ -43,15 +62,7 @@ fn classes(rt: HostRuntime) -> Result<(), Fail> {
         (b"\\]\\\\\\^[{}", false, b"]]\\\\^^[[{{}}"),
     ];
     for (members, negated, ends) in &table {
-        let text = text_of_parts(alloc, b"profile p {/[", members, 1, b"] r,}")?;
-        let profile = read(alloc, &text)?;
-        let rule = profile.rules().get(0).ok_or("no rule")?;
-        let class = first_class(rule).ok_or("no class")?;
-        assert_eq!(rt; class.is_negated(), *negated, "{members:?}");
-        assert_eq!(rt; class.ranges().len() * 2, ends.len(), "{members:?}");
-        for (range, pair) in class.ranges().iter().zip(ends.chunks(2)) {
-            assert_eq!(rt; [range.first, range.last].as_slice(), pair, "{members:?}");
-        }
+        expect_class(&rt, alloc, members, *negated, ends)?;
     }
     Ok(())
 }
@@ -79,18 +90,24 @@ fn strict_runs(rt: HostRuntime) -> Result<(), Fail> {
         (b"?*", false),
     ];
     for (path, strict) in &table {
-        for (before, behind) in [
-            (b"profile p {/".as_slice(), b" r,}".as_slice()),
-            (b"profile p {\"/", b"\" r,}"),
-            (b"profile p {r /", b",}"),
-        ] {
-            let text = text_of_parts(alloc, before, path, 1, behind)?;
-            let profile = read(alloc, &text)?;
-            let rule = profile.rules().get(0).ok_or("no rule")?;
-            let run = first_run_within(rule.items()).ok_or("no stars")?;
-            assert_eq!(rt; run.strict, *strict, "{path:?}");
-        }
+        expect_strict(&rt, alloc, b"profile p {/", path, b" r,}", *strict)?;
+        expect_strict(&rt, alloc, b"profile p {\"/", path, b"\" r,}", *strict)?;
+        expect_strict(&rt, alloc, b"profile p {r /", path, b",}", *strict)?;
     }
+    Ok(())
+}
+
+fn expect_strict(
+    rt: &impl Abort,
+    alloc: Global,
+    before: &[u8],
+    path: &[u8],
+    behind: &[u8],
+    strict: bool,
+) -> Result<(), Fail> {
+    let profile = profile_between(alloc, before, path, behind)?;
+    let run = first_run_within(first_rule(&profile)?.items()).ok_or("no stars")?;
+    assert_eq!(rt; run.strict, strict, "{path:?}");
     Ok(())
 }
 
