@@ -1,6 +1,6 @@
 -- The entry of a file, which may have one more.
-use Rattle.std.proofs.Common.{◌≡◌, ℕ, Bool, List, [], Some, None, Option, sym, refl, ap, ◌∙◌, subst}
-use Rattle.std.specs.Prelude.{if◌then◌else◌, Result, Ok, Err}
+use Rattle.std.proofs.Common.{◌≡◌, ℕ, Bool, List, [], Some, None, Option, ap, ◌∙◌}
+use Rattle.std.specs.Prelude.{if◌then◌else◌, Err}
 use Rattle.std.specs.Option.{option_map}
 use Rattle.names.specs.declared.errors.Errno.{Errno}
 use Rattle.names.specs.declared.errors.Errno.TheVariants.{EPERM}
@@ -10,7 +10,7 @@ use Rattle.directory_tree.specs.Tree.{Tree, Entry, find}
 use Rattle.directory_tree.specs.Walk.{Spot}
 use Rattle.directory_tree.specs.Walk.Spot.{Root, Held}
 use Rattle.directory_tree.specs.Spots.{node_at, kind_at, child_of}
-use Rattle.directory_tree.specs.Apply.{Changed, entry, is_file, link, link_to, link_from}
+use Rattle.directory_tree.specs.Apply.{entry, is_file, link, link_to, link_from}
 
 -- the entry that a spot is; the root is none, and stands for any
 abbrev pub entry_in : Spot → Entry

@@ -1,5 +1,5 @@
 -- A move onto another entry.
-use Rattle.std.proofs.Common.{◌≡◌, ◌≢◌, ℕ, ◌==◌, ◌&&◌, Bool, false, List, length, Some, None, Option, sym, refl, ap, ◌∙◌, ne_eqb}
+use Rattle.std.proofs.Common.{◌≡◌, ◌≢◌, ℕ, ◌==◌, ◌&&◌, false, List, length, Some, None, Option, sym, refl, ap, ◌∙◌, ne_eqb}
 use Rattle.std.specs.Prelude.{if◌then◌else◌, Ok, Err}
 use Rattle.std.specs.Option.{option_map}
 use Rattle.names.specs.declared.errors.Errno.{Errno}

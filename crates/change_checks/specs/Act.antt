@@ -1,5 +1,5 @@
 -- What a change that passed its tests does to a tree.
-use Rattle.std.specs.Prelude.{◌≡◌, ◌≢◌, ℕ, ◌+◌, ◌≤◌, true, List, length, Option, Some, None, IfSome}
+use Rattle.std.specs.Prelude.{◌≡◌, ◌≢◌, ℕ, ◌+◌, ◌≤◌, true, length, Some, None, IfSome}
 use Rattle.std.specs.Option.{option_map}
 use Rattle.names.specs.declared.paths.TheConstants.{LONGEST_COMPONENT}
 use Rattle.directory_tree.specs.declared.node.Kind.TheVariants as kind

@@ -1,5 +1,5 @@
 -- What a record of least hits tells is the verdict of the rules.
-use Rattle.std.proofs.Common.{◌≡◌, ◌≢◌, ⊎_elim, ℕ, ◌≤◌, List, refl, sym, ◌∙◌, subst, arith}
+use Rattle.std.proofs.Common.{◌≢◌, ℕ, ◌≤◌, List, refl, sym, ◌∙◌, subst, arith}
 use Rattle.names.specs.declared.permissions.Permission.{Permission}
 use Rattle.names.specs.declared.permissions.Perms.{Perms}
 use Rattle.rule_reader.specs.Profile.{RuleValue}
@@ -9,7 +9,7 @@ use Rattle.verdicts.specs.declared.verdict.Verdict.{Verdict}
 use Rattle.verdicts.specs.declared.verdict.Verdict.TheVariants.{Denied, NoRule, Allowed}
 use Rattle.verdicts.specs.declared.record.Record.{Record}
 use Rattle.verdicts.proofs.LeastNumbers.{least_there, least_none, least_some, none_least}
-use Rattle.verdicts.specs.Least.{hits_of, IsLeastOrNone}
+use Rattle.verdicts.specs.Least.{hits_of}
 use Rattle.glob_automaton.specs.Least.{IsLeastRecord}
 use Rattle.verdicts.specs.Records.{IsTold, ToldDenied, ToldMissing, NothingToldDenied}
 

@@ -14,7 +14,7 @@ use std::alloc::{AllocError, Global};
 use verdicts::RuleKind;
 
 /// Which bytes a place takes.
-#[derive(Clone, Copy, Debug, PartialEq, Eq)]
+#[derive(Clone, Copy)]
 pub(crate) enum Label {
     /// That byte.
     Byte(u8),
@@ -29,7 +29,7 @@ pub(crate) enum Label {
 }
 
 /// A point that a match can come to, by what is live there. An entry refers to entries before it alone.
-#[derive(Clone, Copy, Debug)]
+#[derive(Clone, Copy)]
 pub(crate) enum Entry {
     /// Nothing.
     Nothing,
@@ -42,14 +42,14 @@ pub(crate) enum Entry {
 }
 
 /// A place: the bytes that it takes, and the entry behind it.
-#[derive(Clone, Copy, Debug)]
+#[derive(Clone, Copy)]
 pub(crate) struct ChartPlace {
     pub takes: Label,
     pub behind: usize,
 }
 
 /// A rule: the place of its end, the entry at its beginning, and what it says.
-#[derive(Clone, Copy, Debug)]
+#[derive(Clone, Copy)]
 pub(crate) struct ChartRule {
     pub end: usize,
     pub start: usize,

@@ -1,5 +1,5 @@
 -- The verdict that is computed of a record is one that the record tells.
-use Rattle.std.proofs.Common.{◌≡◌, ◌≢◌, ◌==◌, ◌&&◌, ◌||◌, ◌↔◌, ◌⊎◌, ⊎_elim, inl, inr, ℕ, ◌≤◌, ◌<◌, nat_lt, Bool, true, false, List, [], ◌∷◌, IsTrue, refl, sym, ap, ◌∙◌, subst, arith, eq-eqb, true≢false}
+use Rattle.std.proofs.Common.{◌≡◌, ◌≢◌, ◌==◌, ◌&&◌, ◌||◌, ◌↔◌, ◌⊎◌, ⊎_elim, inl, inr, ℕ, ◌≤◌, nat_lt, Bool, true, false, List, [], ◌∷◌, IsTrue, refl, sym, ap, ◌∙◌, subst, arith, eq-eqb, true≢false}
 use Rattle.std.specs.Prelude.{if◌then◌else◌}
 use Rattle.std.specs.List.{list_any}
 use Rattle.std.proofs.lemmas.Bool.{and_parts, and_from, eqb-true, ltb-true, ltb-false}
@@ -7,12 +7,11 @@ use Rattle.verdicts.specs.Least.{hits_of}
 use Rattle.verdicts.specs.Records.{IsTold, ToldDenied, ToldMissing, NothingToldDenied}
 use Rattle.verdicts.specs.declared.record.Record.{Record}
 use Rattle.names.proofs.PermsLaws.{has-set_of, none_found, one_found}
-use Rattle.mediation.specs.Told.{lesser, least_deny, missing_in, told_by, told}
+use Rattle.mediation.specs.Told.{lesser, least_deny, missing_in, told}
 use Rattle.names.specs.Permissions.{has, all_permissions}
 use Rattle.names.specs.declared.permissions.Permission.{Permission}
 use Rattle.names.specs.declared.permissions.Permission.TheVariants.{Read, Write, Link, Lock, Map}
 use Rattle.names.specs.declared.permissions.Perms.{Perms}
-use Rattle.verdicts.specs.declared.verdict.Verdict.{Verdict}
 use Rattle.verdicts.specs.declared.verdict.Verdict.TheVariants.{Denied, NoRule, Allowed}
 
 -- the lesser of two numbers is one of them, and none that isn't 0 is below it

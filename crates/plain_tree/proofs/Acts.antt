@@ -1,6 +1,6 @@
 -- What the tests of a change told of a plain tree.
-use Rattle.std.proofs.Common.{◌≡◌, ℕ, ◌+◌, ◌<◌, ◌≤◌, ◌==◌, Bool, true, false, List, length, Some, None, Option, sym, refl, ap, ◌∙◌, subst, eq-eqb, arith}
-use Rattle.std.specs.Prelude.{if◌then◌else◌, Ok, Err, IsSome, is_some, IfSome, nat_lt, slice_index}
+use Rattle.std.proofs.Common.{◌≡◌, ℕ, ◌<◌, ◌==◌, Bool, true, false, length, Some, None, Option, sym, refl, ap, ◌∙◌, subst}
+use Rattle.std.specs.Prelude.{if◌then◌else◌, Ok, Err, IsSome, is_some, nat_lt}
 use mathlib.Core.Logic.{inl, inr}
 use Rattle.std.specs.Option.{option_map}
 use Rattle.std.proofs.lemmas.Bool.{lt-ltb}
@@ -10,10 +10,10 @@ use Rattle.directory_tree.specs.declared.node.Kind.TheVariants as kind
 use Rattle.directory_tree.specs.declared.node.NodeKind.{NodeKind}
 use Rattle.directory_tree.specs.declared.node.NodeKind.TheVariants.{Directory, File, Link}
 use Rattle.directory_tree.specs.declared.change.Change.{Change}
-use Rattle.directory_tree.specs.Tree.{Tree, Entry, WellFormed, root, find, own_entry, is_directory, is_empty}
+use Rattle.directory_tree.specs.Tree.{Tree, Entry, WellFormed, root, own_entry, is_directory}
 use Rattle.directory_tree.specs.Walk.{Spot}
 use Rattle.directory_tree.specs.Walk.Spot.{Root, Held}
-use Rattle.directory_tree.specs.Spots.{Stands, shape_of, node_at, kind_at, child_of}
+use Rattle.directory_tree.specs.Spots.{Stands, shape_of, node_at, kind_at}
 use Rattle.directory_tree.specs.Apply.{Changed, apply, has_room, max_changes}
 use Rattle.directory_tree.specs.Plain.{Plain, tree_of, outcome}
 use Rattle.path_lookup.specs.declared.fault.WalkFault.{WalkFault}

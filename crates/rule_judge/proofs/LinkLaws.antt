@@ -1,14 +1,13 @@
 -- Links, by what their names are allowed.
-use Rattle.std.proofs.Common.{subst, ◌+◌, ◌<◌, length, take, get_or, ◌≡◌, ◌≢◌, Bool, true, false, ◌&&◌, ◌||◌, ◌==◌, ◌↔◌, ℕ, List, IsTrue, refl, sym, ap, ◌∙◌, true≢false}
+use Rattle.std.proofs.Common.{subst, ◌≡◌, ◌≢◌, Bool, true, false, ◌&&◌, ◌||◌, ◌==◌, ◌↔◌, ℕ, List, IsTrue, refl, sym, ap, ◌∙◌, true≢false}
 use Rattle.std.specs.Prelude.{not, if◌then◌else◌}
 use Rattle.std.specs.List.{list_any}
 use Rattle.std.proofs.lemmas.Bool.{cases_Bool}
-use Rattle.std.proofs.lemmas.List.Folds.{list_any_more}
 use mathlib.Core.Logic.{⊎_elim}
 use Rattle.names.specs.declared.permissions.Permission.{Permission}
 use Rattle.names.specs.declared.permissions.Permission.TheVariants.{Read, Write, Link, Lock, Map}
 use Rattle.names.specs.declared.permissions.Perms.{Perms}
-use Rattle.names.specs.Permissions.{has, only, letter, set_of, with_permission, all_permissions}
+use Rattle.names.specs.Permissions.{has, only, letter, with_permission, all_permissions}
 use Rattle.rule_judge.specs.Linking.{is_allowed, allowed, extra, widening, link_verdict, IsSubset}
 use Rattle.rule_judge.specs.declared.linking.LinkVerdict.TheVariants.{Refused, Wider, Fine}
 use Rattle.verdicts.specs.declared.verdict.Verdict.{Verdict}

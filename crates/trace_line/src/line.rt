@@ -2,7 +2,7 @@
 ghost use Rattle.std.specs.Prelude.{◌≡◌, IfOk, IfErr, is_some, true, false, map, codes};
 ghost use Rattle.clap.specs.Words.{app_of, first_value, found_of, rows_of, rule_of, with_subcommand};
 ghost use Rattle.trace_line.specs.CommandLine.{line_of, line_value, line_fault_number};
-ghost use Rattle.trace_line.specs.inner.Parser.{IsLineFaultOf, IsReadAs, number_option, number_read, number_rule, numbers_app, pair_app, program_app};
+ghost use Rattle.trace_line.specs.inner.Parser.{IsLineFaultOf, IsReadAs, number_option, number_read, number_rule, numbers_app, pair_app, program_app, required_rule};
 
 use clap::builder::ValueParser;
 use clap::error::ErrorKind;
@@ -224,16 +224,20 @@ fn with_numbers<'a>(
 fn pair_command<'a>(alloc: Global, name: &'a str, about: &'a str) -> Result<Command<'a>, AllocError>
     ensures { IfOk result (λ command. app_of command ≡ pair_app name.now) }
 {
-    let perms = Arg::new(alloc, "PERMS").required(true).help(
-        "The permissions that are asked, by their letters: r, w, l, k, m",
-    );
-    let judged = Arg::new(alloc, "NAME")
-        .required(true)
-        .help("The name that is judged, from its first slash on");
+    let perms = "The permissions that are asked, by their letters: r, w, l, k, m";
+    let judged = "The name that is judged, from its first slash on";
     Command::new(alloc, name)
         .about(about)
-        .arg(perms)?
-        .arg(judged)
+        .arg(required_argument(alloc, "PERMS", perms))?
+        .arg(required_argument(alloc, "NAME", judged))
+}
+
+/// An argument that must be given, as the parser knows it.
+fn required_argument<'a>(alloc: Global, name: &'a str, help: &'a str) -> Arg<'a>
+    ensures rule { rule_of result ≡ required_rule name.now }
+    ensures global { result.global ≡ false }
+{
+    Arg::new(alloc, name).required(true).help(help)
 }
 
 /// A command that takes options with numbers.

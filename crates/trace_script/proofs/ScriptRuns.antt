@@ -9,7 +9,7 @@ use Rattle.trace_script.specs.declared.read_line.LineRead.{LineRead}
 use Rattle.trace_script.specs.declared.read_line.LineRead.TheVariants.{Whole, Last, End}
 use Rattle.trace_script.specs.declared.stop.Stop.{Stop}
 use Rattle.trace_script.specs.declared.stop.Stop.TheVariants.{NoCommand, Input, TooLong, Memory, Output}
-use Rattle.trace_script.specs.inner.Following.{followed, section_value, IsClosed, IsFollowed, IsShortOf, IsLineFollowed, IsLineRead, IsPartRead, IsTooLong, most_lines}
+use Rattle.trace_script.specs.inner.Following.{followed, section_value, IsClosed, IsFollowed, IsShortOf, IsLineFollowed, IsLineRead, IsPartRead, most_lines}
 use Rattle.mediation.specs.History.{History}
 use Rattle.trace_script.specs.RunOutput.{printed_lines, text_of_lines}
 use Rattle.trace_script.specs.Script.{Section, outside, line_feed, script_of, lines_of}

@@ -8,7 +8,7 @@ use crate::words::Words;
 use names::Perms;
 
 /// What a line is, by itself.
-#[derive(Clone, Copy, Debug, PartialEq, Eq)]
+#[derive(Clone, Copy)]
 pub(crate) enum LineKind<'a> {
     /// An empty line, or a comment.
     Ignored,
@@ -21,7 +21,7 @@ pub(crate) enum LineKind<'a> {
 }
 
 /// A command that stands on one line.
-#[derive(Clone, Copy, Debug, PartialEq, Eq)]
+#[derive(Clone, Copy)]
 pub(crate) enum Command<'a> {
     /// The profile of this name goes.
     Remove(&'a [u8]),
@@ -42,7 +42,7 @@ pub(crate) enum Command<'a> {
 }
 
 /// A change of the tree, by the words of its paths. A symbolic link's text goes before its path.
-#[derive(Clone, Copy, Debug, PartialEq, Eq)]
+#[derive(Clone, Copy)]
 pub(crate) enum ChangeWords<'a> {
     Mkdir(&'a [u8]),
     Create(&'a [u8]),

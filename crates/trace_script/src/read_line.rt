@@ -5,7 +5,7 @@ use crate::stop::Stop;
 use std::io::BufRead;
 
 /// A line that was read, by what closed it.
-#[derive(Clone, Copy, Debug, PartialEq, Eq)]
+#[derive(Clone, Copy)]
 pub(crate) enum LineRead {
     /// A line feed.
     Whole,

@@ -13,7 +13,7 @@ use std::alloc::{AllocError, Global};
 use std::io::Write;
 
 /// Where reading stands between two lines.
-#[derive(Debug, Drop)]
+#[derive(Drop)]
 pub(crate) enum Section {
     /// The next line is a command, if it says anything.
     Outside,

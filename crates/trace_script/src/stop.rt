@@ -8,7 +8,7 @@ use std::{fmt, io};
 use trace_report::Status;
 
 /// Why a script isn't followed to its end.
-#[derive(Clone, Copy, Debug, PartialEq, Eq)]
+#[derive(Clone, Copy)]
 pub(crate) enum Stop {
     /// The line of this number is no command, or a policy without its end begins there.
     NoCommand(u64),

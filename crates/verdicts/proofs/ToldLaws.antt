@@ -1,5 +1,5 @@
 -- What a record tells: one verdict.
-use Rattle.std.proofs.Common.{◌≡◌, ◌≢◌, ◌==◌, ◌&&◌, ◌↔◌, ⊎_elim, ℕ, ◌≤◌, Bool, true, false, IsTrue, refl, sym, ap, ◌∙◌, arith, eq-eqb, true≢false}
+use Rattle.std.proofs.Common.{◌≡◌, ◌≢◌, ◌==◌, ◌&&◌, ◌↔◌, ⊎_elim, ℕ, Bool, true, false, IsTrue, refl, sym, ap, ◌∙◌, arith, eq-eqb, true≢false}
 use Rattle.std.proofs.lemmas.Bool.{and_parts, and_from, cases_Bool, eqb-true}
 use Rattle.names.specs.declared.permissions.Permission.{Permission}
 use Rattle.names.specs.declared.permissions.Permission.TheVariants.{Read, Write, Link, Lock, Map}

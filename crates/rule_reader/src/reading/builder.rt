@@ -9,7 +9,7 @@ use std::alloc::{AllocFailed, Global};
 use std::mem;
 
 /// A group whose closing brace was not reached yet.
-#[derive(Debug, Drop)]
+#[derive(Drop)]
 pub(crate) struct OpenGroup {
     /// How many bytes of the text are left from its brace on.
     pub(crate) left: usize,
@@ -21,7 +21,7 @@ pub(crate) struct OpenGroup {
 }
 
 /// A path up to some place: its open groups, outermost first, and the items of the innermost open alternative.
-#[derive(Debug, Drop)]
+#[derive(Drop)]
 pub(crate) struct Builder {
     pub(crate) groups: Vec<OpenGroup>,
     pub(crate) items: Vec<Item>,

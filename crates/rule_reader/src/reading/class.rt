@@ -12,7 +12,7 @@ use rule_globs::{ByteRange, Class};
 use std::alloc::{AllocFailed, Global};
 
 /// What a byte is in a class.
-#[derive(Clone, Copy, Debug, PartialEq, Eq)]
+#[derive(Clone, Copy)]
 pub(crate) enum ClassByte {
     Member,
     /// The closing bracket.
@@ -44,7 +44,7 @@ fn class_byte(quoted: bool, escaped: bool, byte: u8) -> ClassByte
 }
 
 /// What the bytes of a class that were read last may still be a part of.
-#[derive(Clone, Copy, Debug, PartialEq, Eq)]
+#[derive(Clone, Copy)]
 pub(crate) enum Pending {
     /// Nothing was read.
     Start,

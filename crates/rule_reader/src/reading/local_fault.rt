@@ -6,7 +6,7 @@ ghost use Rattle.rule_reader.specs.declared.reading.local_fault.Failure.TheVaria
 use std::alloc::{AllocError, AllocFailed};
 
 /// What is wrong with a text.
-#[derive(Clone, Copy, Debug, PartialEq, Eq)]
+#[derive(Clone, Copy)]
 pub(crate) enum FaultKind {
     /// The grammar doesn't go on so.
     Syntax,
@@ -31,7 +31,7 @@ pub(crate) enum FaultKind {
 }
 
 /// A fault, and how many bytes are left from its place on. Only the reader of the whole text knows the offset.
-#[derive(Clone, Copy, Debug, PartialEq, Eq)]
+#[derive(Clone, Copy)]
 pub(crate) struct LocalFault {
     pub(crate) kind: FaultKind,
     pub(crate) left: usize,
@@ -40,7 +40,7 @@ pub(crate) struct LocalFault {
 }
 
 /// Why a part of a text was not read.
-#[derive(Debug, Drop)]
+#[derive(Drop)]
 pub(crate) enum Failure {
     /// Memory was refused.
     NoMemory,

@@ -8,7 +8,7 @@ use super::local_fault::{Failure, FaultKind, fault_here, fault_with_left};
 use super::words::after_literal;
 
 /// What a byte is in a name.
-#[derive(Clone, Copy, Debug, PartialEq, Eq)]
+#[derive(Clone, Copy)]
 pub(crate) enum NameByte {
     OfName,
     /// The name ends before it.

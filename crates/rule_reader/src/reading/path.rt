@@ -22,7 +22,7 @@ use std::alloc::Global;
 const MAX_DEPTH: usize = 50;
 
 /// An item, or a brace or comma of a group.
-#[derive(Debug, Drop)]
+#[derive(Drop)]
 pub(crate) enum Lexeme {
     Byte(u8),
     AnyByte,

@@ -1,5 +1,4 @@
 use Rattle.std.proofs.Common.{refl, ◌∙◌, inl, inr}
-use Rattle.directory_tree.specs.Plain.{Plain, tree_of}
 use Rattle.mediation.specs.Profiles.{judge_of}
 use Rattle.plain_bench.proofs.LinkJudging.{link_told}
 use Rattle.plain_bench.proofs.OneWorld.{one_world}

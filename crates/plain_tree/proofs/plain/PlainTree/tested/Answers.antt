@@ -1,4 +1,4 @@
-use Rattle.std.proofs.Common.{◌<◌, List, length, sym, refl, subst, arith}
+use Rattle.std.proofs.Common.{◌<◌, length, refl, subst, arith}
 use Rattle.directory_tree.specs.Apply.{max_changes}
 use Rattle.directory_tree.specs.Plain.{Plain, tree_of}
 use Rattle.change_checks.specs.Act.{IsTested}
