@@ -11,7 +11,7 @@ pub enum NewNode<'a> {
 }
 
 /// An entry that goes from one place to another (rename(2)).
-#[derive(Clone, Copy)]
+#[derive(Drop)]
 pub struct Move<'a, E: Copy> {
     pub from: Place<'a, E>,
     /// The entry that moves.
@@ -42,7 +42,7 @@ impl<'a, E: Copy> Move<'a, E> {
 }
 
 /// What a change does, where its tests found nothing against it.
-#[derive(Clone, Copy)]
+#[derive(Drop)]
 pub enum Act<'a, E: Copy> {
     /// A new node comes, and its entry stands at this place.
     Make(Place<'a, E>, NewNode<'a>),

@@ -9,7 +9,6 @@ use crate::look::ChangeLook;
 use path_lookup::{Look, Torn};
 
 /// Whether a directory is the one of this number, or lies below it.
-#[tactic(auto, using(crate::proofs::Climbing::climb_here, crate::proofs::Climbing::climb_root, crate::proofs::Climbing::climb_last))]
 pub(crate) fn lies_below<L: ChangeLook>(
     look: &mut L,
     top: u64,

@@ -4,7 +4,7 @@ ghost use Rattle.directory_tree.specs.declared.node.Kind.TheVariants as kind;
 ghost use Rattle.directory_tree.specs.Tree.{Entry, is_directory, is_below, is_empty};
 ghost use Rattle.directory_tree.specs.Apply.{Changed, rename, onto_kind, at_two};
 ghost use Rattle.directory_tree.specs.Walk.Spot.{Held};
-ghost use Rattle.directory_tree.specs.Spots.{shape_of, node_at, kind_at};
+ghost use Rattle.directory_tree.specs.Spots.{shape_of, node_at, kind_at, child_of};
 ghost use Rattle.path_lookup.specs.Target.{target_for};
 ghost use Rattle.path_lookup.specs.Walking.{IsFault};
 ghost use Rattle.path_lookup.specs.World.{World, Narrows, IsTorn};
@@ -65,12 +65,43 @@ fn check_move<'a, L: ChangeLook>(
     let Some(entry) = look.child(from.directory, from.component)? else {
         return Err(WalkFault::Refused(Errno::ENOENT));
     };
-    let Some(other) = look.child(to.directory, to.component)? else {
-        if goes_below(look, entry, to.directory)? {
-            return Err(WalkFault::Refused(Errno::EINVAL));
-        }
-        return Ok(Act::Move(Move::new(from, entry, to, None)));
-    };
+    if let Some(other) = look.child(to.directory, to.component)? {
+        return check_onto(look, from, entry, to, other);
+    }
+    if goes_below(look, entry, to.directory)? {
+        return Err(WalkFault::Refused(Errno::EINVAL));
+    }
+    Ok(Act::Move(Move::new(from, entry, to, None)))
+}
+
+// The same where an entry stands at the new place.
+fn check_onto<'a, L: ChangeLook>(
+    look: &mut L,
+    from: &Place<'a, L::Entry>,
+    entry: L::Entry,
+    to: &Place<'a, L::Entry>,
+    other: L::Entry,
+) -> Result<Act<'a, L::Entry>, WalkFault>
+    requires from { L.knows look.old from.now.directory }
+    requires entry { L.knows look.old entry }
+    requires to { L.knows look.old to.now.directory }
+    requires other { L.knows look.old other }
+    requires directory { (w : World) → L.sees look.old w → shape_of (kind_at (L.means to.now.directory w)) ≡ kind.Directory }
+    requires fits { length to.now.component.now ≤ LONGEST_COMPONENT }
+    requires moves { (w : World) → L.sees look.old w → child_of w.tree (L.means from.now.directory w) from.now.component.now ≡ Some (L.means entry w) }
+    requires onto { (w : World) → L.sees look.old w → child_of w.tree (L.means to.now.directory w) to.now.component.now ≡ Some (L.means other w) }
+    ensures kept { L.kept look.new ≡ L.kept look.old }
+    ensures narrows { Narrows (L.sees look.old) (L.sees look.new) }
+    ensures keeps { (e : L.Entry) → L.knows look.old e → L.knows look.new e }
+    ensures known { IfOk result (NamesOnly (L.knows look.new)) }
+    ensures fits { IfOk result Fits }
+    ensures acts { IfOk result (λ act. (w : World) → L.sees look.new w →
+        rename w.tree (node_at (L.means from.now.directory w)) from.now.component.now (node_at (L.means to.now.directory w)) to.now.component.now
+        ≡ Ok (acted (λ e. L.means e w) w.tree act)) }
+    ensures tested { IfOk result (λ act. (w : World) → L.sees look.new w → IsTested (λ e. L.means e w) w.tree (L.capacity look.new) act) }
+    ensures fault { IfErr result (IsFault (L.lacks look.new) (L.sees look.new) (λ w.
+        rename w.tree (node_at (L.means from.now.directory w)) from.now.component.now (node_at (L.means to.now.directory w)) to.now.component.now)) }
+{
     if look.node(other)? == look.node(entry)? {
         return Ok(Act::Nothing);
     }

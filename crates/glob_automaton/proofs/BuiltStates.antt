@@ -5,29 +5,13 @@ use Rattle.std.proofs.lemmas.List.{length-append, get_or_append_left}
 use Rattle.std.proofs.lemmas.Bool.{cases_lt}
 use Rattle.glob_automaton.specs.declared.chart.Chart.{Chart}
 use Rattle.verdicts.specs.declared.record.Record.{Record}
-use Rattle.glob_automaton.specs.Automata.{Automaton}
 use Rattle.glob_automaton.specs.inner.Building.{IsStartOf, IsStepOf, begins, IsRecordOf, IsBuilt}
 use Rattle.glob_automaton.specs.inner.Gathering.{IsAscending}
-use Rattle.glob_automaton.specs.inner.States.{IsNumbered, AreFewSets, Keeps, IsTargetOf, IsRowOf}
+use Rattle.glob_automaton.specs.inner.States.{tables, AreStates, IsNumbered, AreFewSets, Keeps, IsTargetOf, IsRowOf}
 use Rattle.glob_automaton.proofs.EmptySets.{all_empty}
 use Rattle.glob_automaton.proofs.LiveNumbers.{reached_ascends}
 use Rattle.glob_automaton.proofs.RuleNumbers.{neither_less}
 use Rattle.glob_automaton.proofs.SetSteps.{set_there, set_from, numbered_sets, step_empty}
-
--- The first states have their rows and records. The sets may be more.
-pub record AreStates (chart : Chart) (sets rows : List (List ℕ)) (records : List Record) (start state : ℕ) : Type 0 where
-  pub sets_few : AreFewSets chart sets
-  pub start_there : start < length sets
-  pub start_first : start ≤ 1
-  pub begun : IsStartOf chart (slice_index_or sets start [])
-  pub within : state ≤ length sets
-  pub each_row : length rows ≡ state
-  pub each_record : length records ≡ state
-  pub row : (s : ℕ) → s < state → IsRowOf chart sets (slice_index_or sets s []) (slice_index_or rows s [])
-  pub recorded : (s : ℕ) (none : Record) → s < state → IsRecordOf chart (slice_index_or sets s []) (slice_index_or records s none)
-
-abbrev pub tables : List (List ℕ) → List Record → ℕ → Automaton
-tables rows records start = record { rows = rows; records = records; start = start }
 
 -- the empty set alone, which is one set
 pub empty_set_alone : (chart : Chart) (old new : List (List ℕ)) (number : ℕ) → old ≡ [] → IsNumbered old new [] number →

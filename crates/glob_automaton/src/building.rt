@@ -5,7 +5,7 @@ ghost use Rattle.glob_automaton.specs.Automata.{most_sets};
 ghost use Rattle.glob_automaton.specs.inner.Building.{ArePlaces, IsStartOf, IsStepOf, IsRecordOf, IsBuilt, IsBuildFault};
 ghost use Rattle.glob_automaton.specs.inner.Drawing.{IsPartOfChart};
 ghost use Rattle.glob_automaton.specs.inner.Gathering.{IsGathering, IsAscending};
-ghost use Rattle.glob_automaton.specs.inner.States.{lists_of, AreFewSets, Keeps, IsNumbered, IsNumberFault, IsTargetOf, IsRowOf};
+ghost use Rattle.glob_automaton.specs.inner.States.{lists_of, tables, AreFewSets, AreStates, Keeps, IsNumbered, IsNumberFault, IsTargetOf, IsRowOf};
 
 use crate::automaton::Dfa;
 use crate::bytes::ByteClasses;
@@ -26,6 +26,14 @@ struct Sets {
     sets: IndexSet<Vec<usize>>,
 }
 
+/// The rows and records of the sets that were gone over, and the number of the set at the start.
+#[derive(Drop)]
+struct States {
+    rows: Vec<[u32; 256]>,
+    records: Vec<Record>,
+    start: u32,
+}
+
 /// Builds the automaton of a chart.
 pub(crate) fn build(alloc: Global, chart: &Chart) -> Result<Dfa, CompileFault>
     requires chart { IsPartOfChart chart.now }
@@ -33,32 +41,70 @@ pub(crate) fn build(alloc: Global, chart: &Chart) -> Result<Dfa, CompileFault>
     ensures ok { IfOk result (IsBuilt chart.now) }
     ensures err { IfErr result (IsBuildFault chart.now) }
 {
-    let classes = ByteClasses::of(chart);
-    let ends = ends_of(alloc, chart)?;
     let mut gathering = Gathering::new(alloc, chart)?;
     let mut sets = Sets {
         alloc,
         sets: IndexSet::new(alloc),
     };
+    let start = number_start(chart, &mut gathering, &mut sets)?;
+    let mut states = States {
+        rows: Vec::new(alloc),
+        records: Vec::new(alloc),
+        start,
+    };
+    add_states(alloc, chart, &mut gathering, &mut sets, &mut states)?;
+    Ok(Dfa {
+        rows: states.rows,
+        records: states.records,
+        start: states.start,
+    })
+}
+
+// Numbers the empty set, and then what is live before the first byte.
+fn number_start(
+    chart: &Chart,
+    gathering: &mut Gathering,
+    sets: &mut Sets,
+) -> Result<u32, CompileFault>
+    requires chart { IsPartOfChart chart.now }
+    requires gathering { IsGathering chart.now gathering.old }
+    requires none { lists_of sets.old ≡ [] }
+    ensures gathering { OnOk result (IsGathering chart.now gathering.new) }
+    ensures start { IfOk result (λ start. AreStates chart.now (lists_of sets.new) [] [] start 0) }
+    ensures err { IfErr result (IsBuildFault chart.now) }
+{
     sets.number(&[])?;
-    gather_start(chart, &mut gathering)?;
-    let start = sets.number(gathering.places())?;
-    let mut rows = Vec::new(alloc);
-    let mut records = Vec::new(alloc);
+    gather_start(chart, gathering)?;
+    sets.number(gathering.places())
+}
+
+// A row and a record for each set. A row may lead to new sets, whose turn comes later.
+fn add_states(
+    alloc: Global,
+    chart: &Chart,
+    gathering: &mut Gathering,
+    sets: &mut Sets,
+    states: &mut States,
+) -> Result<(), CompileFault>
+    requires chart { IsPartOfChart chart.now }
+    requires few { length chart.now.rules.items ≤ 1024 }
+    requires gathering { IsGathering chart.now gathering.old }
+    requires none { AreStates chart.now (lists_of sets.old) states.old.rows.items states.old.records.items states.old.start 0 }
+    ensures ok { OnOk result (IsBuilt chart.now (tables states.new.rows.items states.new.records.items states.new.start)) }
+    ensures err { IfErr result (IsBuildFault chart.now) }
+{
+    let classes = ByteClasses::of(chart);
+    let ends = ends_of(alloc, chart)?;
     let mut set = Vec::new(alloc);
     for state in 0..MOST_SETS {
         if !sets.copy(state, &mut set)? {
             break;
         }
-        let row = row_of(chart, &classes, &set, &mut gathering, &mut sets)?;
-        keep(&mut rows, row)?;
-        keep(&mut records, record_of(chart, &ends, &set))?;
+        let row = row_of(chart, &classes, &set, gathering, sets)?;
+        keep(&mut states.rows, row)?;
+        keep(&mut states.records, record_of(chart, &ends, &set))?;
     }
-    Ok(Dfa {
-        rows,
-        records,
-        start,
-    })
+    Ok(())
 }
 
 impl Sets {

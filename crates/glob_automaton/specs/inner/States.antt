@@ -4,8 +4,9 @@ use Rattle.glob_automaton.specs.declared.chart.Chart.{Chart}
 use Rattle.glob_automaton.specs.declared.building.Sets.{Sets}
 use Rattle.glob_automaton.specs.declared.fault.CompileFault.{CompileFault}
 use Rattle.glob_automaton.specs.declared.fault.CompileFault.TheVariants.{TooManyStates, NoMemory}
-use Rattle.glob_automaton.specs.Automata.{most_sets}
-use Rattle.glob_automaton.specs.inner.Building.{IsStepOf, AreSets}
+use Rattle.verdicts.specs.declared.record.Record.{Record}
+use Rattle.glob_automaton.specs.Automata.{Automaton, most_sets}
+use Rattle.glob_automaton.specs.inner.Building.{IsStartOf, IsStepOf, IsRecordOf, AreSets}
 
 -- the sets, in the order of their numbers
 abbrev pub lists_of : Sets → List (List ℕ)
@@ -44,3 +45,18 @@ IsTargetOf chart sets set b target = (target < length sets) × IsStepOf chart se
 pub record IsRowOf (chart : Chart) (sets : List (List ℕ)) (set row : List ℕ) : Type 0 where
   pub long : length row ≡ 256
   pub targets : (b : ℕ) → b < 256 → IsTargetOf chart sets set b (slice_index_or row b 0)
+
+-- The first states have their rows and records. The sets may be more.
+pub record AreStates (chart : Chart) (sets rows : List (List ℕ)) (records : List Record) (start state : ℕ) : Type 0 where
+  pub sets_few : AreFewSets chart sets
+  pub start_there : start < length sets
+  pub start_first : start ≤ 1
+  pub begun : IsStartOf chart (slice_index_or sets start [])
+  pub within : state ≤ length sets
+  pub each_row : length rows ≡ state
+  pub each_record : length records ≡ state
+  pub row : (s : ℕ) → s < state → IsRowOf chart sets (slice_index_or sets s []) (slice_index_or rows s [])
+  pub recorded : (s : ℕ) (none : Record) → s < state → IsRecordOf chart (slice_index_or sets s []) (slice_index_or records s none)
+
+abbrev pub tables : List (List ℕ) → List Record → ℕ → Automaton
+tables rows records start = record { rows = rows; records = records; start = start }

@@ -1,7 +1,7 @@
 use Rattle.std.proofs.Common.{refl, sym, ap, subst, ◌∙◌}
 use Rattle.std.specs.Prelude.{IfSome}
 use Rattle.std.specs.Option.{option_map}
-use Rattle.change_checks.proofs.Climbing.{climb_start, climb_up}
+use Rattle.change_checks.proofs.Climbing.{climb_start, climb_here, climb_root, climb_up}
 use Rattle.change_checks.proofs.below.lies_below.Goals as goal
 
 pub loop-step-init : goal.loop-step-init
@@ -32,3 +32,18 @@ loop-step-preserved g c =
           (parent.answer w s ∙ ap (option_map (λ e. look.means e w)) c.in-Some.is)
           (λ e. c.if-branch-top.false (sym (node.answer w before) ∙ e));
     }
+
+pub returns-then-branch-top-clause-answer : goal.returns-then-branch-top-clause-answer
+returns-then-branch-top-clause-answer g c = λ w s.
+    let look = g.L.Look in
+    let climbs = c.loop-step.invariant.climbs w (c.in_ok-node.ensures.narrows w s) in
+    climb_here w.tree c.args.top (look.means c.args.from w) (look.means c.loop-step.at w) c.loop-step.step climbs (c.in_ok-node.ensures.answer w s ∙ c.if-branch-top.true)
+
+pub returns-in-None-clause-answer : goal.returns-in-None-clause-answer
+returns-in-None-clause-answer g c = λ w s.
+    let look = g.L.Look in
+    let node = c.in_ok-node.ensures in
+    let before = c.in_ok-parent.ensures.narrows w s in
+    let none = c.in_ok-parent.ensures.answer w s ∙ ap (option_map (λ e. look.means e w)) c.in-None.is in
+    climb_root w.tree c.args.top (look.means c.args.from w) (look.means c.loop-step.at w) c.loop-step.step w.sound (c.loop-step.invariant.climbs w (node.narrows w before)) none
+    (λ e. c.if-branch-top.false (sym (node.answer w before) ∙ e))

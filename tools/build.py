@@ -1,0 +1,142 @@
+#!/usr/bin/env python3
+"""Proves each crate that the program stands on, those that don't depend on each other side by side, and builds ./aa-trace.
+
+What was proved before and hasn't changed is kept. A command of rt in a crate's folder keeps others out of that folder and of
+those of all crates below it. So each crate is proved in a room of its own: a folder with the crates below it, as they were
+built, from which the crate's out/ comes back once it is proved.
+"""
+import os
+import shutil
+import subprocess
+import sys
+import tempfile
+from concurrent.futures import FIRST_COMPLETED, ThreadPoolExecutor, wait
+
+TOP = os.path.dirname(os.path.dirname(os.path.abspath(__file__)))
+CRATES = f"{TOP}/crates"
+ROOMS = f"{TOP}/.build"
+PROGRAM = "trace_cli"
+# What the proof of one crate takes at most, in KiB.
+MEMORY = 4_000_000
+
+
+def read_lines():
+    """The line of crates.txt for each crate, lowest crate first."""
+    with open(f"{TOP}/crates.txt", encoding="utf-8") as it:
+        lines = [line for line in it if ":" in line.partition("#")[0]]
+    return {line.partition(":")[0].split()[0]: line for line in lines}
+
+
+def find_below(lines):
+    """The crates that each crate stands on, by way of others too."""
+    below = {}
+    for name, line in lines.items():
+        direct = [it for it in line.partition(":")[2].split() if it in lines]
+        below[name] = {*direct, *(low for it in direct for low in below[it])}
+    return below
+
+
+def count_lines(name):
+    """The size of a crate, by which its proof's time is guessed."""
+    size = 0
+    for at, folders, files in os.walk(f"{CRATES}/{name}"):
+        folders[:] = [it for it in folders if it not in ("out", "must-fail")]
+        for file in files:
+            with open(f"{at}/{file}", "rb") as it:
+                size += it.read().count(b"\n")
+    return size
+
+
+def link(source, to):
+    """A second name for a file, or a copy where the file system has no such names."""
+    try:
+        os.link(source, to)
+    except OSError:
+        shutil.copy2(source, to)
+
+
+def furnish(room, name, lines, below):
+    """Puts the crate, and what was built of those below it, into a room."""
+    shutil.copy(f"{TOP}/HANDLES", room)
+    with open(f"{room}/crates.txt", "w", encoding="utf-8") as it:
+        it.writelines(lines[low] for low in lines if low == name or low in below[name])
+    for low in below[name]:
+        shutil.copytree(f"{CRATES}/{low}", f"{room}/crates/{low}", copy_function=link, ignore=shutil.ignore_patterns("incremental"))
+    shutil.copytree(f"{CRATES}/{name}", f"{room}/crates/{name}")
+
+
+def prove(name, lines, below, jobs):
+    """Proves one crate, and returns what was said where that fails."""
+    with tempfile.TemporaryDirectory(dir=ROOMS) as room:
+        furnish(room, name, lines, below)
+        command = ["rt", "lib", "--jobs", str(jobs)]
+        ran = subprocess.run(command, cwd=f"{room}/crates/{name}", stdout=subprocess.PIPE, stderr=subprocess.STDOUT, check=False)
+        if ran.returncode:
+            return f"{name} isn't proved\n{ran.stdout.decode(errors='replace')}"
+        shutil.rmtree(f"{CRATES}/{name}/out", ignore_errors=True)
+        shutil.move(f"{room}/crates/{name}/out", f"{CRATES}/{name}/out")
+    return None
+
+
+def prove_all(lines, below, lanes):
+    """Proves the libraries, so many at once, and first those with the longest chain of others above them."""
+    behind = {}
+    for name in reversed(lines):
+        above = [behind[it] for it in behind if name in below[it]]
+        behind[name] = count_lines(name) + max(above, default=0)
+    left = sorted(below[PROGRAM], key=lambda it: -behind[it])
+    running, built = {}, set()
+    with ThreadPoolExecutor(lanes) as pool:
+        while left or running:
+            ready = [it for it in left if below[it] <= built]
+            for name in ready[: lanes - len(running)]:
+                left.remove(name)
+                running[pool.submit(prove, name, lines, below, lanes)] = name
+            for it in wait(running, return_when=FIRST_COMPLETED).done:
+                if it.result():
+                    left.clear()
+                    return it.result()
+                built.add(running.pop(it))
+                print(f"proved {len(built)} of the {len(below[PROGRAM])} libraries", flush=True)
+    return None
+
+
+def count_lanes():
+    """As many proofs at once as there are processors, and memory for them."""
+    with open("/proc/meminfo", encoding="utf-8") as it:
+        free = next(int(line.split()[1]) for line in it if line.startswith("MemAvailable"))
+    return max(1, min(len(os.sched_getaffinity(0)), free // MEMORY))
+
+
+def build_program(lanes):
+    """Proves the program itself, builds it, and runs it once."""
+    with open(f"{TOP}/examples/passwd.profile", "rb") as profile:
+        command = ["rt", "run", "--jobs", str(lanes), "--", "judge", "rw", "/etc/passwd"]
+        ran = subprocess.run(command, cwd=f"{CRATES}/{PROGRAM}", stdin=profile, stdout=subprocess.PIPE, stderr=subprocess.STDOUT, check=False)
+    if ran.returncode:
+        return ran.stdout.decode(errors="replace")
+    shutil.copy(f"{CRATES}/{PROGRAM}/out/{PROGRAM}", f"{TOP}/aa-trace")
+    return None
+
+
+def main():
+    lanes = count_lanes()
+    lines = read_lines()
+    # A build that was killed may have left its rooms.
+    shutil.rmtree(ROOMS, ignore_errors=True)
+    os.mkdir(ROOMS)
+    try:
+        print(f"proving the crates that the program stands on, {lanes} at once ..", flush=True)
+        fault = prove_all(lines, find_below(lines), lanes)
+        if not fault:
+            print("proving the program, and building it ..", flush=True)
+            fault = build_program(lanes)
+    finally:
+        shutil.rmtree(ROOMS, ignore_errors=True)
+    if fault:
+        print(fault, end="")
+    return 1 if fault else 0
+
+
+if __name__ == "__main__":
+    sys.exit(main())
