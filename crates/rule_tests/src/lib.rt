@@ -15,6 +15,8 @@ mod paths;
 #[cfg(test)]
 mod permissions;
 #[cfg(test)]
+mod printing;
+#[cfg(test)]
 mod profiles;
 #[cfg(test)]
 mod reading;

@@ -1,6 +1,8 @@
 //! What names are allowed, and hard links by it.
+use crate::printing::is_printed;
 use names::Perms;
-use rule_text::{LinkVerdict, Verdict, allowed_perms, judge_link, read};
+use rule_text::{LinkVerdict, Profile, Verdict, allowed_perms, judge_link, read};
+use std::process::Abort;
 use std::test::Fail;
 
 /// The set of these letters.
@@ -8,61 +10,72 @@ fn perms(letters: &[u8]) -> Result<Perms, Fail> {
     Ok(Perms::from_letters(letters).ok_or("a letter of no permission")?)
 }
 
+/// Names, and the letters of what each is allowed.
+fn expect_allowed(rt: &impl Abort, profile: &Profile, rows: &[(&[u8], &[u8])]) -> Result<(), Fail> {
+    for (name, letters) in rows {
+        assert_eq!(rt; allowed_perms(profile, name), perms(letters)?, "{name:?}");
+    }
+    Ok(())
+}
+
 #[test]
 fn permissions_that_names_are_allowed(rt: HostRuntime) -> Result<(), Fail> {
     let rules =
         b"profile p { / r, /a/** rw, /a/* km, /a/k l, deny /a/k* w, /a/x l, deny /a/x rwlkm, }";
     let profile = read(rt.alloc(), rules)?;
-    for (name, letters) in [
-        (b"/".as_slice(), b"r".as_slice()),
-        (b"/a/f", b"rwkm"),
-        (b"/a/d/", b"rw"),
-        (b"/a/d/f", b"rw"),
-        (b"/a/k", b"rlkm"),
-        (b"/a/key", b"rkm"),
-        (b"/a/x", b""),
-        (b"/a/", b""),
-        (b"/b", b""),
-        (b"", b""),
-    ] {
-        assert_eq!(rt; allowed_perms(&profile, name), perms(letters)?, "{name:?}");
+    expect_allowed(
+        &rt,
+        &profile,
+        &[
+            (b"/", b"r"),
+            (b"/a/f", b"rwkm"),
+            (b"/a/d/", b"rw"),
+            (b"/a/d/f", b"rw"),
+            (b"/a/k", b"rlkm"),
+            (b"/a/key", b"rkm"),
+            (b"/a/x", b""),
+            (b"/a/", b""),
+            (b"/b", b""),
+            (b"", b""),
+        ],
+    )
+}
+
+/// The verdict on a link whose new name is allowed these permissions, and whose old one those.
+fn verdict_of(old: &[u8], new: &[u8]) -> Result<LinkVerdict, Fail> {
+    Ok(judge_link(perms(old)?, perms(new)?, Verdict::Allowed))
+}
+
+/// The verdict where what goes beyond the old name's permissions is this.
+fn beyond(letters: &[u8]) -> Result<LinkVerdict, Fail> {
+    match perms(letters)? {
+        extra if extra.is_empty() => Ok(LinkVerdict::Fine),
+        extra => Ok(LinkVerdict::Wider { extra }),
+    }
+}
+
+/// What the old name is allowed, what the new one is, and what of that goes beyond the old one's.
+fn expect_beyond(rt: &impl Abort, rows: &[[&[u8]; 3]]) -> Result<(), Fail> {
+    for row in rows {
+        let is_so = verdict_of(row[0], row[1])? == beyond(row[2])?;
+        assert!(rt; is_so, "{row:?}");
     }
     Ok(())
 }
 
 #[test]
 fn links_by_what_their_names_allow(rt: HostRuntime) -> Result<(), Fail> {
-    let table: [(&[u8], &[u8], LinkVerdict); 6] = [
-        (b"", b"l", LinkVerdict::Fine),
-        (b"r", b"rl", LinkVerdict::Fine),
-        (b"rwkm", b"rl", LinkVerdict::Fine),
-        (
-            b"r",
-            b"rwl",
-            LinkVerdict::Wider {
-                extra: perms(b"w")?,
-            },
-        ),
-        (
-            b"l",
-            b"rwlkm",
-            LinkVerdict::Wider {
-                extra: perms(b"rwkm")?,
-            },
-        ),
-        (
-            b"m",
-            b"lk",
-            LinkVerdict::Wider {
-                extra: perms(b"k")?,
-            },
-        ),
-    ];
-    for (old, new, want) in &table {
-        let verdict = judge_link(perms(old)?, perms(new)?, Verdict::Allowed);
-        assert_eq!(rt; verdict, *want, "{old:?} to {new:?}");
-    }
-    Ok(())
+    expect_beyond(
+        &rt,
+        &[
+            [b"", b"l", b""],
+            [b"r", b"rl", b""],
+            [b"rwkm", b"rl", b""],
+            [b"r", b"rwl", b"w"],
+            [b"l", b"rwlkm", b"rwkm"],
+            [b"m", b"lk", b"k"],
+        ],
+    )
 }
 
 #[test]
@@ -88,7 +101,10 @@ fn link_verdicts_as_they_are_printed(rt: HostRuntime) -> Result<(), Fail> {
     let wider = LinkVerdict::Wider {
         extra: perms(b"kw")?,
     };
-    let text = format!(in alloc; "{missing}, {wider}, {}", LinkVerdict::Fine)?;
-    assert_eq!(rt; text.as_str(), "no rule for l, wider by wk, allowed");
+    assert!(rt;
+        is_printed(alloc, &missing, "no rule for l")?
+            && is_printed(alloc, &wider, "wider by wk")?
+            && is_printed(alloc, &LinkVerdict::Fine, "allowed")?
+    );
     Ok(())
 }

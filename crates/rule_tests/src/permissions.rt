@@ -1,32 +1,53 @@
 //! Sets of permissions, and their letters.
+use crate::printing::is_printed;
 use names::{Permission, Perms};
+use std::alloc::Global;
+use std::process::Abort;
 use std::test::Fail;
+
+fn expect_letters(rt: &impl Abort, alloc: Global, rows: &[(Perms, &str)]) -> Result<(), Fail> {
+    for (perms, letters) in rows {
+        assert!(rt; is_printed(alloc, perms, letters)?, "{perms} for {letters}");
+    }
+    Ok(())
+}
+
+#[test]
+fn letters_of_permissions(rt: HostRuntime) -> Result<(), Fail> {
+    let some = Perms::from_letters(b"mwrwm").ok_or("letters")?;
+    let all = Perms::from_letters(b"mklwr").ok_or("letters")?;
+    expect_letters(
+        &rt,
+        rt.alloc(),
+        &[
+            (some, "rwm"),
+            (all, "rwlkm"),
+            (all.without(some), "lk"),
+            (Perms::NONE.with(Permission::Link), "l"),
+        ],
+    )
+}
 
 #[test]
 fn sets_of_permissions(rt: HostRuntime) -> Result<(), Fail> {
-    let alloc = rt.alloc();
-    let perms = Perms::from_letters(b"mwrwm").ok_or("letters")?;
-    assert_eq!(rt; perms.to_string(alloc)?.as_str(), "rwm");
-    assert!(rt; perms.contains(Permission::Map) && !perms.contains(Permission::Lock));
+    let some = Perms::from_letters(b"mwrwm").ok_or("letters")?;
+    let all = Perms::from_letters(b"mklwr").ok_or("letters")?;
+    assert!(rt; some.contains(Permission::Map) && !some.contains(Permission::Lock));
+    assert!(rt; Perms::NONE.is_empty() && !some.is_empty());
+    assert!(rt; all.intersects(some) && !all.without(some).intersects(some));
+    Ok(())
+}
+
+#[test]
+fn letters_that_are_read(rt: HostRuntime) {
     assert_eq!(rt; Perms::from_letters(b"ra"), None);
     assert_eq!(rt; Perms::from_letters(b""), Some(Perms::NONE));
-    assert!(rt; Perms::NONE.is_empty() && !perms.is_empty());
-    let all = Perms::from_letters(b"mklwr").ok_or("letters")?;
-    assert_eq!(rt; all.to_string(alloc)?.as_str(), "rwlkm");
-    assert_eq!(rt; all.without(perms).to_string(alloc)?.as_str(), "lk");
-    assert!(rt; all.intersects(perms) && !all.without(perms).intersects(perms));
-    assert_eq!(rt;
-        Perms::NONE
-            .with(Permission::Link)
-            .to_string(alloc)?
-            .as_str(),
-        "l"
-    );
+}
+
+#[test]
+fn permissions_by_letter(rt: HostRuntime) {
     for permission in &Permission::ALL {
-        assert_eq!(rt;
-            Permission::from_letter(permission.letter()),
-            Some(*permission)
-        );
+        let again = Permission::from_letter(permission.letter());
+        assert_eq!(rt; again, Some(*permission));
     }
-    Ok(())
 }

@@ -5,8 +5,16 @@ use std::test::Fail;
 
 /// `profile p {`, these rules and `}`, read.
 pub(crate) fn profile_of(alloc: Global, rules: &[u8]) -> Result<Profile, Fail> {
-    let mut text = b"profile p {".to_vec(alloc)?;
-    text.extend_from_slice(rules)?;
-    text.extend_from_slice(b"}")?;
+    profile_between(alloc, b"profile p {", rules, b"}")
+}
+
+/// A text of three parts, read.
+pub(crate) fn profile_between(
+    alloc: Global,
+    before: &[u8],
+    part: &[u8],
+    behind: &[u8],
+) -> Result<Profile, Fail> {
+    let text = [before, part, behind].concat(alloc)?;
     Ok(read(alloc, &text)?)
 }

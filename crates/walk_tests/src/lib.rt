@@ -9,6 +9,8 @@ mod plain;
 #[cfg(test)]
 mod refusals;
 #[cfg(test)]
+mod steps;
+#[cfg(test)]
 mod testing;
 #[cfg(test)]
 mod toy;

@@ -1,70 +1,30 @@
 //! Changes of the tree in plain memory, one after another.
-use names::{Errno, Path};
+use crate::steps::{apply, change, new_tree, path};
+use names::Errno;
 use path_walk::{Change, Kind, LinkBytes, Look, PlainTree};
 use std::alloc::Global;
 use std::process::Abort;
 use std::test::Fail;
 
-pub(crate) fn change<'a>(line: &'a str) -> Option<Change<'a>> {
-    let bytes = line.as_bytes();
-    let space = bytes.iter().position(|b| *b == b' ')?;
-    let (verb, rest) = bytes.split_at(space);
-    let rest = &rest[1..];
-    let end = rest.iter().position(|b| *b == b' ').unwrap_or(rest.len());
-    let (one, two) = rest.split_at(end);
-    let two = if two.is_empty() { two } else { &two[1..] };
-    match verb {
-        b"mkdir" => Some(Change::Mkdir(Path::check(one).ok()?)),
-        b"create" => Some(Change::Create(Path::check(one).ok()?)),
-        b"symlink" => Some(Change::Symlink(LinkBytes::new(one), Path::check(two).ok()?)),
-        b"link" => Some(Change::Link(Path::check(one).ok()?, Path::check(two).ok()?)),
-        b"unlink" => Some(Change::Unlink(Path::check(one).ok()?)),
-        b"rmdir" => Some(Change::Rmdir(Path::check(one).ok()?)),
-        b"rename" => Some(Change::Rename(Path::check(one).ok()?, Path::check(two).ok()?)),
-        _ => None,
-    }
-}
-
-// Where memory is refused once, as `rt try --test --fail-alloc N` does it, it is asked for again.
-pub(crate) fn new_tree(alloc: Global, capacity: usize) -> Result<PlainTree, Fail> {
-    match PlainTree::new(alloc, capacity) {
-        Ok(tree) => Ok(tree),
-        Err(_) => Ok(PlainTree::new(alloc, capacity).ok().ok_or("memory")?),
-    }
-}
-
-// Where memory is refused, nothing is changed, and the change can be made again.
-pub(crate) fn apply(
-    rt: &impl Abort,
-    tree: &mut PlainTree,
-    change: &Change<'_>,
-) -> Result<u64, Errno> {
-    let before = tree.version();
-    match tree.apply(change) {
-        Err(Errno::ENOMEM) => {
-            assert_eq!(rt; tree.version(), before);
-            tree.apply(change)
-        }
-        answer => answer,
-    }
+// The version after a change that is made, and the old one after one that is refused.
+fn step(rt: &impl Abort, tree: &mut PlainTree, made: &Change<'_>, wanted: Result<u64, Errno>) {
+    let after = wanted.unwrap_or(tree.version());
+    assert_eq!(rt; apply(rt, tree, made), wanted);
+    assert_eq!(rt; tree.version(), after);
 }
 
 type Row<'a> = (&'a str, Result<u64, Errno>);
 
-fn run(rt: &impl Abort, alloc: Global, capacity: usize, rows: &[Row]) -> Result<(), Fail> {
-    let mut tree = new_tree(alloc, capacity)?;
+fn steps(rt: &impl Abort, tree: &mut PlainTree, rows: &[Row]) -> Result<(), Fail> {
     for (line, wanted) in rows {
-        let made = change(line).ok_or("a line that isn't understood")?;
-        let before = tree.version();
-        let answer = apply(rt, &mut tree, &made);
-        assert_eq!(rt; answer, *wanted);
-        let after = match answer {
-            Ok(version) => version,
-            Err(_) => before,
-        };
-        assert_eq!(rt; tree.version(), after);
+        step(rt, tree, &change(line)?, *wanted);
     }
     Ok(())
+}
+
+fn run(rt: &impl Abort, alloc: Global, capacity: usize, rows: &[Row]) -> Result<(), Fail> {
+    let mut tree = new_tree(alloc, capacity)?;
+    steps(rt, &mut tree, rows)
 }
 
 #[test]
@@ -269,27 +229,63 @@ fn renames_are_refused(rt: HostRuntime) -> Result<(), Fail> {
     )
 }
 
+// Changes, and after each the number of the node that the line's last byte names.
+fn expect_numbers(
+    rt: &impl Abort,
+    tree: &mut PlainTree,
+    rows: &[(&str, Option<u64>)],
+) -> Result<(), Fail> {
+    for (line, number) in rows {
+        let found = number_after(rt, tree, line)?;
+        assert_eq!(rt; found, *number, "{line}");
+    }
+    Ok(())
+}
+
+// The change may be refused.
+fn number_after(rt: &impl Abort, tree: &mut PlainTree, line: &str) -> Result<Option<u64>, Fail> {
+    let name = line.as_bytes().last().ok_or("an empty line")?;
+    let _ = apply(rt, tree, &change(line)?);
+    Ok(number_of(tree, &[*name]))
+}
+
+// The number of the node that an entry of the root stands for.
+fn number_of(tree: &mut PlainTree, name: &[u8]) -> Option<u64> {
+    let root = tree.root();
+    let found = tree.child(root, name).ok()??;
+    tree.node(found).ok()
+}
+
+// A refused change takes no number, and a node that is gone gives none back.
 #[test]
 fn nodes_are_numbered(rt: HostRuntime) -> Result<(), Fail> {
     let mut tree = new_tree(rt.alloc(), 3)?;
-    // A refused change takes no number, and a node that is gone gives none back.
-    for (line, number) in [
-        ("create /a", Some(2)),
-        ("create /a", None),
-        ("create /b", Some(3)),
-        ("unlink /b", None),
-        ("mkdir /b", Some(4)),
-        ("link /a /c", Some(2)),
-        ("create /d", None),
-    ] {
-        let made = change(line).ok_or(line)?;
-        let _ = apply(&rt, &mut tree, &made);
-        if let Some(number) = number {
-            let name = &line.as_bytes()[line.len() - 1..];
-            let root = tree.root();
-            let found = tree.child(root, name).ok().flatten().ok_or(line)?;
-            assert_eq!(rt; tree.node(found), Ok(number));
-        }
+    expect_numbers(
+        &rt,
+        &mut tree,
+        &[
+            ("create /a", Some(2)),
+            ("create /a", Some(2)),
+            ("create /b", Some(3)),
+            ("unlink /b", None),
+            ("mkdir /b", Some(4)),
+            ("link /a /c", Some(2)),
+            ("create /d", None),
+        ],
+    )
+}
+
+// A new link's text and its path, and what is answered.
+type TextRow<'a> = (&'a [u8], &'a [u8], Result<u64, Errno>);
+
+fn expect_links(rt: &impl Abort, tree: &mut PlainTree, rows: &[TextRow]) -> Result<(), Fail> {
+    for (text, at, wanted) in rows {
+        step(
+            rt,
+            tree,
+            &Change::Symlink(LinkBytes::new(text), path(at)?),
+            *wanted,
+        );
     }
     Ok(())
 }
@@ -297,31 +293,46 @@ fn nodes_are_numbered(rt: HostRuntime) -> Result<(), Fail> {
 #[test]
 fn texts_of_links_are_tested(rt: HostRuntime) -> Result<(), Fail> {
     let mut tree = new_tree(rt.alloc(), 9)?;
-    let mut bytes = [b'/'; 1024];
-    for i in 0..128 {
-        bytes[8 * i] = b'b';
-    }
-    let rows = [
-        (&bytes[..1023], Ok(1)),
-        (&bytes[..], Err(Errno::ENAMETOOLONG)),
-        (&[b'a'; 255], Ok(2)),
-        (&[b'a'; 256], Err(Errno::ENAMETOOLONG)),
-        (b"".as_slice(), Err(Errno::ENOENT)),
-        (b"a\0", Err(Errno::EINVAL)),
+    make_links(&rt, &mut tree)
+}
+
+fn make_links(rt: &impl Abort, tree: &mut PlainTree) -> Result<(), Fail> {
+    let long = long_text();
+    let rows: [TextRow; 6] = [
+        (&long[..1023], b"/k", Ok(1)),
+        (&long, b"/l", Err(Errno::ENAMETOOLONG)),
+        (&[b'a'; 255], b"/m", Ok(2)),
+        (&[b'a'; 256], b"/n", Err(Errno::ENAMETOOLONG)),
+        (b"", b"/o", Err(Errno::ENOENT)),
+        (b"a\0", b"/p", Err(Errno::EINVAL)),
     ];
-    for (i, (text, wanted)) in rows.iter().enumerate() {
-        let name = [b'/', b'k' + i as u8];
-        let path = Path::check(&name).ok().ok_or("a path")?;
-        let made = Change::Symlink(LinkBytes::new(text), path);
-        assert_eq!(rt; apply(&rt, &mut tree, &made), *wanted);
-    }
+    expect_links(rt, tree, &rows)?;
     let mut room = [0; 1023];
-    let root = tree.root();
-    let link = tree.child(root, b"l").ok().flatten();
-    assert_eq!(rt; link.is_none(), true);
-    let link = tree.child(root, b"k").ok().flatten().ok_or("a link")?;
-    assert_eq!(rt; tree.kind(link), Ok(Kind::Link));
-    assert_eq!(rt; tree.link_text(link, &mut room), Ok(1023));
-    assert!(rt; room[..] == bytes[..1023]);
+    assert_eq!(rt; text_of(tree, b"k", &mut room), Some(1023));
+    assert!(rt; room[..] == long[..1023] && is_missing(tree, b"l"));
     Ok(())
+}
+
+// 128 components of one byte, with slashes between and behind them.
+fn long_text() -> [u8; 1024] {
+    let mut text = [b'/'; 1024];
+    for i in 0..128 {
+        text[8 * i] = b'b';
+    }
+    text
+}
+
+// The length of the text of a link in the root, which is put into the room.
+fn text_of(tree: &mut PlainTree, name: &[u8], room: &mut [u8; 1023]) -> Option<usize> {
+    let root = tree.root();
+    let link = tree.child(root, name).ok()??;
+    match tree.kind(link) {
+        Ok(Kind::Link) => tree.link_text(link, room).ok(),
+        _ => None,
+    }
+}
+
+fn is_missing(tree: &mut PlainTree, name: &[u8]) -> bool {
+    let root = tree.root();
+    matches!(tree.child(root, name), Ok(None))
 }

@@ -1,8 +1,7 @@
 //! Each test of a change, and for each two of them which one goes before.
-use crate::plain::{change, new_tree};
-use crate::testing::expect;
-use names::{Errno, Path};
-use path_walk::{Change, LinkBytes, PlainTree};
+use crate::steps::{TextRow, change, expect, expect_answers, expect_texts, new_tree};
+use names::Errno;
+use path_walk::PlainTree;
 use std::alloc::Global;
 use std::process::Abort;
 use std::test::Fail;
@@ -27,14 +26,31 @@ fn tree_after(
     first: &[&str],
 ) -> Result<PlainTree, Fail> {
     let mut tree = new_tree(alloc, capacity)?;
-    for line in first {
-        let made = change(line).ok_or("a line that isn't understood")?;
-        expect(rt, &mut tree, &made, None);
-    }
+    expect_made(rt, &mut tree, first)?;
     Ok(tree)
 }
 
-// Each of these changes is refused by this error after the first ones, and changes nothing.
+// Each of these changes is made, one after the other.
+fn expect_made(rt: &impl Abort, tree: &mut PlainTree, lines: &[&str]) -> Result<(), Fail> {
+    for line in lines {
+        expect(rt, tree, &change(line)?, None);
+    }
+    Ok(())
+}
+
+// Each of these changes is refused by this error.
+fn expect_refused(
+    rt: &impl Abort,
+    tree: &mut PlainTree,
+    rows: &[(&str, Errno)],
+) -> Result<(), Fail> {
+    for (line, errno) in rows {
+        expect(rt, tree, &change(line)?, Some(*errno));
+    }
+    Ok(())
+}
+
+// Each of these changes is refused after the first ones.
 fn refuses(
     rt: &impl Abort,
     alloc: Global,
@@ -42,181 +58,195 @@ fn refuses(
     rows: &[(&str, Errno)],
 ) -> Result<(), Fail> {
     let mut tree = tree_after(rt, alloc, capacity, &FIRST)?;
-    let before = tree.version();
-    for (line, errno) in rows {
-        let made = change(line).ok_or("a line that isn't understood")?;
-        expect(rt, &mut tree, &made, Some(*errno));
-        assert_eq!(rt; tree.version(), before);
-    }
-    Ok(())
+    expect_refused(rt, &mut tree, rows)
 }
 
-// Each of these changes is made, one after the other.
+// Each of these changes is made after the first ones.
 fn accepts(rt: &impl Abort, alloc: Global, capacity: usize, lines: &[&str]) -> Result<(), Fail> {
     let mut tree = tree_after(rt, alloc, capacity, &FIRST)?;
-    for line in lines {
-        let made = change(line).ok_or("a line that isn't understood")?;
-        expect(rt, &mut tree, &made, None);
-    }
-    Ok(())
+    expect_made(rt, &mut tree, lines)
 }
 
 #[test]
 fn forms_of_paths(rt: HostRuntime) -> Result<(), Fail> {
-    let rows = [
-        ("mkdir /", Errno::EBUSY),
-        ("mkdir //", Errno::EBUSY),
-        ("create ///", Errno::EBUSY),
-        ("symlink t /", Errno::EBUSY),
-        ("unlink //", Errno::EBUSY),
-        ("rmdir /", Errno::EBUSY),
-        ("create /c/", Errno::EINVAL),
-        ("symlink t /c//", Errno::EINVAL),
-        ("unlink /f/", Errno::EINVAL),
-        ("mkdir /.", Errno::EINVAL),
-        ("mkdir /c/..//", Errno::EINVAL),
-        ("create /a/..", Errno::EINVAL),
-        ("symlink t /a/.", Errno::EINVAL),
-        ("unlink /..", Errno::EINVAL),
-        ("rmdir /a/b/.", Errno::EINVAL),
-        ("rmdir /a/b/../", Errno::EINVAL),
-    ];
-    refuses(&rt, rt.alloc(), 9, &rows)
+    refuses(
+        &rt,
+        rt.alloc(),
+        9,
+        &[
+            ("mkdir /", Errno::EBUSY),
+            ("mkdir //", Errno::EBUSY),
+            ("create ///", Errno::EBUSY),
+            ("symlink t /", Errno::EBUSY),
+            ("unlink //", Errno::EBUSY),
+            ("rmdir /", Errno::EBUSY),
+            ("create /c/", Errno::EINVAL),
+            ("symlink t /c//", Errno::EINVAL),
+            ("unlink /f/", Errno::EINVAL),
+            ("mkdir /.", Errno::EINVAL),
+            ("mkdir /c/..//", Errno::EINVAL),
+            ("create /a/..", Errno::EINVAL),
+            ("symlink t /a/.", Errno::EINVAL),
+            ("unlink /..", Errno::EINVAL),
+            ("rmdir /a/b/.", Errno::EINVAL),
+            ("rmdir /a/b/../", Errno::EINVAL),
+        ],
+    )
 }
 
 #[test]
 fn forms_before_walks(rt: HostRuntime) -> Result<(), Fail> {
-    let rows = [
-        ("mkdir /x/.", Errno::EINVAL),
-        ("mkdir /r/..", Errno::EINVAL),
-        ("create /x/c/", Errno::EINVAL),
-        ("create /r/.", Errno::EINVAL),
-        ("symlink t /f/c/", Errno::EINVAL),
-        ("symlink t /x/..", Errno::EINVAL),
-        ("unlink /x/c/", Errno::EINVAL),
-        ("unlink /f/..", Errno::EINVAL),
-        ("rmdir /x/./", Errno::EINVAL),
-        ("rmdir /n/..", Errno::EINVAL),
-        // Before what stands there is asked.
-        ("create /f/", Errno::EINVAL),
-        ("symlink t /f/", Errno::EINVAL),
-        ("unlink /a/", Errno::EINVAL),
-        ("unlink /x/", Errno::EINVAL),
-        // A slash may end the path of a directory.
-        ("mkdir /a/", Errno::EEXIST),
-        ("mkdir /f//", Errno::EEXIST),
-        ("rmdir /f/", Errno::ENOTDIR),
-        ("rmdir /x/", Errno::ENOENT),
-    ];
-    refuses(&rt, rt.alloc(), 9, &rows)
+    refuses(
+        &rt,
+        rt.alloc(),
+        9,
+        &[
+            ("mkdir /x/.", Errno::EINVAL),
+            ("mkdir /r/..", Errno::EINVAL),
+            ("create /x/c/", Errno::EINVAL),
+            ("create /r/.", Errno::EINVAL),
+            ("symlink t /f/c/", Errno::EINVAL),
+            ("symlink t /x/..", Errno::EINVAL),
+            ("unlink /x/c/", Errno::EINVAL),
+            ("unlink /f/..", Errno::EINVAL),
+            ("rmdir /x/./", Errno::EINVAL),
+            ("rmdir /n/..", Errno::EINVAL),
+            // Before what stands there is asked.
+            ("create /f/", Errno::EINVAL),
+            ("symlink t /f/", Errno::EINVAL),
+            ("unlink /a/", Errno::EINVAL),
+            ("unlink /x/", Errno::EINVAL),
+            // A slash may end the path of a directory.
+            ("mkdir /a/", Errno::EEXIST),
+            ("mkdir /f//", Errno::EEXIST),
+            ("rmdir /f/", Errno::ENOTDIR),
+            ("rmdir /x/", Errno::ENOENT),
+        ],
+    )
 }
 
 #[test]
 fn forms_of_two_paths(rt: HostRuntime) -> Result<(), Fail> {
-    let rows = [
-        ("link / /c", Errno::EBUSY),
-        ("link /f //", Errno::EBUSY),
-        ("link /f/ /c", Errno::EINVAL),
-        ("link /f /c/", Errno::EINVAL),
-        ("link /a/. /c", Errno::EINVAL),
-        ("link /f /..", Errno::EINVAL),
-        // The old path's form before the new one's.
-        ("link // /c/", Errno::EBUSY),
-        ("link /f/ /", Errno::EINVAL),
-        ("link /.. //", Errno::EINVAL),
-        // Both forms before the first walk.
-        ("link /x/y /", Errno::EBUSY),
-        ("link /f/y /c/", Errno::EINVAL),
-        ("link /r/y /.", Errno::EINVAL),
-        ("link / /x/y", Errno::EBUSY),
-        ("link /a/ /f/y", Errno::EINVAL),
-        // Before what stands at the places.
-        ("link /x /", Errno::EBUSY),
-        ("link /a /f/", Errno::EINVAL),
-    ];
-    refuses(&rt, rt.alloc(), 9, &rows)
+    refuses(
+        &rt,
+        rt.alloc(),
+        9,
+        &[
+            ("link / /c", Errno::EBUSY),
+            ("link /f //", Errno::EBUSY),
+            ("link /f/ /c", Errno::EINVAL),
+            ("link /f /c/", Errno::EINVAL),
+            ("link /a/. /c", Errno::EINVAL),
+            ("link /f /..", Errno::EINVAL),
+            // The old path's form before the new one's.
+            ("link // /c/", Errno::EBUSY),
+            ("link /f/ /", Errno::EINVAL),
+            ("link /.. //", Errno::EINVAL),
+            // Both forms before the first walk.
+            ("link /x/y /", Errno::EBUSY),
+            ("link /f/y /c/", Errno::EINVAL),
+            ("link /r/y /.", Errno::EINVAL),
+            ("link / /x/y", Errno::EBUSY),
+            ("link /a/ /f/y", Errno::EINVAL),
+            // Before what stands at the places.
+            ("link /x /", Errno::EBUSY),
+            ("link /a /f/", Errno::EINVAL),
+        ],
+    )
 }
 
 #[test]
 fn forms_of_a_rename(rt: HostRuntime) -> Result<(), Fail> {
-    let rows = [
-        ("rename / /c", Errno::EBUSY),
-        ("rename /f ///", Errno::EBUSY),
-        ("rename /a/ /c", Errno::EINVAL),
-        ("rename /a /c/", Errno::EINVAL),
-        ("rename /a/.. /c", Errno::EINVAL),
-        ("rename /a /.", Errno::EINVAL),
-        ("rename // /c/", Errno::EBUSY),
-        ("rename /a/ //", Errno::EINVAL),
-        ("rename /.. /", Errno::EINVAL),
-        ("rename / /", Errno::EBUSY),
-        ("rename /x/y /", Errno::EBUSY),
-        ("rename /f/y /c/", Errno::EINVAL),
-        ("rename /r/y /..", Errno::EINVAL),
-        ("rename / /x/y", Errno::EBUSY),
-        ("rename /a/ /f/y", Errno::EINVAL),
-        ("rename /x /", Errno::EBUSY),
-        // Before it is seen that both are one node.
-        ("rename /a/ /a/", Errno::EINVAL),
-        ("rename /a /a/.", Errno::EINVAL),
-    ];
-    refuses(&rt, rt.alloc(), 9, &rows)
+    refuses(
+        &rt,
+        rt.alloc(),
+        9,
+        &[
+            ("rename / /c", Errno::EBUSY),
+            ("rename /f ///", Errno::EBUSY),
+            ("rename /a/ /c", Errno::EINVAL),
+            ("rename /a /c/", Errno::EINVAL),
+            ("rename /a/.. /c", Errno::EINVAL),
+            ("rename /a /.", Errno::EINVAL),
+            ("rename // /c/", Errno::EBUSY),
+            ("rename /a/ //", Errno::EINVAL),
+            ("rename /.. /", Errno::EINVAL),
+            ("rename / /", Errno::EBUSY),
+            ("rename /x/y /", Errno::EBUSY),
+            ("rename /f/y /c/", Errno::EINVAL),
+            ("rename /r/y /..", Errno::EINVAL),
+            ("rename / /x/y", Errno::EBUSY),
+            ("rename /a/ /f/y", Errno::EINVAL),
+            ("rename /x /", Errno::EBUSY),
+            // Before it is seen that both are one node.
+            ("rename /a/ /a/", Errno::EINVAL),
+            ("rename /a /a/.", Errno::EINVAL),
+        ],
+    )
 }
 
 #[test]
 fn walks_to_the_parent(rt: HostRuntime) -> Result<(), Fail> {
-    let rows = [
-        ("mkdir /x/c", Errno::ENOENT),
-        ("mkdir /f/c", Errno::ENOTDIR),
-        ("mkdir /n/c", Errno::ENOENT),
-        ("create /l/c", Errno::ENOTDIR),
-        ("create /r/c", Errno::ELOOP),
-        ("create /f/../c", Errno::ENOTDIR),
-        ("symlink t /x/../c", Errno::ENOENT),
-        ("symlink t /l/c", Errno::ENOTDIR),
-        ("symlink t /r/c", Errno::ELOOP),
-        ("unlink /x/c", Errno::ENOENT),
-        ("unlink /f/c", Errno::ENOTDIR),
-        ("unlink /r/c", Errno::ELOOP),
-        ("rmdir /n/c", Errno::ENOENT),
-        ("rmdir /f/c/", Errno::ENOTDIR),
-        ("rmdir /r/c", Errno::ELOOP),
-        // The links of the parent are followed.
-        ("create /d/b", Errno::EEXIST),
-        ("rmdir /d/b", Errno::ENOTEMPTY),
-        ("unlink /d/b", Errno::EISDIR),
-    ];
-    refuses(&rt, rt.alloc(), 9, &rows)
+    refuses(
+        &rt,
+        rt.alloc(),
+        9,
+        &[
+            ("mkdir /x/c", Errno::ENOENT),
+            ("mkdir /f/c", Errno::ENOTDIR),
+            ("mkdir /n/c", Errno::ENOENT),
+            ("create /l/c", Errno::ENOTDIR),
+            ("create /r/c", Errno::ELOOP),
+            ("create /f/../c", Errno::ENOTDIR),
+            ("symlink t /x/../c", Errno::ENOENT),
+            ("symlink t /l/c", Errno::ENOTDIR),
+            ("symlink t /r/c", Errno::ELOOP),
+            ("unlink /x/c", Errno::ENOENT),
+            ("unlink /f/c", Errno::ENOTDIR),
+            ("unlink /r/c", Errno::ELOOP),
+            ("rmdir /n/c", Errno::ENOENT),
+            ("rmdir /f/c/", Errno::ENOTDIR),
+            ("rmdir /r/c", Errno::ELOOP),
+            // The links of the parent are followed.
+            ("create /d/b", Errno::EEXIST),
+            ("rmdir /d/b", Errno::ENOTEMPTY),
+            ("unlink /d/b", Errno::EISDIR),
+        ],
+    )
 }
 
 #[test]
 fn walks_of_two_paths(rt: HostRuntime) -> Result<(), Fail> {
-    let rows = [
-        ("link /x/y /c", Errno::ENOENT),
-        ("link /l/y /c", Errno::ENOTDIR),
-        ("link /f /r/c", Errno::ELOOP),
-        ("rename /x/y /c", Errno::ENOENT),
-        ("rename /l/y /c", Errno::ENOTDIR),
-        ("rename /f /r/c", Errno::ELOOP),
-        // The old path's walk before the new one's.
-        ("link /x/y /f/z", Errno::ENOENT),
-        ("link /f/y /r/z", Errno::ENOTDIR),
-        ("rename /r/y /x/z", Errno::ELOOP),
-        ("rename /f/y /x/z", Errno::ENOTDIR),
-        // The new path's walk before what stands at the old place.
-        ("link /x /f/z", Errno::ENOTDIR),
-        ("link /a /x/z", Errno::ENOENT),
-        ("link /l /r/z", Errno::ELOOP),
-        ("rename /x /f/z", Errno::ENOTDIR),
-        ("rename /a /a/x/z", Errno::ENOENT),
-        ("rename /f /f/z", Errno::ENOTDIR),
-    ];
-    refuses(&rt, rt.alloc(), 9, &rows)
+    refuses(
+        &rt,
+        rt.alloc(),
+        9,
+        &[
+            ("link /x/y /c", Errno::ENOENT),
+            ("link /l/y /c", Errno::ENOTDIR),
+            ("link /f /r/c", Errno::ELOOP),
+            ("rename /x/y /c", Errno::ENOENT),
+            ("rename /l/y /c", Errno::ENOTDIR),
+            ("rename /f /r/c", Errno::ELOOP),
+            // The old path's walk before the new one's.
+            ("link /x/y /f/z", Errno::ENOENT),
+            ("link /f/y /r/z", Errno::ENOTDIR),
+            ("rename /r/y /x/z", Errno::ELOOP),
+            ("rename /f/y /x/z", Errno::ENOTDIR),
+            // The new path's walk before what stands at the old place.
+            ("link /x /f/z", Errno::ENOTDIR),
+            ("link /a /x/z", Errno::ENOENT),
+            ("link /l /r/z", Errno::ELOOP),
+            ("rename /x /f/z", Errno::ENOTDIR),
+            ("rename /a /a/x/z", Errno::ENOENT),
+            ("rename /f /f/z", Errno::ENOTDIR),
+        ],
+    )
 }
 
 #[test]
 fn new_nodes(rt: HostRuntime) -> Result<(), Fail> {
-    let there = [
+    let there: &[(&str, Errno)] = &[
         ("mkdir /a", Errno::EEXIST),
         ("mkdir /f", Errno::EEXIST),
         ("create /f", Errno::EEXIST),
@@ -227,74 +257,71 @@ fn new_nodes(rt: HostRuntime) -> Result<(), Fail> {
         ("symlink t /r", Errno::EEXIST),
         ("symlink t /a/b/f", Errno::EEXIST),
     ];
-    refuses(&rt, rt.alloc(), 9, &there)?;
+    refuses(&rt, rt.alloc(), 9, there)?;
     // There already before full.
-    refuses(&rt, rt.alloc(), 8, &there)
+    refuses(&rt, rt.alloc(), 8, there)
 }
 
 #[test]
 fn new_nodes_of_a_full_tree(rt: HostRuntime) -> Result<(), Fail> {
-    let rows = [
-        ("mkdir /c", Errno::ENOSPC),
-        ("mkdir /a/b/c/", Errno::ENOSPC),
-        ("create /c", Errno::ENOSPC),
-        ("create /d/c", Errno::ENOSPC),
-        ("symlink t /c", Errno::ENOSPC),
-        // What is refused before full.
-        ("symlink  /c", Errno::ENOENT),
-        ("mkdir /", Errno::EBUSY),
-        ("create /c/", Errno::EINVAL),
-        ("mkdir /.", Errno::EINVAL),
-        ("create /x/c", Errno::ENOENT),
-        ("symlink t /f/c", Errno::ENOTDIR),
-        ("mkdir /r/c", Errno::ELOOP),
-    ];
-    refuses(&rt, rt.alloc(), 8, &rows)
-}
-
-// A link with this text is refused by this error.
-fn refuses_text(
-    rt: &impl Abort,
-    tree: &mut PlainTree,
-    text: &[u8],
-    path: &[u8],
-    errno: Errno,
-) -> Result<(), Fail> {
-    let path = Path::check(path).ok().ok_or("a path")?;
-    let made = Change::Symlink(LinkBytes::new(text), path);
-    expect(rt, tree, &made, Some(errno));
-    Ok(())
+    refuses(
+        &rt,
+        rt.alloc(),
+        8,
+        &[
+            ("mkdir /c", Errno::ENOSPC),
+            ("mkdir /a/b/c/", Errno::ENOSPC),
+            ("create /c", Errno::ENOSPC),
+            ("create /d/c", Errno::ENOSPC),
+            ("symlink t /c", Errno::ENOSPC),
+            // What is refused before full.
+            ("symlink  /c", Errno::ENOENT),
+            ("mkdir /", Errno::EBUSY),
+            ("create /c/", Errno::EINVAL),
+            ("mkdir /.", Errno::EINVAL),
+            ("create /x/c", Errno::ENOENT),
+            ("symlink t /f/c", Errno::ENOTDIR),
+            ("mkdir /r/c", Errno::ELOOP),
+        ],
+    )
 }
 
 #[test]
 fn texts_before_paths(rt: HostRuntime) -> Result<(), Fail> {
-    let mut tree = tree_after(&rt, rt.alloc(), 9, &FIRST)?;
-    let mut full = tree_after(&rt, rt.alloc(), 8, &FIRST)?;
-    for (text, path, errno) in [
+    let rows: &[TextRow] = &[
         // The tests of a text in their order.
-        ([0; 1024].as_slice(), b"/c".as_slice(), Errno::EINVAL),
-        (&[0; 256], b"/c", Errno::EINVAL),
-        (&[b'/'; 1024], b"/c", Errno::ENAMETOOLONG),
-        (&[b'a'; 256], b"/c", Errno::ENAMETOOLONG),
+        (&[0; 1024], b"/c", Some(Errno::EINVAL)),
+        (&[0; 256], b"/c", Some(Errno::EINVAL)),
+        (&[b'/'; 1024], b"/c", Some(Errno::ENAMETOOLONG)),
+        (&[b'a'; 256], b"/c", Some(Errno::ENAMETOOLONG)),
         // They go before the path's form, its walk and what stands there.
-        (b"", b"/", Errno::ENOENT),
-        (b"\0", b"/c/", Errno::EINVAL),
-        (&[b'a'; 256], b"/..", Errno::ENAMETOOLONG),
-        (b"", b"/f/c", Errno::ENOENT),
-        (b"a\0", b"/r/c", Errno::EINVAL),
-        (&[b'a'; 256], b"/x/c", Errno::ENAMETOOLONG),
-        (b"", b"/f", Errno::ENOENT),
-        (b"\0a", b"/f", Errno::EINVAL),
-    ] {
-        refuses_text(&rt, &mut tree, text, path, errno)?;
-        refuses_text(&rt, &mut full, text, path, errno)?;
-    }
-    Ok(())
+        (b"", b"/", Some(Errno::ENOENT)),
+        (b"\0", b"/c/", Some(Errno::EINVAL)),
+        (&[b'a'; 256], b"/..", Some(Errno::ENAMETOOLONG)),
+        (b"", b"/f/c", Some(Errno::ENOENT)),
+        (b"a\0", b"/r/c", Some(Errno::EINVAL)),
+        (&[b'a'; 256], b"/x/c", Some(Errno::ENAMETOOLONG)),
+        (b"", b"/f", Some(Errno::ENOENT)),
+        (b"\0a", b"/f", Some(Errno::EINVAL)),
+    ];
+    refuses_texts(&rt, rt.alloc(), 9, rows)?;
+    refuses_texts(&rt, rt.alloc(), 8, rows)
+}
+
+// Each of these links is refused after the first changes.
+fn refuses_texts(
+    rt: &impl Abort,
+    alloc: Global,
+    capacity: usize,
+    rows: &[TextRow],
+) -> Result<(), Fail> {
+    let mut tree = tree_after(rt, alloc, capacity, &FIRST)?;
+    expect_texts(rt, &mut tree, rows)
 }
 
 #[test]
 fn links(rt: HostRuntime) -> Result<(), Fail> {
-    let before_full = [
+    let before_full: &[(&str, Errno)] = &[
         ("link /x /c", Errno::ENOENT),
         ("link /a /c", Errno::EPERM),
         ("link /l /c", Errno::EPERM),
@@ -313,20 +340,20 @@ fn links(rt: HostRuntime) -> Result<(), Fail> {
         ("link /l /f", Errno::EPERM),
         ("link /l /l", Errno::EPERM),
     ];
-    refuses(&rt, rt.alloc(), 9, &before_full)?;
-    refuses(&rt, rt.alloc(), 8, &before_full)?;
-    let full = [
+    refuses(&rt, rt.alloc(), 9, before_full)?;
+    refuses(&rt, rt.alloc(), 8, before_full)?;
+    let full: &[(&str, Errno)] = &[
         ("link /f /c", Errno::ENOSPC),
         ("link /a/b/f /d/c", Errno::ENOSPC),
         ("link /f /x/c", Errno::ENOENT),
         ("link /f /c/", Errno::EINVAL),
     ];
-    refuses(&rt, rt.alloc(), 8, &full)
+    refuses(&rt, rt.alloc(), 8, full)
 }
 
 #[test]
 fn removals(rt: HostRuntime) -> Result<(), Fail> {
-    let rows = [
+    let rows: &[(&str, Errno)] = &[
         ("unlink /x", Errno::ENOENT),
         ("unlink /a/x", Errno::ENOENT),
         ("unlink /a", Errno::EISDIR),
@@ -344,8 +371,8 @@ fn removals(rt: HostRuntime) -> Result<(), Fail> {
         ("rmdir /a", Errno::ENOTEMPTY),
         ("rmdir /a/b/", Errno::ENOTEMPTY),
     ];
-    refuses(&rt, rt.alloc(), 9, &rows)?;
-    let lines = [
+    refuses(&rt, rt.alloc(), 9, rows)?;
+    let lines: &[&str] = &[
         "unlink /l",
         "unlink /n",
         "unlink /r",
@@ -354,12 +381,12 @@ fn removals(rt: HostRuntime) -> Result<(), Fail> {
         "unlink /d",
         "rmdir /a",
     ];
-    accepts(&rt, rt.alloc(), 8, &lines)
+    accepts(&rt, rt.alloc(), 8, lines)
 }
 
 #[test]
 fn renames(rt: HostRuntime) -> Result<(), Fail> {
-    let rows = [
+    let rows: &[(&str, Errno)] = &[
         ("rename /x /c", Errno::ENOENT),
         ("rename /x /f", Errno::ENOENT),
         ("rename /x /a", Errno::ENOENT),
@@ -381,38 +408,38 @@ fn renames(rt: HostRuntime) -> Result<(), Fail> {
         ("rename /r /d/b", Errno::EISDIR),
         ("rename /a/b /a", Errno::ENOTEMPTY),
     ];
-    refuses(&rt, rt.alloc(), 9, &rows)?;
+    refuses(&rt, rt.alloc(), 9, rows)?;
     // A rename needs no room.
-    refuses(&rt, rt.alloc(), 8, &rows)
+    refuses(&rt, rt.alloc(), 8, rows)
 }
 
 #[test]
 fn renames_over_directories(rt: HostRuntime) -> Result<(), Fail> {
     let mut tree = tree_after(&rt, rt.alloc(), 9, &["mkdir /a", "create /a/f", "mkdir /e"])?;
-    for (line, refusal) in [
-        ("rename /e /a", Some(Errno::ENOTEMPTY)),
-        ("rename /e /a/f", Some(Errno::ENOTDIR)),
-        ("rename /a/f /e", Some(Errno::EISDIR)),
-        ("rename /e /e/x", Some(Errno::EINVAL)),
-        ("rename /a /e", None),
-        ("rename /e /e", None),
-        ("rename /a /e", Some(Errno::ENOENT)),
-        ("link /e/f /g", None),
-        ("rename /g /e/f", None),
-        ("rename /e/f /e", Some(Errno::EISDIR)),
-        ("unlink /g", None),
-        ("unlink /e/f", None),
-    ] {
-        let made = change(line).ok_or(line)?;
-        expect(&rt, &mut tree, &made, refusal);
-    }
-    Ok(())
+    expect_answers(
+        &rt,
+        &mut tree,
+        &[
+            ("rename /e /a", Some(Errno::ENOTEMPTY)),
+            ("rename /e /a/f", Some(Errno::ENOTDIR)),
+            ("rename /a/f /e", Some(Errno::EISDIR)),
+            ("rename /e /e/x", Some(Errno::EINVAL)),
+            ("rename /a /e", None),
+            ("rename /e /e", None),
+            ("rename /a /e", Some(Errno::ENOENT)),
+            ("link /e/f /g", None),
+            ("rename /g /e/f", None),
+            ("rename /e/f /e", Some(Errno::EISDIR)),
+            ("unlink /g", None),
+            ("unlink /e/f", None),
+        ],
+    )
 }
 
 // Where both places are one node's all stays, that of a filled directory, too. A full tree has room for all of these.
 #[test]
 fn renames_that_are_made(rt: HostRuntime) -> Result<(), Fail> {
-    let lines = [
+    let lines: &[&str] = &[
         "rename /a /a",
         "rename /a/b /d/b",
         "rename /f /f",
@@ -425,53 +452,51 @@ fn renames_that_are_made(rt: HostRuntime) -> Result<(), Fail> {
         "rename /a /b/a",
         "rename /b/a /c",
     ];
-    accepts(&rt, rt.alloc(), 8, &lines)?;
-    let linked = ["link /f /g", "rename /f /g", "rename /g /f", "unlink /g"];
-    accepts(&rt, rt.alloc(), 9, &linked)
+    accepts(&rt, rt.alloc(), 8, lines)?;
+    let linked: &[&str] = &["link /f /g", "rename /f /g", "rename /g /f", "unlink /g"];
+    accepts(&rt, rt.alloc(), 9, linked)
 }
 
-// Each link of the chain leads to the one before it, and the first to a directory.
+// Each of these 41 links leads to the one before it, and the first to a directory.
+fn make_chain(rt: &impl Abort, tree: &mut PlainTree) -> Result<(), Fail> {
+    let mut text = b'd';
+    for name in b'0'..b'0' + 41 {
+        expect_texts(rt, tree, &[(&[text], &[b'/', name], None)])?;
+        text = name;
+    }
+    Ok(())
+}
+
 #[test]
 fn forty_links_for_each_path(rt: HostRuntime) -> Result<(), Fail> {
     let mut tree = tree_after(&rt, rt.alloc(), 60, &["mkdir /d", "create /d/f"])?;
-    let mut text = [b'd'];
-    for i in 0..41u8 {
-        let name = [b'/', b'0' + i];
-        let path = Path::check(&name).ok().ok_or("a path")?;
-        expect(
-            &rt,
-            &mut tree,
-            &Change::Symlink(LinkBytes::new(&text), path),
-            None,
-        );
-        text = [b'0' + i];
-    }
+    make_chain(&rt, &mut tree)?;
     // The link W is the fortieth and X the forty-first.
-    for (line, refusal) in [
-        ("link /W/f /W/g", None),
-        ("link /X/f /W/h", Some(Errno::ELOOP)),
-        ("link /W/f /X/h", Some(Errno::ELOOP)),
-        ("rename /W/g /W/h", None),
-        ("rename /X/h /W/g", Some(Errno::ELOOP)),
-        ("rename /W/h /X/g", Some(Errno::ELOOP)),
-        ("mkdir /W/a", None),
-        ("mkdir /X/b", Some(Errno::ELOOP)),
-        ("create /X/b", Some(Errno::ELOOP)),
-        ("symlink t /X/b", Some(Errno::ELOOP)),
-        ("symlink t /W/b", None),
-        ("unlink /X/h", Some(Errno::ELOOP)),
-        ("rmdir /X/a", Some(Errno::ELOOP)),
-        ("rmdir /W/a", None),
-        ("link /X /c", Some(Errno::EPERM)),
-        // The links of the whole walk are counted, whatever stands between them.
-        ("create /V/../0/c", None),
-        ("create /W/../0/e", Some(Errno::ELOOP)),
-        ("rename /X /Y", None),
-        ("rmdir /Y", Some(Errno::ENOTDIR)),
-        ("unlink /Y", None),
-    ] {
-        let made = change(line).ok_or(line)?;
-        expect(&rt, &mut tree, &made, refusal);
-    }
-    Ok(())
+    expect_answers(
+        &rt,
+        &mut tree,
+        &[
+            ("link /W/f /W/g", None),
+            ("link /X/f /W/h", Some(Errno::ELOOP)),
+            ("link /W/f /X/h", Some(Errno::ELOOP)),
+            ("rename /W/g /W/h", None),
+            ("rename /X/h /W/g", Some(Errno::ELOOP)),
+            ("rename /W/h /X/g", Some(Errno::ELOOP)),
+            ("mkdir /W/a", None),
+            ("mkdir /X/b", Some(Errno::ELOOP)),
+            ("create /X/b", Some(Errno::ELOOP)),
+            ("symlink t /X/b", Some(Errno::ELOOP)),
+            ("symlink t /W/b", None),
+            ("unlink /X/h", Some(Errno::ELOOP)),
+            ("rmdir /X/a", Some(Errno::ELOOP)),
+            ("rmdir /W/a", None),
+            ("link /X /c", Some(Errno::EPERM)),
+            // The links of the whole walk are counted, whatever stands between them.
+            ("create /V/../0/c", None),
+            ("create /W/../0/e", Some(Errno::ELOOP)),
+            ("rename /X /Y", None),
+            ("rmdir /Y", Some(Errno::ENOTDIR)),
+            ("unlink /Y", None),
+        ],
+    )
 }

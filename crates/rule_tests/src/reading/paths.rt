@@ -1,11 +1,10 @@
 //! The items that paths are read as.
 use super::*;
 use rule_text::{ByteRange, Class};
-use std::process::Abort;
 
-/// The first class of a path's items, as its ranges in pairs of bytes.
-fn first_class(rule: &Rule) -> Option<&Class> {
-    for item in rule.items() {
+/// The first class of a path's items.
+fn first_class(items: &[Item]) -> Option<&Class> {
+    for item in items {
         if let Item::Class(class) = item {
             return Some(class);
         }
@@ -13,102 +12,124 @@ fn first_class(rule: &Rule) -> Option<&Class> {
     None
 }
 
-/// A path of one class, read: whether that is negated, and its ranges.
-fn expect_class(
-    rt: &impl Abort,
-    alloc: Global,
-    members: &[u8],
-    negated: bool,
-    ends: &[u8],
-) -> Result<(), Fail> {
-    let profile = profile_between(alloc, b"profile p {/[", members, b"] r,}")?;
-    let class = first_class(first_rule(&profile)?).ok_or("no class")?;
-    assert_eq!(rt; class.is_negated(), negated, "{members:?}");
-    assert_eq!(rt; class.ranges().len() * 2, ends.len(), "{members:?}");
-    for (range, pair) in class.ranges().iter().zip(ends.chunks(2)) {
-        assert_eq!(rt; [range.first, range.last].as_slice(), pair, "{members:?}");
+/// A class's members as written, whether it is negated, and the first and last byte of each of its ranges.
+type ClassRow<'a> = (&'a [u8], bool, &'a [u8]);
+
+fn expect_classes(rt: &impl Abort, alloc: Global, rows: &[ClassRow]) -> Result<(), Fail> {
+    for row in rows {
+        assert!(rt; is_read_so(alloc, row)?, "{row:?}");
     }
     Ok(())
+}
+
+fn is_read_so(alloc: Global, (members, negated, ends): &ClassRow<'_>) -> Result<bool, Fail> {
+    let profile = profile_between(alloc, b"profile p {/[", members, b"] r,}")?;
+    Ok(match first_class(first_items(&profile)) {
+        Some(class) => class.is_negated() == *negated && has_ranges(class, ends),
+        None => false,
+    })
+}
+
+fn has_ranges(class: &Class, ends: &[u8]) -> bool {
+    for (range, pair) in class.ranges().iter().zip(ends.chunks(2)) {
+        if [range.first, range.last].as_slice() != pair {
+            return false;
+        }
+    }
+    class.ranges().len() * 2 == ends.len()
 }
 
 #[test]
 fn classes(rt: HostRuntime) -> Result<(), Fail> {
-    let alloc = rt.alloc();
-    // The members as written, whether the class is negated, and the first and last byte of each range.
-    let table: [(&[u8], bool, &[u8]); 24] = [
-        (b"a", false, b"aa"),
-        (b"^a", true, b"aa"),
-        (b"^^a", true, b"^^aa"),
-        (b"a^", false, b"aa^^"),
-        (b"abc", false, b"aabbcc"),
-        (b"a-c", false, b"ac"),
-        (b"a-cx", false, b"acxx"),
-        (b"-", false, b"--"),
-        (b"--", false, b"----"),
-        (b"---", false, b"------"),
-        (b"-a", false, b"--aa"),
-        (b"a-", false, b"aa--"),
-        (b"^-a", true, b"--aa"),
-        (b"a--", false, b"aa----"),
-        (b"+--", false, b"++----"),
-        (b"--a", false, b"----aa"),
-        (b"---a", false, b"---a"),
-        (b"+---", false, b"+---"),
-        (b"+--z", false, b"+-zz"),
-        (b"a-c--e", false, b"ac----ee"),
-        (b"a-c---e", false, b"ac---e"),
-        (b"\\--a", false, b"-a"),
-        (b"!-\\-", false, b"!-"),
-        (b"\\]\\\\\\^[{}", false, b"]]\\\\^^[[{{}}"),
-    ];
-    for (members, negated, ends) in &table {
-        expect_class(&rt, alloc, members, *negated, ends)?;
-    }
-    Ok(())
+    expect_classes(
+        &rt,
+        rt.alloc(),
+        &[
+            (b"a", false, b"aa"),
+            (b"^a", true, b"aa"),
+            (b"^^a", true, b"^^aa"),
+            (b"a^", false, b"aa^^"),
+            (b"abc", false, b"aabbcc"),
+            (b"a-c", false, b"ac"),
+            (b"a-cx", false, b"acxx"),
+            (b"-", false, b"--"),
+            (b"--", false, b"----"),
+            (b"---", false, b"------"),
+            (b"-a", false, b"--aa"),
+            (b"a-", false, b"aa--"),
+            (b"^-a", true, b"--aa"),
+            (b"a--", false, b"aa----"),
+            (b"+--", false, b"++----"),
+            (b"--a", false, b"----aa"),
+            (b"---a", false, b"---a"),
+            (b"+---", false, b"+---"),
+            (b"+--z", false, b"+-zz"),
+            (b"a-c--e", false, b"ac----ee"),
+            (b"a-c---e", false, b"ac---e"),
+            (b"\\--a", false, b"-a"),
+            (b"!-\\-", false, b"!-"),
+            (b"\\]\\\\\\^[{}", false, b"]]\\\\^^[[{{}}"),
+        ],
+    )
 }
 
 #[test]
 fn strict_runs(rt: HostRuntime) -> Result<(), Fail> {
-    let alloc = rt.alloc();
-    // The path, and whether its first run of stars is strict.
-    let table: [(&[u8], bool); 16] = [
-        (b"/*", true),
-        (b"/x\\/*", true),
-        (b"/*\\/", true),
-        (b"/*\\*", false),
-        (b"{/}*", false),
-        (b"/*{}", false),
-        (b"[/]*", false),
-        (b"/{*}", false),
-        (b"{/*}", false),
-        (b"{/*,a}", false),
-        (b"{a/*/,b}", true),
-        (b"/***", true),
-        (b"/*,x", false),
-        (b"/*@", false),
-        (b"/**/", true),
-        (b"?*", false),
-    ];
-    for (path, strict) in &table {
-        expect_strict(&rt, alloc, b"profile p {/", path, b" r,}", *strict)?;
-        expect_strict(&rt, alloc, b"profile p {\"/", path, b"\" r,}", *strict)?;
-        expect_strict(&rt, alloc, b"profile p {r /", path, b",}", *strict)?;
+    expect_strict(
+        &rt,
+        rt.alloc(),
+        &[
+            (b"/*", true),
+            (b"/x\\/*", true),
+            (b"/*\\/", true),
+            (b"/*\\*", false),
+            (b"{/}*", false),
+            (b"/*{}", false),
+            (b"[/]*", false),
+            (b"/{*}", false),
+            (b"{/*}", false),
+            (b"{/*,a}", false),
+            (b"{a/*/,b}", true),
+            (b"/***", true),
+            (b"/*,x", false),
+            (b"/*@", false),
+            (b"/**/", true),
+            (b"?*", false),
+        ],
+    )
+}
+
+/// Paths, and whether their first run of stars is strict.
+fn expect_strict(rt: &impl Abort, alloc: Global, rows: &[(&[u8], bool)]) -> Result<(), Fail> {
+    for (path, strict) in rows {
+        assert_eq!(rt; in_each_place(alloc, path)?, [*strict; 3], "{path:?}");
     }
     Ok(())
 }
 
-fn expect_strict(
-    rt: &impl Abort,
+/// Whether the path's first run of stars is strict: in front of the permissions, in quotes there, and behind them.
+fn in_each_place(alloc: Global, path: &[u8]) -> Result<[bool; 3], Fail> {
+    Ok([
+        is_strict(alloc, b"profile p {/", path, b" r,}")?,
+        is_strict(alloc, b"profile p {\"/", path, b"\" r,}")?,
+        is_strict(alloc, b"profile p {r /", path, b",}")?,
+    ])
+}
+
+/// Whether the first run of stars is strict, of the path that such a text has.
+fn is_strict(alloc: Global, before: &[u8], path: &[u8], behind: &[u8]) -> Result<bool, Fail> {
+    let run = run_between(alloc, before, path, behind)?;
+    Ok(run.ok_or("no stars")?.strict)
+}
+
+fn run_between(
     alloc: Global,
     before: &[u8],
     path: &[u8],
     behind: &[u8],
-    strict: bool,
-) -> Result<(), Fail> {
+) -> Result<Option<Stars>, Fail> {
     let profile = profile_between(alloc, before, path, behind)?;
-    let run = first_run_within(first_rule(&profile)?.items()).ok_or("no stars")?;
-    assert_eq!(rt; run.strict, strict, "{path:?}");
-    Ok(())
+    Ok(first_run_within(first_items(&profile)))
 }
 
 /// The first run of stars, within groups too.
