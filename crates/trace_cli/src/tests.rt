@@ -1,7 +1,8 @@
 use crate::program::run_words;
 use std::alloc::Global;
 use std::io;
-use std::io::{BufReader, ErrorKind, Read, Write};
+use std::io::{BufRead, BufReader, ErrorKind, Read, Write};
+use std::process::Abort;
 use std::test::Fail;
 use trace_line::{Line, LineFault, command_line};
 use trace_report::Status;
@@ -21,6 +22,18 @@ const CUT_OFF: &str = "profile p {\n  /x r";
 
 const GLOBBING: &str =
     "# c\n\"/bin/x\" { /usr{,/local}/bin/[^a-c]? r,deny w \"/a b/{c,}d\" , #d\n}";
+
+const ONE_NAME: &str = "profile p { /etc/passwd r, }";
+
+const DENIES_LAST: &str = "profile p { /a/** rw, deny /a/k* w, }";
+
+const DENIES_FIRST: &str = "profile p { deny /a/k* w, /a/** rw, }";
+
+const DENIES_TWICE: &str = "profile p { /a rw, deny /a w, deny /a r, }";
+
+const ONE_STAR: &str = "profile p { /tmp/* r, }";
+
+const TWO_STARS: &str = "profile p { /tmp/** r, }";
 
 /// Gives its bytes a few at a time, and fails once it has been read from often enough.
 #[derive(Drop)]
@@ -62,6 +75,11 @@ impl Failing {
         }
     }
 
+    /// Takes whatever is written.
+    fn never(alloc: Global) -> Failing {
+        Failing::after(alloc, usize::MAX, usize::MAX)
+    }
+
     fn count(&mut self) -> io::Result<()> {
         if self.calls == 0 {
             return Err(io::Error::from(ErrorKind::BrokenPipe));
@@ -84,134 +102,271 @@ impl Write for Failing {
     }
 }
 
-/// A run over memory: its status, and what stands on both streams.
-fn run(alloc: Global, words: &[&str], text: &str) -> (Status, Vec<u8>, Vec<u8>) {
-    run_on_bytes(alloc, words, text.as_bytes())
+/// What a run comes to: its status, and what stands on both streams.
+#[derive(Drop)]
+struct Ending {
+    status: Status,
+    answers: Vec<u8>,
+    faults: Vec<u8>,
 }
 
-/// The same over input that is no text.
-fn run_on_bytes(alloc: Global, words: &[&str], bytes: &[u8]) -> (Status, Vec<u8>, Vec<u8>) {
+impl Ending {
+    fn is(&self, status: Status, answers: &[u8], faults: &[u8]) -> bool {
+        self.status == status
+            && self.answers.as_slice() == answers
+            && self.faults.as_slice() == faults
+    }
+
+    /// Whether just this was told: as an answer where the run was done, and as a fault where it wasn't.
+    fn tells(&self, status: Status, told: &str) -> bool {
+        let told = told.as_bytes();
+        if status == Status::Done {
+            self.is(status, told, b"")
+        } else {
+            self.is(status, b"", told)
+        }
+    }
+}
+
+/// A run whose streams are taken as those two writers allow.
+fn run_within<R: BufRead>(
+    alloc: Global,
+    words: &[&str],
+    input: &mut R,
+    mut answers: Failing,
+    mut faults: Failing,
+) -> Ending {
+    let status = run_words(alloc, words, input, &mut answers, &mut faults);
+    Ending {
+        status,
+        answers: answers.taken,
+        faults: faults.taken,
+    }
+}
+
+/// A run over memory.
+fn run(alloc: Global, words: &[&str], bytes: &[u8]) -> Ending {
     let mut input = bytes;
-    let mut answers = Vec::new(alloc);
-    let mut faults = Vec::new(alloc);
-    let status = run_words(alloc, words, &mut input, &mut answers, &mut faults);
-    (status, answers, faults)
+    run_within(
+        alloc,
+        words,
+        &mut input,
+        Failing::never(alloc),
+        Failing::never(alloc),
+    )
 }
 
-#[test]
-fn verdicts_and_refusals(rt: HostRuntime) {
-    let cases = [
-        ("r", "/etc/passwd", PASSWD, 0, "allowed\n"),
-        ("rrr", "/etc/passwd", PASSWD, 0, "allowed\n"),
-        ("wr", "/etc/passwd", PASSWD, 0, "no rule for w\n"),
-        ("mk", "/", PASSWD, 0, "no rule for km\n"),
-        ("rx", "/x", PASSWD, 2, "bad permissions\n"),
-        ("", "/x", PASSWD, 2, "bad permissions\n"),
-        ("rx", "x", "", 2, "bad permissions\n"),
-        ("r", "x", PASSWD, 2, "bad name\n"),
-        ("r", "", "", 2, "bad name\n"),
-        ("r", "/x", SUFFIXED, 3, "refused: read 2 at 17\n"),
-        ("r", "/x", INCLUDING, 3, "refused: read 2 at 14\n"),
-        ("r", "/x", CUT_OFF, 3, "refused: read 1 at 18\n"),
-        ("r", "/usr/bin/dx", GLOBBING, 0, "allowed\n"),
-        ("r", "/usr/local/bin/ax", GLOBBING, 0, "no rule for r\n"),
-        ("w", "/a b/cd", GLOBBING, 0, "denied by rule 2\n"),
-        ("r", "/x", "", 3, "refused: read 1 at 0\n"),
-    ];
-    for (perms, name, text, code, told) in cases {
+/// A run of a command on permissions and a name.
+fn ask(alloc: Global, command: &str, perms: &str, name: &str, bytes: &[u8]) -> Ending {
+    run(alloc, &["aa-trace", command, perms, name], bytes)
+}
+
+/// A run over a reader that fails.
+fn run_on_pieces(alloc: Global, words: &[&str], pieces: Pieces<'_>) -> Result<Ending, Fail> {
+    let mut input = BufReader::new(alloc, pieces)?;
+    let (answers, faults) = (Failing::never(alloc), Failing::never(alloc));
+    Ok(run_within(alloc, words, &mut input, answers, faults))
+}
+
+/// A run over one profile, whose answers are taken a few bytes at a time and in so many calls at most.
+fn run_into_failing(alloc: Global, words: &[&str], piece: usize, calls: usize) -> Ending {
+    let mut input = PASSWD.as_bytes();
+    let answers = Failing::after(alloc, piece, calls);
+    run_within(alloc, words, &mut input, answers, Failing::never(alloc))
+}
+
+/// Asserts how a run over memory ends, and that it tells just this.
+fn expect(
+    rt: &impl Abort,
+    alloc: Global,
+    words: &[&str],
+    bytes: &[u8],
+    status: Status,
+    told: &str,
+) {
+    let ending = run(alloc, words, bytes);
+    assert!(rt; ending.tells(status, told), "{words:?} tells {told}");
+}
+
+/// Permissions and a name, the profile's text by which they are judged, and how that ends.
+type Judged<'a> = (&'a str, &'a str, &'a str, Status, &'a str);
+
+fn expect_judged(rt: &impl Abort, alloc: Global, rows: &[Judged]) {
+    for (perms, name, text, status, told) in rows {
         let words = ["aa-trace", "judge", perms, name];
-        let (status, answers, faults) = run(rt.alloc(), &words, text);
-        assert_eq!(rt; status.code(), code, "{perms} {name}");
-        let (answer, fault) = if code == 0 { (told, "") } else { ("", told) };
-        assert!(rt; answers.as_slice() == answer.as_bytes(), "{perms} {name}");
-        assert!(rt; faults.as_slice() == fault.as_bytes(), "{perms} {name}");
+        expect(rt, alloc, &words, text.as_bytes(), *status, told);
     }
 }
 
 #[test]
-fn readers_that_fail(rt: HostRuntime) -> Result<(), Fail> {
-    let words = ["aa-trace", "judge", "r", "/etc/passwd"];
-    let broken = ErrorKind::BrokenPipe;
-    let cases = [
-        (1, 100, broken, 0, "allowed\n", ""),
-        (1, 7, broken, 3, "", "refused: input\n"),
-        (9, 0, broken, 3, "", "refused: input\n"),
-        (1, 7, ErrorKind::OutOfMemory, 4, "", "no memory\n"),
-    ];
-    for (piece, reads, error, code, answer, fault) in cases {
-        let left = PASSWD.as_bytes();
+fn verdicts_and_refusals(rt: HostRuntime) {
+    expect_judged(
+        &rt,
+        rt.alloc(),
+        &[
+            ("r", "/etc/passwd", PASSWD, Status::Done, "allowed\n"),
+            ("rrr", "/etc/passwd", PASSWD, Status::Done, "allowed\n"),
+            ("wr", "/etc/passwd", PASSWD, Status::Done, "no rule for w\n"),
+            ("mk", "/", PASSWD, Status::Done, "no rule for km\n"),
+            (
+                "rx",
+                "/x",
+                PASSWD,
+                Status::BadArguments,
+                "bad permissions\n",
+            ),
+            ("", "/x", PASSWD, Status::BadArguments, "bad permissions\n"),
+            ("rx", "x", "", Status::BadArguments, "bad permissions\n"),
+            ("r", "x", PASSWD, Status::BadArguments, "bad name\n"),
+            ("r", "", "", Status::BadArguments, "bad name\n"),
+            (
+                "r",
+                "/x",
+                SUFFIXED,
+                Status::Refused,
+                "refused: read 2 at 17\n",
+            ),
+            (
+                "r",
+                "/x",
+                INCLUDING,
+                Status::Refused,
+                "refused: read 2 at 14\n",
+            ),
+            (
+                "r",
+                "/x",
+                CUT_OFF,
+                Status::Refused,
+                "refused: read 1 at 18\n",
+            ),
+            ("r", "/usr/bin/dx", GLOBBING, Status::Done, "allowed\n"),
+            (
+                "r",
+                "/usr/local/bin/ax",
+                GLOBBING,
+                Status::Done,
+                "no rule for r\n",
+            ),
+            ("w", "/a b/cd", GLOBBING, Status::Done, "denied by rule 2\n"),
+            ("r", "/x", "", Status::Refused, "refused: read 1 at 0\n"),
+        ],
+    );
+}
+
+/// How many bytes are read at a time, how often, what follows, and how the run ends.
+type ReadFault<'a> = (usize, usize, ErrorKind, Status, &'a str);
+
+/// Judges by one profile, over readers that fail.
+fn expect_read_faults(
+    rt: &impl Abort,
+    alloc: Global,
+    words: &[&str],
+    rows: &[ReadFault],
+) -> Result<(), Fail> {
+    for (piece, reads, error, status, told) in rows {
         let pieces = Pieces {
-            left,
-            piece,
-            reads,
-            error,
+            left: PASSWD.as_bytes(),
+            piece: *piece,
+            reads: *reads,
+            error: *error,
         };
-        let mut input = BufReader::new(rt.alloc(), pieces)?;
-        let mut answers = Vec::new(rt.alloc());
-        let mut faults = Vec::new(rt.alloc());
-        let status = run_words(rt.alloc(), &words, &mut input, &mut answers, &mut faults);
-        assert_eq!(rt; status.code(), code, "{piece} {reads}");
-        assert!(rt; answers.as_slice() == answer.as_bytes(), "{piece} {reads}");
-        assert!(rt; faults.as_slice() == fault.as_bytes(), "{piece} {reads}");
+        let ending = run_on_pieces(alloc, words, pieces)?;
+        assert!(rt; ending.tells(*status, told), "{words:?} tells {told}");
     }
     Ok(())
 }
 
 #[test]
+fn readers_that_fail(rt: HostRuntime) -> Result<(), Fail> {
+    let broken = ErrorKind::BrokenPipe;
+    expect_read_faults(
+        &rt,
+        rt.alloc(),
+        &["aa-trace", "judge", "r", "/etc/passwd"],
+        &[
+            (1, 100, broken, Status::Done, "allowed\n"),
+            (1, 7, broken, Status::InputFailed, "refused: input\n"),
+            (9, 0, broken, Status::InputFailed, "refused: input\n"),
+            (
+                1,
+                7,
+                ErrorKind::OutOfMemory,
+                Status::NoMemory,
+                "no memory\n",
+            ),
+        ],
+    )
+}
+
+#[test]
 fn answers_that_fail(rt: HostRuntime) {
-    let alloc = rt.alloc();
     let words = ["aa-trace", "judge", "r", "/etc/passwd"];
     // Eight bytes are written in three parts and flushed, so a fifth call isn't made.
-    for calls in 0..5 {
-        let mut input = PASSWD.as_bytes();
-        let mut answers = Failing::after(alloc, 3, calls);
-        let mut faults = Vec::new(alloc);
-        let status = run_words(alloc, &words, &mut input, &mut answers, &mut faults);
-        let (wanted, told) = if calls < 4 {
-            (Status::OutputFailed, "refused: output\n")
-        } else {
-            (Status::Done, "")
-        };
-        assert_eq!(rt; status, wanted, "{calls}");
-        assert!(rt; faults.as_slice() == told.as_bytes(), "{calls}");
+    for calls in 0..4 {
+        let ending = run_into_failing(rt.alloc(), &words, 3, calls);
         let written = 8.min(3 * calls);
         assert!(rt;
-            answers.taken.as_slice() == &b"allowed\n"[..written],
+            ending.is(
+                Status::OutputFailed,
+                &b"allowed\n"[..written],
+                b"refused: output\n"
+            ),
             "{calls}"
         );
     }
+    let ending = run_into_failing(rt.alloc(), &words, 3, 4);
+    assert!(rt; ending.tells(Status::Done, "allowed\n"));
+}
+
+/// Asserts how a run ends whose fault is taken in so many calls at most: nothing is read, and nothing answered.
+fn expect_unread(rt: &impl Abort, alloc: Global, words: &[&str], calls: usize, wanted: Status) {
+    let mut input = PASSWD.as_bytes();
+    let faults = Failing::after(alloc, 5000, calls);
+    let ending = run_within(alloc, words, &mut input, Failing::never(alloc), faults);
+    let unread = input.len();
+    assert!(rt;
+        ending.status == wanted && ending.answers.is_empty() && unread == PASSWD.len(),
+        "{words:?} {calls}"
+    );
+}
+
+/// Asserts how a run ends whose fault is taken in each number of calls: it isn't told until it is flushed.
+fn expect_told_late(rt: &impl Abort, alloc: Global, words: &[&str]) {
+    expect_unread(rt, alloc, words, 0, Status::FaultsFailed);
+    expect_unread(rt, alloc, words, 1, Status::FaultsFailed);
+    expect_unread(rt, alloc, words, 2, Status::FaultsFailed);
+    expect_unread(rt, alloc, words, 3, Status::BadArguments);
+}
+
+/// The status of a run neither of whose streams takes anything.
+fn status_of_silent_run(alloc: Global) -> Status {
+    let words = ["aa-trace", "judge", "r", "/etc/passwd"];
+    let mut input = PASSWD.as_bytes();
+    let answers = Failing::after(alloc, 5000, 0);
+    let faults = Failing::after(alloc, 5000, 0);
+    run_within(alloc, &words, &mut input, answers, faults).status
 }
 
 #[test]
 fn messages_that_fail(rt: HostRuntime) {
-    let alloc = rt.alloc();
-    for words in [
-        ["aa-trace", "judge", "r", "x"],
-        ["aa-trace", "judge", "r", "--no"],
-    ] {
-        for calls in 0..4 {
-            let mut input = PASSWD.as_bytes();
-            let mut answers = Vec::new(alloc);
-            let mut faults = Failing::after(alloc, 5000, calls);
-            let status = run_words(alloc, &words, &mut input, &mut answers, &mut faults);
-            let wanted = if calls < 3 {
-                Status::FaultsFailed
-            } else {
-                Status::BadArguments
-            };
-            assert_eq!(rt; status, wanted, "{calls}");
-            assert!(rt;
-                answers.is_empty() && input.len() == PASSWD.len(),
-                "{calls}"
-            );
-        }
+    expect_told_late(&rt, rt.alloc(), &["aa-trace", "judge", "r", "x"]);
+    expect_told_late(&rt, rt.alloc(), &["aa-trace", "judge", "r", "--no"]);
+    assert_eq!(rt; status_of_silent_run(rt.alloc()), Status::FaultsFailed);
+}
+
+/// The words of a command line that is written with bars between them.
+fn words_of(alloc: Global, line: &str) -> Result<Vec<&str>, Fail> {
+    Ok(line.split('|').collect(alloc)?)
+}
+
+/// Command lines, and what they ask for.
+fn expect_lines(rt: &impl Abort, alloc: Global, rows: &[(&str, Line)]) -> Result<(), Fail> {
+    for (line, wanted) in rows {
+        let words = words_of(alloc, line)?;
+        assert_eq!(rt; command_line(alloc, &words).ok(), Some(*wanted), "{line}");
     }
-    let words = ["aa-trace", "judge", "r", "/etc/passwd"];
-    let mut input = PASSWD.as_bytes();
-    let mut answers = Failing::after(alloc, 5000, 0);
-    let mut faults = Failing::after(alloc, 5000, 0);
-    let status = run_words(alloc, &words, &mut input, &mut answers, &mut faults);
-    assert_eq!(rt; status, Status::FaultsFailed);
+    Ok(())
 }
 
 #[test]
@@ -220,141 +375,154 @@ fn lines_that_are_followed(rt: HostRuntime) -> Result<(), Fail> {
         perms: "rw",
         name: "/x",
     };
-    let plain = ["aa-trace", "judge", "rw", "/x"];
-    assert_eq!(rt; command_line(rt.alloc(), &plain).ok(), Some(judge));
-    for words in [
-        ["aa-trace", "judge", "--", "rw", "/x"],
-        ["aa-trace", "judge", "rw", "--", "/x"],
-        ["aa-trace", "judge", "rw", "/x", "--"],
-    ] {
-        assert_eq!(rt; command_line(rt.alloc(), &words).ok(), Some(judge));
-    }
     let escaped = Line::Judge {
         perms: "-r",
         name: "--",
     };
-    let words = ["aa-trace", "judge", "--", "-r", "--"];
-    assert_eq!(rt; command_line(rt.alloc(), &words).ok(), Some(escaped));
-    Ok(())
+    expect_lines(
+        &rt,
+        rt.alloc(),
+        &[
+            ("aa-trace|judge|rw|/x", judge),
+            ("aa-trace|judge|--|rw|/x", judge),
+            ("aa-trace|judge|rw|--|/x", judge),
+            ("aa-trace|judge|rw|/x|--", judge),
+            ("aa-trace|judge|--|-r|--", escaped),
+        ],
+    )
 }
 
 #[test]
-fn run_lines_that_are_followed(rt: HostRuntime) {
-    let cases: [(&[&str], u32); 13] = [
-        (&[], 1024),
-        (&["--"], 1024),
-        (&["--capacity", "1"], 1),
-        (&["--capacity=1"], 1),
-        (&["--capacity", "16384"], 16384),
-        (&["--capacity=16384"], 16384),
-        (&["--capacity", "5", "--"], 5),
-        (&["--capacity=5", "--"], 5),
-        (&["--capacity", "+5"], 5),
-        (&["--capacity=+5"], 5),
-        (&["--capacity", "007"], 7),
-        (&["--capacity=007"], 7),
-        (&["--capacity", "+0000000000000000000000016384"], 16384),
-    ];
-    for (options, capacity) in cases {
-        let mut words = Vec::new(rt.alloc());
-        words.push("aa-trace").expect(&rt, "memory");
-        words.push("run").expect(&rt, "memory");
-        words.extend_from_slice(options).expect(&rt, "memory");
-        let line = command_line(rt.alloc(), words.as_slice()).ok();
-        assert_eq!(rt; line, Some(Line::Run { capacity }), "{capacity}");
+fn run_lines_that_are_followed(rt: HostRuntime) -> Result<(), Fail> {
+    expect_lines(
+        &rt,
+        rt.alloc(),
+        &[
+            ("aa-trace|run", Line::Run { capacity: 1024 }),
+            ("aa-trace|run|--", Line::Run { capacity: 1024 }),
+            ("aa-trace|run|--capacity|1", Line::Run { capacity: 1 }),
+            ("aa-trace|run|--capacity=1", Line::Run { capacity: 1 }),
+            (
+                "aa-trace|run|--capacity|16384",
+                Line::Run { capacity: 16384 },
+            ),
+            (
+                "aa-trace|run|--capacity=16384",
+                Line::Run { capacity: 16384 },
+            ),
+            ("aa-trace|run|--capacity|5|--", Line::Run { capacity: 5 }),
+            ("aa-trace|run|--capacity=5|--", Line::Run { capacity: 5 }),
+            ("aa-trace|run|--capacity|+5", Line::Run { capacity: 5 }),
+            ("aa-trace|run|--capacity=+5", Line::Run { capacity: 5 }),
+            ("aa-trace|run|--capacity|007", Line::Run { capacity: 7 }),
+            ("aa-trace|run|--capacity=007", Line::Run { capacity: 7 }),
+            (
+                "aa-trace|run|--capacity|+0000000000000000000000016384",
+                Line::Run { capacity: 16384 },
+            ),
+        ],
+    )
+}
+
+/// What the parser says of words that are no command line.
+fn usage_of(alloc: Global, words: &[&str]) -> Result<String, Fail> {
+    match command_line(alloc, words) {
+        Err(LineFault::Usage(error)) => Ok(error.to_string(alloc)?),
+        _ => Err(Fail::new("no usage fault")),
     }
+}
+
+/// Asserts that the parser refuses words in a text with a line's end, and that a run tells such a text alone.
+fn expect_usage(rt: &impl Abort, alloc: Global, words: &[&str]) -> Result<(), Fail> {
+    let usage = usage_of(alloc, words)?;
+    let ending = run(alloc, words, PASSWD.as_bytes());
+    assert!(rt;
+        usage.as_str().ends_with('\n')
+            && ending.status == Status::BadArguments
+            && ending.answers.is_empty()
+            && ending.faults.as_slice().ends_with(b"\n"),
+        "{words:?}"
+    );
+    Ok(())
+}
+
+fn expect_usages(rt: &impl Abort, alloc: Global, rows: &[&str]) -> Result<(), Fail> {
+    for line in rows {
+        let words = words_of(alloc, line)?;
+        expect_usage(rt, alloc, &words)?;
+    }
+    Ok(())
 }
 
 #[test]
 fn run_lines_that_are_not_followed(rt: HostRuntime) -> Result<(), Fail> {
-    let cases: [&[&str]; 32] = [
-        &["--capacity"],
-        &["--capacity="],
-        &["--capacity", ""],
-        &["--capacity", "--"],
-        &["--capacity", "--", "5"],
-        &["--capacity", "0"],
-        &["--capacity=0"],
-        &["--capacity=+0"],
-        &["--capacity=00"],
-        &["--capacity", "16385"],
-        &["--capacity=16385"],
-        &["--capacity=4294967297"],
-        &["--capacity=18446744073709551617"],
-        &["--capacity", "-5"],
-        &["--capacity=-5"],
-        &["--capacity=++5"],
-        &["--capacity=+"],
-        &["--capacity", "-"],
-        &["--capacity=five"],
-        &["--capacity=0x5"],
-        &["--capacity=5 "],
-        &["--capacity==5"],
-        &["--capacity=5", "--capacity=5"],
-        &["--capacity", "5", "--capacity", "5"],
-        &["--capacity=5", "--capacity"],
-        &["--capacit=5"],
-        &["-c", "5"],
-        &["-"],
-        &["5"],
-        &["--capacity=5", "/x"],
-        &["--", "--"],
-        &["--help"],
-    ];
-    for options in cases {
-        let mut words = Vec::new(rt.alloc());
-        words.push("aa-trace")?;
-        words.push("run")?;
-        words.extend_from_slice(options)?;
-        let line = command_line(rt.alloc(), words.as_slice());
-        let count = options.len();
-        assert!(rt; matches!(&line, Err(LineFault::Usage(_))), "{count}");
-        let (status, answers, _) = run(rt.alloc(), words.as_slice(), "");
-        assert_eq!(rt; status, Status::BadArguments, "{count}");
-        assert!(rt; answers.is_empty());
-    }
-    Ok(())
+    expect_usages(
+        &rt,
+        rt.alloc(),
+        &[
+            "aa-trace|run|--capacity",
+            "aa-trace|run|--capacity=",
+            "aa-trace|run|--capacity|",
+            "aa-trace|run|--capacity|--",
+            "aa-trace|run|--capacity|--|5",
+            "aa-trace|run|--capacity|0",
+            "aa-trace|run|--capacity=0",
+            "aa-trace|run|--capacity=+0",
+            "aa-trace|run|--capacity=00",
+            "aa-trace|run|--capacity|16385",
+            "aa-trace|run|--capacity=16385",
+            "aa-trace|run|--capacity=4294967297",
+            "aa-trace|run|--capacity=18446744073709551617",
+            "aa-trace|run|--capacity|-5",
+            "aa-trace|run|--capacity=-5",
+            "aa-trace|run|--capacity=++5",
+            "aa-trace|run|--capacity=+",
+            "aa-trace|run|--capacity|-",
+            "aa-trace|run|--capacity=five",
+            "aa-trace|run|--capacity=0x5",
+            "aa-trace|run|--capacity=5 ",
+            "aa-trace|run|--capacity==5",
+            "aa-trace|run|--capacity=5|--capacity=5",
+            "aa-trace|run|--capacity|5|--capacity|5",
+            "aa-trace|run|--capacity=5|--capacity",
+            "aa-trace|run|--capacit=5",
+            "aa-trace|run|-c|5",
+            "aa-trace|run|-",
+            "aa-trace|run|5",
+            "aa-trace|run|--capacity=5|/x",
+            "aa-trace|run|--|--",
+            "aa-trace|run|--help",
+        ],
+    )
 }
 
 #[test]
 fn lines_that_are_not_followed(rt: HostRuntime) -> Result<(), Fail> {
-    let cases: [&[&str]; 14] = [
-        &[],
-        &["aa-trace"],
-        &["aa-trace", "--help"],
-        &["aa-trace", "-h"],
-        &["aa-trace", "help"],
-        &["aa-trace", "help", "judge"],
-        &["aa-trace", "judge", "--help"],
-        &["aa-trace", "tell", "r", "/x"],
-        &["aa-trace", "--", "judge", "r", "/x"],
-        &["aa-trace", "judge"],
-        &["aa-trace", "judge", "r"],
-        &["aa-trace", "judge", "r", "/x", "/y"],
-        &["aa-trace", "judge", "-r", "/x"],
-        &["aa-trace", "judge", "r", "-x"],
-    ];
-    for words in cases {
-        match command_line(rt.alloc(), words) {
-            Err(LineFault::Usage(error)) => {
-                let count = words.len();
-                assert!(rt;
-                    error.to_string(rt.alloc())?.as_str().ends_with('\n'),
-                    "{count}"
-                );
-            }
-            _ => return Err(Fail::new("no usage fault")),
-        }
-        let (status, answers, faults) = run(rt.alloc(), words, PASSWD);
-        assert_eq!(rt; status, Status::BadArguments);
-        assert!(rt; answers.is_empty() && faults.as_slice().ends_with(b"\n"));
-    }
-    Ok(())
+    expect_usage(&rt, rt.alloc(), &[])?;
+    expect_usages(
+        &rt,
+        rt.alloc(),
+        &[
+            "aa-trace",
+            "aa-trace|--help",
+            "aa-trace|-h",
+            "aa-trace|help",
+            "aa-trace|help|judge",
+            "aa-trace|judge|--help",
+            "aa-trace|tell|r|/x",
+            "aa-trace|--|judge|r|/x",
+            "aa-trace|judge",
+            "aa-trace|judge|r",
+            "aa-trace|judge|r|/x|/y",
+            "aa-trace|judge|-r|/x",
+            "aa-trace|judge|r|-x",
+        ],
+    )
 }
 
 #[test]
 fn statuses_of_the_process(rt: HostRuntime) {
-    for (status, code) in [
+    for (status, code) in &[
         (Status::Done, 0),
         (Status::BadArguments, 2),
         (Status::Refused, 3),
@@ -363,84 +531,122 @@ fn statuses_of_the_process(rt: HostRuntime) {
         (Status::FaultsFailed, 3),
         (Status::NoMemory, 4),
     ] {
-        assert_eq!(rt; status.code(), code);
+        assert_eq!(rt; status.code(), *code);
     }
 }
 
 /// Verdicts worked by hand from the rules.
 #[test]
-fn worked_verdicts(rt: HostRuntime) -> Result<(), Fail> {
-    let denies_last = "/a/** rw, deny /a/k* w,";
-    let denies_first = "deny /a/k* w, /a/** rw,";
-    let denies_twice = "/a rw, deny /a w, deny /a r,";
-    let cases = [
-        ("/etc/passwd r,", "/etc/passwd", "r", "allowed\n"),
-        ("/etc/passwd r,", "/etc/passwd", "rw", "no rule for w\n"),
-        (denies_last, "/a/key", "rw", "denied by rule 2\n"),
-        (denies_first, "/a/key", "rw", "denied by rule 1\n"),
-        (denies_twice, "/a", "rw", "denied by rule 2\n"),
-        ("/tmp/* r,", "/tmp/", "r", "no rule for r\n"),
-        ("/tmp/* r,", "/tmp/x", "r", "allowed\n"),
-        ("/tmp/* r,", "/tmp/x/", "r", "no rule for r\n"),
-        ("/tmp/** r,", "/tmp/", "r", "no rule for r\n"),
-        ("/tmp/** r,", "/tmp/d/", "r", "allowed\n"),
-        ("/tmp/** r,", "/tmp/d/f", "r", "allowed\n"),
-        ("", "/x", "rm", "no rule for rm\n"),
-    ];
-    for (rules, name, perms, answer) in cases {
-        let text = format!(in rt.alloc(); "profile p {{ {rules} }}")?;
-        let words = ["aa-trace", "judge", perms, name];
-        let (status, answers, faults) = run(rt.alloc(), &words, text.as_str());
-        assert_eq!(rt; status, Status::Done, "{rules} {name}");
-        assert!(rt; answers.as_slice() == answer.as_bytes(), "{rules} {name}");
-        assert!(rt; faults.is_empty(), "{rules} {name}");
-    }
-    Ok(())
+fn worked_verdicts(rt: HostRuntime) {
+    expect_judged(
+        &rt,
+        rt.alloc(),
+        &[
+            ("r", "/etc/passwd", ONE_NAME, Status::Done, "allowed\n"),
+            (
+                "rw",
+                "/etc/passwd",
+                ONE_NAME,
+                Status::Done,
+                "no rule for w\n",
+            ),
+            (
+                "rw",
+                "/a/key",
+                DENIES_LAST,
+                Status::Done,
+                "denied by rule 2\n",
+            ),
+            (
+                "rw",
+                "/a/key",
+                DENIES_FIRST,
+                Status::Done,
+                "denied by rule 1\n",
+            ),
+            ("rw", "/a", DENIES_TWICE, Status::Done, "denied by rule 2\n"),
+            ("r", "/tmp/", ONE_STAR, Status::Done, "no rule for r\n"),
+            ("r", "/tmp/x", ONE_STAR, Status::Done, "allowed\n"),
+            ("r", "/tmp/x/", ONE_STAR, Status::Done, "no rule for r\n"),
+            ("r", "/tmp/", TWO_STARS, Status::Done, "no rule for r\n"),
+            ("r", "/tmp/d/", TWO_STARS, Status::Done, "allowed\n"),
+            ("r", "/tmp/d/f", TWO_STARS, Status::Done, "allowed\n"),
+            (
+                "rm",
+                "/x",
+                "profile p {  }",
+                Status::Done,
+                "no rule for rm\n",
+            ),
+        ],
+    );
 }
 
 /// A name is judged whatever its length.
 #[test]
 fn a_long_name(rt: HostRuntime) -> Result<(), Fail> {
-    let mut name = String::from_str(rt.alloc(), "/")?;
-    for _ in 0..5000 {
-        name.push_str("a")?;
-    }
+    let letters = "a".repeat(rt.alloc(), 5000)?;
+    let name = ["/", letters.as_str()].concat(rt.alloc())?;
     let words = ["aa-trace", "judge", "rk", name.as_str()];
-    let (status, answers, _) = run(rt.alloc(), &words, "profile p { /a* r, }");
-    assert_eq!(rt; status, Status::Done);
-    assert!(rt; answers.as_slice() == b"no rule for k\n".as_slice());
+    let text = b"profile p { /a* r, }";
+    expect(
+        &rt,
+        rt.alloc(),
+        &words,
+        text,
+        Status::Done,
+        "no rule for k\n",
+    );
     Ok(())
+}
+
+/// Words that aren't followed, and the whole text that they are told.
+fn expect_texts(rt: &impl Abort, alloc: Global, rows: &[(&[&str], &str)]) {
+    for (words, told) in rows {
+        expect(
+            rt,
+            alloc,
+            words,
+            PASSWD.as_bytes(),
+            Status::BadArguments,
+            told,
+        );
+    }
 }
 
 #[test]
 fn usage_and_help(rt: HostRuntime) {
     let usage = "error: the following required arguments were not provided:\n  <NAME>\n\n\
         Usage: aa-trace judge <PERMS> <NAME>\n\nFor more information, try '--help'.\n";
-    let (status, answers, faults) = run(rt.alloc(), &["aa-trace", "judge", "r"], PASSWD);
-    assert_eq!(rt; status, Status::BadArguments);
-    assert!(rt; answers.is_empty() && faults.as_slice() == usage.as_bytes());
     let help = "Judges a name by the profile on standard input\n\n\
         Usage: aa-trace judge <PERMS> <NAME>\n\nArguments:\n  \
         <PERMS>  The permissions that are asked, by their letters: r, w, l, k, m\n  \
         <NAME>   The name that is judged, from its first slash on\n\nOptions:\n  \
         -h, --help  Print help\n";
-    let (status, answers, faults) = run(rt.alloc(), &["aa-trace", "judge", "--help"], PASSWD);
-    assert_eq!(rt; status, Status::BadArguments);
-    assert!(rt; answers.is_empty() && faults.as_slice() == help.as_bytes());
+    expect_texts(
+        &rt,
+        rt.alloc(),
+        &[
+            (&["aa-trace", "judge", "r"], usage),
+            (&["aa-trace", "judge", "--help"], help),
+        ],
+    );
 }
 
 #[test]
 fn usage_and_help_of_run(rt: HostRuntime) {
     let usage = "error: invalid value '0' for '--capacity <N>': 0 is not in 1..=16384\n\n\
         For more information, try '--help'.\n";
-    let (status, answers, faults) = run(rt.alloc(), &["aa-trace", "run", "--capacity=0"], "");
-    assert_eq!(rt; status, Status::BadArguments);
-    assert!(rt; answers.is_empty() && faults.as_slice() == usage.as_bytes());
     let help = "Runs a script of tree changes, policies and opens on standard input\n\n\
         Usage: aa-trace run [OPTIONS]\n\nOptions:\n      \
         --capacity <N>  The number of entries that the tree has room for, 1 to 16384 [default: 1024]\n  \
         -h, --help          Print help\n";
-    let (status, answers, faults) = run(rt.alloc(), &["aa-trace", "run", "--help"], "");
-    assert_eq!(rt; status, Status::BadArguments);
-    assert!(rt; answers.is_empty() && faults.as_slice() == help.as_bytes());
+    expect_texts(
+        &rt,
+        rt.alloc(),
+        &[
+            (&["aa-trace", "run", "--capacity=0"], usage),
+            (&["aa-trace", "run", "--help"], help),
+        ],
+    );
 }

@@ -1,7 +1,7 @@
 //! Scripts, on a bench that has no memory for anything new.
 ghost use Rattle.std.specs.Prelude.{[]};
 
-use crate::tests::{Failing, Pieces};
+use crate::tests::{Ending, Failing, Pieces};
 use directory_tree::Change;
 use matcher::MakeFault;
 use mediation::{Answer, LinkAnswer};
@@ -11,7 +11,8 @@ use plain_tree::PlainTree;
 use rule_reader::Profile;
 use std::alloc::Global;
 use std::io;
-use std::io::{BufReader, ErrorKind};
+use std::io::{BufRead, BufReader, ErrorKind};
+use std::process::Abort;
 use std::test::Fail;
 use trace_report::Status;
 use trace_script::run_script;
@@ -62,173 +63,250 @@ impl Bench for FullBench {
     }
 }
 
-/// A run over memory: its status, and what stands on both streams.
-fn run(alloc: Global, text: &[u8]) -> Result<(Status, Vec<u8>, Vec<u8>), Fail> {
+/// A run whose streams are taken as those two writers allow.
+fn run_within<R: BufRead>(
+    alloc: Global,
+    input: &mut R,
+    mut answers: Failing,
+    mut faults: Failing,
+) -> Result<Ending, Fail> {
     let mut bench = FullBench::new(alloc)?;
-    let mut input = text;
-    let mut answers = Vec::new(alloc);
-    let mut faults = Vec::new(alloc);
-    let status = run_script(alloc, &mut bench, &mut input, &mut answers, &mut faults);
-    Ok((status, answers, faults))
+    let status = run_script(alloc, &mut bench, input, &mut answers, &mut faults);
+    Ok(Ending {
+        status,
+        answers: answers.taken,
+        faults: faults.taken,
+    })
 }
+
+/// A run over memory.
+fn run(alloc: Global, text: &[u8]) -> Result<Ending, Fail> {
+    let mut input = text;
+    run_within(
+        alloc,
+        &mut input,
+        Failing::never(alloc),
+        Failing::never(alloc),
+    )
+}
+
+/// A run over a reader that fails.
+fn run_on_pieces(alloc: Global, pieces: Pieces<'_>) -> Result<Ending, Fail> {
+    let mut input = BufReader::new(alloc, pieces)?;
+    run_within(
+        alloc,
+        &mut input,
+        Failing::never(alloc),
+        Failing::never(alloc),
+    )
+}
+
+/// A run of two lines that are answered, whose answers are taken seven bytes at a time and in so many calls at most.
+fn run_into_failing(alloc: Global, calls: usize) -> Result<Ending, Fail> {
+    let mut input = b"open p /a r\nopen p /a r\n".as_slice();
+    let answers = Failing::after(alloc, 7, calls);
+    run_within(alloc, &mut input, answers, Failing::never(alloc))
+}
+
+/// A script, the status of its run, and what then stands on both streams.
+type Row<'a> = (&'a str, Status, &'a str, &'a str);
+
+fn expect(rt: &impl Abort, alloc: Global, rows: &[Row]) -> Result<(), Fail> {
+    for (text, status, answers, faults) in rows {
+        let ending = run(alloc, text.as_bytes())?;
+        assert!(rt;
+            ending.is(*status, answers.as_bytes(), faults.as_bytes()),
+            "{text}"
+        );
+    }
+    Ok(())
+}
+
+const ANSWER: &str = "no profile policy 0\n";
+
+const TWO_ANSWERS: &str = "no profile policy 0\nno profile policy 0\n";
 
 #[test]
 fn scripts_that_end(rt: HostRuntime) -> Result<(), Fail> {
-    let cases = [
-        ("", ""),
-        ("# a comment\n\n \t\n  #\n", ""),
-        ("open p /a r\n", "no profile policy 0\n"),
-        ("\topen  p\t/a r ", "no profile policy 0\n"),
-        ("mkdir a\nrename /a b\n", "EINVAL 22\nEINVAL 22\n"),
-        ("policy\n.", "policy refused: read 1 at 0\n"),
-        (
-            "policy\nprofile p {\n  /x ix,\n}\n.\nopen p /x r",
-            "policy refused: read 2 at 17\nno profile policy 0\n",
-        ),
-    ];
-    for (text, wanted) in cases {
-        let (status, answers, faults) = run(rt.alloc(), text.as_bytes())?;
-        assert_eq!(rt; status, Status::Done, "{text}");
-        assert!(rt; answers.as_slice() == wanted.as_bytes(), "{text}");
-        assert!(rt; faults.is_empty(), "{text}");
-    }
-    Ok(())
+    expect(
+        &rt,
+        rt.alloc(),
+        &[
+            ("", Status::Done, "", ""),
+            ("# a comment\n\n \t\n  #\n", Status::Done, "", ""),
+            ("open p /a r\n", Status::Done, ANSWER, ""),
+            ("\topen  p\t/a r ", Status::Done, ANSWER, ""),
+            (
+                "mkdir a\nrename /a b\n",
+                Status::Done,
+                "EINVAL 22\nEINVAL 22\n",
+                "",
+            ),
+            (
+                "policy\n.",
+                Status::Done,
+                "policy refused: read 1 at 0\n",
+                "",
+            ),
+            (
+                "policy\nprofile p {\n  /x ix,\n}\n.\nopen p /x r",
+                Status::Done,
+                "policy refused: read 2 at 17\nno profile policy 0\n",
+                "",
+            ),
+        ],
+    )
 }
 
 #[test]
 fn scripts_that_stop(rt: HostRuntime) -> Result<(), Fail> {
-    let answer = "no profile policy 0\n";
-    let cases = [
-        ("look /a\n", 3, "", "line 1: not a command\n"),
-        ("mkdir /a /b\n", 3, "", "line 1: not a command\n"),
-        ("\n\nopen p /a x", 3, "", "line 3: not a command\n"),
-        ("policy\n.\r\n", 3, "", "line 1: not a command\n"),
-        (
-            "open p /a r\nlook /a\nopen p /a r\n",
-            3,
-            answer,
-            "line 2: not a command\n",
-        ),
-        (
-            "open p /a r\npolicy\nprofile p {\n}\n",
-            3,
-            answer,
-            "line 2: not a command\n",
-        ),
-        (
-            "open p /a r\nmkdir /a\nopen p /a r\n",
-            4,
-            answer,
-            "no memory\n",
-        ),
-        ("open p /a r\ndrop p\n", 4, answer, "no memory\n"),
-        (
-            "judged-link p /a /b\nlink /a /b\nmkdir /a\nopen p /a r\n",
-            4,
-            "no profile policy 0\nENOENT 2\n",
-            "no memory\n",
-        ),
-        (
-            "open p /a r\npolicy\nprofile p {\n}\n.\n",
-            4,
-            answer,
-            "no memory\n",
-        ),
-    ];
-    for (text, code, wanted, told) in cases {
-        let (status, answers, faults) = run(rt.alloc(), text.as_bytes())?;
-        assert_eq!(rt; status.code(), code, "{text}");
-        assert!(rt; answers.as_slice() == wanted.as_bytes(), "{text}");
-        assert!(rt; faults.as_slice() == told.as_bytes(), "{text}");
-    }
-    Ok(())
+    let first_line = "line 1: not a command\n";
+    expect(
+        &rt,
+        rt.alloc(),
+        &[
+            ("look /a\n", Status::Refused, "", first_line),
+            ("mkdir /a /b\n", Status::Refused, "", first_line),
+            (
+                "\n\nopen p /a x",
+                Status::Refused,
+                "",
+                "line 3: not a command\n",
+            ),
+            ("policy\n.\r\n", Status::Refused, "", first_line),
+            (
+                "open p /a r\nlook /a\nopen p /a r\n",
+                Status::Refused,
+                ANSWER,
+                "line 2: not a command\n",
+            ),
+            (
+                "open p /a r\npolicy\nprofile p {\n}\n",
+                Status::Refused,
+                ANSWER,
+                "line 2: not a command\n",
+            ),
+            (
+                "open p /a r\nmkdir /a\nopen p /a r\n",
+                Status::NoMemory,
+                ANSWER,
+                "no memory\n",
+            ),
+            (
+                "open p /a r\ndrop p\n",
+                Status::NoMemory,
+                ANSWER,
+                "no memory\n",
+            ),
+            (
+                "judged-link p /a /b\nlink /a /b\nmkdir /a\nopen p /a r\n",
+                Status::NoMemory,
+                "no profile policy 0\nENOENT 2\n",
+                "no memory\n",
+            ),
+            (
+                "open p /a r\npolicy\nprofile p {\n}\n.\n",
+                Status::NoMemory,
+                ANSWER,
+                "no memory\n",
+            ),
+        ],
+    )
 }
 
 /// A script is read to its end, and its lines are counted, however many there are.
 #[test]
 fn more_than_a_million_lines(rt: HostRuntime) -> Result<(), Fail> {
-    let alloc = rt.alloc();
-    let mut text = vec![in alloc; b'\n'; 1_100_000]?;
+    let mut text = vec![in rt.alloc(); b'\n'; 1_100_000]?;
     text.extend_from_slice(b"open p /a r\nlook /a\n")?;
-    let (status, answers, faults) = run(alloc, &text)?;
-    assert_eq!(rt; status, Status::Refused);
-    assert!(rt; answers.as_slice() == b"no profile policy 0\n".as_slice());
-    assert!(rt; faults.as_slice() == b"line 1100002: not a command\n".as_slice());
+    let ending = run(rt.alloc(), &text)?;
+    let told = b"line 1100002: not a command\n";
+    assert!(rt; ending.is(Status::Refused, ANSWER.as_bytes(), told));
+    Ok(())
+}
+
+/// What follows after so many reads, each of a line, and how the run ends.
+type ReadFault<'a> = (ErrorKind, usize, Status, &'a str, &'a str);
+
+fn expect_read_faults(rt: &impl Abort, alloc: Global, rows: &[ReadFault]) -> Result<(), Fail> {
+    for (error, reads, status, answers, faults) in rows {
+        let pieces = Pieces {
+            left: b"open p /a r\nopen p /a r\nopen p /a r\n",
+            piece: 12,
+            reads: *reads,
+            error: *error,
+        };
+        let ending = run_on_pieces(alloc, pieces)?;
+        assert!(rt;
+            ending.is(*status, answers.as_bytes(), faults.as_bytes()),
+            "{reads} {faults}"
+        );
+    }
     Ok(())
 }
 
 /// A line is answered before the next one is read.
 #[test]
 fn readers_that_fail(rt: HostRuntime) -> Result<(), Fail> {
-    let cases = [
-        (
-            ErrorKind::BrokenPipe,
-            Status::InputFailed,
-            "refused: input\n",
-        ),
-        (ErrorKind::OutOfMemory, Status::NoMemory, "no memory\n"),
-    ];
-    for (error, wanted, told) in cases {
-        for reads in 0..3 {
-            let pieces = Pieces {
-                left: b"open p /a r\nopen p /a r\nopen p /a r\n",
-                piece: 12,
-                reads,
-                error,
-            };
-            let mut input = BufReader::new(rt.alloc(), pieces)?;
-            let mut answers = Vec::new(rt.alloc());
-            let mut faults = Vec::new(rt.alloc());
-            let mut bench = FullBench::new(rt.alloc())?;
-            let status = run_script(
-                rt.alloc(),
-                &mut bench,
-                &mut input,
-                &mut answers,
-                &mut faults,
-            );
-            assert_eq!(rt; status, wanted, "{reads}");
-            assert_eq!(rt; answers.len(), 20 * reads, "{reads}");
-            assert!(rt; faults.as_slice() == told.as_bytes(), "{reads}");
-        }
-    }
-    Ok(())
+    let broken = ErrorKind::BrokenPipe;
+    let refused = ErrorKind::OutOfMemory;
+    expect_read_faults(
+        &rt,
+        rt.alloc(),
+        &[
+            (broken, 0, Status::InputFailed, "", "refused: input\n"),
+            (broken, 1, Status::InputFailed, ANSWER, "refused: input\n"),
+            (
+                broken,
+                2,
+                Status::InputFailed,
+                TWO_ANSWERS,
+                "refused: input\n",
+            ),
+            (refused, 0, Status::NoMemory, "", "no memory\n"),
+            (refused, 1, Status::NoMemory, ANSWER, "no memory\n"),
+            (refused, 2, Status::NoMemory, TWO_ANSWERS, "no memory\n"),
+        ],
+    )
 }
 
 #[test]
 fn answers_that_fail(rt: HostRuntime) -> Result<(), Fail> {
-    let alloc = rt.alloc();
-    // Each line of 20 bytes is written in three parts and flushed.
-    for calls in 0..9 {
-        let mut input = b"open p /a r\nopen p /a r\n".as_slice();
-        let mut answers = Failing::after(alloc, 7, calls);
-        let mut faults = Vec::new(alloc);
-        let mut bench = FullBench::new(alloc)?;
-        let status = run_script(alloc, &mut bench, &mut input, &mut answers, &mut faults);
-        let (wanted, told) = if calls < 8 {
-            (Status::OutputFailed, "refused: output\n")
-        } else {
-            (Status::Done, "")
-        };
-        assert_eq!(rt; status, wanted, "{calls}");
-        assert!(rt; faults.as_slice() == told.as_bytes(), "{calls}");
-        let written = 20 * (calls / 4) + 20.min(7 * (calls % 4));
-        assert_eq!(rt; answers.taken.len(), written, "{calls}");
+    let answers = TWO_ANSWERS.as_bytes();
+    // Each line of 20 bytes is written in three parts and flushed, so a ninth call isn't made.
+    for (calls, written) in &[
+        (0, 0),
+        (1, 7),
+        (2, 14),
+        (3, 20),
+        (4, 20),
+        (5, 27),
+        (6, 34),
+        (7, 40),
+    ] {
+        let ending = run_into_failing(rt.alloc(), *calls)?;
+        let front = answers.get(..*written).ok_or("length")?;
+        assert!(rt;
+            ending.is(Status::OutputFailed, front, b"refused: output\n"),
+            "{calls}"
+        );
     }
+    let ending = run_into_failing(rt.alloc(), 8)?;
+    assert!(rt; ending.is(Status::Done, answers, b""));
+    Ok(())
+}
+
+/// Asserts how a run ends whose fault is not taken.
+fn expect_faults_failed(rt: &impl Abort, alloc: Global, text: &str) -> Result<(), Fail> {
+    let mut input = text.as_bytes();
+    let faults = Failing::after(alloc, 5000, 0);
+    let ending = run_within(alloc, &mut input, Failing::never(alloc), faults)?;
+    assert!(rt; ending.is(Status::FaultsFailed, b"", b""), "{text}");
     Ok(())
 }
 
 #[test]
 fn messages_that_fail(rt: HostRuntime) -> Result<(), Fail> {
-    let alloc = rt.alloc();
-    for text in ["look", "mkdir /a"] {
-        let mut input = text.as_bytes();
-        let mut answers = Vec::new(alloc);
-        let mut faults = Failing::after(alloc, 5000, 0);
-        let mut bench = FullBench::new(alloc)?;
-        let status = run_script(alloc, &mut bench, &mut input, &mut answers, &mut faults);
-        assert_eq!(rt; status, Status::FaultsFailed);
-        assert!(rt; answers.is_empty());
-    }
-    Ok(())
+    expect_faults_failed(&rt, rt.alloc(), "look")?;
+    expect_faults_failed(&rt, rt.alloc(), "mkdir /a")
 }
