@@ -6,6 +6,7 @@ ghost use Rattle.tables.specs.Tables.{table_value};
 use glob_automaton::compile;
 use rule_text::read;
 use std::alloc::Global;
+use std::process::Abort;
 use std::test::Fail;
 use table_image::{
     ImageFault, RawTable, bytes_have_one_outcome, from_bytes, pack, tables_have_one_outcome,
@@ -25,6 +26,12 @@ fn tables_of(alloc: Global, text: &[u8]) -> Result<RawTable, Fail>
     Ok(pack(alloc, &compile(alloc, &profile)?)?)
 }
 
+// The image of a profile's text.
+fn image_of(alloc: Global, text: &[u8]) -> Result<Vec<u8>, Fail> {
+    let table = tables_of(alloc, text)?;
+    Ok(to_bytes(alloc, &table)?)
+}
+
 // The smallest image: 2 dead states that share 256 free cells, and a record of no hits.
 pub(crate) fn smallest(alloc: Global) -> Result<Vec<u8>, Fail> {
     let mut bytes = b"PTAB\x01\0\0\0\x02\0\0\0\0\x01\0\0\x01\0\0\0".to_vec(alloc)?;
@@ -34,14 +41,18 @@ pub(crate) fn smallest(alloc: Global) -> Result<Vec<u8>, Fail> {
     Ok(bytes)
 }
 
-// The image of a profile of one name.
-fn passwd(alloc: Global) -> Result<Vec<u8>, Fail> {
-    let table = tables_of(alloc, b"profile p { /etc/passwd r, }")?;
-    Ok(to_bytes(alloc, &table)?)
+// The image of a profile of one name: 13 states, 3,328 cells and 2 records.
+pub(crate) fn passwd(alloc: Global) -> Result<Vec<u8>, Fail> {
+    image_of(alloc, b"profile p { /etc/passwd r, }")
 }
 
 // The image with other bytes from a place on.
-fn altered(alloc: Global, image: &[u8], place: usize, other: &[u8]) -> Result<Vec<u8>, Fail> {
+pub(crate) fn altered(
+    alloc: Global,
+    image: &[u8],
+    place: usize,
+    other: &[u8],
+) -> Result<Vec<u8>, Fail> {
     let before = image.get(..place).ok_or("no such place")?;
     let rest = image.get(place..).ok_or("no such place")?;
     let behind = rest.get(other.len()..).ok_or("no such place")?;
@@ -49,4 +60,12 @@ fn altered(alloc: Global, image: &[u8], place: usize, other: &[u8]) -> Result<Ve
     bytes.extend_from_slice(other)?;
     bytes.extend_from_slice(behind)?;
     Ok(bytes)
+}
+
+// The tables of an image, which is written of them again.
+fn tables_and_back(rt: &impl Abort, alloc: Global, image: &[u8]) -> Result<RawTable, Fail> {
+    let table = from_bytes(alloc, image)?;
+    let again = to_bytes(alloc, &table)?;
+    assert!(rt; again.as_slice() == image);
+    Ok(table)
 }

@@ -6,6 +6,7 @@ use matcher::{
 use names::{Permission, Perms};
 use rule_text::{Profile, read};
 use std::alloc::Global;
+use std::process::Abort;
 use std::test::Fail;
 use table_image::{ImageFault, to_bytes};
 use table_verifier::{Steps, VerifiedTable};
@@ -28,7 +29,9 @@ fn compiled_of(alloc: Global, rules: &[u8]) -> Result<CompiledProfile, Fail> {
     Ok(CompiledProfile::make(alloc, profile)?)
 }
 
-// The image of a profile's table.
-fn image_of(alloc: Global, profile: &CompiledProfile) -> Result<Vec<u8>, Fail> {
-    Ok(to_bytes(alloc, &table_of(alloc, profile.profile())?)?)
+// The profile that is loaded from the image of a compiled one's table.
+fn loaded_of(alloc: Global, compiled: &CompiledProfile) -> Result<LoadedProfile, Fail> {
+    let table = table_of(alloc, compiled.profile())?;
+    let image = to_bytes(alloc, &table)?;
+    Ok(LoadedProfile::make(alloc, &image)?)
 }

@@ -1,5 +1,6 @@
 //! The smallest tables, sound and altered, and strangers' tables.
 use std::alloc::Global;
+use std::process::Abort;
 use std::test::Fail;
 use table_image::{ImageFault, RawTable};
 use table_verifier::{State, Steps, VerifiedTable, tables_in_bounds_run, verify};
@@ -9,25 +10,37 @@ mod altered;
 mod running;
 mod shapes;
 
-// Two states, both dead, with one row of free cells.
-fn smallest(alloc: Global) -> Result<RawTable, Fail> {
-    let zeros = Vec::from_elem(alloc, 0u32, 2)?;
-    let mut records = Vec::new(alloc);
-    records.push(Record::none())?;
+// So many dead states that share one row, so many cells, which state 0 owns, and so many records.
+fn counted(alloc: Global, states: usize, cells: usize, records: usize) -> Result<RawTable, Fail> {
+    let zeros = Vec::from_elem(alloc, 0u32, states)?;
     Ok(RawTable {
         default: zeros.clone()?,
         base: zeros.clone()?,
         accept: zeros,
-        next: Vec::from_elem(alloc, 0u32, 256)?,
-        check: Vec::from_elem(alloc, u32::MAX, 256)?,
-        records,
+        next: Vec::from_elem(alloc, 0, cells)?,
+        check: Vec::from_elem(alloc, 0, cells)?,
+        records: Vec::from_elem(alloc, Record::none(), records)?,
     })
+}
+
+// Two states, both dead, with one row of free cells.
+fn smallest(alloc: Global) -> Result<RawTable, Fail> {
+    let mut table = counted(alloc, 2, 256, 1)?;
+    table.check.fill(u32::MAX);
+    Ok(table)
 }
 
 // Puts a number at a place, if there is such a place.
 fn put(numbers: &mut Vec<u32>, place: usize, number: u32) {
     if let Some(found) = numbers.get_mut(place) {
         *found = number;
+    }
+}
+
+// Puts each number at its place.
+fn put_all(numbers: &mut Vec<u32>, places: &[(usize, u32)]) {
+    for (place, number) in places {
+        put(numbers, *place, *number);
     }
 }
 
@@ -38,7 +51,7 @@ fn fault_of(table: RawTable) -> Option<ImageFault> {
     }
 }
 
-fn copy_of(table: &RawTable) -> Result<RawTable, Fail> {
+pub(crate) fn copy_of(table: &RawTable) -> Result<RawTable, Fail> {
     Ok(RawTable {
         default: table.default.clone()?,
         base: table.base.clone()?,
@@ -49,11 +62,22 @@ fn copy_of(table: &RawTable) -> Result<RawTable, Fail> {
     })
 }
 
-fn are_equal(one: &RawTable, other: &RawTable) -> bool {
-    one.default == other.default
-        && one.base == other.base
-        && one.accept == other.accept
-        && one.next == other.next
-        && one.check == other.check
-        && one.records == other.records
+// The lists of numbers in a table.
+#[derive(Clone, Copy, Debug)]
+enum List {
+    Default,
+    Base,
+    Accept,
+    Next,
+    Check,
+}
+
+fn list_of(table: &mut RawTable, list: List) -> &mut Vec<u32> {
+    match list {
+        List::Default => &mut table.default,
+        List::Base => &mut table.base,
+        List::Accept => &mut table.accept,
+        List::Next => &mut table.next,
+        List::Check => &mut table.check,
+    }
 }

@@ -16,43 +16,95 @@ fn first_cut_told_otherwise(alloc: Global, image: &[u8]) -> Option<usize> {
     None
 }
 
+fn expect_cuts(rt: &impl Abort, alloc: Global, image: &[u8]) {
+    let first = first_cut_told_otherwise(alloc, image);
+    assert_eq!(rt; first, None);
+}
+
 #[test]
 fn cut_images(rt: HostRuntime) -> Result<(), Fail> {
     let alloc = rt.alloc();
-    assert_eq!(rt; first_cut_told_otherwise(alloc, &smallest(alloc)?), None);
-    assert_eq!(rt; first_cut_told_otherwise(alloc, &passwd(alloc)?), None);
+    expect_cuts(&rt, alloc, &smallest(alloc)?);
+    expect_cuts(&rt, alloc, &passwd(alloc)?);
     Ok(())
 }
 
-// Whether an image is read and written again as the same bytes, and refused with a byte more.
-fn stands(alloc: Global, image: &[u8]) -> Result<bool, Fail> {
-    let table = from_bytes(alloc, image)?;
-    let again = to_bytes(alloc, &table)?;
+fn fault_of_longer(alloc: Global, image: &[u8]) -> Result<Option<ImageFault>, Fail> {
     let mut longer = image.to_vec(alloc)?;
     longer.push(0)?;
-    let fault = from_bytes(alloc, &longer).err();
-    Ok(again.as_slice() == image && fault == Some(ImageFault::Length))
+    Ok(from_bytes(alloc, &longer).err())
+}
+
+// An image is as long as this, is read and written again as the same bytes, and is refused with a byte more.
+fn expect_whole(rt: &impl Abort, alloc: Global, image: &[u8], length: usize) -> Result<(), Fail> {
+    let fault = fault_of_longer(alloc, image)?;
+    assert!(rt; fault == Some(ImageFault::Length) && image.len() == length);
+    let _table = tables_and_back(rt, alloc, image)?;
+    Ok(())
+}
+
+// The image of a text is whole, and has this length and this header.
+fn expect_image(
+    rt: &impl Abort,
+    alloc: Global,
+    text: &[u8],
+    length: usize,
+    header: &[u8],
+) -> Result<(), Fail> {
+    let image = image_of(alloc, text)?;
+    assert!(rt; image.starts_with(header));
+    expect_whole(rt, alloc, &image, length)
 }
 
 #[test]
 fn whole_images(rt: HostRuntime) -> Result<(), Fail> {
     let alloc = rt.alloc();
-    let image = smallest(alloc)?;
-    assert_eq!(rt; image.len(), 2_112);
-    assert!(rt; stands(alloc, &image)?);
-    let image = passwd(alloc)?;
-    assert_eq!(rt; image.len(), 26_840);
-    assert!(rt; stands(alloc, &image)?);
-    let header = image.get(..20).ok_or("no header")?;
-    assert!(rt; header == b"PTAB\x01\0\0\0\x0d\0\0\0\0\x0d\0\0\x02\0\0\0".as_slice());
-    let image = to_bytes(alloc, &tables_of(alloc, b"profile p { }")?)?;
-    assert_eq!(rt; image.len(), 20 + 2 * 12 + 512 * 8 + 20);
-    assert!(rt; stands(alloc, &image)?);
+    expect_whole(&rt, alloc, &smallest(alloc)?, 2_112)?;
+    expect_image(
+        &rt,
+        alloc,
+        b"profile p { /etc/passwd r, }",
+        26_840,
+        b"PTAB\x01\0\0\0\x0d\0\0\0\0\x0d\0\0\x02\0\0\0",
+    )?;
+    expect_image(
+        &rt,
+        alloc,
+        b"profile p { }",
+        20 + 2 * 12 + 512 * 8 + 20,
+        b"PTAB\x01\0\0\0\x02\0\0\0\0\x02\0\0\x01\0\0\0",
+    )
+}
+
+// Other bytes of a header: the place of the first one, the bytes, and what is told of them.
+type Header<'a> = (usize, &'a [u8], ImageFault);
+
+fn expect_header(
+    rt: &impl Abort,
+    alloc: Global,
+    image: &[u8],
+    header: &Header<'_>,
+) -> Result<(), Fail> {
+    let (place, other, want) = header;
+    let bytes = altered(alloc, image, *place, other)?;
+    let fault = from_bytes(alloc, &bytes).err();
+    assert!(rt; fault == Some(*want), "{other:?} at {place}");
     Ok(())
 }
 
-// Other bytes of a header, the place of the first one, and what is told of them.
-const HEADERS: [(usize, &[u8], ImageFault); 32] = [
+fn expect_headers(
+    rt: &impl Abort,
+    alloc: Global,
+    image: &[u8],
+    headers: &[Header<'_>],
+) -> Result<(), Fail> {
+    for header in headers {
+        expect_header(rt, alloc, image, header)?;
+    }
+    Ok(())
+}
+
+const HEADERS: [Header<'static>; 32] = [
     (0, b"p", ImageFault::Magic),
     (1, b"t", ImageFault::Magic),
     (2, b"\0", ImageFault::Magic),
@@ -90,42 +142,37 @@ const HEADERS: [(usize, &[u8], ImageFault); 32] = [
     (8, b"\0\0\x01\0\0\0\0\x01\0\0\0\0", ImageFault::Counts),
 ];
 
-// The first place of other header bytes of which another fault is told.
-fn first_header_told_otherwise(alloc: Global, image: &[u8]) -> Result<Option<usize>, Fail> {
-    for (place, bytes, want) in HEADERS {
-        let bytes = altered(alloc, image, place, bytes)?;
-        if from_bytes(alloc, &bytes).err() != Some(want) {
-            return Ok(Some(place));
-        }
-    }
-    Ok(None)
-}
-
 #[test]
 fn headers(rt: HostRuntime) -> Result<(), Fail> {
     let alloc = rt.alloc();
-    let told = first_header_told_otherwise(alloc, &smallest(alloc)?)?;
-    assert_eq!(rt; told, None);
-    let told = first_header_told_otherwise(alloc, &passwd(alloc)?)?;
-    assert_eq!(rt; told, None);
+    expect_headers(&rt, alloc, &smallest(alloc)?, &HEADERS)?;
+    expect_headers(&rt, alloc, &passwd(alloc)?, &HEADERS)
+}
+
+fn expect_faults(rt: &impl Abort, alloc: Global, rows: &[(&[u8], ImageFault)]) -> Result<(), Fail> {
+    for (bytes, want) in rows {
+        let fault = from_bytes(alloc, bytes).err();
+        assert!(rt; fault == Some(*want), "{bytes:?}");
+    }
     Ok(())
 }
 
 // Bytes that are cut in their header are short, whatever they are.
 #[test]
 fn short_bytes(rt: HostRuntime) -> Result<(), Fail> {
-    let alloc = rt.alloc();
-    for bytes in [
-        b"".as_slice(),
-        b"p",
-        b"PTAC",
-        b"PTAB\x02\0",
-        b"PTAB\x01\0\0\0\x01\0\0\0\0\0\0\0\0\0\0",
-    ] {
-        let fault = from_bytes(alloc, bytes).err();
-        assert_eq!(rt; fault, Some(ImageFault::Short), "{bytes:?}");
-    }
-    let fault = from_bytes(alloc, b"PTAB\x01\0\0\0\x02\0\0\0\0\x01\0\0\x01\0\0\0").err();
-    assert_eq!(rt; fault, Some(ImageFault::Length));
-    Ok(())
+    expect_faults(
+        &rt,
+        rt.alloc(),
+        &[
+            (b"", ImageFault::Short),
+            (b"p", ImageFault::Short),
+            (b"PTAC", ImageFault::Short),
+            (b"PTAB\x02\0", ImageFault::Short),
+            (b"PTAB\x01\0\0\0\x01\0\0\0\0\0\0\0\0\0\0", ImageFault::Short),
+            (
+                b"PTAB\x01\0\0\0\x02\0\0\0\0\x01\0\0\x01\0\0\0",
+                ImageFault::Length,
+            ),
+        ],
+    )
 }

@@ -3,9 +3,13 @@ use super::*;
 use names::Permission;
 use verdicts::{LeastHits, Record};
 
-// Whether each state has a row of its own, in the order of the states, and no state needs its default.
-fn has_own_rows(table: &RawTable) -> bool {
-    table.default.iter().all(|default| *default == 0)
+// Whether there are so many states, each with a row of its own, in the order of the states, and no state needs its default.
+fn has_own_rows(table: &RawTable, states: u16) -> bool {
+    let states = usize::from(states);
+    table.default.len() == states
+        && table.base.len() == states
+        && table.check.len() == 256 * states
+        && table.default.iter().all(|default| *default == 0)
         && table.base.iter().enumerate().all(|(state, base)| *base % 256 == 0
             && *base as usize / 256 == state)
         && table
@@ -15,10 +19,13 @@ fn has_own_rows(table: &RawTable) -> bool {
             .all(|(cell, owner)| cell / 256 == *owner as usize)
 }
 
-// The cells of so many states, all of which lead to state 0 but these, each of a state, a byte and a target.
-fn cells(alloc: Global, states: u16, others: &[(u8, u8, u32)]) -> Result<Vec<u32>, Fail> {
+// A state, a byte, and the state to which the byte leads from there.
+type Move = (u8, u8, u32);
+
+// The cells of so many states, all of which lead to state 0 but for these moves.
+fn cells(alloc: Global, states: u16, moves: &[Move]) -> Result<Vec<u32>, Fail> {
     let mut next = Vec::from_elem(alloc, 0u32, 256 * usize::from(states))?;
-    for (state, byte, target) in others {
+    for (state, byte, target) in moves {
         let cell = 256 * usize::from(*state) + usize::from(*byte);
         *next.get_mut(cell).ok_or("no such cell")? = *target;
     }
@@ -33,18 +40,36 @@ fn reading(rule: u16) -> Record {
     Record::none().with_hits(Permission::Read, hits)
 }
 
+// What is wanted of the tables of a profile.
+#[derive(Clone, Copy)]
+struct Layout<'a> {
+    states: u16,
+    moves: &'a [Move],
+    accept: &'a [u32],
+    records: &'a [Record],
+}
+
+fn expect_layout(
+    rt: &impl Abort,
+    alloc: Global,
+    text: &[u8],
+    want: &Layout<'_>,
+) -> Result<(), Fail> {
+    let next = cells(alloc, want.states, want.moves)?;
+    let table = tables_of(alloc, text)?;
+    let is_as_wanted = has_own_rows(&table, want.states)
+        && table.next == next
+        && table.accept.as_slice() == want.accept
+        && table.records.as_slice() == want.records;
+    assert!(rt; is_as_wanted);
+    Ok(())
+}
+
 #[test]
 fn one_name(rt: HostRuntime) -> Result<(), Fail> {
-    let alloc = rt.alloc();
-    let table = tables_of(alloc, b"profile p { /etc/passwd r, }")?;
-    assert_eq!(rt; table.default.len(), 13);
-    assert_eq!(rt; table.base.len(), 13);
-    assert_eq!(rt; table.check.len(), 3_328);
-    assert!(rt; has_own_rows(&table));
-    let want = cells(
-        alloc,
-        13,
-        &[
+    let want = Layout {
+        states: 13,
+        moves: &[
             (1, b'/', 2),
             (2, b'e', 3),
             (3, b't', 4),
@@ -57,52 +82,43 @@ fn one_name(rt: HostRuntime) -> Result<(), Fail> {
             (10, b'w', 11),
             (11, b'd', 12),
         ],
-    )?;
-    assert!(rt; table.next == want);
-    assert!(rt; table.accept.as_slice() == [0, 0, 0, 0, 0, 0, 0, 0, 0, 0, 0, 0, 1].as_slice());
-    assert!(rt; table.records.as_slice() == [Record::none(), reading(1)].as_slice());
-    Ok(())
+        accept: &[0, 0, 0, 0, 0, 0, 0, 0, 0, 0, 0, 0, 1],
+        records: &[Record::none(), reading(1)],
+    };
+    expect_layout(&rt, rt.alloc(), b"profile p { /etc/passwd r, }", &want)
 }
 
 #[test]
 fn two_names(rt: HostRuntime) -> Result<(), Fail> {
-    let alloc = rt.alloc();
-    let table = tables_of(alloc, b"profile p { /a r, deny /b r, }")?;
-    assert_eq!(rt; table.default.len(), 5);
-    assert_eq!(rt; table.base.len(), 5);
-    assert_eq!(rt; table.check.len(), 1_280);
-    assert!(rt; has_own_rows(&table));
-    let want = cells(alloc, 5, &[(1, b'/', 2), (2, b'a', 3), (2, b'b', 4)])?;
-    assert!(rt; table.next == want);
-    assert!(rt; table.accept.as_slice() == [0, 0, 0, 1, 2].as_slice());
     let denied = Record::none().with_hits(Permission::Read, LeastHits { allow: 0, deny: 2 });
-    assert!(rt; table.records.as_slice() == [Record::none(), reading(1), denied].as_slice());
-    Ok(())
+    let want = Layout {
+        states: 5,
+        moves: &[(1, b'/', 2), (2, b'a', 3), (2, b'b', 4)],
+        accept: &[0, 0, 0, 1, 2],
+        records: &[Record::none(), reading(1), denied],
+    };
+    expect_layout(&rt, rt.alloc(), b"profile p { /a r, deny /b r, }", &want)
 }
 
 // The states after `/a` and `/ac` differ, but have equal records; that after `/d` comes between them.
 #[test]
 fn equal_records(rt: HostRuntime) -> Result<(), Fail> {
-    let alloc = rt.alloc();
-    let table = tables_of(alloc, b"profile p { /a{,c} r, /d r, }")?;
-    assert!(rt; has_own_rows(&table));
-    let moves = [(1, b'/', 2), (2, b'a', 3), (2, b'd', 4), (3, b'c', 5)];
-    assert!(rt; table.next == cells(alloc, 6, &moves)?);
-    assert!(rt; table.accept.as_slice() == [0, 0, 0, 1, 2, 1].as_slice());
-    assert!(rt; table.records.as_slice() == [Record::none(), reading(1), reading(2)].as_slice());
-    Ok(())
+    let want = Layout {
+        states: 6,
+        moves: &[(1, b'/', 2), (2, b'a', 3), (2, b'd', 4), (3, b'c', 5)],
+        accept: &[0, 0, 0, 1, 2, 1],
+        records: &[Record::none(), reading(1), reading(2)],
+    };
+    expect_layout(&rt, rt.alloc(), b"profile p { /a{,c} r, /d r, }", &want)
 }
 
 #[test]
 fn no_rules(rt: HostRuntime) -> Result<(), Fail> {
-    let alloc = rt.alloc();
-    let table = tables_of(alloc, b"profile p { }")?;
-    assert!(rt; has_own_rows(&table));
-    assert!(rt; table.default.as_slice() == [0, 0].as_slice());
-    assert!(rt; table.base.as_slice() == [0, 256].as_slice());
-    assert!(rt; table.accept.as_slice() == [0, 0].as_slice());
-    assert_eq!(rt; table.check.len(), 512);
-    assert!(rt; table.next == cells(alloc, 2, &[])?);
-    assert!(rt; table.records.as_slice() == [Record::none()].as_slice());
-    Ok(())
+    let want = Layout {
+        states: 2,
+        moves: &[],
+        accept: &[0, 0],
+        records: &[Record::none()],
+    };
+    expect_layout(&rt, rt.alloc(), b"profile p { }", &want)
 }

@@ -41,38 +41,56 @@ fn agree(compiled: &CompiledProfile, loaded: &VerifiedTable, name: &[u8]) -> boo
     true
 }
 
-// The first name of at most three bytes of which something else is told.
-fn first_difference(
+// Whether they tell the same of each name of at most three bytes.
+fn agree_on_short_names(
     alloc: Global,
-    rules: &[u8],
+    compiled: &CompiledProfile,
+    loaded: &VerifiedTable,
     alphabet: [u8; 6],
-) -> Result<Option<Vec<u8>>, Fail> {
-    let compiled = compiled_of(alloc, rules)?;
-    let loaded = LoadedProfile::make(alloc, &image_of(alloc, &compiled)?)?;
+) -> Result<bool, Fail> {
     // One empty list, 6 of one byte, 36 of two and 216 of three.
     for number in 0..259 {
         let name = counted(alloc, alphabet, number)?;
-        if !agree(&compiled, loaded.table(), &name) {
-            return Ok(Some(name));
+        if !agree(compiled, loaded, &name) {
+            return Ok(false);
         }
     }
-    Ok(None)
+    Ok(true)
+}
+
+// Whether a compiled profile, the one loaded from its image and the plain judge tell the same of short names.
+fn agrees_with_loaded(alloc: Global, compiled: &CompiledProfile) -> Result<bool, Fail> {
+    let loaded = loaded_of(alloc, compiled)?;
+    let alphabet = [b'/', b'a', b'b', b'k', 0, 255];
+    agree_on_short_names(alloc, compiled, loaded.table(), alphabet)
+}
+
+fn expect_agreement(rt: &impl Abort, alloc: Global, rules: &[u8]) -> Result<(), Fail> {
+    let compiled = compiled_of(alloc, rules)?;
+    assert!(rt; agrees_with_loaded(alloc, &compiled)?, "{rules:?}");
+    Ok(())
+}
+
+fn expect_agreements(rt: &impl Abort, alloc: Global, rows: &[&[u8]]) -> Result<(), Fail> {
+    for rules in rows {
+        expect_agreement(rt, alloc, rules)?;
+    }
+    Ok(())
 }
 
 #[test]
 fn short_names(rt: HostRuntime) -> Result<(), Fail> {
-    let alloc = rt.alloc();
-    for rules in [
-        b"".as_slice(),
-        b"/a rwlkm, deny /ab w,",
-        b"/ r, /a rw, /aa m, deny /ab w, /b lk,",
-        b"/** rw, deny /k* w, deny /?a m, /*/ l,",
-        b"/* r, deny /** k, /[ab] w, /[^a] lm, deny /k r,",
-        b"/{a,b,}{k,} rw, deny /{a,}b m, /a m, /[\x80-\xff]* k,",
-        b"deny /** rwlkm, /a r,",
-    ] {
-        let found = first_difference(alloc, rules, [b'/', b'a', b'b', b'k', 0, 255])?;
-        assert!(rt; found.is_none(), "{rules:?}");
-    }
-    Ok(())
+    expect_agreements(
+        &rt,
+        rt.alloc(),
+        &[
+            b"",
+            b"/a rwlkm, deny /ab w,",
+            b"/ r, /a rw, /aa m, deny /ab w, /b lk,",
+            b"/** rw, deny /k* w, deny /?a m, /*/ l,",
+            b"/* r, deny /** k, /[ab] w, /[^a] lm, deny /k r,",
+            b"/{a,b,}{k,} rw, deny /{a,}b m, /a m, /[\x80-\xff]* k,",
+            b"deny /** rwlkm, /a r,",
+        ],
+    )
 }

@@ -1,35 +1,25 @@
 //! Images with any number in them altered.
 use super::*;
-use crate::images::smallest;
+use crate::images::{altered, passwd, smallest};
 
 mod cells;
 
 // The kinds of numbers in an image.
-#[derive(Clone, Copy, Debug, PartialEq, Eq)]
+#[derive(Clone, Copy)]
 enum Kind {
     Default,
     Base,
     Accept,
     Next,
-    Check,
 }
 
 // Numbers of one kind: at which byte the first one stands, how many there are, and the least that is out of bounds.
-#[derive(Clone, Copy, Debug)]
+#[derive(Clone, Copy)]
 struct Part {
     kind: Kind,
     first: u16,
     count: u16,
     bound: u32,
-}
-
-fn numbers(kind: Kind, first: u16, count: u16, bound: u32) -> Part {
-    Part {
-        kind,
-        first,
-        count,
-        bound,
-    }
 }
 
 impl Part {
@@ -44,7 +34,6 @@ impl Part {
             Kind::Base => Some(ImageFault::Base { state: place }),
             Kind::Accept => Some(ImageFault::Accept { state: place }),
             Kind::Next => Some(ImageFault::Next { cell: place }),
-            Kind::Check => None,
         }
     }
 
@@ -57,12 +46,7 @@ impl Part {
         number: u32,
     ) -> Result<Vec<u8>, Fail> {
         let begin = usize::from(self.first) + 4 * usize::from(place);
-        let before = image.get(..begin).ok_or("no such place")?;
-        let behind = image.get(begin + 4..).ok_or("no such place")?;
-        let mut bytes = before.to_vec(alloc)?;
-        bytes.extend_from_slice(&number.to_le_bytes())?;
-        bytes.extend_from_slice(behind)?;
-        Ok(bytes)
+        altered(alloc, image, begin, &number.to_le_bytes())
     }
 
     // The first place at which this number is told otherwise than it should be.
@@ -83,76 +67,111 @@ impl Part {
     }
 }
 
-// The image of a profile of one name: 13 states, 3,328 cells and 2 records.
-fn passwd(alloc: Global) -> Result<Vec<u8>, Fail> {
-    image_of(alloc, &compiled_of(alloc, b"/etc/passwd r,")?)
+// A part, as kind, first byte, count and bound, and the numbers that are tried at each of its places.
+type Row<'a> = (Kind, u16, u16, u32, &'a [u32]);
+
+fn expect_judged(rt: &impl Abort, alloc: Global, image: &[u8], row: &Row<'_>) -> Result<(), Fail> {
+    let (kind, first, count, bound, numbers) = *row;
+    let part = Part {
+        kind,
+        first,
+        count,
+        bound,
+    };
+    for number in numbers {
+        let told = part.first_misjudged(alloc, image, *number)?;
+        assert!(rt; told.is_none(), "{number} from byte {first} on");
+    }
+    Ok(())
+}
+
+fn expect_all_judged(
+    rt: &impl Abort,
+    alloc: Global,
+    image: &[u8],
+    rows: &[Row<'_>],
+) -> Result<(), Fail> {
+    for row in rows {
+        expect_judged(rt, alloc, image, row)?;
+    }
+    Ok(())
 }
 
 #[test]
 fn numbers_of_the_smallest(rt: HostRuntime) -> Result<(), Fail> {
     let image = smallest(rt.alloc())?;
-    for (part, number) in [
-        (numbers(Kind::Default, 20, 2, 2), 1),
-        (numbers(Kind::Default, 20, 2, 2), 2),
-        (numbers(Kind::Default, 20, 2, 2), u32::MAX),
-        (numbers(Kind::Base, 28, 2, 1), 0),
-        (numbers(Kind::Base, 28, 2, 1), 1),
-        (numbers(Kind::Base, 28, 2, 1), u32::MAX),
-        (numbers(Kind::Accept, 36, 2, 1), 1),
-        (numbers(Kind::Accept, 36, 2, 1), u32::MAX),
-        (numbers(Kind::Next, 44, 256, 2), 1),
-        (numbers(Kind::Next, 44, 256, 2), 2),
-        (numbers(Kind::Next, 44, 256, 2), u32::MAX),
-    ] {
-        let told = part.first_misjudged(rt.alloc(), &image, number)?;
-        assert_eq!(rt; told, None, "{part:?} {number}");
-    }
-    Ok(())
+    expect_all_judged(
+        &rt,
+        rt.alloc(),
+        &image,
+        &[
+            (Kind::Default, 20, 2, 2, &[1, 2, u32::MAX]),
+            (Kind::Base, 28, 2, 1, &[0, 1, u32::MAX]),
+            (Kind::Accept, 36, 2, 1, &[1, u32::MAX]),
+            (Kind::Next, 44, 256, 2, &[1, 2, u32::MAX]),
+        ],
+    )
 }
 
 #[test]
 fn numbers_of_one_name(rt: HostRuntime) -> Result<(), Fail> {
     let image = passwd(rt.alloc())?;
-    for (part, number) in [
-        (numbers(Kind::Default, 20, 13, 13), 12),
-        (numbers(Kind::Default, 20, 13, 13), 13),
-        (numbers(Kind::Default, 20, 13, 13), u32::MAX),
-        (numbers(Kind::Base, 72, 13, 3_073), 3_072),
-        (numbers(Kind::Base, 72, 13, 3_073), 3_073),
-        (numbers(Kind::Base, 72, 13, 3_073), u32::MAX),
-        (numbers(Kind::Accept, 124, 13, 2), 1),
-        (numbers(Kind::Accept, 124, 13, 2), 2),
-        (numbers(Kind::Accept, 124, 13, 2), u32::MAX),
-        (numbers(Kind::Next, 176, 64, 13), 12),
-        (numbers(Kind::Next, 176, 64, 13), 13),
-        (numbers(Kind::Next, 176, 64, 13), u32::MAX),
-    ] {
-        let told = part.first_misjudged(rt.alloc(), &image, number)?;
-        assert_eq!(rt; told, None, "{part:?} {number}");
-    }
-    Ok(())
+    expect_all_judged(
+        &rt,
+        rt.alloc(),
+        &image,
+        &[
+            (Kind::Default, 20, 13, 13, &[12, 13, u32::MAX]),
+            (Kind::Base, 72, 13, 3_073, &[3_072, 3_073, u32::MAX]),
+            (Kind::Accept, 124, 13, 2, &[1, 2, u32::MAX]),
+            (Kind::Next, 176, 64, 13, &[12, 13, u32::MAX]),
+        ],
+    )
+}
+
+fn expect_fault(rt: &impl Abort, alloc: Global, image: &[u8], want: ImageFault) {
+    let fault = LoadedProfile::make(alloc, image).err();
+    assert_eq!(rt; fault, Some(want));
+}
+
+// The image with other bytes from a place on, of which this fault is told.
+fn with_fault(
+    rt: &impl Abort,
+    alloc: Global,
+    image: Vec<u8>,
+    place: usize,
+    other: &[u8],
+    want: ImageFault,
+) -> Result<Vec<u8>, Fail> {
+    let bytes = altered(alloc, &image, place, other)?;
+    expect_fault(rt, alloc, &bytes, want);
+    Ok(bytes)
 }
 
 // Of two faults the earlier one is told, that of the header first.
 #[test]
 fn first_faults(rt: HostRuntime) -> Result<(), Fail> {
     let alloc = rt.alloc();
-    let defaults = numbers(Kind::Default, 20, 2, 2);
-    let nexts = numbers(Kind::Next, 44, 256, 2);
-    let image = nexts.altered(alloc, &smallest(alloc)?, 7, 2)?;
-    let fault = LoadedProfile::make(alloc, &image).err();
-    assert_eq!(rt; fault, Some(ImageFault::Next { cell: 7 }));
-    let mut image = defaults.altered(alloc, &image, 1, u32::MAX)?;
-    let fault = LoadedProfile::make(alloc, &image).err();
-    assert_eq!(rt; fault, Some(ImageFault::Default { state: 1 }));
+    let mut image = smallest(alloc)?;
+    image = with_fault(
+        &rt,
+        alloc,
+        image,
+        44 + 4 * 7,
+        b"\x02\0\0\0",
+        ImageFault::Next { cell: 7 },
+    )?;
+    image = with_fault(
+        &rt,
+        alloc,
+        image,
+        20 + 4,
+        b"\xff\xff\xff\xff",
+        ImageFault::Default { state: 1 },
+    )?;
     image.push(0)?;
-    let fault = LoadedProfile::make(alloc, &image).err();
-    assert_eq!(rt; fault, Some(ImageFault::Length));
+    expect_fault(&rt, alloc, &image, ImageFault::Length);
     // The version.
-    if let Some(byte) = image.get_mut(4) {
-        *byte = 2;
-    }
-    let fault = LoadedProfile::make(alloc, &image).err();
-    assert_eq!(rt; fault, Some(ImageFault::Version));
+    with_fault(&rt, alloc, image, 4, b"\x02", ImageFault::Version)?;
     Ok(())
 }

@@ -1,113 +1,132 @@
 //! Tables with a number out of its bounds.
 use super::*;
 
-// Which numbers of a table are altered.
-#[derive(Clone, Copy, Debug, PartialEq, Eq)]
-enum Part {
-    Default,
-    Base,
-    Accept,
-    Next,
-    Check,
-}
-
-// The fault at a place of a part.
-fn fault_at(part: Part, place: u32) -> Option<ImageFault> {
-    match part {
-        Part::Default => Some(ImageFault::Default { state: place }),
-        Part::Base => Some(ImageFault::Base { state: place }),
-        Part::Accept => Some(ImageFault::Accept { state: place }),
-        Part::Next => Some(ImageFault::Next { cell: place }),
-        Part::Check => None,
+// The fault at a place of a list.
+fn fault_at(list: List, place: u32) -> Option<ImageFault> {
+    match list {
+        List::Default => Some(ImageFault::Default { state: place }),
+        List::Base => Some(ImageFault::Base { state: place }),
+        List::Accept => Some(ImageFault::Accept { state: place }),
+        List::Next => Some(ImageFault::Next { cell: place }),
+        List::Check => None,
     }
 }
 
-// The table with another number at a place of a part.
-fn with(mut table: RawTable, part: Part, place: u32, number: u32) -> RawTable {
-    let numbers = match part {
-        Part::Default => &mut table.default,
-        Part::Base => &mut table.base,
-        Part::Accept => &mut table.accept,
-        Part::Next => &mut table.next,
-        Part::Check => &mut table.check,
-    };
-    put(numbers, place as usize, number);
+// The table with another number at a place of a list.
+fn with(mut table: RawTable, list: List, place: u32, number: u32) -> RawTable {
+    put(list_of(&mut table, list), place as usize, number);
     table
 }
 
 // Three states and two rows. State 0 is dead; state 1 has the first row, from which `a` leads to state 2, and state 2 the
 // second.
 fn two_rows(alloc: Global) -> Result<RawTable, Fail> {
-    let mut table = smallest(alloc)?;
-    table.default.push(0)?;
-    table.base.push(256)?;
-    table.accept.push(0)?;
-    table.next.resize(512, 1)?;
-    table.check = Vec::from_elem(alloc, 1u32, 256)?;
-    table.check.resize(512, 2)?;
+    let mut table = counted(alloc, 3, 512, 1)?;
+    put(&mut table.base, 2, 256);
     put(&mut table.next, 97, 2);
+    table.check.fill(1);
+    for cell in 256..512 {
+        put(&mut table.next, cell, 1);
+        put(&mut table.check, cell, 2);
+    }
     Ok(table)
 }
 
-// The first place of a part at which this number is told otherwise than wanted.
+// Whether this is told of the table with another number at a place of a list.
+fn is_told(
+    table: &RawTable,
+    list: List,
+    place: u32,
+    number: u32,
+    want: Option<ImageFault>,
+) -> Result<bool, Fail> {
+    let other = with(copy_of(table)?, list, place, number);
+    Ok(fault_of(other) == want)
+}
+
+// The first place of a list at which this number is told otherwise than wanted.
 fn first_told_otherwise(
     table: &RawTable,
-    part: Part,
+    list: List,
     number: u32,
     is_refused: bool,
 ) -> Result<Option<u32>, Fail> {
-    let places = match part {
-        Part::Next | Part::Check => table.next.len(),
+    let places = match list {
+        List::Next | List::Check => table.next.len(),
         _ => table.default.len(),
     };
     for place in 0..1024u32 {
         if place as usize >= places {
             break;
         }
-        let told = fault_of(with(copy_of(table)?, part, place, number));
         let want = if is_refused {
-            fault_at(part, place)
+            fault_at(list, place)
         } else {
             None
         };
-        if told != want {
+        if !is_told(table, list, place, number, want)? {
             return Ok(Some(place));
         }
     }
     Ok(None)
 }
 
-// The first number that is told otherwise than it should be at some place of a part whose numbers are below a bound.
-fn first_misjudged(table: &RawTable, part: Part, bound: u32) -> Result<Option<u32>, Fail> {
+fn expect_told(
+    rt: &impl Abort,
+    table: &RawTable,
+    list: List,
+    number: u32,
+    is_refused: bool,
+) -> Result<(), Fail> {
+    let first = first_told_otherwise(table, list, number, is_refused)?;
+    assert!(rt; first.is_none(), "{list:?} {number}");
+    Ok(())
+}
+
+// At each place of a list a number is refused from a bound on, and not below it.
+fn expect_bound(rt: &impl Abort, table: &RawTable, list: List, bound: u32) -> Result<(), Fail> {
     for number in [bound, 0x8000_0000, u32::MAX - 254, u32::MAX] {
-        if first_told_otherwise(table, part, number, true)?.is_some() {
-            return Ok(Some(number));
-        }
+        expect_told(rt, table, list, number, true)?;
     }
-    let last = bound.saturating_sub(1);
-    match first_told_otherwise(table, part, last, false)? {
-        Some(_) => Ok(Some(last)),
-        None => Ok(None),
+    expect_told(rt, table, list, bound.saturating_sub(1), false)
+}
+
+fn expect_bounds(rt: &impl Abort, table: &RawTable, rows: &[(List, u32)]) -> Result<(), Fail> {
+    for (list, bound) in rows {
+        expect_bound(rt, table, *list, *bound)?;
     }
+    Ok(())
 }
 
 #[test]
 fn numbers_out_of_bounds(rt: HostRuntime) -> Result<(), Fail> {
-    let alloc = rt.alloc();
-    let short = smallest(alloc)?;
-    let long = two_rows(alloc)?;
-    for (part, short_bound, long_bound) in [
-        (Part::Default, 2u32, 3u32),
-        (Part::Base, 1, 257),
-        (Part::Accept, 1, 1),
-        (Part::Next, 2, 3),
-    ] {
-        assert_eq!(rt;
-            first_misjudged(&short, part, short_bound)?,
-            None,
-            "{part:?}"
-        );
-        assert_eq!(rt; first_misjudged(&long, part, long_bound)?, None, "{part:?}");
+    let short = smallest(rt.alloc())?;
+    expect_bounds(
+        &rt,
+        &short,
+        &[
+            (List::Default, 2),
+            (List::Base, 1),
+            (List::Accept, 1),
+            (List::Next, 2),
+        ],
+    )?;
+    let long = two_rows(rt.alloc())?;
+    expect_bounds(
+        &rt,
+        &long,
+        &[
+            (List::Default, 3),
+            (List::Base, 257),
+            (List::Accept, 1),
+            (List::Next, 3),
+        ],
+    )
+}
+
+fn expect_any_check(rt: &impl Abort, table: &RawTable, numbers: &[u32]) -> Result<(), Fail> {
+    for number in numbers {
+        expect_told(rt, table, List::Check, *number, false)?;
     }
     Ok(())
 }
@@ -116,38 +135,47 @@ fn numbers_out_of_bounds(rt: HostRuntime) -> Result<(), Fail> {
 #[test]
 fn checks_are_free(rt: HostRuntime) -> Result<(), Fail> {
     let table = two_rows(rt.alloc())?;
-    for number in [0, 1, 3, 1 << 16, u32::MAX] {
-        let told = first_told_otherwise(&table, Part::Check, number, false)?;
-        assert_eq!(rt; told, None, "{number}");
+    expect_any_check(&rt, &table, &[0, 1, 3, 1 << 16, u32::MAX])
+}
+
+// The earlier of two faults and its place, the later one and its place.
+type Faults = (List, u32, List, u32);
+
+// The later fault is told where it is alone, and the earlier one where both are.
+fn expect_first(rt: &impl Abort, alloc: Global, row: &Faults) -> Result<(), Fail> {
+    let (first, first_place, later, later_place) = *row;
+    let table = with(smallest(alloc)?, later, later_place, 2);
+    let want = fault_at(first, first_place);
+    let is_first = is_told(&table, first, first_place, u32::MAX, want)?;
+    let is_alone = fault_of(table) == fault_at(later, later_place);
+    assert!(rt; is_first && is_alone, "{first:?} and {later:?}");
+    Ok(())
+}
+
+fn expect_all_first(rt: &impl Abort, alloc: Global, rows: &[Faults]) -> Result<(), Fail> {
+    for row in rows {
+        expect_first(rt, alloc, row)?;
     }
     Ok(())
 }
 
 #[test]
 fn first_faults(rt: HostRuntime) -> Result<(), Fail> {
-    let alloc = rt.alloc();
-    for (first, first_place, later, later_place) in [
-        // Kinds that follow one another, the later fault at the lesser place.
-        (Part::Default, 1, Part::Base, 0),
-        (Part::Base, 1, Part::Accept, 0),
-        (Part::Accept, 1, Part::Next, 0),
-        (Part::Default, 1, Part::Next, 0),
-        // One kind twice.
-        (Part::Default, 0, Part::Default, 1),
-        (Part::Base, 0, Part::Base, 1),
-        (Part::Accept, 0, Part::Accept, 1),
-        (Part::Next, 7, Part::Next, 255),
-        (Part::Next, 254, Part::Next, 255),
-    ] {
-        let table = with(smallest(alloc)?, later, later_place, 2);
-        let told = fault_of(copy_of(&table)?);
-        assert_eq!(rt; told, fault_at(later, later_place), "{later:?}");
-        let told = fault_of(with(table, first, first_place, u32::MAX));
-        assert_eq!(rt;
-            told,
-            fault_at(first, first_place),
-            "{first:?} and {later:?}"
-        );
-    }
-    Ok(())
+    expect_all_first(
+        &rt,
+        rt.alloc(),
+        &[
+            // Kinds that follow one another, the later fault at the lesser place.
+            (List::Default, 1, List::Base, 0),
+            (List::Base, 1, List::Accept, 0),
+            (List::Accept, 1, List::Next, 0),
+            (List::Default, 1, List::Next, 0),
+            // One kind twice.
+            (List::Default, 0, List::Default, 1),
+            (List::Base, 0, List::Base, 1),
+            (List::Accept, 0, List::Accept, 1),
+            (List::Next, 7, List::Next, 255),
+            (List::Next, 254, List::Next, 255),
+        ],
+    )
 }

@@ -9,17 +9,12 @@ fn shared(alloc: Global) -> Result<RawTable, Fail> {
     let mut table = smallest(alloc)?;
     put(&mut table.default, 0, 1);
     put(&mut table.accept, 1, 1);
-    for (cell, owner, next) in [
-        (97, 1, 1),
-        (255, 1, 1),
-        (98, 0, 1),
-        (0, 0, 0),
-        // A free cell, whose next is never gone to from state 1.
-        (99, u32::MAX, 1),
-    ] {
-        put(&mut table.check, cell, owner);
-        put(&mut table.next, cell, next);
-    }
+    put_all(&mut table.check, &[(97, 1), (255, 1), (98, 0), (0, 0)]);
+    // The last one is the next of a free cell, which is never gone to from state 1.
+    put_all(
+        &mut table.next,
+        &[(97, 1), (255, 1), (98, 1), (0, 0), (99, 1)],
+    );
     let hits = LeastHits { allow: 3, deny: 5 };
     table
         .records
@@ -50,21 +45,23 @@ fn from_one(byte: u8) -> State {
     }
 }
 
+// One step by a byte from state 1, one to state 0, and one by the byte from there.
+fn expect_shared(rt: &impl Abort, table: &VerifiedTable, byte: u8) {
+    let mut steps = Steps::new();
+    let one = table.look_up(table.start(), byte, &mut steps);
+    let is_one_step = steps.count() == 1;
+    let dead = table.look_up(table.start(), b'c', &mut steps);
+    let zero = table.look_up(dead, byte, &mut steps);
+    let is_right = one == from_one(byte) && dead == 0 && zero == from_zero(byte);
+    assert!(rt; is_right && is_one_step && steps.count() == 3, "{byte}");
+}
+
 #[test]
 fn shared_row(rt: HostRuntime) -> Result<(), Fail> {
     let table = verified(shared(rt.alloc())?)?;
-    assert_eq!(rt; table.states(), 2);
-    assert_eq!(rt; table.start(), 1);
+    assert_eq!(rt; (table.states(), table.start()), (2, 1));
     for byte in 0..=255u8 {
-        let mut steps = Steps::new();
-        let one = table.look_up(table.start(), byte, &mut steps);
-        assert_eq!(rt; one, from_one(byte), "{byte}");
-        assert_eq!(rt; steps.count(), 1);
-        let dead = table.look_up(table.start(), b'c', &mut steps);
-        assert_eq!(rt; dead, 0);
-        let zero = table.look_up(dead, byte, &mut steps);
-        assert_eq!(rt; zero, from_zero(byte), "{byte}");
-        assert_eq!(rt; steps.count(), 3);
+        expect_shared(&rt, &table, byte);
     }
     Ok(())
 }
@@ -73,16 +70,23 @@ fn shared_row(rt: HostRuntime) -> Result<(), Fail> {
 fn records(rt: HostRuntime) -> Result<(), Fail> {
     let table = verified(shared(rt.alloc())?)?;
     let mut steps = Steps::new();
-    let start = table.start();
-    let zero = table.look_up(start, b'b', &mut steps);
+    let zero = table.look_up(table.start(), b'b', &mut steps);
     assert_eq!(rt; table.record_of(zero), Record::none());
-    let record = table.record_of(start);
+    let record = table.record_of(table.start());
     assert_eq!(rt;
         record.of(Permission::Write),
         LeastHits { allow: 3, deny: 5 }
     );
     assert_eq!(rt; record.of(Permission::Read), LeastHits::NONE);
     Ok(())
+}
+
+// Two steps by a byte lead from state 1 to itself.
+fn expect_to_itself(rt: &impl Abort, table: &VerifiedTable, byte: u8) {
+    let mut steps = Steps::new();
+    let one = table.look_up(table.start(), byte, &mut steps);
+    let again = table.look_up(one, byte, &mut steps);
+    assert!(rt; one == 1 && again == 1 && steps.count() == 2, "{byte}");
 }
 
 // Each state leads to itself, by every byte: state 1 by its default, state 0 by its cells.
@@ -93,39 +97,35 @@ fn states_that_lead_to_themselves(rt: HostRuntime) -> Result<(), Fail> {
     table.check.fill(0);
     let table = verified(table)?;
     for byte in 0..=255u8 {
-        let mut steps = Steps::new();
-        let one = table.look_up(table.start(), byte, &mut steps);
-        assert_eq!(rt; one, 1, "{byte}");
-        let again = table.look_up(one, byte, &mut steps);
-        assert_eq!(rt; again, 1, "{byte}");
-        assert_eq!(rt; steps.count(), 2);
+        expect_to_itself(&rt, &table, byte);
     }
     Ok(())
 }
 
 // Rows that overlap: state 1 has its cell of a byte where state 2 has that of the byte before.
+fn overlapping(alloc: Global) -> Result<RawTable, Fail> {
+    let mut table = counted(alloc, 3, 257, 1)?;
+    table.check.fill(u32::MAX);
+    put(&mut table.default, 2, 1);
+    put(&mut table.base, 2, 1);
+    put_all(&mut table.check, &[(98, 1), (99, 2), (256, 2)]);
+    put_all(&mut table.next, &[(98, 2), (99, 0), (256, 1)]);
+    Ok(table)
+}
+
 #[test]
 fn overlapping_rows(rt: HostRuntime) -> Result<(), Fail> {
-    let mut table = smallest(rt.alloc())?;
-    table.default.push(1)?;
-    table.base.push(1)?;
-    table.accept.push(0)?;
-    table.next.push(1)?;
-    table.check.push(2)?;
-    put(&mut table.check, 98, 1);
-    put(&mut table.next, 98, 2);
-    put(&mut table.check, 99, 2);
-    put(&mut table.next, 99, 0);
-    let table = verified(table)?;
+    let table = verified(overlapping(rt.alloc())?)?;
     let mut steps = Steps::new();
     let two = table.look_up(table.start(), b'b', &mut steps);
-    assert_eq!(rt; two, 2);
     // The cell of `a` in the row of state 2 is state 1's, and its own cell is that of `b`.
-    assert_eq!(rt; table.look_up(two, b'a', &mut steps), 1);
-    assert_eq!(rt; table.look_up(two, b'b', &mut steps), 0);
-    assert_eq!(rt; table.look_up(two, 255, &mut steps), 1);
-    assert_eq!(rt; table.look_up(table.start(), b'c', &mut steps), 0);
-    assert_eq!(rt; steps.count(), 5);
+    let found = [
+        table.look_up(two, b'a', &mut steps),
+        table.look_up(two, b'b', &mut steps),
+        table.look_up(two, 255, &mut steps),
+        table.look_up(table.start(), b'c', &mut steps),
+    ];
+    assert!(rt; two == 2 && found == [1, 0, 1, 0] && steps.count() == 5);
     Ok(())
 }
 

@@ -1,48 +1,48 @@
 //! Tables with other counts and lengths, and what comes back.
 use super::*;
 
-// Which list of a table is made longer or shorter.
-#[derive(Clone, Copy, Debug, PartialEq, Eq)]
-enum List {
-    Default,
-    Base,
-    Accept,
-    Next,
-    Check,
+// A list of the smallest table, another length of it, and what is told.
+type Resized = (List, usize, ImageFault);
+
+fn expect_resized(rt: &impl Abort, alloc: Global, row: &Resized) -> Result<(), Fail> {
+    let (list, length, want) = *row;
+    let mut table = smallest(alloc)?;
+    list_of(&mut table, list).resize(length, 0)?;
+    assert!(rt; fault_of(table) == Some(want), "{list:?} {length}");
+    Ok(())
 }
 
-fn list_of(table: &mut RawTable, list: List) -> &mut Vec<u32> {
-    match list {
-        List::Default => &mut table.default,
-        List::Base => &mut table.base,
-        List::Accept => &mut table.accept,
-        List::Next => &mut table.next,
-        List::Check => &mut table.check,
+fn expect_all_resized(rt: &impl Abort, alloc: Global, rows: &[Resized]) -> Result<(), Fail> {
+    for row in rows {
+        expect_resized(rt, alloc, row)?;
     }
+    Ok(())
 }
 
 #[test]
 fn unequal_lengths(rt: HostRuntime) -> Result<(), Fail> {
-    let alloc = rt.alloc();
-    for (list, shorter) in [
-        // One state is too few, and so are 255 cells.
-        (List::Default, ImageFault::Counts),
-        (List::Base, ImageFault::Length),
-        (List::Accept, ImageFault::Length),
-        (List::Next, ImageFault::Counts),
-        (List::Check, ImageFault::Length),
-    ] {
-        let mut table = smallest(alloc)?;
-        list_of(&mut table, list).push(0)?;
-        assert_eq!(rt; fault_of(table), Some(ImageFault::Length), "{list:?}");
-        let mut table = smallest(alloc)?;
-        let _ = list_of(&mut table, list).pop();
-        assert_eq!(rt; fault_of(table), Some(shorter), "{list:?}");
-        let mut table = smallest(alloc)?;
-        list_of(&mut table, list).clear();
-        assert_eq!(rt; fault_of(table), Some(shorter), "{list:?}");
-    }
-    Ok(())
+    expect_all_resized(
+        &rt,
+        rt.alloc(),
+        &[
+            // One state is too few, and so are 255 cells.
+            (List::Default, 3, ImageFault::Length),
+            (List::Default, 1, ImageFault::Counts),
+            (List::Default, 0, ImageFault::Counts),
+            (List::Base, 3, ImageFault::Length),
+            (List::Base, 1, ImageFault::Length),
+            (List::Base, 0, ImageFault::Length),
+            (List::Accept, 3, ImageFault::Length),
+            (List::Accept, 1, ImageFault::Length),
+            (List::Accept, 0, ImageFault::Length),
+            (List::Next, 257, ImageFault::Length),
+            (List::Next, 255, ImageFault::Counts),
+            (List::Next, 0, ImageFault::Counts),
+            (List::Check, 257, ImageFault::Length),
+            (List::Check, 255, ImageFault::Length),
+            (List::Check, 0, ImageFault::Length),
+        ],
+    )
 }
 
 #[test]
@@ -63,38 +63,35 @@ fn no_lists(rt: HostRuntime) -> Result<(), Fail> {
     Ok(())
 }
 
-// So many dead states that share one row, so many cells and so many records.
-fn counted(alloc: Global, states: usize, cells: usize, records: usize) -> Result<RawTable, Fail> {
-    let zeros = Vec::from_elem(alloc, 0u32, states)?;
-    Ok(RawTable {
-        default: zeros.clone()?,
-        base: zeros.clone()?,
-        accept: zeros,
-        next: Vec::from_elem(alloc, 0, cells)?,
-        check: Vec::from_elem(alloc, 0, cells)?,
-        records: Vec::from_elem(alloc, Record::none(), records)?,
-    })
+// How many states, cells and records there are, and what is told.
+type Counts = (usize, usize, usize, Option<ImageFault>);
+
+fn expect_counts(rt: &impl Abort, alloc: Global, rows: &[Counts]) -> Result<(), Fail> {
+    for (states, cells, records, want) in rows {
+        let table = counted(alloc, *states, *cells, *records)?;
+        assert!(rt; fault_of(table) == *want, "{states} {cells} {records}");
+    }
+    Ok(())
 }
 
 #[test]
 fn counts(rt: HostRuntime) -> Result<(), Fail> {
-    let alloc = rt.alloc();
-    for (states, cells, records, want) in [
-        (2, 256, 1, None),
-        (1, 256, 1, Some(ImageFault::Counts)),
-        (2, 255, 1, Some(ImageFault::Counts)),
-        (2, 256, 0, Some(ImageFault::Counts)),
-        (65_536, 256, 1, None),
-        (65_537, 256, 1, Some(ImageFault::Counts)),
-        (2, 16_777_216, 1, None),
-        (2, 16_777_217, 1, Some(ImageFault::Counts)),
-        (2, 256, 65_536, None),
-        (2, 256, 65_537, Some(ImageFault::Counts)),
-    ] {
-        let table = counted(alloc, states, cells, records)?;
-        assert_eq!(rt; fault_of(table), want, "{states} {cells} {records}");
-    }
-    Ok(())
+    expect_counts(
+        &rt,
+        rt.alloc(),
+        &[
+            (2, 256, 1, None),
+            (1, 256, 1, Some(ImageFault::Counts)),
+            (2, 255, 1, Some(ImageFault::Counts)),
+            (2, 256, 0, Some(ImageFault::Counts)),
+            (65_536, 256, 1, None),
+            (65_537, 256, 1, Some(ImageFault::Counts)),
+            (2, 16_777_216, 1, None),
+            (2, 16_777_217, 1, Some(ImageFault::Counts)),
+            (2, 256, 65_536, None),
+            (2, 256, 65_537, Some(ImageFault::Counts)),
+        ],
+    )
 }
 
 // A count goes before a length, and a length before a number.
@@ -110,6 +107,15 @@ fn order(rt: HostRuntime) -> Result<(), Fail> {
     put(&mut table.default, 0, 2);
     assert_eq!(rt; fault_of(table), Some(ImageFault::Length));
     Ok(())
+}
+
+fn are_equal(one: &RawTable, other: &RawTable) -> bool {
+    one.default == other.default
+        && one.base == other.base
+        && one.accept == other.accept
+        && one.next == other.next
+        && one.check == other.check
+        && one.records == other.records
 }
 
 // What can be seen of an accepted table beside what it does. That it is the one that came, its contract says.
@@ -128,25 +134,39 @@ fn comes_back(table: RawTable) -> Result<bool, Fail> {
     })
 }
 
+// The smallest table comes back with a number put at place 1 of a list, and also with the number behind the list's last.
+fn expect_back(rt: &impl Abort, alloc: Global, list: List, number: u32) -> Result<(), Fail> {
+    let mut table = smallest(alloc)?;
+    put(list_of(&mut table, list), 1, number);
+    assert!(rt; comes_back(table)?, "{list:?} {number}");
+    let mut table = smallest(alloc)?;
+    list_of(&mut table, list).push(number)?;
+    assert!(rt; comes_back(table)?, "{list:?} and {number}");
+    Ok(())
+}
+
+fn expect_all_back(rt: &impl Abort, alloc: Global, rows: &[(List, u32)]) -> Result<(), Fail> {
+    for (list, number) in rows {
+        expect_back(rt, alloc, *list, *number)?;
+    }
+    Ok(())
+}
+
 #[test]
 fn tables_come_back(rt: HostRuntime) -> Result<(), Fail> {
     let alloc = rt.alloc();
     assert!(rt; comes_back(smallest(alloc)?)?);
-    for (list, number) in [
-        (List::Default, 2),
-        (List::Base, 1),
-        (List::Accept, 1),
-        (List::Next, 2),
-        (List::Default, 1),
-        (List::Next, 1),
-        (List::Check, 1),
-    ] {
-        let mut table = smallest(alloc)?;
-        put(list_of(&mut table, list), 1, number);
-        assert!(rt; comes_back(table)?, "{list:?} {number}");
-        let mut table = smallest(alloc)?;
-        list_of(&mut table, list).push(number)?;
-        assert!(rt; comes_back(table)?, "{list:?} {number}");
-    }
-    Ok(())
+    expect_all_back(
+        &rt,
+        alloc,
+        &[
+            (List::Default, 2),
+            (List::Base, 1),
+            (List::Accept, 1),
+            (List::Next, 2),
+            (List::Default, 1),
+            (List::Next, 1),
+            (List::Check, 1),
+        ],
+    )
 }

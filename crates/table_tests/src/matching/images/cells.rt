@@ -1,5 +1,6 @@
 //! Tables of images with any cell altered.
 use super::*;
+use crate::verifying::copy_of;
 use table_image::{RawTable, from_bytes};
 use table_verifier::verify;
 
@@ -24,66 +25,60 @@ fn first_next_taken(mut table: RawTable, cells: u32, number: u32) -> Option<u32>
     None
 }
 
+fn expect_nexts_refused(
+    rt: &impl Abort,
+    alloc: Global,
+    image: &[u8],
+    number: u32,
+) -> Result<(), Fail> {
+    let table = from_bytes(alloc, image)?;
+    let cells = table.next.len();
+    let taken = first_next_taken(table, 3_328, number);
+    assert!(rt; cells == 3_328 && taken.is_none(), "{number}");
+    Ok(())
+}
+
 #[test]
 fn nexts_out_of_bounds(rt: HostRuntime) -> Result<(), Fail> {
-    let alloc = rt.alloc();
-    let image = passwd(alloc)?;
+    let image = passwd(rt.alloc())?;
     for number in [13, 65_535, u32::MAX] {
-        let table = from_bytes(alloc, &image)?;
-        assert_eq!(rt; table.next.len(), 3_328);
-        assert_eq!(rt; first_next_taken(table, 3_328, number), None, "{number}");
+        expect_nexts_refused(&rt, rt.alloc(), &image, number)?;
     }
     Ok(())
 }
 
 // A table with another check.
 fn with_check(table: &RawTable, cell: u32, number: u32) -> Result<RawTable, Fail> {
-    let mut check = table.check.clone()?;
-    swap(&mut check, cell, number).ok_or("no such cell")?;
-    Ok(RawTable {
-        default: table.default.clone()?,
-        base: table.base.clone()?,
-        accept: table.accept.clone()?,
-        next: table.next.clone()?,
-        check,
-        records: table.records.clone()?,
-    })
+    let mut other = copy_of(table)?;
+    swap(&mut other.check, cell, number).ok_or("no such cell")?;
+    Ok(other)
 }
 
-// Whether a table is accepted, and names are run through it in as many steps as they have bytes.
-fn runs(table: RawTable, names: &[Vec<u8>]) -> bool {
-    let Ok(table) = verify(table) else {
-        return false;
-    };
-    for name in names {
-        let mut steps = Steps::new();
-        let state = run(&table, name, &mut steps);
-        if steps.count() != name.len() as u64 || state >= table.states() {
-            return false;
-        }
+// Whether a name is run through a table in as many steps as it has bytes.
+fn runs(table: &VerifiedTable, name: &[u8]) -> bool {
+    let mut steps = Steps::new();
+    let state = run(table, name, &mut steps);
+    steps.count() == name.len() as u64 && state < table.states()
+}
+
+// Whether a table is accepted, and runs all these names.
+fn runs_all(table: RawTable, names: &[&[u8]]) -> bool {
+    match verify(table) {
+        Ok(table) => names.iter().all(|name| runs(&table, name)),
+        Err(_) => false,
     }
-    true
 }
 
 // Names of 0, 1 and 2 bytes, byte 0 and byte 255 among them.
-fn short_names(alloc: Global) -> Result<Vec<Vec<u8>>, Fail> {
-    let mut names = Vec::new(alloc);
-    for name in [b"".as_slice(), b"\0", b"\xff", b"/", b"\xff\0", b"/e"] {
-        names.push(name.to_vec(alloc)?)?;
-    }
-    Ok(names)
-}
+const SHORT_NAMES: [&[u8]; 6] = [b"", b"\0", b"\xff", b"/", b"\xff\0", b"/e"];
 
-// Names of 4,095 bytes: bytes 255 alone, and all bytes in turn.
-fn long_names(alloc: Global) -> Result<Vec<Vec<u8>>, Fail> {
+// All bytes in turn, 4,095 of them.
+fn all_bytes(alloc: Global) -> Result<Vec<u8>, Fail> {
     let mut all = Vec::new(alloc);
     for place in 0..4_095u32 {
         all.push((place % 256) as u8)?;
     }
-    let mut names = Vec::new(alloc);
-    names.push(Vec::from_elem(alloc, 255, 4_095)?)?;
-    names.push(all)?;
-    Ok(names)
+    Ok(all)
 }
 
 // The first cell whose check can't be this number.
@@ -91,54 +86,96 @@ fn first_check_refused(
     table: &RawTable,
     cells: u32,
     number: u32,
-    names: &[Vec<u8>],
+    names: &[&[u8]],
 ) -> Result<Option<u32>, Fail> {
     for cell in 0..cells {
-        if !runs(with_check(table, cell, number)?, names) {
+        if !runs_all(with_check(table, cell, number)?, names) {
             return Ok(Some(cell));
         }
     }
     Ok(None)
 }
 
-#[test]
-fn any_check(rt: HostRuntime) -> Result<(), Fail> {
-    let alloc = rt.alloc();
-    let small = from_bytes(alloc, &smallest(alloc)?)?;
-    let large = from_bytes(alloc, &passwd(alloc)?)?;
-    let short = short_names(alloc)?;
-    let long = long_names(alloc)?;
+// The check of any of so many cells of an image can be this number: the table runs these names.
+fn expect_free_check(
+    rt: &impl Abort,
+    alloc: Global,
+    image: &[u8],
+    cells: u32,
+    number: u32,
+    names: &[&[u8]],
+) -> Result<(), Fail> {
+    let table = from_bytes(alloc, image)?;
+    let refused = first_check_refused(&table, cells, number, names)?;
+    assert!(rt; refused.is_none(), "{number}");
+    Ok(())
+}
+
+// The same for each of three numbers, with short names.
+fn expect_free_checks(
+    rt: &impl Abort,
+    alloc: Global,
+    image: &[u8],
+    cells: u32,
+) -> Result<(), Fail> {
     for number in [0, 1, u32::MAX] {
-        assert_eq!(rt; first_check_refused(&small, 256, number, &short)?, None);
-        assert_eq!(rt; first_check_refused(&small, 256, number, &long)?, None);
-        assert_eq!(rt; first_check_refused(&large, 3_328, number, &short)?, None);
+        expect_free_check(rt, alloc, image, cells, number, &SHORT_NAMES)?;
     }
     Ok(())
 }
 
 #[test]
-fn any_check_of_many(rt: HostRuntime) -> Result<(), Fail> {
+fn any_check(rt: HostRuntime) -> Result<(), Fail> {
     let alloc = rt.alloc();
-    let table = from_bytes(alloc, &passwd(alloc)?)?;
-    let long = long_names(alloc)?;
-    for number in [0, 1, u32::MAX] {
-        assert_eq!(rt; first_check_refused(&table, 3_328, number, &long)?, None);
-    }
+    expect_free_checks(&rt, alloc, &smallest(alloc)?, 256)?;
+    expect_free_checks(&rt, alloc, &passwd(alloc)?, 3_328)
+}
+
+// The same with names of 4,095 bytes: bytes 255 alone, and all bytes in turn. Each number has a test of its own, since
+// these are the longest runs of all.
+fn expect_long_runs(rt: &impl Abort, alloc: Global, number: u32) -> Result<(), Fail> {
+    let last = Vec::from_elem(alloc, 255u8, 4_095)?;
+    let all = all_bytes(alloc)?;
+    let names: [&[u8]; 2] = [&last, &all];
+    expect_free_check(rt, alloc, &smallest(alloc)?, 256, number, &names)?;
+    expect_free_check(rt, alloc, &passwd(alloc)?, 3_328, number, &names)
+}
+
+#[test]
+fn any_check_of_state_0(rt: HostRuntime) -> Result<(), Fail> {
+    expect_long_runs(&rt, rt.alloc(), 0)
+}
+
+#[test]
+fn any_check_of_state_1(rt: HostRuntime) -> Result<(), Fail> {
+    expect_long_runs(&rt, rt.alloc(), 1)
+}
+
+#[test]
+fn any_check_of_no_state(rt: HostRuntime) -> Result<(), Fail> {
+    expect_long_runs(&rt, rt.alloc(), u32::MAX)
+}
+
+fn expect_filled_checks(
+    rt: &impl Abort,
+    alloc: Global,
+    number: u32,
+    names: &[&[u8]],
+) -> Result<(), Fail> {
+    let mut table = from_bytes(alloc, &passwd(alloc)?)?;
+    table.check.fill(number);
+    assert!(rt; runs_all(table, names), "{number}");
     Ok(())
 }
 
 #[test]
 fn all_checks(rt: HostRuntime) -> Result<(), Fail> {
     let alloc = rt.alloc();
-    let image = passwd(alloc)?;
+    let last = Vec::from_elem(alloc, 255u8, 4_095)?;
+    let all = all_bytes(alloc)?;
     for number in [0, 1, u32::MAX] {
-        let mut table = from_bytes(alloc, &image)?;
-        table.check.fill(number);
-        assert!(rt;
-            runs(with_check(&table, 0, number)?, &short_names(alloc)?),
-            "{number}"
-        );
-        assert!(rt; runs(table, &long_names(alloc)?), "{number}");
+        expect_filled_checks(&rt, alloc, number, &SHORT_NAMES)?;
+        expect_filled_checks(&rt, alloc, number, &[&last, &all])?;
     }
     Ok(())
 }
