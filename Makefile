@@ -17,7 +17,7 @@ need-rt:
 	@:$(if $(RT),,$(error the command rt is missing: install the Rattle toolchain and put its bin folder on PATH))
 
 aa-trace: $(SOURCES) | need-rt
-	@sh tools/build.sh
+	@python3 tools/build.py
 
 run: aa-trace
 	./aa-trace judge rw /etc/passwd < examples/passwd.profile

@@ -2,8 +2,8 @@
 """Proves each crate that the program stands on, those that don't depend on each other side by side, and builds ./aa-trace.
 
 What was proved before and hasn't changed is kept. A command of rt in a crate's folder keeps others out of that folder and of
-those of all crates below it. So each crate is proved in a room of its own: a folder with the crates below it, as they were
-built, from which the crate's out/ comes back once it is proved.
+those of all crates below it, so each crate is proved in a room of its own: a folder with the crates below it as they were
+built, to which the crate's out/ goes and from which it comes back.
 """
 import os
 import shutil
@@ -37,14 +37,14 @@ def find_below(lines):
 
 
 def count_lines(name):
-    """The size of a crate, by which its proof's time is guessed."""
-    size = 0
+    """The lines of a crate, by which the time of its proof is guessed."""
+    count = 0
     for at, folders, files in os.walk(f"{CRATES}/{name}"):
         folders[:] = [it for it in folders if it not in ("out", "must-fail")]
         for file in files:
             with open(f"{at}/{file}", "rb") as it:
-                size += it.read().count(b"\n")
-    return size
+                count += it.read().count(b"\n")
+    return count
 
 
 def link(source, to):
@@ -56,35 +56,36 @@ def link(source, to):
 
 
 def furnish(room, name, lines, below):
-    """Puts the crate, and what was built of those below it, into a room."""
+    """Puts a crate, and what was built of those below it, into a room."""
     shutil.copy(f"{TOP}/HANDLES", room)
     with open(f"{room}/crates.txt", "w", encoding="utf-8") as it:
-        it.writelines(lines[low] for low in lines if low == name or low in below[name])
+        it.writelines(line for crate, line in lines.items() if crate == name or crate in below[name])
     for low in below[name]:
-        shutil.copytree(f"{CRATES}/{low}", f"{room}/crates/{low}", copy_function=link, ignore=shutil.ignore_patterns("incremental"))
-    shutil.copytree(f"{CRATES}/{name}", f"{room}/crates/{name}")
+        built = shutil.ignore_patterns("incremental")
+        shutil.copytree(f"{CRATES}/{low}", f"{room}/crates/{low}", copy_function=link, ignore=built)
+    shutil.copytree(f"{CRATES}/{name}", f"{room}/crates/{name}", ignore=shutil.ignore_patterns("out"))
+    if os.path.isdir(f"{CRATES}/{name}/out"):
+        os.rename(f"{CRATES}/{name}/out", f"{room}/crates/{name}/out")
 
 
 def prove(name, lines, below, jobs):
-    """Proves one crate, and returns what was said where that fails."""
+    """Proves one crate by so many processes, and returns what was said where that fails."""
     with tempfile.TemporaryDirectory(dir=ROOMS) as room:
         furnish(room, name, lines, below)
+        folder = f"{room}/crates/{name}"
         command = ["rt", "lib", "--jobs", str(jobs)]
-        ran = subprocess.run(command, cwd=f"{room}/crates/{name}", stdout=subprocess.PIPE, stderr=subprocess.STDOUT, check=False)
-        if ran.returncode:
-            return f"{name} isn't proved\n{ran.stdout.decode(errors='replace')}"
-        shutil.rmtree(f"{CRATES}/{name}/out", ignore_errors=True)
-        shutil.move(f"{room}/crates/{name}/out", f"{CRATES}/{name}/out")
-    return None
+        ran = subprocess.run(command, cwd=folder, stdout=subprocess.PIPE, stderr=subprocess.STDOUT, check=False)
+        if os.path.isdir(f"{folder}/out"):
+            os.rename(f"{folder}/out", f"{CRATES}/{name}/out")
+    return f"{name} isn't proved\n{ran.stdout.decode(errors='replace')}" if ran.returncode else None
 
 
-def prove_all(lines, below, lanes):
+def prove_libraries(lines, below, lanes):
     """Proves the libraries, so many at once, and first those with the longest chain of others above them."""
-    behind = {}
+    chain = {}
     for name in reversed(lines):
-        above = [behind[it] for it in behind if name in below[it]]
-        behind[name] = count_lines(name) + max(above, default=0)
-    left = sorted(below[PROGRAM], key=lambda it: -behind[it])
+        chain[name] = count_lines(name) + max((chain[it] for it in chain if name in below[it]), default=0)
+    left = sorted(below[PROGRAM], key=lambda it: -chain[it])
     running, built = {}, set()
     with ThreadPoolExecutor(lanes) as pool:
         while left or running:
@@ -94,10 +95,20 @@ def prove_all(lines, below, lanes):
                 running[pool.submit(prove, name, lines, below, lanes)] = name
             for it in wait(running, return_when=FIRST_COMPLETED).done:
                 if it.result():
-                    left.clear()
                     return it.result()
                 built.add(running.pop(it))
-                print(f"proved {len(built)} of the {len(below[PROGRAM])} libraries", flush=True)
+                print(f"proved {len(built)} of {len(below[PROGRAM])} libraries", flush=True)
+    return None
+
+
+def build_program(lanes):
+    """Proves the program itself, builds it and runs it once, and returns what was said where that fails."""
+    command = ["rt", "run", "--jobs", str(lanes), "--", "judge", "rw", "/etc/passwd"]
+    with open(f"{TOP}/examples/passwd.profile", "rb") as profile:
+        ran = subprocess.run(command, cwd=f"{CRATES}/{PROGRAM}", stdin=profile, stdout=subprocess.PIPE, stderr=subprocess.STDOUT, check=False)
+    if ran.returncode:
+        return ran.stdout.decode(errors="replace")
+    shutil.copy(f"{CRATES}/{PROGRAM}/out/{PROGRAM}", f"{TOP}/aa-trace")
     return None
 
 
@@ -108,17 +119,6 @@ def count_lanes():
     return max(1, min(len(os.sched_getaffinity(0)), free // MEMORY))
 
 
-def build_program(lanes):
-    """Proves the program itself, builds it, and runs it once."""
-    with open(f"{TOP}/examples/passwd.profile", "rb") as profile:
-        command = ["rt", "run", "--jobs", str(lanes), "--", "judge", "rw", "/etc/passwd"]
-        ran = subprocess.run(command, cwd=f"{CRATES}/{PROGRAM}", stdin=profile, stdout=subprocess.PIPE, stderr=subprocess.STDOUT, check=False)
-    if ran.returncode:
-        return ran.stdout.decode(errors="replace")
-    shutil.copy(f"{CRATES}/{PROGRAM}/out/{PROGRAM}", f"{TOP}/aa-trace")
-    return None
-
-
 def main():
     lanes = count_lanes()
     lines = read_lines()
@@ -127,7 +127,7 @@ def main():
     os.mkdir(ROOMS)
     try:
         print(f"proving the crates that the program stands on, {lanes} at once ..", flush=True)
-        fault = prove_all(lines, find_below(lines), lanes)
+        fault = prove_libraries(lines, find_below(lines), lanes)
         if not fault:
             print("proving the program, and building it ..", flush=True)
             fault = build_program(lanes)
