@@ -81,22 +81,30 @@ def prove(name, lines, below, jobs):
 
 
 def prove_libraries(lines, below, lanes):
-    """Proves the libraries, so many at once, and first those with the longest chain of others above them."""
+    """Proves the libraries side by side, and first those with the longest chain of others above them.
+
+    A proof shared among processes ends sooner but takes more time of the processors in all, so a crate gets a process of its
+    own, and those processors that no other crate can use go to the one with the longest chain.
+    """
     chain = {}
     for name in reversed(lines):
         chain[name] = count_lines(name) + max((chain[it] for it in chain if name in below[it]), default=0)
     left = sorted(below[PROGRAM], key=lambda it: -chain[it])
-    running, built = {}, set()
+    free, running, built = lanes, {}, set()
     with ThreadPoolExecutor(lanes) as pool:
         while left or running:
-            ready = [it for it in left if below[it] <= built]
-            for name in ready[: lanes - len(running)]:
+            ready = [it for it in left if below[it] <= built][:free]
+            for at, name in enumerate(ready):
+                jobs = free - (len(ready) - at - 1)
+                free -= jobs
                 left.remove(name)
-                running[pool.submit(prove, name, lines, below, lanes)] = name
+                running[pool.submit(prove, name, lines, below, jobs)] = name, jobs
             for it in wait(running, return_when=FIRST_COMPLETED).done:
+                name, jobs = running.pop(it)
                 if it.result():
                     return it.result()
-                built.add(running.pop(it))
+                free += jobs
+                built.add(name)
                 print(f"proved {len(built)} of {len(below[PROGRAM])} libraries", flush=True)
     return None
 
