@@ -5,6 +5,7 @@ What was proved before and hasn't changed is kept. A command of rt in a crate's 
 those of all crates below it, so each crate is proved in a room of its own: a folder with the crates below it as they were
 built, to which the crate's out/ goes and from which it comes back.
 """
+import glob
 import os
 import shutil
 import subprocess
@@ -37,13 +38,11 @@ def find_below(lines):
 
 
 def count_lines(name):
-    """The lines of a crate, by which the time of its proof is guessed."""
+    """The lines of a crate's code, by which the time of its proof is guessed."""
     count = 0
-    for at, folders, files in os.walk(f"{CRATES}/{name}"):
-        folders[:] = [it for it in folders if it not in ("out", "must-fail")]
-        for file in files:
-            with open(f"{at}/{file}", "rb") as it:
-                count += it.read().count(b"\n")
+    for file in glob.iglob(f"{CRATES}/{name}/src/**/*.rt", recursive=True):
+        with open(file, "rb") as it:
+            count += it.read().count(b"\n")
     return count
 
 
@@ -80,32 +79,41 @@ def prove(name, lines, below, jobs):
     return f"{name} isn't proved\n{ran.stdout.decode(errors='replace')}" if ran.returncode else None
 
 
-def prove_libraries(lines, below, lanes):
-    """Proves the libraries side by side, and first those with the longest chain of others above them.
-
-    A proof shared among processes ends sooner but takes more time of the processors in all, so a crate gets a process of its
-    own, and those processors that no other crate can use go to the one with the longest chain.
-    """
+def find_chains(lines, below):
+    """For each crate the lines of the longest chain of crates from it up to the program: the work that waits for it."""
     chain = {}
     for name in reversed(lines):
         chain[name] = count_lines(name) + max((chain[it] for it in chain if name in below[it]), default=0)
+    return chain
+
+
+def prove_libraries(lines, below, lanes):
+    """Proves the libraries side by side.
+
+    A proof by several processes ends sooner, but takes more time of the processors in all. What takes longest is a chain of
+    crates each of which waits for the one before it. So the crate with the longest chain gets as many processes as there
+    are processors, and each other one a single process; where that leaves processors idle, and at the end, where no crate
+    waits any more, the others get as many, too.
+    """
+    chain = find_chains(lines, below)
     left = sorted(below[PROGRAM], key=lambda it: -chain[it])
-    free, running, built = lanes, {}, set()
+    running, jobs, built = {}, {}, set()
     with ThreadPoolExecutor(lanes) as pool:
         while left or running:
-            ready = [it for it in left if below[it] <= built][:free]
+            ready = [it for it in left if below[it] <= built][:lanes - len(running)]
+            left = [it for it in left if it not in ready]
+            longest = max(chain[it] for it in (*running.values(), *ready))
             for at, name in enumerate(ready):
-                jobs = free - (len(ready) - at - 1)
-                free -= jobs
-                left.remove(name)
-                running[pool.submit(prove, name, lines, below, jobs)] = name, jobs
+                is_idle = sum(jobs.values()) + len(ready) - at < lanes
+                jobs[name] = lanes if chain[name] == longest or is_idle or not left else 1
+                running[pool.submit(prove, name, lines, below, jobs[name])] = name
             for it in wait(running, return_when=FIRST_COMPLETED).done:
-                name, jobs = running.pop(it)
+                name = running.pop(it)
+                del jobs[name]
                 if it.result():
                     return it.result()
-                free += jobs
                 built.add(name)
-                print(f"proved {len(built)} of {len(below[PROGRAM])} libraries", flush=True)
+                print(f"proved {name}, {len(built)} of {len(below[PROGRAM])} libraries", flush=True)
     return None
 
 

@@ -1,17 +1,19 @@
 //! Judged opens and links, apart from who asks for them: the published policy as a list of deeds, what an open and a judged
-//! link are answered, and the functions that judge over any look at a tree.
+//! link are answered, and the functions that judge over any look at a tree. [`Bench`] is what a script works on: it has both.
 //!
 //! To be believed are about 280 lines of definitions in `specs/`; those in `specs/inner/` are of private contracts and
 //! proofs.
 #![tactic(auto)]
 
 mod answer;
+mod bench;
 mod laws;
 mod linking;
 mod opening;
 mod profiles;
 
 pub use answer::{Answer, LinkAnswer};
+pub use bench::Bench;
 pub use laws::{tables_of_rules_judge_as_their_rules, told_is_the_one_verdict};
 pub use linking::{JudgedLink, judge_names};
 pub use opening::{Judged, judge_file};

@@ -1,16 +1,14 @@
 //! Judged opens and links: a tree in plain memory and the published profiles, in one thread.
 //!
-//! [`Bench`] is what a script works on, and [`PlainBench`] its first implementation.
+//! [`PlainBench`] is the first implementation of [`Bench`], which is what a script works on.
 //!
 //! To be believed are the 5 lines of definitions in `specs/`; those in `specs/inner/` are of private contracts and proofs.
 #![tactic(auto)]
 
-mod bench;
 mod deeds;
 mod plain_bench;
 mod policy;
 mod working;
 
-pub use bench::Bench;
-pub use mediation::{Answer, LinkAnswer};
+pub use mediation::{Answer, Bench, LinkAnswer};
 pub use plain_bench::PlainBench;

@@ -10,12 +10,11 @@ ghost use Rattle.directory_tree.specs.Plain.{outcome};
 ghost use Rattle.plain_bench.specs.PlainHistory.{history_of};
 ghost use Rattle.plain_bench.specs.inner.Settling.{settled};
 
-use crate::bench::Bench;
 use crate::plain_bench::PlainBench;
 use crate::policy::Policy;
 use directory_tree::{Change, links_are_found, plain_trees_are_well_formed};
 use matcher::{AnyProfile, MakeFault};
-use mediation::{Answer, JudgedLink, LinkAnswer, judge_file, judge_names};
+use mediation::{Answer, Bench, JudgedLink, LinkAnswer, judge_file, judge_names};
 use names::{Errno, NoMemory, Path, Perms};
 use path_lookup::{NAME_ROOM, Scratch, WalkFault};
 use plain_tree::PlainTree;

@@ -1,5 +1,5 @@
 -- The states that are packed so far.
-use Rattle.std.proofs.Common.{◌≡◌, ⊎_elim, ℕ, ◌+◌, ◌-◌, ◌*◌, ◌<◌, ◌≤◌, [], length, Some, slice_get, slice_index_or, refl, sym, ap, ◌∙◌, arith}
+use Rattle.std.proofs.Common.{◌≡◌, ⊎_elim, ℕ, ◌+◌, ◌-◌, ◌*◌, ◌<◌, ◌≤◌, length, Some, slice_get, slice_index_or, sym, ap, ◌∙◌, arith}
 use Rattle.std.proofs.lemmas.Bool.{cases_lt}
 use Rattle.std.proofs.lemmas.Option.{slice_get_within}
 use Rattle.glob_automaton.specs.Automata.{Automaton, IsWhole, target}
@@ -8,27 +8,6 @@ use Rattle.table_image.specs.inner.PackSteps.{source, Grows, IsRecordNumber, IsP
 use Rattle.tables.specs.Tables.{Table}
 use Rattle.table_image.proofs.GrowingLists.{grown_long, kept, added, one_each, row_each}
 use Rattle.table_image.proofs.RecordNumbers.{no_fewer, record_kept}
-
-abbrev pub empty_table : Table
-empty_table = record { default = []; base = []; accept = []; next = []; check = []; records = [] }
-
--- no state yet
-pub none_packed : (a : Automaton) → IsPacked a empty_table 0
-none_packed a = record {
-  defaults_long = refl;
-  bases_long = refl;
-  accepts_long = refl;
-  nexts_long = refl;
-  checks_long = refl;
-  few_records = omega arith;
-  default = λ s lt. absurd (omega (arith, lt));
-  base = λ s lt. absurd (omega (arith, lt));
-  record_at = λ s lt. absurd (omega (arith, lt));
-  accept = λ s lt. absurd (omega (arith, lt));
-  next = λ s b lt small. absurd (omega (arith, lt));
-  next_there = λ c lt. absurd (omega (arith, lt));
-  check = λ s b lt small. absurd (omega (arith, lt));
-}
 
 -- the state that another one stands for is one
 pub source_there : (a : Automaton) (s : ℕ) → IsWhole a → source a s < length a.rows

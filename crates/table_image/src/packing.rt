@@ -1,7 +1,7 @@
 //! The tables of an automaton.
-ghost use Rattle.std.specs.Prelude.{◌≡◌, ◌<◌, ◌≤◌, ◌++◌, ◌∷◌, [], IfOk, OnOk, length};
+ghost use Rattle.std.specs.Prelude.{◌≡◌, ◌+◌, ◌<◌, ◌≤◌, ◌++◌, ◌∷◌, [], IfOk, OnOk, length};
 ghost use Rattle.glob_automaton.specs.Automata.{target};
-ghost use Rattle.table_image.specs.inner.PackSteps.{Grows, IsRecordNumber};
+ghost use Rattle.table_image.specs.inner.PackSteps.{Grows, IsPacked, IsRecordNumber};
 ghost use Rattle.table_image.specs.Packing.{IsTableOf};
 ghost use Rattle.tables.specs.Tables.{table_value};
 
@@ -26,27 +26,58 @@ pub fn pack(alloc: Global, dfa: &Dfa) -> Result<RawTable, NoMemory>
 fn pack_states(alloc: Global, dfa: &Dfa) -> Result<RawTable, AllocError>
     ensures { IfOk result (λ table. IsTableOf dfa.now (table_value table)) }
 {
-    let last = dfa.states() - 1;
     let states = dfa.states().max(FEWEST_STATES);
     let mut table = RawTable {
-        default: Vec::with_capacity(alloc, states as usize)?,
-        base: Vec::with_capacity(alloc, states as usize)?,
-        accept: Vec::with_capacity(alloc, states as usize)?,
-        next: Vec::with_capacity(alloc, (ROW_LENGTH * states) as usize)?,
-        check: Vec::with_capacity(alloc, (ROW_LENGTH * states) as usize)?,
+        default: Vec::new(alloc),
+        base: Vec::new(alloc),
+        accept: Vec::new(alloc),
+        next: Vec::new(alloc),
+        check: Vec::new(alloc),
         records: Vec::new(alloc),
     };
     let mut numbers = IndexSet::new(alloc);
+    make_room(&mut table, states)?;
     for state in 0..states {
-        let source = state.min(last);
-        let number = number_of(&mut table.records, &mut numbers, dfa.record_at(source))?;
-        push_number(&mut table.default, 0)?;
-        push_number(&mut table.base, ROW_LENGTH * state)?;
-        push_number(&mut table.accept, number)?;
-        push_targets(&mut table.next, dfa, source)?;
-        push_owner(&mut table.check, state)?;
+        push_state(&mut table, &mut numbers, dfa, state)?;
     }
     Ok(table)
+}
+
+// Room for so many states, to which the lists then grow without a copy.
+fn make_room(table: &mut RawTable, states: u32) -> Result<(), AllocError>
+    requires { states ≤ 16384 }
+    ensures { table_value table.new ≡ table_value table.old }
+{
+    let states = states as usize;
+    let cells = ROW_LENGTH as usize * states;
+    table.default.reserve_exact(states)?;
+    table.base.reserve_exact(states)?;
+    table.accept.reserve_exact(states)?;
+    table.next.reserve_exact(cells)?;
+    table.check.reserve_exact(cells)
+}
+
+// One state more, with its record and its row.
+fn push_state(
+    table: &mut RawTable,
+    numbers: &mut IndexSet<Record>,
+    dfa: &Dfa,
+    state: u32,
+) -> Result<(), AllocError>
+    requires few { state < 16384 }
+    requires same { numbers.old.keys ≡ table.old.records.items }
+    requires packed { IsPacked dfa.now (table_value table.old) state }
+    ensures same { OnOk result (numbers.new.keys ≡ table.new.records.items) }
+    ensures packed { OnOk result (IsPacked dfa.now (table_value table.new) (state + 1)) }
+{
+    let source = state.min(dfa.states() - 1);
+    let number = number_of(&mut table.records, numbers, dfa.record_at(source))?;
+    push_number(&mut table.default, 0)?;
+    push_number(&mut table.base, ROW_LENGTH * state)?;
+    push_number(&mut table.accept, number)?;
+    push_targets(&mut table.next, dfa, source)?;
+    push_owner(&mut table.check, state)?;
+    Ok(())
 }
 
 // One number more.

@@ -5,7 +5,7 @@ use Rattle.glob_automaton.specs.Automata.{StateLimit}
 use Rattle.trace_line.specs.CommandLine.{LineValue, judge, run, compile, check, match_name}
 use Rattle.trace_cli.specs.Program.{ProgramEnds, TellsUsage}
 use Rattle.trace_commands.specs.Judge.{judge_output}
-use Rattle.trace_script.proofs.Unanswered.{nothing_answered}
+use Rattle.trace_cli.proofs.Unanswered.{nothing_answered}
 use Rattle.trace_report.specs.Streams.{IsTold}
 use Rattle.trace_report.specs.declared.status.Status.{Status}
 use Rattle.trace_report.specs.declared.status.Status.TheVariants.{NoMemory}

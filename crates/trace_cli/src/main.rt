@@ -10,6 +10,7 @@
 #![tactic(auto)]
 
 mod program;
+mod script;
 
 use names::NoMemory;
 use program::run_words;

@@ -6,6 +6,7 @@ ghost use Rattle.trace_line.specs.CommandLine.{line_of};
 ghost use Rattle.trace_cli.specs.Program.{ProgramEnds, TellsUsage, reads_nothing};
 ghost use Rattle.trace_report.specs.Streams.{IsTextOf};
 
+use crate::script::run;
 use names::NoMemory;
 use std::alloc::Global;
 use std::convert::AsStr;
@@ -13,7 +14,6 @@ use std::io::{BufRead, Write};
 use trace_commands::{check, compile, judge, match_name};
 use trace_line::{Line, LineFault, command_line};
 use trace_report::{Status, fail};
-use trace_script::run;
 
 /// Does what the words ask for, of which the first is the program's name. A fault is told on `faults`.
 pub fn run_words<S: AsStr, R: BufRead, A: Write, F: Write>(

@@ -5,4 +5,3 @@ pub mod ScriptRuns
 pub mod ScriptEndings
 pub mod LineTexts
 pub mod Publishing
-pub mod Unanswered

@@ -10,7 +10,7 @@ ghost use Rattle.trace_script.specs.Script.{publish};
 use crate::compose::{change_line, drop_line, link_line, open_line, policy_line};
 use crate::line::Command;
 use crate::stop::Stop;
-use plain_bench::Bench;
+use mediation::Bench;
 use std::alloc::Global;
 use std::io::Write;
 use trace_report::write_through;

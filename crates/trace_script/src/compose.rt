@@ -9,15 +9,14 @@ ghost use Rattle.trace_report.specs.Fault.{fault_text};
 ghost use Rattle.trace_script.specs.inner.Line.{change_words};
 ghost use Rattle.mediation.specs.History.{MayChangePolicy, policy_version};
 ghost use Rattle.trace_script.specs.RunOutput.{printed, policy_printed, drop_printed, change_of, change_printed, open_printed, judged_printed};
-ghost use Rattle.trace_script.specs.Script.{publish};
+ghost use Rattle.trace_script.specs.Script.{publish, link, rename};
 
 use crate::line::ChangeWords;
 use crate::stop::Stop;
 use directory_tree::{Change, LinkBytes};
 use matcher::MakeFault;
-use mediation::{Answer, LinkAnswer};
+use mediation::{Answer, Bench, LinkAnswer};
 use names::{Errno, Path, Perms};
-use plain_bench::Bench;
 use rule_reader::{Profile, ReadFault, read};
 use std::alloc::{AllocError, Global};
 use trace_report::Fault;
@@ -191,19 +190,29 @@ fn change_of(words: ChangeWords<'_>) -> Result<Change<'_>, Errno>
             let path = Path::check(path)?;
             Ok(Change::Symlink(LinkBytes::new(text), path))
         }
-        ChangeWords::Link(old, new) => {
-            let old = Path::check(old)?;
-            let new = Path::check(new)?;
-            Ok(Change::Link(old, new))
-        }
+        ChangeWords::Link(old, new) => link_of(old, new),
         ChangeWords::Unlink(path) => Ok(Change::Unlink(Path::check(path)?)),
         ChangeWords::Rmdir(path) => Ok(Change::Rmdir(Path::check(path)?)),
-        ChangeWords::Rename(old, new) => {
-            let old = Path::check(old)?;
-            let new = Path::check(new)?;
-            Ok(Change::Rename(old, new))
-        }
+        ChangeWords::Rename(old, new) => rename_of(old, new),
     }
+}
+
+/// A link between checked paths, or the first fault.
+fn link_of<'a>(old: &'a [u8], new: &'a [u8]) -> Result<Change<'a>, Errno>
+    ensures { result ≡ change_of (link old.now new.now) }
+{
+    let old = Path::check(old)?;
+    let new = Path::check(new)?;
+    Ok(Change::Link(old, new))
+}
+
+/// A move between checked paths, or the first fault.
+fn rename_of<'a>(old: &'a [u8], new: &'a [u8]) -> Result<Change<'a>, Errno>
+    ensures { result ≡ change_of (rename old.now new.now) }
+{
+    let old = Path::check(old)?;
+    let new = Path::check(new)?;
+    Ok(Change::Rename(old, new))
 }
 
 /// A report on a name, with the node and both versions, as a line.

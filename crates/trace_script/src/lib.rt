@@ -20,4 +20,4 @@ pub use rows::{
     commands_are_answered, links_are_answered, opens_are_answered, policies_are_gathered,
     profiles_are_answered, scripts_stop,
 };
-pub use script::{run, run_script};
+pub use script::run_script;

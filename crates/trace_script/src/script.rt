@@ -3,15 +3,14 @@ ghost use Rattle.std.specs.Prelude.{◌≡◌, ℕ, List};
 ghost use Rattle.glob_automaton.specs.Automata.{StateLimit};
 ghost use Rattle.trace_script.specs.inner.Following.{IsFollowed};
 ghost use Rattle.mediation.specs.History.{policy_version};
-ghost use Rattle.trace_script.specs.RunOutput.{RunEnds, ScriptEnds, printed_lines};
+ghost use Rattle.trace_script.specs.RunOutput.{ScriptEnds, printed_lines};
 ghost use Rattle.trace_script.specs.Script.{script_of};
 ghost use Rattle.trace_report.specs.Streams.{IsTextOf};
 
 use crate::read_line::{LineRead, read_line};
 use crate::section::{Section, follow_line};
 use crate::stop::Stop;
-use names::NoMemory;
-use plain_bench::{Bench, PlainBench};
+use mediation::Bench;
 use std::alloc::Global;
 use std::io::{BufRead, Write};
 use trace_report::{Status, fail};
@@ -19,31 +18,6 @@ use trace_report::{Status, fail};
 /// The most lines that are read. No script is so long: to read them would take centuries. The bound keeps every
 /// version that is counted far below 2^64.
 const MOST_LINES: u64 = (1 << 60) - 1;
-
-/// Reads a script from `input`, and writes to `answers` a line for each of its commands, before it reads the next line.
-/// The script changes a tree that begins as the root alone, with room for `capacity` entries, publishes profiles and
-/// opens paths. Why there are no more answers is told on `faults`.
-pub fn run<R: BufRead, A: Write, F: Write>(
-    alloc: Global,
-    capacity: u32,
-    input: &mut R,
-    answers: &mut A,
-    faults: &mut F,
-) -> Status
-    ensures { (limit : StateLimit) → (text : List ℕ) × IsTextOf (R.remaining input.old) text × RunEnds limit
-        (record {
-          answers_before = A.contents answers.old;
-          answers_after = A.contents answers.new;
-          faults_before = F.contents faults.old;
-          faults_after = F.contents faults.new;
-        })
-        (R.remaining input.old) (R.remaining input.new) capacity text result }
-{
-    match PlainBench::new(alloc, capacity as usize) {
-        Ok(mut bench) => run_script(alloc, &mut bench, input, answers, faults),
-        Err(NoMemory) => fail(faults, NoMemory, Status::NoMemory),
-    }
-}
 
 /// Answers a script line by line, up to its end or to a line that is no command.
 pub fn run_script<B: Bench, R: BufRead, A: Write, F: Write>(

@@ -8,7 +8,7 @@ ghost use Rattle.trace_script.specs.Script.{outside, line_feed};
 use crate::commands::{answer_command, answer_policy};
 use crate::line::{LineKind, parse_line};
 use crate::stop::Stop;
-use plain_bench::Bench;
+use mediation::Bench;
 use std::alloc::{AllocError, Global};
 use std::io::Write;
 

@@ -3,8 +3,8 @@ use Rattle.mediation.specs.History.{History}
 use Rattle.trace_script.specs.RunOutput.{ScriptEnds}
 use Rattle.trace_report.specs.Streams.{IsTextOf}
 use Rattle.trace_report.proofs.Endings.{text_of}
-use Rattle.trace_script.proofs.Unanswered.{nothing_answered}
-use Rattle.trace_script.proofs.script.run.Goals as goal
+use Rattle.trace_cli.proofs.Unanswered.{nothing_answered}
+use Rattle.trace_cli.proofs.script.run.Goals as goal
 
 pub returns-in-Err : goal.returns-in-Err
 returns-in-Err g c limit =

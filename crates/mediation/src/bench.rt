@@ -1,4 +1,4 @@
-//! What `run` works on: a tree and the published profiles.
+//! A tree and the published profiles, in one hand: what a script works on.
 ghost use Rattle.std.specs.Prelude.{◌+◌, ◌≡◌, ◌^◌, ◌<◌, [], ℕ, List, IfOk, IfErr, OnOk, OnErr, IsOk};
 ghost use Rattle.glob_automaton.specs.Automata.{most_sets};
 ghost use Rattle.glob_automaton.specs.Sets.{AreMoreThan};
@@ -10,9 +10,9 @@ ghost use Rattle.mediation.specs.Linking.{IsMade};
 ghost use Rattle.directory_tree.specs.Plain.{outcome, Refused};
 ghost use Rattle.rule_reader.specs.Profile.{profile_value};
 
+use crate::answer::{Answer, LinkAnswer};
 use directory_tree::Change;
 use matcher::MakeFault;
-use mediation::{Answer, LinkAnswer};
 use names::{Errno, NoMemory, Perms};
 use rule_reader::Profile;
 
