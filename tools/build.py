@@ -19,6 +19,9 @@ ROOMS = f"{TOP}/.build"
 PROGRAM = "trace_cli"
 # What the proof of one crate takes at most, in KiB.
 MEMORY = 4_000_000
+# The lines of code from which on a crate is large, and which part of the longest chain is nearly all of it.
+LARGE = 700
+NEARLY = 0.8
 
 
 def read_lines():
@@ -67,13 +70,12 @@ def furnish(room, name, lines, below):
         os.rename(f"{CRATES}/{name}/out", f"{room}/crates/{name}/out")
 
 
-def prove(name, lines, below, jobs):
-    """Proves one crate by so many processes, and returns what was said where that fails."""
+def prove(name, lines, below, words):
+    """Proves one crate by a command that begins with some words, and returns what was said where that fails."""
     with tempfile.TemporaryDirectory(dir=ROOMS) as room:
         furnish(room, name, lines, below)
         folder = f"{room}/crates/{name}"
-        command = ["rt", "lib", "--jobs", str(jobs)]
-        ran = subprocess.run(command, cwd=folder, stdout=subprocess.PIPE, stderr=subprocess.STDOUT, check=False)
+        ran = subprocess.run(words, cwd=folder, stdout=subprocess.PIPE, stderr=subprocess.STDOUT, check=False)
         if os.path.isdir(f"{folder}/out"):
             os.rename(f"{folder}/out", f"{CRATES}/{name}/out")
     return f"{name} isn't proved\n{ran.stdout.decode(errors='replace')}" if ran.returncode else None
@@ -87,29 +89,32 @@ def find_chains(lines, below):
     return chain
 
 
+def command_for(name, is_long, lanes):
+    """How a crate is proved. A proof by several processes takes more time in all, and ends sooner only in a large crate."""
+    if not is_long:
+        return ["nice", "rt", "lib", "--jobs", "1"]
+    return ["rt", "lib", "--jobs", str(lanes if count_lines(name) >= LARGE else 1)]
+
+
 def prove_libraries(lines, below, lanes):
     """Proves the libraries side by side.
 
-    A proof by several processes ends sooner, but takes more time of the processors in all. What takes longest is a chain of
-    crates each of which waits for the one before it. So the crate with the longest chain gets as many processes as there
-    are processors, and each other one a single process; where that leaves processors idle, and at the end, where no crate
-    waits any more, the others get as many, too.
+    What takes longest is a chain of crates each of which waits for the one before it. So the crate with the longest chain, and
+    each with one nearly as long, goes before the others, which take what time it leaves them.
     """
     chain = find_chains(lines, below)
     left = sorted(below[PROGRAM], key=lambda it: -chain[it])
-    running, jobs, built = {}, {}, set()
+    running, built = {}, set()
     with ThreadPoolExecutor(lanes) as pool:
         while left or running:
             ready = [it for it in left if below[it] <= built][:lanes - len(running)]
             left = [it for it in left if it not in ready]
             longest = max(chain[it] for it in (*running.values(), *ready))
-            for at, name in enumerate(ready):
-                is_idle = sum(jobs.values()) + len(ready) - at < lanes
-                jobs[name] = lanes if chain[name] == longest or is_idle or not left else 1
-                running[pool.submit(prove, name, lines, below, jobs[name])] = name
+            for name in ready:
+                words = command_for(name, chain[name] >= NEARLY * longest, lanes)
+                running[pool.submit(prove, name, lines, below, words)] = name
             for it in wait(running, return_when=FIRST_COMPLETED).done:
                 name = running.pop(it)
-                del jobs[name]
                 if it.result():
                     return it.result()
                 built.add(name)
