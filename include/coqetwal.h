@@ -1,29 +1,35 @@
-/* Names judged by images of compiled profiles. The functions are those of the static library crates/coqetwal, each proved
- * to meet the contract that stands in its source; nothing compares these declarations with that source.
+/* Names judged by the image of a compiled profile: AppArmor's file rules, without the rules' text.
  *
- * A pointer goes to as many bytes or numbers as the length behind it says. It isn't null, even where the length is 0, and
- * what it points to doesn't change during the call. Two calls may run at the same time, unless one writes what the other
- * is given. Each call takes its memory from malloc and gives all of it back. */
+ *     coqetwal_table *table;
+ *     struct coqetwal_fault fault;
+ *     struct coqetwal_answer answer;
+ *     if (coqetwal_load(image, length, &table, &fault)) ...    the image is refused: fault.number, fault.place
+ *     coqetwal_judge(table, "/etc/passwd", 11, COQETWAL_READ | COQETWAL_WRITE, &answer);
+ *     if (answer.verdict == COQETWAL_ALLOWED) ...
+ *     coqetwal_free(table);
+ *
+ * Link with -lcoqetwal; docs/EMBEDDING.md has the lines for C, C++ and Rust.
+ *
+ * The first part of this file has the functions of the library. Each is proved to meet the contract that stands in its source
+ * (crates/coqetwal); nothing compares these declarations with that source, and nobody but the caller can see to it that a
+ * pointer goes to as much as the length behind it tells. They take no memory, and change nothing but what they are given to
+ * write. The second part, small functions in C over them, isn't proved: they copy an image to memory of their own, and take
+ * null pointers. */
 #ifndef COQETWAL_H
 #define COQETWAL_H
 
 #include <stddef.h>
 #include <stdint.h>
+#include <stdlib.h>
+#include <string.h>
 
-/* What an answer's number means. */
-enum coqetwal_kind {
-    COQETWAL_ALLOWED = 0,
-    /* number: the least rule that denies something that was asked, counted from 1 */
-    COQETWAL_DENIED = 1,
-    /* number: the sum of the permissions that no rule allows */
-    COQETWAL_NO_RULE = 2,
-    /* number: the first fault of the image, as of coqetwal_check */
-    COQETWAL_BAD_IMAGE = 3,
-    /* what was asked are no letters of permissions, or the look-ups are too many to be counted */
-    COQETWAL_BAD_CALL = 4
-};
+#define COQETWAL_VERSION "0.1.0"
 
-/* The permissions of a sum. */
+#ifdef __cplusplus
+extern "C" {
+#endif
+
+/* Permissions. Those of a set are asked and told by the sum of their numbers. */
 enum coqetwal_permission {
     COQETWAL_READ = 1,
     COQETWAL_WRITE = 2,
@@ -32,27 +38,171 @@ enum coqetwal_permission {
     COQETWAL_MAP = 16
 };
 
+/* Verdicts. Memory that was cleared tells none. */
+enum coqetwal_verdict {
+    /* Nothing was judged: nothing was asked, or something that is no permission, or there is no table. */
+    COQETWAL_NO_ANSWER = 0,
+    COQETWAL_ALLOWED = 1,
+    /* A deny rule forbids something that was asked. */
+    COQETWAL_DENIED = 2,
+    /* No rule allows something that was asked. */
+    COQETWAL_NO_RULE = 3
+};
+
+/* What is told of a name. */
 struct coqetwal_answer {
-    uint16_t kind, number;
-};
-
-/* How many bytes were looked up, where kind is COQETWAL_ALLOWED. */
-struct coqetwal_walk {
-    uint16_t kind, number;
+    /* How many look-ups there were: as many as the name has bytes. */
     uint64_t steps;
+    /* One of enum coqetwal_verdict. */
+    uint16_t verdict;
+    /* Where it is denied, the least rule that denies something that was asked, counted from 1; else 0. */
+    uint16_t rule;
+    /* Where there is no rule, the sum of the permissions that no rule allows; else 0. */
+    uint16_t missing;
 };
 
-/* The number of the first fault of an image, 1 to 10; 11 where memory was refused, which it is only of bytes with none of the faults 1 to 6; 0 where it is accepted. */
-uint16_t coqetwal_check(const uint8_t *image, size_t image_length);
+/* Why an image is refused: its first fault. */
+enum coqetwal_fault_number {
+    COQETWAL_ACCEPTED = 0,
+    /* fewer than 20 bytes */
+    COQETWAL_SHORT = 1,
+    /* the first four bytes aren't PTAB */
+    COQETWAL_MAGIC = 2,
+    /* another version than 1 */
+    COQETWAL_IMAGE_VERSION = 3,
+    /* the two bytes behind the version aren't 0 */
+    COQETWAL_RESERVED = 4,
+    /* a count of states, cells or records is out of its limits */
+    COQETWAL_COUNTS = 5,
+    /* another length than the counts tell */
+    COQETWAL_LENGTH = 6,
+    /* the default of a state is no state; place: the state */
+    COQETWAL_DEFAULT = 7,
+    /* the row of a state ends behind the last cell; place: the state */
+    COQETWAL_BASE = 8,
+    /* the accept of a state is no record; place: the state */
+    COQETWAL_ACCEPT = 9,
+    /* the next of a cell is no state; place: the cell */
+    COQETWAL_NEXT = 10,
+    /* coqetwal_load had no memory; nothing is said of the image */
+    COQETWAL_NO_MEMORY = 11
+};
 
-/* What an image says of a name for which permissions are asked by their letters: r w l k m. */
-struct coqetwal_answer coqetwal_match(const uint8_t *image, size_t image_length, const uint8_t *letters,
-                                      size_t letters_length, const uint8_t *name, size_t name_length);
+struct coqetwal_fault {
+    uint16_t number;
+    /* The state or cell of the faults 7 to 10; else 0. */
+    uint32_t place;
+};
 
-/* Runs many names through the table of an image, which is loaded once: as many names as there is room for states, of
- * names_length / states_length bytes each, one after another; and all of them again, so many rounds. Each state is then the
- * one that its name leads to. With no round, and where the call is refused, the states stay as they are. */
-struct coqetwal_walk coqetwal_run(const uint8_t *image, size_t image_length, const uint8_t *names, size_t names_length,
-                                  uint32_t rounds, uint32_t *states, size_t states_length);
+struct coqetwal_counts {
+    uint32_t states, cells, records;
+};
+
+/* ---- The functions of the library: images where they lie.
+ *
+ * Asked of the caller, for each of them: a pointer isn't null, not even where the length behind it is 0, and goes to as many
+ * bytes, offsets or answers as that length says; nobody changes them during the call. Any number of calls may run at the same
+ * time on the same image and names.
+ *
+ * An `image` behind coqetwal_image_verify is one that this function accepted, in bytes that haven't changed since: what a
+ * call does with any other bytes isn't known. Where others can write to the bytes, as to a file that is mapped, use
+ * coqetwal_load. An image of length 0 is none: names have no answer, and the counts are 0. */
+
+/* The first fault of an image; 0 of one that is accepted. Whoever made it, no name leads out of its tables then. */
+struct coqetwal_fault coqetwal_image_verify(const uint8_t *image, size_t image_length);
+
+/* What an image says of a name. `asked` is a sum of permissions, 1 to 31; any other number has no answer. */
+struct coqetwal_answer coqetwal_image_judge(const uint8_t *image, size_t image_length, const uint8_t *name, size_t name_length,
+                                            uint32_t asked);
+
+/* What an image says of many names, which stand in one text: name i from offsets[i] to offsets[i + 1]. Each of the `count`
+ * answers is written. Where the offsets don't reach so far, descend or leave the text, the name has no answer. */
+void coqetwal_image_judge_all(const uint8_t *image, size_t image_length, const uint8_t *names, size_t names_length,
+                              const size_t *offsets, size_t offsets_length, uint32_t asked, struct coqetwal_answer *answers,
+                              size_t count);
+
+/* How many states, cells and records an image has. */
+struct coqetwal_counts coqetwal_image_counts(const uint8_t *image, size_t image_length);
+
+/* ---- Holders of images, in C.
+ *
+ * A table holds a copy of an image that was accepted. It is never written to, so any number of threads may use it at the same
+ * time. Where a pointer to a table is null, names have no answer and the counts are 0. A pointer to bytes may be null where
+ * their length is 0. */
+
+typedef struct coqetwal_table {
+    size_t length;
+    /* Behind it stands the image. */
+} coqetwal_table;
+
+/* Where the bytes of a text stand: never null. */
+static inline const uint8_t *coqetwal_bytes(const void *text) {
+    return (const uint8_t *)(text ? text : "");
+}
+
+/* Where a table's image stands. */
+static inline const uint8_t *coqetwal_image(const coqetwal_table *table) {
+    return table ? (const uint8_t *)(table + 1) : coqetwal_bytes(NULL);
+}
+
+static inline size_t coqetwal_image_length(const coqetwal_table *table) {
+    return table ? table->length : 0;
+}
+
+/* Copies an image and verifies the copy. The result is 0, and *table is the table; or it is the number of the fault, *table is
+ * null, and *fault, if `fault` isn't null, is the fault. It takes memory from malloc: as much as the image has, and a
+ * little. */
+static inline int coqetwal_load(const void *image, size_t length, coqetwal_table **table, struct coqetwal_fault *fault) {
+    struct coqetwal_fault found = {COQETWAL_NO_MEMORY, 0};
+    coqetwal_table *made = length > SIZE_MAX - sizeof *made ? NULL : (coqetwal_table *)malloc(sizeof *made + length);
+    if (made) {
+        made->length = length;
+        memcpy(made + 1, coqetwal_bytes(image), length);
+        found = coqetwal_image_verify(coqetwal_image(made), length);
+    }
+    if (found.number) {
+        free(made);
+        made = NULL;
+    }
+    *table = made;
+    if (fault) *fault = found;
+    return found.number;
+}
+
+/* Gives a table's memory back. Of a null pointer nothing is done. */
+static inline void coqetwal_free(coqetwal_table *table) {
+    free(table);
+}
+
+/* Judges a name: the verdict is the result, too. Takes no memory. */
+static inline int coqetwal_judge(const coqetwal_table *table, const void *name, size_t length, uint32_t asked,
+                                 struct coqetwal_answer *answer) {
+    *answer = coqetwal_image_judge(coqetwal_image(table), coqetwal_image_length(table), coqetwal_bytes(name), length, asked);
+    return answer->verdict;
+}
+
+/* Judges `count` names, each from an offset to the next one: `offsets` has count + 1 entries. Takes no memory. */
+static inline void coqetwal_judge_batch(const coqetwal_table *table, const void *names, size_t length, const size_t *offsets,
+                                        uint32_t asked, struct coqetwal_answer *answers, size_t count) {
+    if (count)
+        coqetwal_image_judge_all(coqetwal_image(table), coqetwal_image_length(table), coqetwal_bytes(names), length, offsets,
+                                 count + 1, asked, answers, count);
+}
+
+static inline uint32_t coqetwal_states(const coqetwal_table *table) {
+    return coqetwal_image_counts(coqetwal_image(table), coqetwal_image_length(table)).states;
+}
+
+static inline uint32_t coqetwal_cells(const coqetwal_table *table) {
+    return coqetwal_image_counts(coqetwal_image(table), coqetwal_image_length(table)).cells;
+}
+
+static inline uint32_t coqetwal_records(const coqetwal_table *table) {
+    return coqetwal_image_counts(coqetwal_image(table), coqetwal_image_length(table)).records;
+}
+
+#ifdef __cplusplus
+}
+#endif
 
 #endif

@@ -1,41 +1,47 @@
--- The numbers by which C is told of verdicts and faults.
-use Rattle.std.specs.Prelude.{◌≡◌, ◌⊎◌, ℕ, ◌+◌, Bool, List, Option, Some, None, if◌then◌else◌}
-use Rattle.names.specs.Permissions.{has}
-use Rattle.names.specs.declared.permissions.Permission.TheVariants.{Read, Write, Link, Lock, Map}
+-- What C is told, in numbers.
+use Rattle.std.specs.Prelude.{◌≡◌, ◌⊎◌, ℕ, List, Option, Some, None, length}
 use Rattle.names.specs.declared.permissions.Perms.{Perms}
-use Rattle.verdicts.specs.declared.verdict.Verdict.{Verdict}
-use Rattle.verdicts.specs.declared.verdict.Verdict.TheVariants.{Denied, NoRule, Allowed}
 use Rattle.verdicts.specs.Records.{IsTold}
 use Rattle.verdicts.specs.declared.record.Record.{Record}
-use Rattle.tables.specs.Bounds.{fault_number}
-use Rattle.tables.specs.Tables.{Table, record_after}
+use Rattle.verdicts.specs.declared.verdict.Verdict.{Verdict}
+use Rattle.verdicts.specs.declared.verdict.Verdict.TheVariants.{Denied, NoRule, Allowed}
+use Rattle.tables.specs.Bounds.{fault_number, fault_place}
+use Rattle.tables.specs.Tables.{Table, cell_count, record_after, record_count, state_count}
 use Rattle.tables.specs.declared.fault.ImageFault.{ImageFault}
-use Rattle.table_runner.specs.Loading.{IsLoaded, IsRefusedFor}
+use Rattle.table_verifier.specs.Loading.{IsLoaded, IsLoadFault}
+use Rattle.coqetwal.specs.Sets.{number_of}
 use Rattle.coqetwal.specs.declared.answer.Answer.{Answer}
+use Rattle.coqetwal.specs.declared.verifying.Counts.{Counts}
+use Rattle.coqetwal.specs.declared.verifying.Fault.{Fault}
 
--- 0 of an image that is accepted, else the number of what it is refused for: its first fault, or want of memory, of bytes
--- without any of the header's faults alone
-abbrev pub IsCheckNumber : List ℕ → ℕ → Type 0
-IsCheckNumber image n = ((t : Table) × IsLoaded image t × (n ≡ 0)) ⊎ ((f : ImageFault) × IsRefusedFor image f × (n ≡ fault_number f))
+-- an image is accepted exactly where its table is in bounds; else its first fault is told
+abbrev pub IsVerified : List ℕ → Fault → Type 0
+IsVerified image told = ((t : Table) × IsLoaded image t × (told ≡ record { number = 0; place = 0 }))
+    ⊎ ((f : ImageFault) × IsLoadFault image f × (told ≡ record { number = fault_number f; place = fault_place f }))
 
-abbrev pub number_if : Bool → ℕ → ℕ
-number_if there n = if there then n else 0
+-- no bytes, as of a holder that C has cleared, or an image that was accepted
+abbrev pub IsNoneOrLoaded : List ℕ → Type 0
+IsNoneOrLoaded image = (length image ≡ 0) ⊎ ((t : Table) × IsLoaded image t)
 
--- the sum of the permissions of a set: r 1, w 2, l 4, k 8, m 16
-abbrev pub perms_number : Perms → ℕ
-perms_number s = number_if (has s Read) 1 + number_if (has s Write) 2 + number_if (has s Link) 4 + number_if (has s Lock) 8
-    + number_if (has s Map) 16
+abbrev pub IsCountsOf : List ℕ → Counts → Type 0
+IsCountsOf image counts = ((length image ≡ 0) × (counts ≡ record { states = 0; cells = 0; records = 0 }))
+    ⊎ ((t : Table) × IsLoaded image t × (counts ≡ record { states = state_count t; cells = cell_count t; records = record_count t }))
 
-abbrev pub verdict_answer : Verdict → Answer
-verdict_answer Allowed = record { kind = 0; number = 0 }
-verdict_answer (Denied rule) = record { kind = 1; number = rule }
-verdict_answer (NoRule missing) = record { kind = 2; number = perms_number missing }
+-- nothing was judged
+abbrev pub no_answer : Answer
+no_answer = record { steps = 0; verdict = 0; rule = 0; missing = 0 }
 
--- What is told of a name: the verdict by the record that the image's table leads it to, or the image's first fault; where
--- what was asked are no letters of permissions, just that.
+abbrev pub answer_of : Verdict → ℕ → Answer
+answer_of Allowed steps = record { steps = steps; verdict = 1; rule = 0; missing = 0 }
+answer_of (Denied rule) steps = record { steps = steps; verdict = 2; rule = rule; missing = 0 }
+answer_of (NoRule missing) steps = record { steps = steps; verdict = 3; rule = 0; missing = number_of missing }
+
+-- the verdict that the record of the name's last state tells, and one step for each byte of the name
+abbrev pub IsToldByTable : Table → Perms → List ℕ → Answer → Type 0
+IsToldByTable t ask name a = (r : Record) × (record_after t name ≡ Some r) × (v : Verdict) × IsTold r ask v × (a ≡ answer_of v (length name))
+
+-- What is told of a name by an image: nothing where nothing is asked that has a meaning, or there is no image; else what its
+-- table tells.
 abbrev pub IsAnswerOf : List ℕ → Option Perms → List ℕ → Answer → Type 0
-IsAnswerOf image None name a = a ≡ record { kind = 4; number = 0 }
-IsAnswerOf image (Some ask) name a =
-    ((t : Table) × IsLoaded image t × (r : Record) × (record_after t name ≡ Some r)
-    × (v : Verdict) × IsTold r ask v × (a ≡ verdict_answer v))
-    ⊎ ((f : ImageFault) × IsRefusedFor image f × (a ≡ record { kind = 3; number = fault_number f }))
+IsAnswerOf image None name a = a ≡ no_answer
+IsAnswerOf image (Some ask) name a = ((length image ≡ 0) × (a ≡ no_answer)) ⊎ ((t : Table) × IsLoaded image t × IsToldByTable t ask name a)

@@ -1,2 +1,3 @@
 pub mod Answers
-pub mod Walks
+pub mod Batches
+pub mod Sets

@@ -1,74 +1,58 @@
 //! Answers in numbers.
 ghost use Rattle.std.specs.Prelude.{◌≡◌};
-ghost use Rattle.coqetwal.specs.Answers.{number_if, perms_number, verdict_answer};
+ghost use Rattle.coqetwal.specs.Answers.{answer_of, no_answer};
 
-use names::{Permission, Perms};
+use crate::permissions::number_of;
 use verdicts::Verdict;
 
-/// The name is allowed; of a walk, that it was walked.
-pub(crate) const ALLOWED: u16 = 0;
-/// The name is denied.
-pub(crate) const DENIED: u16 = 1;
-/// There is no rule for something that was asked.
-pub(crate) const NO_RULE: u16 = 2;
-/// The image has a fault.
-pub(crate) const BAD_IMAGE: u16 = 3;
-/// What was asked can't be answered.
-pub(crate) const BAD_CALL: u16 = 4;
+// Nothing was judged. It is 0, so that memory which C has cleared tells no verdict.
+const NO_ANSWER: u16 = 0;
+
+const ALLOWED: u16 = 1;
+
+const DENIED: u16 = 2;
+
+const NO_RULE: u16 = 3;
 
 /// What is told of a name.
 #[repr(C)]
-#[derive(Clone, Copy)]
+#[derive(Clone, Copy, Debug, PartialEq, Eq)]
 pub struct Answer {
-    pub kind: u16,
-    /// The rule that denies, the sum of the permissions that have no rule, or the image's fault; else 0.
-    pub number: u16,
-}
-
-/// What is told of many names.
-#[repr(C)]
-#[derive(Clone, Copy)]
-pub struct Walk {
-    pub kind: u16,
-    /// The image's fault; else 0.
-    pub number: u16,
-    /// How many cells were looked up.
+    /// How many look-ups there were: one for each byte of the name.
     pub steps: u64,
+    /// 0 nothing was judged, 1 allowed, 2 denied, 3 there is no rule for something that was asked.
+    pub verdict: u16,
+    /// The least rule that denies something that was asked, counted from 1; else 0.
+    pub rule: u16,
+    /// The sum of the numbers of the permissions that no rule allows; else 0.
+    pub missing: u16,
 }
 
-/// A verdict in numbers.
-pub(crate) fn answer_of(verdict: Verdict) -> Answer
-    ensures { result ≡ verdict_answer verdict }
+/// Nothing was judged.
+pub(crate) fn no_answer() -> Answer
+    ensures { result ≡ no_answer }
 {
-    match verdict {
-        Verdict::Allowed => Answer {
-            kind: ALLOWED,
-            number: 0,
-        },
-        Verdict::Denied { rule } => Answer {
-            kind: DENIED,
-            number: rule,
-        },
-        Verdict::NoRule { missing } => Answer {
-            kind: NO_RULE,
-            number: sum_of(missing),
-        },
+    Answer {
+        steps: 0,
+        verdict: NO_ANSWER,
+        rule: 0,
+        missing: 0,
     }
 }
 
-// The sum of the numbers of a set's permissions.
-fn sum_of(perms: Perms) -> u16
-    ensures { result ≡ perms_number perms }
+/// A verdict in numbers, and how many steps it took.
+pub(crate) fn answer_of(verdict: Verdict, steps: u64) -> Answer
+    ensures { result ≡ answer_of verdict steps }
 {
-    number_if(perms.contains(Permission::Read), 1)
-        + number_if(perms.contains(Permission::Write), 2)
-        + number_if(perms.contains(Permission::Link), 4)
-        + number_if(perms.contains(Permission::Lock), 8)
-        + number_if(perms.contains(Permission::Map), 16)
-}
-
-fn number_if(is_there: bool, number: u16) -> u16
-    ensures { result ≡ number_if is_there number }
-{
-    if is_there { number } else { 0 }
+    let (verdict, rule, missing) = match verdict {
+        Verdict::Allowed => (ALLOWED, 0, 0),
+        Verdict::Denied { rule } => (DENIED, rule, 0),
+        Verdict::NoRule { missing } => (NO_RULE, 0, number_of(missing)),
+    };
+    Answer {
+        steps,
+        verdict,
+        rule,
+        missing,
+    }
 }

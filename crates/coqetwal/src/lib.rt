@@ -1,15 +1,16 @@
-//! What C calls: an image tested, a name judged by it, and many names run through its table. `include/coqetwal.h` declares
-//! these functions.
+//! What C calls: an image verified once, and names judged by it, by any number of threads, with no memory taken.
+//! `include/coqetwal.h` declares these functions, and has what holds an image.
 //!
-//! To be believed are about 70 lines of definitions in `specs/`.
+//! To be believed are about 80 lines of definitions in `specs/`.
 #![tactic(auto)]
 
 mod answer;
-mod checking;
+mod batch;
 mod judging;
-mod running;
+mod laws;
+mod permissions;
+mod verifying;
 
-pub use answer::{Answer, Walk};
-
-#[cfg(test)]
-mod tests;
+pub use answer::Answer;
+pub use laws::numbers_are_sets;
+pub use verifying::{Counts, Fault};

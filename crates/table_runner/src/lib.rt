@@ -3,10 +3,12 @@
 //! To be believed are the 16 lines of definitions in `specs/`.
 #![tactic(auto)]
 
+mod image;
 mod judging;
 mod loaded;
 mod running;
 
+pub use image::{judge_image, run_image};
 pub use judging::judge;
 pub use loaded::LoadedProfile;
 pub use running::{record_of_name, run};

@@ -3,11 +3,13 @@
 //! To be believed are the 9 lines of definitions in `specs/`; those in `specs/inner/` are of private contracts and proofs.
 #![tactic(auto)]
 
+mod image;
 mod laws;
 mod steps;
 mod verified;
 mod verifying;
 
+pub use image::{VerifiedImage, verify_image};
 pub use laws::tables_in_bounds_run;
 pub use steps::Steps;
 pub use verified::{State, VerifiedTable};

@@ -14,7 +14,7 @@ use verdicts::Record;
 pub type State = u32;
 
 // The start of every table.
-const START: State = 1;
+pub(crate) const START: State = 1;
 
 /// Tables that no index leaves. They can't be changed any more.
 #[derive(Drop)]

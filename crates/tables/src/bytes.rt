@@ -164,7 +164,7 @@ fn read_hits(bytes: &[u8], at: usize) -> LeastHits
     }
 }
 
-fn read_record(bytes: &[u8], at: usize) -> Record
+pub(crate) fn read_record(bytes: &[u8], at: usize) -> Record
     requires { at + 20 ≤ length bytes.now }
     ensures { result ≡ record_at bytes.now at }
 {

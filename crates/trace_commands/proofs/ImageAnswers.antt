@@ -4,7 +4,7 @@ use Rattle.std.proofs.lemmas.Option.{same_Some}
 use Rattle.verdicts.specs.Records.{IsTold}
 use Rattle.names.specs.Bytes.{are_bytes}
 use Rattle.verdicts.specs.declared.record.Record.{Record}
-use Rattle.table_runner.specs.Loading.{IsLoaded, IsLoadFault}
+use Rattle.table_verifier.specs.Loading.{IsLoaded, IsLoadFault}
 use Rattle.matcher.specs.Telling.{TellsLeastHits, TellsVerdicts}
 use Rattle.names.specs.declared.permissions.Perms.{Perms}
 use Rattle.rule_globs.specs.PlainVerdict.{verdict}

@@ -1,5 +1,6 @@
 -- Commands that may write one of some outputs.
-use Rattle.table_runner.specs.Loading.{IsLoadFault, IsRefusedFor}
+use Rattle.table_runner.specs.Loading.{IsRefusedFor}
+use Rattle.table_verifier.specs.Loading.{IsLoadFault}
 use Rattle.std.specs.Prelude.{Vec}
 use Rattle.glob_automaton.specs.Automata.{most_sets}
 use Rattle.glob_automaton.specs.Sets.{AreMoreThan}

@@ -5,7 +5,7 @@ use Rattle.verdicts.specs.Records.{IsTold}
 use Rattle.glob_automaton.specs.Sets.{AreMoreThan}
 use Rattle.matcher.specs.declared.fault.MakeFault.TheVariants.{TooManyStates}
 use Rattle.verdicts.specs.declared.record.Record.{Record}
-use Rattle.table_runner.specs.Loading.{IsLoaded, IsLoadFault}
+use Rattle.table_verifier.specs.Loading.{IsLoaded, IsLoadFault}
 use Rattle.matcher.specs.Telling.{IsTableOfRules}
 use Rattle.names.specs.declared.permissions.Perms.{Perms}
 use Rattle.rule_reader.specs.Profile.{ProfileValue}
