@@ -1,4 +1,4 @@
-/* Times the loop that runs a name through a table: the proved one, which the static library crates/coqetwal exports, and the
+/* Times the loop that runs a name through a table: the proved one, which the static library crates/loop_bench exports, and the
  * same loop written here in C, by turns, over one image and the same names.
  *
  *     match IMAGE PATHS PAIRS
@@ -7,9 +7,9 @@
  * name leads through many states. Each loop runs all names of one length so often that about STEPS bytes are looked up, and
  * then not at all: the difference is the time of the loop, without that of loading the image. Of PAIRS such pairs of runs
  * the least times count. Both loops must lead to the same states. */
-#include "coqetwal.h"
-
 #include <malloc.h>
+#include <stddef.h>
+#include <stdint.h>
 #include <stdio.h>
 #include <stdlib.h>
 #include <string.h>
@@ -61,7 +61,7 @@ static uint32_t *words_at(const uint8_t *bytes, size_t count) {
     return words;
 }
 
-/* The tables of an image that coqetwal_check accepts. */
+/* The tables of an image that was accepted. */
 static struct table load(struct text image) {
     size_t states = word_at(image.bytes + 8), cells = word_at(image.bytes + 12);
     const uint8_t *at = image.bytes + 20;
@@ -92,10 +92,21 @@ __attribute__((noinline)) static uint32_t run(const struct table *table, const u
     return state;
 }
 
-/* The same call as coqetwal_run. */
-static struct coqetwal_walk run_in_c(struct text image, struct text names, uint32_t rounds, uint32_t *states, size_t count) {
+/* What crates/loop_bench exports: as many names as there is room for states, of names_length / states_length bytes each, run
+ * through the table of an image, which is loaded once; and all of them again, so many rounds. `kind` is 0 where they were
+ * run; then each state is the one that its name leads to, but with no round they stay as they are. */
+struct walk {
+    uint16_t kind, number;
+    uint64_t steps;
+};
+
+struct walk loop_bench_run(const uint8_t *image, size_t image_length, const uint8_t *names, size_t names_length, uint32_t rounds,
+                           uint32_t *states, size_t states_length);
+
+/* The same call. */
+static struct walk run_in_c(struct text image, struct text names, uint32_t rounds, uint32_t *states, size_t count) {
     struct table table = load(image);
-    struct coqetwal_walk walk = {0, 0, 0};
+    struct walk walk = {0, 0, 0};
     size_t length = names.length / count;
     for (uint32_t round = 0; round < rounds; round++)
         for (size_t i = 0; i < count; i++) {
@@ -106,8 +117,8 @@ static struct coqetwal_walk run_in_c(struct text image, struct text names, uint3
     return walk;
 }
 
-static struct coqetwal_walk run_in_rattle(struct text image, struct text names, uint32_t rounds, uint32_t *states, size_t count) {
-    return coqetwal_run(image.bytes, image.length, names.bytes, names.length, rounds, states, count);
+static struct walk run_in_rattle(struct text image, struct text names, uint32_t rounds, uint32_t *states, size_t count) {
+    return loop_bench_run(image.bytes, image.length, names.bytes, names.length, rounds, states, count);
 }
 
 /* --- the names --- */
@@ -153,13 +164,13 @@ static struct text names_of(struct text paths, size_t length) {
 
 /* --- the times --- */
 
-typedef struct coqetwal_walk loop(struct text, struct text, uint32_t, uint32_t *, size_t);
+typedef struct walk loop(struct text, struct text, uint32_t, uint32_t *, size_t);
 
 /* The nanoseconds of a call, which must look up as many bytes as are told. */
 static double time_of(loop *run, struct text image, struct text names, uint32_t rounds, uint32_t *states, size_t count) {
     struct timespec begin, end;
     clock_gettime(CLOCK_MONOTONIC, &begin);
-    struct coqetwal_walk walk = run(image, names, rounds, states, count);
+    struct walk walk = run(image, names, rounds, states, count);
     clock_gettime(CLOCK_MONOTONIC, &end);
     if (walk.kind || walk.steps != (uint64_t)rounds * names.length) fail("a wrong count of steps");
     return (end.tv_sec - begin.tv_sec) * 1e9 + (end.tv_nsec - begin.tv_nsec);
@@ -227,8 +238,8 @@ int main(int count, char **words) {
     /* Each table gets pages of its own from the system, and gives them back. */
     mallopt(M_MMAP_THRESHOLD, 1 << 16);
     struct text image = read_file(words[1]), paths = read_file(words[2]);
-    uint16_t fault = coqetwal_check(image.bytes, image.length);
-    if (fault) fail("the image is refused");
+    uint32_t state;
+    if (loop_bench_run(image.bytes, image.length, paths.bytes, 0, 0, &state, 0).kind) fail("the image is refused");
     printf("%11s %8s %10s %10s %8s\n", "name, bytes", "states", "C, ns", "Rattle, ns", "ratio");
     for (size_t i = 0; i < sizeof lengths / sizeof *lengths; i++) measure(image, paths, lengths[i], atoi(words[3]));
     free(paths.bytes);

@@ -12,7 +12,7 @@ work=$(mktemp -d)
 trap 'rm -rf "$work"' EXIT
 
 echo 'proving and building the static library ..'
-if ! (cd crates/coqetwal && rt lib) >"$work/log" 2>&1; then
+if ! (cd crates/loop_bench && rt lib) >"$work/log" 2>&1; then
     cat "$work/log"
     exit 1
 fi
@@ -52,7 +52,7 @@ echo "the image of $RULES rules has $(wc -c <"$work/image") bytes"
 
 for compiler in gcc clang; do
     command -v "$compiler" >/dev/null 2>&1 || continue
-    "$compiler" -std=c99 -D_POSIX_C_SOURCE=199309L -O2 -Iinclude -o "$work/match" bench/match.c crates/coqetwal/out/libcoqetwal.a "$heap"
+    "$compiler" -std=c99 -D_POSIX_C_SOURCE=199309L -O2 -o "$work/match" bench/match.c crates/loop_bench/out/libloop_bench.a "$heap"
     echo
     echo "C by $compiler -O2 ($("$compiler" -dumpversion))"
     "$work/match" "$work/image" "$work/paths" "$PAIRS"

@@ -111,9 +111,10 @@ struct coqetwal_counts {
 /* The first fault of an image; 0 of one that is accepted. Whoever made it, no name leads out of its tables then. */
 struct coqetwal_fault coqetwal_image_verify(const uint8_t *image, size_t image_length);
 
-/* What an image says of a name. `asked` is a sum of permissions, 1 to 31; any other number has no answer. */
-struct coqetwal_answer coqetwal_image_judge(const uint8_t *image, size_t image_length, const uint8_t *name, size_t name_length,
-                                            uint32_t asked);
+/* What an image says of a name. `asked` is a sum of permissions, 1 to 31; any other number has no answer. All of *answer is
+ * written, whatever it was. */
+void coqetwal_image_judge(const uint8_t *image, size_t image_length, const uint8_t *name, size_t name_length, uint32_t asked,
+                          struct coqetwal_answer *answer);
 
 /* What an image says of many names, which stand in one text: name i from offsets[i] to offsets[i + 1]. Each of the `count`
  * answers is written. Where the offsets don't reach so far, descend or leave the text, the name has no answer. */
@@ -177,7 +178,7 @@ static inline void coqetwal_free(coqetwal_table *table) {
 /* Judges a name: the verdict is the result, too. Takes no memory. */
 static inline int coqetwal_judge(const coqetwal_table *table, const void *name, size_t length, uint32_t asked,
                                  struct coqetwal_answer *answer) {
-    *answer = coqetwal_image_judge(coqetwal_image(table), coqetwal_image_length(table), coqetwal_bytes(name), length, asked);
+    coqetwal_image_judge(coqetwal_image(table), coqetwal_image_length(table), coqetwal_bytes(name), length, asked, answer);
     return answer->verdict;
 }
 

@@ -2,7 +2,7 @@
 ghost use Rattle.std.specs.Prelude.{◌≡◌};
 ghost use Rattle.std.specs.Option.{option_copied};
 ghost use Rattle.coqetwal.specs.Answers.{IsNoneOrLoaded};
-ghost use Rattle.coqetwal.specs.Batches.{AreAnswersOf, name_at};
+ghost use Rattle.coqetwal.specs.Batches.{AreAnswersOf, IsAnswerAt, name_at};
 
 use crate::answer::{Answer, no_answer};
 use crate::judging::coqetwal_image_judge;
@@ -21,10 +21,25 @@ pub extern "C" fn coqetwal_image_judge_all(
     ensures { AreAnswersOf image.now asked names.now offsets.now answers.old answers.new }
 {
     for place in 0..answers.len() {
-        answers[place] = match name_at(names, offsets, place) {
-            Some(name) => coqetwal_image_judge(image, name, asked),
-            None => no_answer(),
-        };
+        judge_at(image, names, offsets, asked, place, &mut answers[place]);
+    }
+}
+
+// The answer for the name from an offset to the next one.
+fn judge_at(
+    image: &[u8],
+    names: &[u8],
+    offsets: &[usize],
+    asked: u32,
+    place: usize,
+    answer: &mut Answer,
+)
+    requires { IsNoneOrLoaded image.now }
+    ensures { IsAnswerAt image.now asked (name_at names.now offsets.now place) answer.new }
+{
+    match name_at(names, offsets, place) {
+        Some(name) => coqetwal_image_judge(image, name, asked, answer),
+        None => *answer = no_answer(),
     }
 }
 

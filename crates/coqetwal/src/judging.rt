@@ -9,25 +9,24 @@ use table_runner::judge_image;
 use table_verifier::{Steps, VerifiedImage};
 
 /// What an image that was accepted says of a name for which permissions are asked by the sum of their numbers. No memory is
-/// taken, and nothing is written.
+/// taken.
+// The answer goes out through a pointer: a result would be put together on the stack, and read again in larger parts than it
+// was written in, for which the processor waits.
 #[unsafe(no_mangle)]
-pub extern "C" fn coqetwal_image_judge(image: &[u8], name: &[u8], asked: u32) -> Answer
+pub extern "C" fn coqetwal_image_judge(image: &[u8], name: &[u8], asked: u32, answer: &mut Answer)
     requires { IsNoneOrLoaded image.now }
-    ensures { IsAnswerOf image.now (set_of_number asked) name.now result }
+    ensures { IsAnswerOf image.now (set_of_number asked) name.now answer.new }
 {
-    let Some(ask) = set_of_number(asked) else {
-        return no_answer();
-    };
-    if image.is_empty() {
-        return no_answer();
+    match set_of_number(asked) {
+        Some(ask) if !image.is_empty() => judge(&VerifiedImage::accepted(image), name, ask, answer),
+        _ => *answer = no_answer(),
     }
-    judge(&VerifiedImage::accepted(image), name, ask)
 }
 
-fn judge(image: &VerifiedImage<'_>, name: &[u8], ask: Perms) -> Answer
-    ensures { IsToldByTable image.now ask name.now result }
+fn judge(image: &VerifiedImage<'_>, name: &[u8], ask: Perms, answer: &mut Answer)
+    ensures { IsToldByTable image.now ask name.now answer.new }
 {
     let mut steps = Steps::new();
     let verdict = judge_image(image, name, ask, &mut steps);
-    answer_of(verdict, steps.count())
+    *answer = answer_of(verdict, steps.count());
 }

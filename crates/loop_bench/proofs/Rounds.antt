@@ -2,7 +2,7 @@
 use Rattle.std.proofs.Common.{ℕ, ◌+◌, ◌*◌, ◌^◌, ◌<◌, ◌≤◌, List, length, arith}
 use Rattle.std.proofs.Math.Nat.{mul-div-le}
 use Rattle.std.proofs.lemmas.Nat.{mul-le}
-use Rattle.coqetwal.specs.Walks.{looked_up}
+use Rattle.loop_bench.specs.Walks.{looked_up}
 
 -- a round looks up no more cells than there are bytes
 pub few : (names states : List ℕ) → looked_up names states ≤ length names

@@ -3,8 +3,9 @@ use Rattle.std.specs.Prelude.{◌≡◌, ◌⊎◌, ℕ, ◌*◌, ◌/◌, ◌^�
 use Rattle.tables.specs.Bounds.{fault_number}
 use Rattle.tables.specs.Tables.{Table, state_after}
 use Rattle.tables.specs.declared.fault.ImageFault.{ImageFault}
-use Rattle.table_runner.specs.Loading.{IsLoaded, IsRefusedFor}
-use Rattle.coqetwal.specs.declared.answer.Walk.{Walk}
+use Rattle.table_runner.specs.Loading.{IsRefusedFor}
+use Rattle.table_verifier.specs.Loading.{IsLoaded}
+use Rattle.loop_bench.specs.declared.running.Walk.{Walk}
 
 -- how long each name is, where there are so many states
 abbrev pub name_length : List ℕ → List ℕ → ℕ
@@ -33,5 +34,5 @@ abbrev pub IsWalkOf : List ℕ → List ℕ → ℕ → List ℕ → List ℕ �
 IsWalkOf image names rounds old new walk =
     ((t : Table) × IsLoaded image t × AreAfterRounds t names rounds old new
     × (walk ≡ record { kind = 0; number = 0; steps = rounds * looked_up names old }))
-    ⊎ ((new ≡ old) × (((f : ImageFault) × IsRefusedFor image f × (walk ≡ record { kind = 3; number = fault_number f; steps = 0 }))
-    ⊎ ((2 ^ 64 ≤ rounds * length names) × (walk ≡ record { kind = 4; number = 0; steps = 0 }))))
+    ⊎ ((new ≡ old) × (((f : ImageFault) × IsRefusedFor image f × (walk ≡ record { kind = 1; number = fault_number f; steps = 0 }))
+    ⊎ ((2 ^ 64 ≤ rounds * length names) × (walk ≡ record { kind = 2; number = 0; steps = 0 }))))

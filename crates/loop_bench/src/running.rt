@@ -1,16 +1,33 @@
 //! Many names run through one table.
 ghost use Rattle.std.specs.Prelude.{◌≡◌, ◌+◌, ◌*◌, ◌^◌, ◌<◌, length};
-ghost use Rattle.coqetwal.specs.Walks.{AreAfter, AreAfterRounds, IsWalkOf, looked_up};
+ghost use Rattle.loop_bench.specs.Walks.{AreAfter, AreAfterRounds, IsWalkOf, looked_up};
 
-use crate::answer::{ALLOWED, BAD_CALL, BAD_IMAGE, Walk};
 use std::alloc::Global;
 use table_runner::{LoadedProfile, run};
 use table_verifier::{Steps, VerifiedTable};
 
+const RUN: u16 = 0;
+
+const BAD_IMAGE: u16 = 1;
+
+const BAD_CALL: u16 = 2;
+
+/// What is told of many names.
+#[repr(C)]
+#[derive(Clone, Copy, Debug)]
+pub struct Walk {
+    /// 0 they were run, 1 the image has a fault, 2 the look-ups are too many to be counted.
+    pub kind: u16,
+    /// The image's fault; else 0.
+    pub number: u16,
+    /// How many cells were looked up.
+    pub steps: u64,
+}
+
 /// Runs as many names as there is room for states through the table of an image, which is loaded once. The names stand one
 /// after another and are equally long, as long as there are bytes for all; and each round runs all of them.
 #[unsafe(no_mangle)]
-pub extern "C" fn coqetwal_run(
+pub extern "C" fn loop_bench_run(
     alloc: Global,
     image: &[u8],
     names: &[u8],
@@ -28,7 +45,7 @@ pub extern "C" fn coqetwal_run(
     }
     match LoadedProfile::make(alloc, image) {
         Ok(loaded) => Walk {
-            kind: ALLOWED,
+            kind: RUN,
             number: 0,
             steps: run_rounds(loaded.table(), names, rounds, states),
         },

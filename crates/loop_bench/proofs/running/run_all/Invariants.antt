@@ -1,8 +1,8 @@
 -- The states so far are those of their names, and one look-up was made for each byte of these.
 use Rattle.std.proofs.Common.{◌≡◌, ◌+◌, ◌*◌, ◌<◌, ℕ, length, Some, slice_get}
 use Rattle.tables.specs.Tables.{state_after}
-use Rattle.coqetwal.specs.Walks.{name_at, name_length}
-use Rattle.coqetwal.proofs.running.run_all.Given as goal
+use Rattle.loop_bench.specs.Walks.{name_at, name_length}
+use Rattle.loop_bench.proofs.running.run_all.Given as goal
 
 abbrev pub invariant-loop-place : goal.invariant-loop-place
 invariant-loop-place l = record {

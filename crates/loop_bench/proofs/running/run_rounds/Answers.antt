@@ -1,7 +1,7 @@
 use Rattle.std.proofs.Common.{length, arith}
-use Rattle.coqetwal.specs.Walks.{looked_up}
-use Rattle.coqetwal.proofs.Rounds.{few, room}
-use Rattle.coqetwal.proofs.running.run_rounds.Goals as goal
+use Rattle.loop_bench.specs.Walks.{looked_up}
+use Rattle.loop_bench.proofs.Rounds.{few, room}
+use Rattle.loop_bench.proofs.running.run_rounds.Goals as goal
 
 pub run_all-requires : goal.run_all-requires
 run_all-requires c =

@@ -1,7 +1,7 @@
 -- The rounds so far.
 use Rattle.std.proofs.Common.{◌≡◌, ◌*◌}
-use Rattle.coqetwal.specs.Walks.{AreAfterRounds, looked_up}
-use Rattle.coqetwal.proofs.running.run_rounds.Given as goal
+use Rattle.loop_bench.specs.Walks.{AreAfterRounds, looked_up}
+use Rattle.loop_bench.proofs.running.run_rounds.Given as goal
 
 abbrev pub invariant-loop-round : goal.invariant-loop-round
 invariant-loop-round l = record {

@@ -1,0 +1,9 @@
+//! The loop that runs names through a table, for the bench: many names in one call, so that the call isn't what is timed.
+//! It is no part of the interface for C (`coqetwal`).
+//!
+//! To be believed are about 40 lines of definitions in `specs/`.
+#![tactic(auto)]
+
+mod running;
+
+pub use running::Walk;
