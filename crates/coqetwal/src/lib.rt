@@ -14,3 +14,6 @@ mod verifying;
 pub use answer::Answer;
 pub use laws::numbers_are_sets;
 pub use verifying::{Counts, Fault};
+
+#[cfg(test)]
+mod tests;

@@ -12,8 +12,6 @@ use verdicts::{Record, Verdict, told};
 
 /// The state that a list of bytes leads to by an image. Whoever made it, no index leaves its tables, whatever the bytes are,
 /// and there is exactly one look-up for each byte. No memory is taken, and there is nothing to refuse.
-// As in tables: a function and a count of its own.
-#[inline(never)]
 pub fn run_image(image: &VerifiedImage<'_>, bytes: &[u8], steps: &mut Steps) -> State
     requires { steps.old + length bytes.now < 2 ^ 64 }
     ensures runs { Runs image.now }

@@ -1,4 +1,5 @@
 pub mod LeastSteps
+pub mod MissingSteps
 pub mod LeastNumbers
 pub mod ToldLaws
 pub mod RecordLaws

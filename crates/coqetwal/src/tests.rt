@@ -1,0 +1,154 @@
+//! An image through each function. It is written by hand: `a` leads from the start to a state whose record allows reading by
+//! rule 1 and denies writing by rule 2; all else leads to the dead state.
+use crate::answer::Answer;
+use crate::batch::coqetwal_image_judge_all;
+use crate::judging::coqetwal_image_judge;
+use crate::laws::numbers_are_sets;
+use crate::verifying::{Counts, Fault, coqetwal_image_counts, coqetwal_image_verify};
+use std::alloc::Global;
+use std::test::Fail;
+
+fn image(alloc: Global) -> Result<Vec<u8>, Fail> {
+    let mut image = Vec::new(alloc);
+    image.extend_from_slice(b"PTAB\x01\x00\x00\x00")?;
+    // The counts of states, cells and records; then default, base and accept.
+    push(&mut image, &[3, 256, 2])?;
+    push(&mut image, &[0, 0, 0])?;
+    push(&mut image, &[0, 0, 0])?;
+    push(&mut image, &[0, 0, 1])?;
+    // Next and check: state 1 owns the cell of `a`.
+    push_row(&mut image, 2, 0)?;
+    push_row(&mut image, 1, u32::MAX)?;
+    image.extend_from_slice(&[0; 20])?;
+    image.extend_from_slice(&[1, 0, 0, 0, 0, 0, 2, 0])?;
+    image.extend_from_slice(&[0; 12])?;
+    Ok(image)
+}
+
+fn push(image: &mut Vec<u8>, numbers: &[u32]) -> Result<(), Fail> {
+    for number in numbers {
+        image.extend_from_slice(&number.to_le_bytes())?;
+    }
+    Ok(())
+}
+
+fn push_row(image: &mut Vec<u8>, of_a: u32, of_others: u32) -> Result<(), Fail> {
+    for byte in 0..256u32 {
+        push(
+            image,
+            &[if byte == u32::from(b'a') {
+                of_a
+            } else {
+                of_others
+            }],
+        )?;
+    }
+    Ok(())
+}
+
+// An answer that each call must write over.
+const STALE: Answer = Answer {
+    steps: 9,
+    verdict: 9,
+    rule: 9,
+    missing: 9,
+};
+
+fn answer(verdict: u16, rule: u16, missing: u16, steps: u64) -> Answer {
+    Answer {
+        steps,
+        verdict,
+        rule,
+        missing,
+    }
+}
+
+#[test]
+fn images_are_verified(rt: HostRuntime) -> Result<(), Fail> {
+    let alloc = rt.alloc();
+    let mut image = image(alloc)?;
+    assert_eq!(rt;
+        coqetwal_image_verify(&image),
+        Fault {
+            number: 0,
+            place: 0
+        }
+    );
+    let counts = Counts {
+        states: 3,
+        cells: 256,
+        records: 2,
+    };
+    assert_eq!(rt; coqetwal_image_counts(&image), counts);
+    let none = Counts {
+        states: 0,
+        cells: 0,
+        records: 0,
+    };
+    assert_eq!(rt; coqetwal_image_counts(b""), none);
+    // The default of state 2 is no state.
+    image[28] = 3;
+    assert_eq!(rt;
+        coqetwal_image_verify(&image),
+        Fault {
+            number: 7,
+            place: 2
+        }
+    );
+    assert_eq!(rt;
+        coqetwal_image_verify(&image[..20]),
+        Fault {
+            number: 6,
+            place: 0
+        }
+    );
+    assert_eq!(rt;
+        coqetwal_image_verify(b""),
+        Fault {
+            number: 1,
+            place: 0
+        }
+    );
+    Ok(())
+}
+
+#[test]
+fn names_are_judged(rt: HostRuntime) -> Result<(), Fail> {
+    let alloc = rt.alloc();
+    let image = image(alloc)?;
+    let rows: [(&[u8], u32, Answer); 8] = [
+        (b"a", 1, answer(1, 0, 0, 1)),
+        (b"a", 3, answer(2, 2, 0, 1)),
+        (b"a", 25, answer(3, 0, 24, 1)),
+        (b"aa", 1, answer(3, 0, 1, 2)),
+        (b"", 1, answer(3, 0, 1, 0)),
+        (b"a", 0, answer(0, 0, 0, 0)),
+        (b"a", 32, answer(0, 0, 0, 0)),
+        (b"a", u32::MAX, answer(0, 0, 0, 0)),
+    ];
+    for (name, asked, want) in &rows {
+        let mut told = STALE;
+        coqetwal_image_judge(&image, name, *asked, &mut told);
+        assert_eq!(rt; told, *want);
+    }
+    let mut told = STALE;
+    coqetwal_image_judge(b"", b"a", 1, &mut told);
+    assert_eq!(rt; told, answer(0, 0, 0, 0));
+    numbers_are_sets();
+    Ok(())
+}
+
+#[test]
+fn many_names_are_judged(rt: HostRuntime) -> Result<(), Fail> {
+    let alloc = rt.alloc();
+    let image = image(alloc)?;
+    let mut answers = [STALE; 5];
+    // The third name's offsets descend, the fourth ends behind the text, and the fifth has no end.
+    coqetwal_image_judge_all(&image, b"aba", &[0, 1, 2, 1, 4], 1, &mut answers);
+    let none = answer(0, 0, 0, 0);
+    let want = [answer(1, 0, 0, 1), answer(3, 0, 1, 1), none, none, none];
+    assert_eq!(rt; answers, want);
+    coqetwal_image_judge_all(&image, b"", &[], 1, &mut answers);
+    assert_eq!(rt; answers, [none; 5]);
+    Ok(())
+}
