@@ -1,23 +1,45 @@
-# make        builds ./aa-trace, the proved program
-# make run    builds it, judges a name by examples/passwd.profile and by its image, and runs two scripts of examples/
-# make test   the gate: every proof from nothing, must-fail edits, tests, programs
-# make bench  times on large inputs, each with the ratio to half the size or to another input, of compiled profiles, and of the
-#             loop that runs names through a table, beside the same loop in C
-# make calls  calls the static library crates/coqetwal from C
-# make refusals  refuses each allocation of the program in turn
+# make            builds ./aa-trace, the proved program
+# make run        builds it, judges a name by examples/passwd.profile and by its image, and runs two scripts of examples/
+# make test       the gate: every proof from nothing, must-fail edits, tests, programs
+# make bench      times on large inputs, each with the ratio to half the size or to another input, of compiled profiles, and of
+#                 the loop that runs names through a table, beside the same loop in C
+# make calls      calls the static library crates/coqetwal from C
+# make refusals   refuses each allocation of the program in turn
+# make install    installs the program, the static library for C with its header, the manual page and completion for bash
+#                 below PREFIX, which is /usr/local if not given; DESTDIR is put before it. Builds what isn't built
+# make uninstall  takes away what make install with the same PREFIX and DESTDIR installed
+# make help       shows this
 
+PREFIX ?= /usr/local
+DESTDIR ?=
+export PREFIX DESTDIR
 RT := $(shell command -v rt 2>/dev/null)
 SOURCES := crates.txt HANDLES $(shell find crates -path '*/out' -prune -o -type f \( -name '*.rt' -o -name '*.antt' \) -print)
 
-.PHONY: all run test bench calls refusals need-rt
+LIBRARY := crates/coqetwal/out/libcoqetwal.a
+LIBRARY_CRATES := coqetwal $(shell sed -n 's/^coqetwal staticlib: *//p' crates.txt)
+LIBRARY_SOURCES := crates.txt HANDLES $(filter $(addprefix crates/,$(addsuffix /%,$(LIBRARY_CRATES))),$(SOURCES))
+
+.PHONY: all run test bench calls refusals install uninstall help need-rt
+# Each recipe takes all processors, and two that prove the same crates would disturb each other.
+.NOTPARALLEL:
 
 all: aa-trace
 
-need-rt:
-	@:$(if $(RT),,$(error the command rt is missing: install the Rattle toolchain and put its bin folder on PATH))
+NEED_RT = $(if $(RT),,$(error the command rt is missing: install the Rattle toolchain and put its bin folder on PATH))
 
-aa-trace: $(SOURCES) | need-rt
+need-rt:
+	@:$(NEED_RT)
+
+# What is built needs no rt: it can be installed without one.
+aa-trace: $(SOURCES)
+	@:$(NEED_RT)
 	@python3 tools/build.py
+
+$(LIBRARY): $(LIBRARY_SOURCES)
+	@:$(NEED_RT)
+	cd crates/coqetwal && rt lib
+	@touch $@
 
 run: aa-trace
 	./aa-trace judge rw /etc/passwd < examples/passwd.profile
@@ -26,6 +48,7 @@ run: aa-trace
 	./aa-trace run < examples/links.script
 
 test: need-rt
+	@tools/version-check
 	rt ci
 
 bench: aa-trace
@@ -38,3 +61,12 @@ calls: aa-trace
 
 refusals: aa-trace
 	sh tools/refuse-allocations.sh
+
+install: aa-trace $(LIBRARY)
+	@sh tools/install.sh
+
+uninstall:
+	@sh tools/install.sh uninstall
+
+help:
+	@sed -n '/^#/!q; s/^# \{0,1\}//p' $(firstword $(MAKEFILE_LIST))

@@ -1,0 +1,88 @@
+# Completion of aa-trace for bash. It needs nothing but bash itself.
+
+# What the words before the cursor say: the command, how many arguments it has so far, whether --capacity was given, and
+# whether options have come to an end. A redirection and its file are no words of the program.
+_aa_trace_read_words() {
+    local index word is_file=
+    for ((index = 1; index < COMP_CWORD; index++)); do
+        word=${COMP_WORDS[index]}
+        if [[ -n $is_file ]]; then
+            is_file=
+        elif [[ $word == *[\<\>]* ]]; then
+            is_file=yes
+        elif [[ $word != *[!0-9]* && ${COMP_WORDS[index + 1]} == [\<\>]* ]]; then
+            : # the 2 of 2>, which bash gives as a word of its own
+        elif [[ -z $command ]]; then
+            command=$word
+        elif [[ -z $literal && $word == -- ]]; then
+            literal=yes
+        elif [[ -z $literal && $word == --capacity ]]; then
+            capacity=given
+        elif [[ -n $literal || $word != -?* ]]; then
+            ((arguments += 1))
+        fi
+    done
+}
+
+# The letters so far, and each letter that isn't among them put behind them.
+_aa_trace_letters() {
+    local so_far=$1 letter
+    [[ $so_far == *[!rwlkm]* ]] && return
+    [[ -n $so_far ]] && COMPREPLY=("$so_far")
+    for letter in r w l k m; do
+        [[ $so_far == *"$letter"* ]] || COMPREPLY+=("$so_far$letter")
+    done
+}
+
+# Those of some words that begin as the word at the cursor.
+_aa_trace_words() {
+    local IFS=$' \t\n'
+    mapfile -t COMPREPLY < <(compgen -W "$1" -- "$2")
+}
+
+_aa_trace_files() {
+    local file
+    while IFS= read -r file; do
+        COMPREPLY+=("$file")
+    done < <(compgen -f -- "$1")
+    # With this readline puts a slash behind folders, and quotes what needs it. Outside of a completion it is an error.
+    compopt -o filenames 2>/dev/null
+}
+
+_aa_trace() {
+    local cur=${COMP_WORDS[COMP_CWORD]} previous=${COMP_WORDS[COMP_CWORD - 1]}
+    local command='' capacity='' literal='' arguments=0
+    local commands='judge run compile check match help'
+    COMPREPLY=()
+    if [[ $previous == *[\<\>]* ]]; then
+        _aa_trace_files "$cur"
+        return
+    fi
+    _aa_trace_read_words
+    # The number of an option is nothing to complete. A = is a word of its own.
+    [[ $command == run && ($previous == --capacity || $previous == = || $cur == =) ]] && return
+    if [[ -z $literal && $cur == -* ]]; then
+        local options='-h --help'
+        case $command in
+        '') options+=' --version' ;;
+        run) [[ -z $capacity ]] && options+=' --capacity' ;;
+        judge | compile | check | match) ;;
+        *) return ;;
+        esac
+        _aa_trace_words "$options" "$cur"
+        return
+    fi
+    case $command in
+    '') _aa_trace_words "$commands" "$cur" ;;
+    help) ((arguments == 0)) && _aa_trace_words "$commands" "$cur" ;;
+    judge | match)
+        case $arguments in
+        0) _aa_trace_letters "$cur" ;;
+        # A name begins with a slash. What stands in the file system is often one.
+        1) case $cur in '' | [/~]* | [\"\']/*) _aa_trace_files "${cur:-/}" ;; esac ;;
+        esac
+        ;;
+    esac
+}
+
+complete -F _aa_trace aa-trace
