@@ -506,6 +506,12 @@ fn lines_that_are_not_followed(rt: HostRuntime) -> Result<(), Fail> {
             "aa-trace",
             "aa-trace|--help",
             "aa-trace|-h",
+            "aa-trace|--version",
+            "aa-trace|-V",
+            "aa-trace|judge|--version",
+            "aa-trace|judge|-V",
+            "aa-trace|run|--version",
+            "aa-trace|--version=1",
             "aa-trace|help",
             "aa-trace|help|judge",
             "aa-trace|judge|--help",
@@ -629,6 +635,8 @@ fn usage_and_help(rt: HostRuntime) {
         &[
             (&["aa-trace", "judge", "r"], usage),
             (&["aa-trace", "judge", "--help"], help),
+            (&["aa-trace", "--version"], "aa-trace 0.1.0\n"),
+            (&["aa-trace", "-V"], "aa-trace 0.1.0\n"),
         ],
     );
 }

@@ -1,17 +1,17 @@
--- What clap's walk over words comes to, at a command of which the one flag is `-h` or `--help`.
+-- What clap's walk over words comes to, at a command whose flags are `-h` or `--help`, and `-V` or `--version`, at most.
 use Rattle.std.proofs.Common.{◌≡◌, ◌≢◌, ◌⊎◌, ℕ, ◌==◌, Bool, true, false, List, [], ◌∷◌, length, Option, Some, None, refl, sym, ◌∙◌, inl, inr}
 use Rattle.std.specs.Prelude.{slice_get, drop, encode_utf8, codes, fold, option_map}
 use Rattle.std.specs.Str.{bytes_eq, chars}
 use Rattle.clap.specs.Lexer.{name_and_value}
 use Rattle.clap.specs.Walk.{arg_by_index, arg_by_long, arg_by_short, plain, Held, Names, Row, Rule, Text, Waiting, Walk, idle, option, positional, value, walked, finished, settled, subcommand_met, to_positional}
-use Rattle.clap.specs.Simple.{Shape, help_rule, new_shape}
+use Rattle.clap.specs.Simple.{Shape, help_rule, new_shape, version_rule}
 use Rattle.clap.specs.Kinds.{Kinds, or_else}
 use Rattle.clap.proofs.FaultLemmas.{fault_ends}
 use Rattle.clap.proofs.WalkLemmas.{bundle_ends}
 use Rattle.clap.specs.Faults.{long_fault, short_fault, walk_fault, turn_fault, step_fault, settle_fault, defaults_fault, check_fault, flags_fault}
 use Rattle.clap.specs.declared.builder.value_parser.ValueParser.TheVariants.{String}
 use Rattle.clap.specs.declared.error.kind.ErrorKind.{ErrorKind}
-use Rattle.clap.specs.declared.error.kind.ErrorKind.TheVariants.{DisplayHelp, TooManyValues, UnknownArgument}
+use Rattle.clap.specs.declared.error.kind.ErrorKind.TheVariants.{DisplayHelp, DisplayVersion, TooManyValues, UnknownArgument}
 use Rattle.trace_line.proofs.WordKinds.{IsPlainWord, IsLongWord, IsShortWord}
 
 -- ---- faults, one after the other
@@ -119,36 +119,63 @@ plain_walked s i rows pending word h = elim h.short [
 abbrev pub leaf_shape : Text → List Rule → Shape
 leaf_shape name rules = record (new_shape name) { rules = rules; disable_help_subcommand = true; is_built = true }
 
--- ---- help, and options that aren't there
+-- ---- help, the version, and options that aren't there
 
 abbrev pub help : Rule
 help = record help_rule { parser = Some String; range = Some (record { start_inclusive = 0; end_inclusive = 0 }) }
 
-abbrev pub IsHelpOrNone : Option Rule → Type 0
-IsHelpOrNone found = (found ≡ Some help) ⊎ (found ≡ None)
+abbrev pub version : Rule
+version = record version_rule { parser = Some String; range = Some (record { start_inclusive = 0; end_inclusive = 0 }) }
 
-help_long_if : (name : Text) (same : Bool) → bytes_eq (codes "help") name ≡ same → IsHelpOrNone (arg_by_long (help ∷ []) name)
+-- what is found is answered with a text, or there is nothing
+abbrev pub IsToldOrNone : Option Rule → Type 0
+IsToldOrNone found = (found ≡ Some help) ⊎ ((found ≡ Some version) ⊎ (found ≡ None))
+
+help_long_if : (name : Text) (same : Bool) → bytes_eq (codes "help") name ≡ same → IsToldOrNone (arg_by_long (help ∷ []) name)
 help_long_if name true e = inl (rw e refl)
-help_long_if name false e = inr (rw e refl)
+help_long_if name false e = inr (inr (rw e refl))
 
-pub help_long : (name : Text) → IsHelpOrNone (arg_by_long (help ∷ []) name)
+pub help_long : (name : Text) → IsToldOrNone (arg_by_long (help ∷ []) name)
 help_long name = help_long_if name (bytes_eq (codes "help") name) refl
 
-help_short_if : (x : ℕ) (same : Bool) → (104 == x) ≡ same → IsHelpOrNone (arg_by_short (help ∷ []) x)
+help_short_if : (x : ℕ) (same : Bool) → (104 == x) ≡ same → IsToldOrNone (arg_by_short (help ∷ []) x)
 help_short_if x true e = inl (rw e refl)
-help_short_if x false e = inr (rw e refl)
+help_short_if x false e = inr (inr (rw e refl))
 
-pub help_short : (x : ℕ) → IsHelpOrNone (arg_by_short (help ∷ []) x)
+pub help_short : (x : ℕ) → IsToldOrNone (arg_by_short (help ∷ []) x)
 help_short x = help_short_if x (104 == x) refl
+
+-- beside help the program has the version
+told_long_if : (name : Text) (help_is version_is : Bool) → bytes_eq (codes "help") name ≡ help_is → bytes_eq (codes "version") name ≡ version_is
+    → IsToldOrNone (arg_by_long (help ∷ version ∷ []) name)
+told_long_if name true is e f = inl (rw e refl)
+told_long_if name false true e f = inr (inl (rw (e, f) refl))
+told_long_if name false false e f = inr (inr (rw (e, f) refl))
+
+pub told_long : (name : Text) → IsToldOrNone (arg_by_long (help ∷ version ∷ []) name)
+told_long name = told_long_if name (bytes_eq (codes "help") name) (bytes_eq (codes "version") name) refl refl
+
+told_short_if : (x : ℕ) (help_is version_is : Bool) → (104 == x) ≡ help_is → (86 == x) ≡ version_is → IsToldOrNone (arg_by_short (help ∷ version ∷ []) x)
+told_short_if x true is e f = inl (rw e refl)
+told_short_if x false true e f = inr (inl (rw (e, f) refl))
+told_short_if x false false e f = inr (inr (rw (e, f) refl))
+
+pub told_short : (x : ℕ) → IsToldOrNone (arg_by_short (help ∷ version ∷ []) x)
+told_short x = told_short_if x (104 == x) (86 == x) refl refl
 
 help_fault : (s : Shape) (given : Option Text) (h : Held) → Some_of (long_fault s.rules s.args_override_self (Some help) given h)
 help_fault s None h = in_second _ _ (DisplayHelp, [], refl)
 help_fault s (Some text) h = (TooManyValues, [], refl)
 
-pub long_is_fault : (s : Shape) (found : Option Rule) (given : Option Text) (h : Held) → IsHelpOrNone found
+version_fault : (s : Shape) (given : Option Text) (h : Held) → Some_of (long_fault s.rules s.args_override_self (Some version) given h)
+version_fault s None h = in_second _ _ (DisplayVersion, [], refl)
+version_fault s (Some text) h = (TooManyValues, [], refl)
+
+pub long_is_fault : (s : Shape) (found : Option Rule) (given : Option Text) (h : Held) → IsToldOrNone found
     → Some_of (long_fault s.rules s.args_override_self found given h)
 long_is_fault s found given h (inl is) = rw is (help_fault s given h)
-long_is_fault s found given h (inr is) = rw is (UnknownArgument, [], refl)
+long_is_fault s found given h (inr (inl is)) = rw is (version_fault s given h)
+long_is_fault s found given h (inr (inr is)) = rw is (UnknownArgument, [], refl)
 
 -- a long word that is a fault by itself
 pub long_turn : (s : Shape) (names : Names) (waiting : Waiting) (i : ℕ) (h : Held) (word : Text) → subcommand_met names waiting word ≡ None → (l : IsLongWord word)
@@ -156,16 +183,17 @@ pub long_turn : (s : Shape) (names : Names) (waiting : Waiting) (i : ℕ) (h : H
     → Some_of (turn_fault s names (walk_at waiting i false h) word)
 long_turn s names waiting i h word none l fault = rw (none, l.dashes, l.long) (in_first _ _ fault)
 
-short_is_fault : (s : Shape) (found : Option Rule) (rest : Text) (h : Held) (next : Held → Kinds) → IsHelpOrNone found
+short_is_fault : (s : Shape) (found : Option Rule) (rest : Text) (h : Held) (next : Held → Kinds) → IsToldOrNone found
     → Some_of (short_fault s.rules s.args_override_self found rest h next)
 short_is_fault s found rest h next (inl is) = rw is (in_first _ _ (in_second _ _ (DisplayHelp, [], refl)))
-short_is_fault s found rest h next (inr is) = rw is (UnknownArgument, [], refl)
+short_is_fault s found rest h next (inr (inl is)) = rw is (in_first _ _ (in_second _ _ (DisplayVersion, [], refl)))
+short_is_fault s found rest h next (inr (inr is)) = rw is (UnknownArgument, [], refl)
 
--- the one short flag is help's
-abbrev pub HasShortHelpAlone : Shape → Type 0
-HasShortHelpAlone s = (x : ℕ) → IsHelpOrNone (arg_by_short s.rules x)
+-- no short flag but help's and the version's
+abbrev pub HasNoOtherShort : Shape → Type 0
+HasNoOtherShort s = (x : ℕ) → IsToldOrNone (arg_by_short s.rules x)
 
-flags_are_fault : (s : Shape) → HasShortHelpAlone s → (flags : Text) (h : Held) (x : ℕ) (xs : Text) → chars flags ≡ x ∷ xs
+flags_are_fault : (s : Shape) → HasNoOtherShort s → (flags : Text) (h : Held) (x : ℕ) (xs : Text) → chars flags ≡ x ∷ xs
     → Some_of (flags_fault s.rules s.args_override_self (length flags) flags 0 h)
 unfolding flags_fault chars
 flags_are_fault s alone [] h x xs e = absurd (cc e)
@@ -173,6 +201,6 @@ flags_are_fault s alone (b ∷ rest) h x xs e =
     rw e (short_is_fault s (arg_by_short s.rules x) (drop (length (encode_utf8 x)) (b ∷ rest)) h _ (alone x))
 
 pub short_turn : (s : Shape) (names : Names) (waiting : Waiting) (i : ℕ) (rows : List Row) (pending : Option (Text × List Text)) (word : Text)
-    → subcommand_met names waiting word ≡ None → HasShortHelpAlone s → IsShortWord word → Some_of (turn_fault s names (walk_at waiting i false (held rows pending)) word)
+    → subcommand_met names waiting word ≡ None → HasNoOtherShort s → IsShortWord word → Some_of (turn_fault s names (walk_at waiting i false (held rows pending)) word)
 short_turn s names waiting i rows pending word none alone is =
     rw (none, is.dashes, is.long, is.short) (in_first _ _ (flags_are_fault s alone is.flags (held rows pending) is.first is.others is.chars_are))

@@ -17,7 +17,7 @@ use Rattle.trace_line.specs.CommandLine.{CommandForm, LineValue, Arguments, argu
 use Rattle.trace_line.specs.inner.Parser.{GivesLine, program_app}
 use Rattle.trace_line.proofs.Named.{find_made, found_name, found_passes, or_false}
 use Rattle.trace_line.proofs.WordKinds.{Kind, is_dashes, is_long, is_short, is_plain, kind_of_word}
-use Rattle.trace_line.proofs.LeafWalk.{ComesTo, Some_of, comes_as, end_of, faults_from, help_long, help_short, in_first, leaf_shape, long_is_fault, long_turn, or_else-nil, plain_turn, short_turn, some_fault, walk_at}
+use Rattle.trace_line.proofs.LeafWalk.{ComesTo, Some_of, comes_as, end_of, faults_from, in_first, leaf_shape, long_is_fault, long_turn, or_else-nil, plain_turn, short_turn, some_fault, told_long, told_short, walk_at}
 use Rattle.trace_line.proofs.PairWalk.{HasPair, pair_rules, pair_walk}
 use Rattle.trace_line.proofs.OptionRules.{built_rules, is_sound}
 use Rattle.trace_line.proofs.OptionWalk.{HasGiven, numbers_walk}
@@ -180,8 +180,8 @@ module _ (forms : List CommandForm) (good : list_all is_good forms ≡ true) whe
     no_command words (is_long o l) =
         let name : Text = (name_and_value l.body).0 in
         inl (in_first _ _ (long_turn top names idle 1 nothing_held word none l
-        (long_is_fault top (arg_by_long top.rules name) (name_and_value l.body).1 nothing_held (help_long name))))
-    no_command words (is_short o s) = inl (in_first _ _ (short_turn top names idle 1 [] None word none help_short s))
+        (long_is_fault top (arg_by_long top.rules name) (name_and_value l.body).1 nothing_held (told_long name))))
+    no_command words (is_short o s) = inl (in_first _ _ (short_turn top names idle 1 [] None word none told_short s))
     no_command words (is_plain o h) = inl (in_first _ _ (UnknownArgument, InvalidSubcommand ∷ [], plain_turn top names 1 [] None word none h))
 
   -- `help` is answered with help

@@ -21,7 +21,7 @@ use Rattle.trace_line.specs.CommandLine.{Given, NumberOption, is_number_of, numb
 use Rattle.trace_line.specs.inner.Parser.{HasNumbers, number_rule}
 use Rattle.trace_line.proofs.Named.{find_made, found_passes, or_false, same_name}
 use Rattle.trace_line.proofs.Numbers.{taken_read}
-use Rattle.trace_line.proofs.LeafWalk.{IsHelpOrNone, Some_of, help, help_long, in_second, leaf_shape}
+use Rattle.trace_line.proofs.LeafWalk.{IsToldOrNone, Some_of, help, help_long, in_second, leaf_shape}
 
 -- ---- the rules
 
@@ -52,7 +52,7 @@ pub by_long : (options : List NumberOption) (name : Text) (o : NumberOption) →
     → arg_by_long (built_rules options) name ≡ Some (built_rule o)
 by_long options name o is = find_made built_rule _ (λ o. bytes_eq o.name name) (λ o. or_false (bytes_eq o.name name)) options (help ∷ []) ∙ rw is refl
 
-pub no_long : (options : List NumberOption) (name : Text) → option_named options name ≡ None → IsHelpOrNone (arg_by_long (built_rules options) name)
+pub no_long : (options : List NumberOption) (name : Text) → option_named options name ≡ None → IsToldOrNone (arg_by_long (built_rules options) name)
 no_long options name none =
     let same : arg_by_long (built_rules options) name ≡ arg_by_long (help ∷ []) name =
     find_made built_rule _ (λ o. bytes_eq o.name name) (λ o. or_false (bytes_eq o.name name)) options (help ∷ []) ∙ rw none refl in

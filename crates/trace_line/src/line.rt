@@ -84,6 +84,9 @@ struct NumberOption {
     help: &'static str,
 }
 
+/// What `--version` tells.
+const VERSION: &str = "0.1.0";
+
 /// How many entries the tree of `run` has room for.
 const CAPACITY: NumberOption = NumberOption {
     name: "capacity",
@@ -156,6 +159,7 @@ fn program<'a>(alloc: Global) -> Result<Command<'a>, AllocError>
 {
     let bare = Command::new(alloc, "aa-trace")
         .about("Judges names by profiles of file rules")
+        .version(VERSION)
         .subcommand_required(true);
     let judging = with_pair(
         bare,

@@ -50,7 +50,7 @@ with_command program command = with_subcommand program (app_by command.name comm
 abbrev pub wanted_app : App
 wanted_app =
     let bare = new_app (codes "aa-trace") in
-    record bare { top = record bare.top { subcommand_required = true } }
+    record bare { top = record bare.top { has_version = true; subcommand_required = true } }
 
 abbrev pub program_app : App
 program_app = fold with_command wanted_app commands

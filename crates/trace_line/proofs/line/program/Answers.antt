@@ -9,8 +9,10 @@ use Rattle.trace_line.proofs.line.program.Goals as goal
 pub returns : goal.returns
 returns c =
     let bare : app_of c.about.result ≡ new_app (codes "aa-trace") = ap app_of_fields c.about.ensures ∙ c.new.ensures.app in
+    let told : app_of c.version.result ≡ record (new_app (codes "aa-trace")) { top = record (new_app (codes "aa-trace")).top { has_version = true } } =
+    ap app_of_fields c.version.ensures ∙ ap (λ (a : App). record a { top = record a.top { has_version = true } }) bare in
     let wanted : app_of c.subcommand_required-bare.result ≡ wanted_app =
-    ap app_of_fields c.subcommand_required-bare.ensures ∙ ap (λ (a : App). record a { top = record a.top { subcommand_required = true } }) bare in
+    ap app_of_fields c.subcommand_required-bare.ensures ∙ ap (λ (a : App). record a { top = record a.top { subcommand_required = true } }) told in
     let judging = c.in_ok-judging.ensures ∙ ap (λ (a : App). with_subcommand a (pair_app (codes "judge")).top) wanted in
     let running = c.in_ok-running.ensures ∙ ap (λ (a : App). with_subcommand a (numbers_app (codes "run") (capacity ∷ [])).top) judging in
     let compiling = c.in_ok-compiling.ensures ∙ ap (λ (a : App). with_subcommand a (numbers_app (codes "compile") []).top) running in
