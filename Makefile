@@ -3,6 +3,7 @@
 # make test       the gate: every proof from nothing, must-fail edits, tests, programs
 # make bench      times on large inputs, each with the ratio to half the size or to another input, of compiled profiles, and of
 #                 the loop that runs names through a table, beside the same loop in C
+# make tour       runs every command of README.md and docs/TOUR.md, and compares what it prints
 # make calls      calls the static library crates/coqetwal from C
 # make refusals   refuses each allocation of the program in turn
 # make install    installs the program, the static library for C with its header, the manual page and completion for bash
@@ -20,7 +21,7 @@ LIBRARY := crates/coqetwal/out/libcoqetwal.a
 LIBRARY_CRATES := coqetwal $(shell sed -n 's/^coqetwal staticlib: *//p' crates.txt)
 LIBRARY_SOURCES := crates.txt HANDLES $(filter $(addprefix crates/,$(addsuffix /%,$(LIBRARY_CRATES))),$(SOURCES))
 
-.PHONY: all run test bench calls refusals install uninstall help need-rt
+.PHONY: all run test tour bench calls refusals install uninstall help need-rt
 # Each recipe takes all processors, and two that prove the same crates would disturb each other.
 .NOTPARALLEL:
 
@@ -50,6 +51,9 @@ run: aa-trace
 test: need-rt
 	@tools/version-check
 	rt ci
+
+tour: aa-trace
+	python3 tools/tour
 
 bench: aa-trace
 	sh bench/run.sh

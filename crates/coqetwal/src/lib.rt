@@ -1,7 +1,7 @@
 //! What C calls: an image verified once, and names judged by it, by any number of threads, with no memory taken.
 //! `include/coqetwal.h` declares these functions, and has what holds an image.
 //!
-//! To be believed are about 80 lines of definitions in `specs/`.
+//! To be believed are about 90 lines of definitions in `specs/`.
 #![tactic(auto)]
 
 mod answer;

@@ -1,6 +1,6 @@
 //! Names run through the tables of images, and judged by them: what needs neither the parser nor the compiler.
 //!
-//! To be believed are the 16 lines of definitions in `specs/`.
+//! To be believed are about 10 lines of definitions in `specs/`.
 #![tactic(auto)]
 
 mod image;
