@@ -2,14 +2,15 @@
 # make run    builds it, judges a name by examples/passwd.profile and by its image, and runs two scripts of examples/
 # make test   the gate: every proof from nothing, must-fail edits, tests, programs
 # make bench  times on large inputs, each with the ratio to half the size or to another input, of compiled profiles, and of the
-#             loop that runs names through a table, beside the same loop in C
-# make calls  calls the static library crates/coqetwal from C
+#             loop that runs names through a table, and of names judged, beside the same loop in C
+# make calls  calls the static library crates/coqetwal from C, and compares its answers with those of ./aa-trace
+# make embed  builds the examples for those who embed the library, ./embed in C and ./embed_rs in Rust, and runs them
 # make refusals  refuses each allocation of the program in turn
 
 RT := $(shell command -v rt 2>/dev/null)
 SOURCES := crates.txt HANDLES $(shell find crates -path '*/out' -prune -o -type f \( -name '*.rt' -o -name '*.antt' \) -print)
 
-.PHONY: all run test bench calls refusals need-rt
+.PHONY: all run test bench calls embed refusals need-rt
 
 all: aa-trace
 
@@ -32,9 +33,13 @@ bench: aa-trace
 	sh bench/run.sh
 	sh bench/compile.sh
 	sh bench/match.sh
+	sh bench/judge.sh
 
 calls: aa-trace
-	sh tools/calls.sh
+	python3 tools/calls.py
+
+embed: aa-trace
+	sh tools/embed.sh
 
 refusals: aa-trace
 	sh tools/refuse-allocations.sh
