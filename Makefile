@@ -1,10 +1,11 @@
 # make            builds ./aa-trace, the proved program
 # make run        builds it, judges a name by examples/passwd.profile and by its image, and runs two scripts of examples/
 # make test       the gate: every proof from nothing, must-fail edits, tests, programs
-# make bench      times on large inputs, each with the ratio to half the size or to another input, of compiled profiles, and of
-#                 the loop that runs names through a table, beside the same loop in C
+# make bench      times on large inputs, each with the ratio to half the size or to another input, of compiled profiles, of
+#                 the loop that runs names through a table, beside the same loop in C, and of names judged from C
 # make tour       runs every command of README.md and docs/TOUR.md, and compares what it prints
-# make calls      calls the static library crates/coqetwal from C
+# make calls      calls the library for C, and compares its answers with those of ./aa-trace
+# make embed      builds the examples for those who embed the library, ./embed in C and ./embed_rs in Rust, and runs them
 # make refusals   refuses each allocation of the program in turn
 # make install    installs the program, the static library for C with its header, the manual page and completion for bash
 #                 below PREFIX, which is /usr/local if not given; DESTDIR is put before it. Builds what isn't built
@@ -21,7 +22,7 @@ LIBRARY := crates/coqetwal/out/libcoqetwal.a
 LIBRARY_CRATES := coqetwal $(shell sed -n 's/^coqetwal staticlib: *//p' crates.txt)
 LIBRARY_SOURCES := crates.txt HANDLES $(filter $(addprefix crates/,$(addsuffix /%,$(LIBRARY_CRATES))),$(SOURCES))
 
-.PHONY: all run test tour bench calls refusals install uninstall help need-rt
+.PHONY: all run test tour bench calls embed refusals install uninstall help need-rt
 # Each recipe takes all processors, and two that prove the same crates would disturb each other.
 .NOTPARALLEL:
 
@@ -59,9 +60,13 @@ bench: aa-trace
 	sh bench/run.sh
 	sh bench/compile.sh
 	sh bench/match.sh
+	sh bench/judge.sh
 
-calls: aa-trace
-	sh tools/calls.sh
+calls: aa-trace $(LIBRARY)
+	python3 tools/calls.py
+
+embed: aa-trace $(LIBRARY)
+	sh tools/embed.sh
 
 refusals: aa-trace
 	sh tools/refuse-allocations.sh

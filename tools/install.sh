@@ -25,6 +25,9 @@ files() {
 644 LICENSE-APACHE share/doc/coqetwal/LICENSE-APACHE
 644 README.md share/doc/coqetwal/README.md
 644 CHANGELOG.md share/doc/coqetwal/CHANGELOG.md
+644 docs/EMBEDDING.md share/doc/coqetwal/EMBEDDING.md
+644 examples/embed.c share/doc/coqetwal/embed.c
+644 examples/embed.rs share/doc/coqetwal/embed.rs
 FILES
 }
 

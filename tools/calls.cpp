@@ -1,0 +1,26 @@
+// Shows that the header works from C++: loads the image that is named, judges a name by it, and prints the verdict's number.
+#include "coqetwal.h"
+
+#include <cstdio>
+#include <fstream>
+#include <iterator>
+#include <memory>
+#include <string>
+#include <vector>
+
+struct Free {
+    void operator()(coqetwal_table *table) const { coqetwal_free(table); }
+};
+
+int main(int count, char **words) {
+    if (count != 3) return 2;
+    std::ifstream file(words[1], std::ios::binary);
+    std::vector<char> image((std::istreambuf_iterator<char>(file)), std::istreambuf_iterator<char>());
+    coqetwal_table *loaded;
+    coqetwal_fault fault;
+    if (coqetwal_load(image.data(), image.size(), &loaded, &fault)) return fault.number;
+    std::unique_ptr<coqetwal_table, Free> table(loaded);
+    std::string name(words[2]);
+    coqetwal_answer answer;
+    std::printf("%d\n", coqetwal_judge(table.get(), name.data(), name.size(), COQETWAL_READ | COQETWAL_WRITE, &answer));
+}

@@ -1,0 +1,412 @@
+#!/usr/bin/env python3
+"""Calls the static library from C (tools/calls.c) and compares its answers with those of ./aa-trace.
+
+Names are drawn, always the same ones: from the rules of each profile in examples/ and from common paths, joined, cut and with
+bytes turned. What a script can open is asked of `./aa-trace run`, which compiles the profile by itself; a part of what can
+be an argument is asked of `match`, which counts the steps, too, and of `judge`, which knows no image. All names, those among
+them that ./aa-trace can't be given, and images that no profile has are asked of the few lines below that run an image as
+docs/RULES.md tells ("Tables", "Images").
+"""
+import glob
+import os
+import random
+import re
+import subprocess
+import sys
+import tempfile
+from concurrent.futures import ThreadPoolExecutor
+
+TOP = os.path.dirname(os.path.dirname(os.path.abspath(__file__)))
+LIBRARY = "crates/coqetwal/out/libcoqetwal.a"
+C = ["-std=c99", "-D_DEFAULT_SOURCE", "-Wall", "-Wextra", "-Werror", "-pedantic", "-O2", "-Iinclude", "-pthread"]
+CPP = ["-std=c++11", "-Wall", "-Wextra", "-Werror", "-pedantic", "-O2", "-Iinclude"]
+LETTERS = "rwlkm"
+# How many names are drawn for each profile, how often each is asked about, and how many entries a script makes.
+NAMES, ASKED, ENTRIES = 4000, 4, 16000
+# How many single runs of ./aa-trace there are for each profile: of `match` so many as read about these bytes.
+MATCHES, MATCHED_BYTES, JUDGES = 2500, 3 << 30, 400
+COMMON = b"""/ /etc/passwd /etc/shadow /etc/ld.so.cache /etc/ssl/certs/ca.pem /usr/lib/libc.so.6 /usr/lib/x86_64-linux-gnu/libm.so
+/usr/bin/ /usr/share/zoneinfo/UTC /usr/share/fonts/a.ttf /dev/null /dev/urandom /proc/1/status /proc/self/maps /sys/devices/
+/run/user/1000/bus /var/log/messages /var/lib/ /tmp/ /tmp/x /home/ann/ /home/ann/.ssh/id_rsa /home/ann/.config/a.ini
+/home/ann/Downloads/a.pdf /root/.bashrc /srv/www/index.html /opt/app/lib/a.so""".split()
+
+
+def run(*words, given=b""):
+    """What a program writes; it must end well."""
+    return subprocess.run(words, input=given, stdout=subprocess.PIPE, check=True, cwd=TOP).stdout
+
+
+def trace(*words, given=b""):
+    """What ./aa-trace answers, or how it refuses. `given` is its standard input."""
+    done = subprocess.run(["./aa-trace", *words], input=given, capture_output=True, cwd=TOP, check=False)
+    return done.stdout + done.stderr
+
+
+def trace_file(path, *words):
+    """The same, with a file as standard input: an image of many bytes goes through no pipe."""
+    with open(path, "rb") as it:
+        return subprocess.run(["./aa-trace", *words], stdin=it, stdout=subprocess.PIPE, cwd=TOP, check=False).stdout
+
+
+def same(found, wanted, what):
+    """Ends the run where two answers differ."""
+    if found != wanted:
+        sys.exit(f"calls: {what}: found {found!r}, wanted {wanted!r}")
+
+
+# ---- Names.
+
+
+def path_of(rule, draw):
+    """A name made by a rule's path: each item by something that it may take."""
+    some = lambda: bytes(draw.choices(b"abcxyz019._-\xc3\xa4", k=draw.randrange(1, 9)))
+    while b"{" in rule:
+        rule = re.sub(rb"\{([^{}]*)\}", lambda it: draw.choice(it[1].split(b",")), rule)
+        if not re.search(rb"\{[^{}]*\}", rule):
+            break
+    rule = re.sub(rb"\[\^[^]]*\]", lambda it: some()[:1], rule)
+    rule = re.sub(rb"\[([^]]+)\]", lambda it: bytes([draw.choice(it[1])]), rule)
+    rule = re.sub(rb"\*\*+", lambda it: b"/".join(some() for _ in range(draw.randrange(1, 4))), rule)
+    rule = rule.replace(b"?", b"q")
+    return re.sub(rb"\*", lambda it: some(), rule)
+
+
+def turned(name, draw):
+    """A name with something changed, most often a byte."""
+    place, byte = draw.randrange(len(name) + 1), bytes([draw.randrange(256)])
+    return draw.choice([
+        name[:place] + byte + name[place + 1 :],
+        name[:place] + byte + name[place:],
+        name[:place] + name[place + 1 :],
+        name[:place],
+        name + b"/",
+        name + draw.choice(COMMON),
+        name.replace(b"/", draw.choice([b"//", b"/./", b"/../", b" /"]), 1),
+    ])
+
+
+def names_of(profile, draw):
+    """The names that are judged by a profile: each once."""
+    rules = re.findall(rb'(?<=[ "])/[^\s"]*', re.sub(rb"(?m)#.*", b"", profile)) + COMMON
+    rules = [it.rstrip(b",") for it in rules]
+    names = {b"", b"/", b"//", b"\x00", b"etc/passwd", b"/" * 70000, b"/home/" + b"x" * 5000, b"/" + b"\xff" * 4095, *COMMON}
+    while len(names) < NAMES:
+        name = path_of(draw.choice(rules), draw)
+        if draw.randrange(4) == 0:
+            name = name[: draw.randrange(len(name) + 1)] + path_of(draw.choice(rules), draw)
+        for _ in range(draw.choice([0, 0, 1, 1, 2, 3])):
+            name = turned(name, draw)
+        names.add(name)
+    return sorted(names)
+
+
+def is_argument(name):
+    """Whether a name can be an argument of ./aa-trace: absolute, UTF-8, without byte 0, and not too long for the system."""
+    return name.startswith(b"/") and b"\0" not in name and len(name) < 100000 and name.decode(errors="replace").encode() == name
+
+
+def letters_of(asked):
+    """The letters of a sum of permissions."""
+    return "".join(letter for at, letter in enumerate(LETTERS) if asked >> at & 1)
+
+
+def verdict_of(line):
+    """Verdict, rule and missing permissions of a line of ./aa-trace."""
+    words = line.split()
+    if words[0] == b"allowed":
+        return 1, 0, 0
+    if words[0] == b"denied":
+        return 2, int(words[3]), 0
+    return 3, 0, sum(1 << LETTERS.index(letter) for letter in words[3].decode())
+
+
+# ---- Images, as docs/RULES.md tells.
+
+
+class Image:
+    """The tables of an image that is accepted."""
+
+    def __init__(self, image):
+        words = memoryview(image[: len(image) // 4 * 4]).cast("I")
+        states, cells = words[2], words[3]
+        self.image, at = image, 5
+        for name, count in (("default", states), ("base", states), ("accept", states), ("next", cells), ("check", cells)):
+            setattr(self, name, words[at : at + count])
+            at += count
+        self.records = 4 * at
+
+    def record_of(self, name):
+        """The ten numbers of the record of a name's last state."""
+        state, base, check, following = 1, self.base, self.check, self.next
+        for byte in name:
+            cell = base[state] + byte
+            state = following[cell] if check[cell] == state else self.default[state]
+        at = self.records + 20 * self.accept[state]
+        return memoryview(self.image[at : at + 20]).cast("H")
+
+    def judge(self, name, asked):
+        """The line that tools/calls.c prints."""
+        if not 0 < asked < 32:
+            return 0, 0, 0, 0
+        record, chosen = self.record_of(name), [at for at in range(5) if asked >> at & 1]
+        denied = [record[2 * at + 1] for at in chosen if record[2 * at + 1]]
+        missing = sum(1 << at for at in chosen if not record[2 * at])
+        if denied:
+            return 2, min(denied), 0, len(name)
+        return (3, 0, missing, len(name)) if missing else (1, 0, 0, len(name))
+
+
+def numbers(*values, size=4):
+    """Numbers as an image has them."""
+    return b"".join(value.to_bytes(size, "little") for value in values)
+
+
+def drawn_image(draw):
+    """An image in bounds that no profile has: rows that share cells, states that own none or some of their row's."""
+    states, cells, records = draw.randrange(2, 40), draw.randrange(256, 2000), draw.randrange(1, 9)
+    state = lambda: draw.randrange(states)
+    bases = [draw.randrange(cells - 255) for _ in range(states)]
+    owners = [state() if draw.randrange(4) else draw.randrange(1 << 32) for _ in range(cells)]
+    parts = [b"PTAB", numbers(1, 0, size=2), numbers(states, cells, records), numbers(*(state() for _ in range(states)))]
+    parts += [numbers(*bases), numbers(*(draw.randrange(records) for _ in range(states)))]
+    parts += [numbers(*(state() for _ in range(cells))), numbers(*owners)]
+    hits = (draw.choice([0, 0, 1, 7, 1024, 65535]) for _ in range(10 * records))
+    return b"".join([*parts, numbers(*hits, size=2)])
+
+
+# ---- What is compared.
+
+
+def queries_of(queries):
+    """Names and what is asked, as tools/calls.c reads them."""
+    word = lambda number: number.to_bytes(4, sys.byteorder)
+    return b"".join(word(asked) + word(len(name)) + name for name, asked in queries)
+
+
+class Room:
+    """A folder for images and queries, and the program tools/calls.c."""
+
+    def __init__(self, folder):
+        self.folder, self.calls = folder, f"{folder}/calls"
+        self.made = 0
+
+    def file(self, content):
+        self.made += 1
+        path = f"{self.folder}/{self.made}"
+        with open(path, "wb") as it:
+            it.write(content)
+        return path
+
+    def judge(self, image, queries):
+        """The answers of the library: verdict, rule, missing and steps for each name and what is asked."""
+        lines = run(self.calls, "judge", self.file(image), self.file(queries_of(queries))).splitlines()
+        same(len(lines), len(queries), "the count of answers")
+        return {query: tuple(map(int, line.split())) for query, line in zip(queries, lines)}
+
+
+def is_openable(name):
+    """Whether a script can make an entry of this name: no blank in it, and no component that a walk doesn't keep."""
+    parts = name.split(b"/")
+    good = all(0 < len(it) <= 255 and it not in (b".", b"..") for it in parts[1:-1])
+    last = len(parts[-1]) <= 255 and parts[-1] not in (b".", b"..")
+    return name[:1] == b"/" and len(name) <= 4095 and good and last and not re.search(rb"[ \t\n\0]", name)
+
+
+def script_of(names):
+    """The lines that make a tree with these names, as far as they go together, and the names that stand in it. Deep names go
+    first: else a file with a short one would keep out all that stands below a directory of that name."""
+    made, lines = {b"/"}, []
+    for name in sorted(filter(is_openable, names), key=lambda it: -it.count(b"/")):
+        parts = name.split(b"/")
+        chain = [b"/".join(parts[:at]) + b"/" for at in range(1, len(parts))]
+        wanted = [it for it in chain if it not in made]
+        if len(made) + len(wanted) + 1 > ENTRIES or any(it[:-1] in made for it in chain[1:]):
+            continue
+        if parts[-1] and (name in made or name + b"/" in made):
+            continue
+        for it in wanted:
+            made.add(it)
+            lines.append(b"mkdir " + it + b"\n")
+        if parts[-1]:
+            made.add(name)
+            lines.append(b"create " + name + b"\n")
+    return lines, sorted(made)
+
+
+def compare_run(profile, answers, queries, lines):
+    """Each answer beside that of an open in a script."""
+    text = b"policy\n" + profile.rstrip(b"\n") + b"\n.\n"
+    label = re.match(rb"policy (\S+) version 1\n", trace("run", given=text))[1]
+    opened = [(name, asked) for name, asked in queries if 0 < asked < 32 and not asked & 4]
+    opens = [b"open %s %s %s\n" % (label, name, letters_of(asked).encode()) for name, asked in opened]
+    found = trace("run", "--capacity", "16384", given=b"".join([text, *lines, *opens])).split(b"\n")[1:-1]
+    same(len(found), len(lines) + len(opens), "the count of lines")
+    for at, line in enumerate(found[: len(lines)]):
+        same(line, b"ok %d" % (at + 1), lines[at])
+    for query, line in zip(opened, found[len(lines) :]):
+        same((*verdict_of(line), len(query[0])), answers[query], query)
+        same(b" " + query[0] + b" node " in line, True, line)
+    return len(opened)
+
+
+def compare_match(image, query, answer):
+    """An answer beside that of `match` on the image in a file, with its steps."""
+    line, steps = trace_file(image, "match", letters_of(query[1]), query[0]).splitlines()
+    same((*verdict_of(line), int(steps.split()[1])), answer, query)
+
+
+def compare_judge(profile, query, answer):
+    """An answer beside that of `judge`, which reads the profile's text and has no image."""
+    same((*verdict_of(trace("judge", letters_of(query[1]), query[0], given=profile)), len(query[0])), answer, query)
+
+
+def compare_profile(room, path, pool):
+    """All answers on one profile; how many were compared with run, match, judge and the tables as this file runs them."""
+    draw = random.Random(path)
+    with open(f"{TOP}/{path}", "rb") as it:
+        profile = it.read()
+    image = trace("compile", given=profile)
+    names = names_of(profile, draw)
+    lines, standing = script_of(names)
+    queries = [(name, asked) for name in standing for asked in draw.sample([it for it in range(1, 32) if not it & 4], ASKED)]
+    queries = list(dict.fromkeys(queries + [(name, draw.choice([*range(1, 32), 0, 32, 1 << 31])) for name in names]))
+    answers = room.judge(image, queries)
+    tables = Image(image)
+    for query in queries:
+        same(answers[query], tables.judge(*query), query)
+    single = [it for it in queries if 0 < it[1] < 32 and is_argument(it[0])]
+    matched = draw.sample(single, min(len(single), MATCHES, MATCHED_BYTES // len(image)))
+    judged = draw.sample(single, min(len(single), JUDGES))
+    stored = room.file(image)
+    list(pool.map(lambda it: compare_match(stored, it, answers[it]), matched))
+    list(pool.map(lambda it: compare_judge(profile, it, answers[it]), judged))
+    asked = set(standing)
+    opened = compare_run(profile, answers, [it for it in queries if it[0] in asked], lines)
+    return opened, len(matched), len(judged), len(queries)
+
+
+def compare_drawn(room, pool):
+    """Answers on images that no profile has."""
+    draw, count = random.Random(1), 0
+    for _ in range(60):
+        image = drawn_image(draw)
+        names = {b"/" + draw.randbytes(draw.randrange(80)) for _ in range(150)} | {draw.choice(COMMON) for _ in range(20)}
+        queries = [(name, draw.randrange(1, 32)) for name in sorted(names)]
+        answers, tables = room.judge(image, queries), Image(image)
+        for query in queries:
+            same(answers[query], tables.judge(*query), query)
+        stored = room.file(image)
+        list(pool.map(lambda it: compare_match(stored, it, answers[it]), [it for it in queries if is_argument(it[0])]))
+        count += len(queries)
+    return count
+
+
+def planted(image):
+    """The image with each fault in turn, and what it is to be told as."""
+    states, cells, _ = memoryview(image[8:20]).cast("I")
+    with_part = lambda at, part: image[:at] + part + image[at + len(part) :]
+    at = lambda table, place: 20 + 4 * (table * states + place)
+    yield image[:19], (1,)
+    yield b"", (1,)
+    yield with_part(0, b"Q"), (2,)
+    yield with_part(4, b"\2"), (3,)
+    yield with_part(7, b"\1"), (4,)
+    for place, low, high in ((8, 1, 65537), (12, 255, (1 << 24) + 1), (16, 0, 65537)):
+        yield with_part(place, numbers(low)), (5,)
+        yield with_part(place, numbers(high)), (5,)
+    yield image[:-1], (6,)
+    yield image + b"\0", (6,)
+    for state in (0, 1, states - 1):
+        yield with_part(at(0, state), numbers(states)), (7, state)
+        yield with_part(at(1, state), numbers(cells - 255)), (8, state)
+        yield with_part(at(2, state), numbers((1 << 32) - 1)), (9, state)
+    for cell in (0, 1000, cells - 1):
+        yield with_part(20 + 12 * states + 4 * cell, numbers(states)), (10, cell)
+
+
+def compare_faults(room, image):
+    """What is said of images that were turned, beside `check`; all ten faults are among them."""
+    draw, cases = random.Random(2), list(planted(image))
+    same({it[1][0] for it in cases}, set(range(1, 11)), "the faults")
+    turned_images = [it[0] for it in cases]
+    for _ in range(400):
+        turned_image = bytearray(image)
+        for _ in range(draw.randrange(1, 4)):
+            turned_image[draw.choice([draw.randrange(20), draw.randrange(200), draw.randrange(len(image))])] = draw.randrange(256)
+        turned_images.append(bytes(turned_image))
+    said = run(room.calls, "check", *map(room.file, turned_images)).splitlines()
+    for line, (_, fault) in zip(said, cases):
+        same(line, b"refused: image " + b" at ".join(b"%d" % it for it in fault), "a planted fault")
+    for line, turned_image in zip(said, turned_images):
+        same(trace("check", given=turned_image).strip(), line, "check")
+    return len(turned_images)
+
+
+def compile_calls(folder):
+    """Compiles tools/calls.c and, where there is a compiler for it, tools/calls.cpp."""
+    compiler = os.environ.get("CC", "cc")
+    run(compiler, *C, "-o", f"{folder}/calls", "tools/calls.c", LIBRARY)
+    try:
+        run(os.environ.get("CXX", "c++"), *CPP, "-o", f"{folder}/calls_cpp", "tools/calls.cpp", LIBRARY)
+    except FileNotFoundError:
+        print("no compiler for C++: the header isn't tried from it")
+        return
+    image = f"{folder}/image"
+    with open(image, "wb") as it, open(f"{TOP}/examples/home.profile", "rb") as profile:
+        it.write(trace("compile", given=profile.read()))
+    for name, wanted in (("/home/me/notes", b"1\n"), ("/home/me/.ssh/id_rsa", b"2\n"), ("/etc/passwd", b"3\n")):
+        same(run(f"{folder}/calls_cpp", image, name), wanted, f"C++, {name}")
+    print("C++: the header is compiled, and three names are judged")
+
+
+def compare_threads(room, image):
+    """Eight threads on one table; again under the thread sanitizer, where there is one. It sees what C reads and writes, of
+    the library only what C gives it."""
+    draw = random.Random(3)
+    with open(f"{TOP}/examples/home.profile", "rb") as it:
+        names = names_of(it.read(), draw)
+    paths = room.file(image), room.file(queries_of((it, draw.randrange(1, 32)) for it in names))
+    print("eight threads:", run(room.calls, "threads", *paths).decode().strip(), "answers are those of one thread")
+    sanitized = f"{room.folder}/sanitized"
+    built = [os.environ.get("CC", "cc"), *C, "-g", "-fsanitize=thread", "-o", sanitized]
+    if subprocess.run([*built, "tools/calls.c", LIBRARY], cwd=TOP, capture_output=True, check=False).returncode:
+        print("the compiler has no thread sanitizer: the threads aren't run under it")
+        return
+    done = subprocess.run([sanitized, "threads", *paths], capture_output=True, check=False)
+    if b"unexpected memory mapping" in done.stderr:
+        print("the thread sanitizer can't run on this system: the threads aren't run under it")
+        return
+    same((done.returncode, done.stderr), (0, b""), "the thread sanitizer")
+    print("under the thread sanitizer:", done.stdout.decode().strip(), "answers, and no report")
+
+
+def build_library():
+    """Proves and builds the static library."""
+    done = subprocess.run(["rt", "lib"], cwd=f"{TOP}/crates/coqetwal", capture_output=True, check=False)
+    if done.returncode:
+        sys.exit((done.stdout + done.stderr).decode(errors="replace"))
+
+
+def main():
+    if not os.access(f"{TOP}/aa-trace", os.X_OK):
+        sys.exit("./aa-trace is missing: run make")
+    build_library()
+    with tempfile.TemporaryDirectory() as folder, ThreadPoolExecutor(os.cpu_count()) as pool:
+        compile_calls(folder)
+        room = Room(folder)
+        with open(f"{TOP}/examples/home.profile", "rb") as it:
+            image = trace("compile", given=it.read())
+        print("bad calls:", run(room.calls, "bad", room.file(image)).decode().strip(), "have the answers that the header tells")
+        print("images turned:", compare_faults(room, image), "are accepted or refused as `check` does")
+        compare_threads(room, image)
+        print("images drawn:", compare_drawn(room, pool), "answers are those of their tables and of `match`")
+        total = [0, 0, 0, 0]
+        for path in sorted(glob.glob("examples/*.profile", root_dir=TOP) + glob.glob("examples/profiles/*.profile", root_dir=TOP)):
+            total = [one + other for one, other in zip(total, compare_profile(room, path, pool))]
+        opened, matched, judged, all_of_them = total
+        print(f"answers on profiles: {all_of_them} are those of the tables; of these {opened} were compared with run,"
+              f" {matched} with match and {judged} with judge")
+
+
+if __name__ == "__main__":
+    main()
