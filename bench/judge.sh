@@ -17,7 +17,8 @@ if ! command -v gcc >/dev/null 2>&1; then
 fi
 gcc -std=c99 -D_POSIX_C_SOURCE=199309L -O2 -Iinclude -o "$work/judge" bench/judge.c crates/coqetwal/out/libcoqetwal.a
 
-awk '{ sum += length($0) } END { printf "nanoseconds of a name, over %d names of %.0f bytes in the mean\n", NR, sum / NR }' bench/names
+awk '{ sum += length($0) }
+    END { printf "nanoseconds of a name, over %d names of %.0f bytes in the mean\n", NR, sum / NR }' bench/names
 "$work/judge" '' - '' ''
 for profile in examples/profiles/*.profile; do
     ./aa-trace compile <"$profile" >"$work/image"
