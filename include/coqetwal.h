@@ -3,12 +3,13 @@
  *     coqetwal_table *table;
  *     struct coqetwal_fault fault;
  *     struct coqetwal_answer answer;
- *     if (coqetwal_load(image, length, &table, &fault)) ...    the image is refused: fault.number, fault.place
+ *     if (coqetwal_load(image, length, &table, &fault)) ...    refused: fault.number, fault.place; or no memory, 11
  *     coqetwal_judge(table, "/etc/passwd", 11, COQETWAL_READ | COQETWAL_WRITE, &answer);
  *     if (answer.verdict == COQETWAL_ALLOWED) ...
  *     coqetwal_free(table);
  *
- * Link with -lcoqetwal; docs/EMBEDDING.md has the lines for C, C++ and Rust.
+ * Link with -lcoqetwal, which is built for processors of the level x86-64-v2; docs/EMBEDDING.md has the lines for C, C++ and
+ * Rust.
  *
  * The first part of this file has the functions of the library. Each is proved to meet the contract that stands in its source
  * (crates/coqetwal); nothing compares these declarations with that source, and nobody but the caller can see to it that a
@@ -51,7 +52,7 @@ enum coqetwal_verdict {
 
 /* What is told of a name. */
 struct coqetwal_answer {
-    /* How many look-ups there were: as many as the name has bytes. */
+    /* How many look-ups there were: as many as the name has bytes, or 0 where nothing was judged. */
     uint64_t steps;
     /* One of enum coqetwal_verdict. */
     uint16_t verdict;
@@ -101,8 +102,8 @@ struct coqetwal_counts {
 /* ---- The functions of the library: images where they lie.
  *
  * Asked of the caller, for each of them: a pointer isn't null, not even where the length behind it is 0, and goes to as many
- * bytes, offsets or answers as that length says; nobody changes them during the call. Any number of calls may run at the same
- * time on the same image and names.
+ * bytes, offsets or answers as that length says; nobody else changes them during the call, and answers don't overlap with what
+ * is read. Any number of calls may run at the same time on the same image and names.
  *
  * An `image` behind coqetwal_image_verify is one that this function accepted, in bytes that haven't changed since: what a
  * call does with any other bytes isn't known. Where others can write to the bytes, as to a file that is mapped, use
