@@ -1,5 +1,5 @@
-/* Times a name judged through a handle of include/coqetwal.h, beside the loop alone: the same tables walked by a loop in C,
- * a call for each name, which judges nothing.
+/* Times a name judged through a handle of include/coqetwal.h, beside the loop alone: the same image, run by the same loop in
+ * a call for each name, which reads no record and tells no verdict.
  *
  *     judge PROFILE IMAGE NAMES PLACES
  *
@@ -42,58 +42,21 @@ static struct text read_file(const char *path) {
     return text;
 }
 
-/* --- the loop in C --- */
+/* --- the loop alone --- */
 
-struct table {
-    uint32_t *next_by_default, *base, *next, *check;
-};
+/* What crates/loop_bench exports: the state that a name leads to, by the loop by which coqetwal_judge judges. */
+uint32_t loop_bench_image(const uint8_t *image, size_t image_length, const uint8_t *name, size_t name_length);
 
 static uint32_t word_at(const uint8_t *bytes) {
     return bytes[0] | (uint32_t)bytes[1] << 8 | (uint32_t)bytes[2] << 16 | (uint32_t)bytes[3] << 24;
 }
 
-static uint32_t *words_at(const uint8_t *bytes, size_t count) {
-    uint32_t *words = memory(count, sizeof *words);
-    for (size_t i = 0; i < count; i++) words[i] = word_at(bytes + 4 * i);
-    return words;
-}
-
-/* The tables of an image that was accepted. */
-static struct table load(struct text image) {
-    size_t states = word_at(image.bytes + 8), cells = word_at(image.bytes + 12);
-    const uint8_t *at = image.bytes + 20;
-    struct table table;
-    table.next_by_default = words_at(at, states);
-    table.base = words_at(at + 4 * states, states);
-    table.next = words_at(at + 12 * states, cells);
-    table.check = words_at(at + 12 * states + 4 * cells, cells);
-    return table;
-}
-
-static void unload(struct table table) {
-    free(table.check);
-    free(table.next);
-    free(table.base);
-    free(table.next_by_default);
-}
-
-static uint32_t step(const struct table *table, uint32_t state, uint8_t byte) {
-    size_t cell = (size_t)table->base[state] + byte;
-    return table->check[cell] == state ? table->next[cell] : table->next_by_default[state];
-}
-
-/* A function of its own, as that of the library is. */
-__attribute__((noinline)) static uint32_t run(const struct table *table, const uint8_t *name, size_t length) {
-    uint32_t state = 1;
-    for (size_t i = 0; i < length; i++) state = step(table, state, name[i]);
-    return state;
-}
-
 /* Whether an answer on reading is what the record of the name's last state tells. */
-static int is_told(struct text image, uint32_t state, size_t length, struct coqetwal_answer answer) {
-    size_t states = word_at(image.bytes + 8), cells = word_at(image.bytes + 12);
-    uint32_t place = word_at(image.bytes + 20 + 4 * (2 * states + state));
-    const uint8_t *record = image.bytes + 20 + 12 * states + 8 * cells + RECORD * (size_t)place;
+static int is_told(const coqetwal_table *table, uint32_t state, size_t length, struct coqetwal_answer answer) {
+    const uint8_t *image = coqetwal_image(table);
+    size_t states = word_at(image + 8), cells = word_at(image + 12);
+    uint32_t place = word_at(image + 20 + 4 * (2 * states + state));
+    const uint8_t *record = image + 20 + 12 * states + 8 * cells + RECORD * (size_t)place;
     unsigned allow = record[0] | record[1] << 8, deny = record[2] | record[3] << 8;
     unsigned verdict = deny ? COQETWAL_DENIED : allow ? COQETWAL_ALLOWED : COQETWAL_NO_RULE;
     return answer.verdict == verdict && answer.rule == deny && answer.steps == length;
@@ -158,24 +121,22 @@ struct times {
     double loop, judged, batch;
 };
 
-struct tables {
-    struct text image;
-    struct table table;
-    coqetwal_table *handle;
-};
+static uint32_t run(const coqetwal_table *table, struct text name) {
+    return loop_bench_image(coqetwal_image(table), coqetwal_image_length(table), name.bytes, name.length);
+}
 
 /* One name, again and again. */
-static void time_name(const struct tables *tables, struct text name, struct times *times) {
+static void time_name(const coqetwal_table *table, struct text name, struct times *times) {
     struct coqetwal_answer answer;
     volatile uint32_t state = 0;
     double begin = now();
-    for (int i = 0; i < REPEATS; i++) state = run(&tables->table, name.bytes, name.length);
+    for (int i = 0; i < REPEATS; i++) state = run(table, name);
     double middle = now();
-    for (int i = 0; i < REPEATS; i++) coqetwal_judge(tables->handle, name.bytes, name.length, COQETWAL_READ, &answer);
+    for (int i = 0; i < REPEATS; i++) coqetwal_judge(table, name.bytes, name.length, COQETWAL_READ, &answer);
     double end = now();
     keep_least(&times->loop, (middle - begin) / REPEATS);
     keep_least(&times->judged, (end - middle) / REPEATS);
-    if (!is_told(tables->image, state, name.length, answer)) fail("an answer isn't what the state's record tells");
+    if (!is_told(table, state, name.length, answer)) fail("an answer isn't what the state's record tells");
 }
 
 /* The last states of all names, and the answers on them. */
@@ -184,49 +145,47 @@ struct results {
     struct coqetwal_answer answers[DRAWN];
 };
 
-static void compare(const struct tables *tables, const struct names *names, const struct results *results) {
+static void compare(const coqetwal_table *table, const struct names *names, const struct results *results) {
     for (size_t i = 0; i < names->count; i++)
-        if (!is_told(tables->image, results->states[i], name_at(names, i).length, results->answers[i]))
+        if (!is_told(table, results->states[i], name_at(names, i).length, results->answers[i]))
             fail("an answer isn't what the state's record tells");
 }
 
 /* All names in their order, and in a batch. */
-static void time_order(const struct tables *tables, const struct names *names, struct times *times) {
+static void time_order(const coqetwal_table *table, const struct names *names, struct times *times) {
     static struct results results;
     struct text all = names->text;
     double begin = now();
-    for (size_t i = 0; i < DRAWN; i++)
-        results.states[i] = run(&tables->table, name_at(names, i).bytes, name_at(names, i).length);
+    for (size_t i = 0; i < DRAWN; i++) results.states[i] = run(table, name_at(names, i));
     double looped = now();
     for (size_t i = 0; i < DRAWN; i++)
-        coqetwal_judge(tables->handle, name_at(names, i).bytes, name_at(names, i).length, COQETWAL_READ, &results.answers[i]);
+        coqetwal_judge(table, name_at(names, i).bytes, name_at(names, i).length, COQETWAL_READ, &results.answers[i]);
     double judged = now();
-    compare(tables, names, &results);
+    compare(table, names, &results);
     memset(results.answers, 0, sizeof results.answers);
     double again = now();
-    coqetwal_judge_batch(tables->handle, all.bytes, all.length, names->offsets, COQETWAL_READ, results.answers, DRAWN);
+    coqetwal_judge_batch(table, all.bytes, all.length, names->offsets, COQETWAL_READ, results.answers, DRAWN);
     double end = now();
-    compare(tables, names, &results);
+    compare(table, names, &results);
     keep_least(&times->loop, (looped - begin) / DRAWN);
     keep_least(&times->judged, (judged - looped) / DRAWN);
     keep_least(&times->batch, (end - again) / DRAWN);
 }
 
-/* The times at one place in memory: a block of a drawn size is in use meanwhile, so that the tables come to other pages than
+/* The times at one place in memory: a block of a drawn size is in use meanwhile, so that the table comes to other pages than
  * before. How the pages of a table share the caches is luck. */
 static void time_place(struct text image, const struct names *names, const struct names *order, struct times *single,
                        struct times *all) {
     size_t size = drawn(1 << 24);
     uint8_t *block = memory(size, 1);
-    struct tables tables = {image, load(image), NULL};
+    coqetwal_table *table;
     memset(block, 1, size);
-    if (coqetwal_load(image.bytes, image.length, &tables.handle, NULL)) fail("the image is refused");
+    if (coqetwal_load(image.bytes, image.length, &table, NULL)) fail("the image is refused");
     for (int round = 0; round < ROUNDS; round++) {
-        for (size_t i = 0; i < names->count; i++) time_name(&tables, name_at(names, i), &single[i]);
-        time_order(&tables, order, all);
+        for (size_t i = 0; i < names->count; i++) time_name(table, name_at(names, i), &single[i]);
+        time_order(table, order, all);
     }
-    coqetwal_free(tables.handle);
-    unload(tables.table);
+    coqetwal_free(table);
     free(block);
 }
 

@@ -1,9 +1,11 @@
-//! The loop that runs names through a table, for the bench: many names in one call, so that the call isn't what is timed.
+//! The loop that runs names through a table, for the bench: many names in one call, so that the call isn't what is timed; and
+//! one name through an image.
 //! It is no part of the interface for C (`coqetwal`).
 //!
 //! To be believed are about 40 lines of definitions in `specs/`.
 #![tactic(auto)]
 
+mod image;
 mod running;
 
 pub use running::Walk;
