@@ -1,9 +1,11 @@
 //! Answers in numbers.
-ghost use Rattle.std.specs.Prelude.{◌≡◌};
+ghost use Rattle.std.specs.Prelude.{◌≡◌, ◌==◌, if◌then◌else◌};
+ghost use Rattle.verdicts.specs.Grounds.{IsVerdictOn};
+ghost use Rattle.verdicts.specs.declared.verdict.Verdict.{Verdict};
 ghost use Rattle.coqetwal.specs.Answers.{answer_of, no_answer};
 
 use crate::permissions::number_of;
-use verdicts::Verdict;
+use verdicts::Grounds;
 
 // Nothing was judged. It is 0, so that memory which C has cleared tells no verdict.
 const NO_ANSWER: u16 = 0;
@@ -40,19 +42,36 @@ pub(crate) fn no_answer() -> Answer
     }
 }
 
-/// A verdict in numbers, and how many steps it took.
-pub(crate) fn answer_of(verdict: Verdict, steps: u64) -> Answer
-    ensures { result ≡ answer_of verdict steps }
+/// The verdict on these grounds in numbers, and how many steps it took.
+// What depends on the rules is chosen, and not branched on: a processor foretells badly which verdict a name has, and waits
+// for each branch that it foretold wrongly until the record was read.
+pub(crate) fn answer_on(grounds: Grounds, steps: u64) -> Answer
+    ensures { (v : Verdict) × IsVerdictOn grounds v × (result ≡ answer_of v steps) }
 {
-    let (verdict, rule, missing) = match verdict {
-        Verdict::Allowed => (ALLOWED, 0, 0),
-        Verdict::Denied { rule } => (DENIED, rule, 0),
-        Verdict::NoRule { missing } => (NO_RULE, 0, number_of(missing)),
-    };
+    let missing = number_of(grounds.missing);
+    let is_denied = grounds.rule != 0;
     Answer {
         steps,
-        verdict,
-        rule,
-        missing,
+        verdict: verdict_number(is_denied, missing),
+        rule: grounds.rule,
+        missing: missing_unless(is_denied, missing),
     }
+}
+
+fn verdict_number(is_denied: bool, missing: u16) -> u16
+    ensures { result ≡ if is_denied then 2 else (if missing == 0 then 1 else 3) }
+{
+    if is_denied {
+        DENIED
+    } else if missing == 0 {
+        ALLOWED
+    } else {
+        NO_RULE
+    }
+}
+
+fn missing_unless(is_denied: bool, missing: u16) -> u16
+    ensures { result ≡ if is_denied then 0 else missing }
+{
+    if is_denied { 0 } else { missing }
 }

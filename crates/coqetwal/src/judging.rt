@@ -2,11 +2,12 @@
 ghost use Rattle.coqetwal.specs.Answers.{IsAnswerOf, IsNoneOrLoaded, IsToldByTable};
 ghost use Rattle.coqetwal.specs.Sets.{set_of_number};
 
-use crate::answer::{Answer, answer_of, no_answer};
+use crate::answer::{Answer, answer_on, no_answer};
 use crate::permissions::set_of_number;
 use names::Perms;
-use table_runner::judge_image;
+use table_runner::record_by_image;
 use table_verifier::{Steps, VerifiedImage};
+use verdicts::grounds_of;
 
 /// What an image that was accepted says of a name for which permissions are asked by the sum of their numbers. No memory is
 /// taken.
@@ -27,6 +28,6 @@ fn judge(image: &VerifiedImage<'_>, name: &[u8], ask: Perms, answer: &mut Answer
     ensures { IsToldByTable image.now ask name.now answer.new }
 {
     let mut steps = Steps::new();
-    let verdict = judge_image(image, name, ask, &mut steps);
-    *answer = answer_of(verdict, steps.count());
+    let record = record_by_image(image, name, &mut steps);
+    *answer = answer_on(grounds_of(&record, ask), steps.count());
 }

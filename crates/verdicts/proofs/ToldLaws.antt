@@ -1,5 +1,5 @@
 -- What a record tells: one verdict.
-use Rattle.std.proofs.Common.{◌≡◌, ◌≢◌, ◌==◌, ◌&&◌, ◌↔◌, ⊎_elim, ℕ, Bool, true, false, IsTrue, refl, sym, ap, ◌∙◌, arith, eq-eqb, true≢false}
+use Rattle.std.proofs.Common.{subst, ◌≡◌, ◌≢◌, ◌==◌, ◌&&◌, ◌↔◌, ⊎_elim, ℕ, Bool, true, false, IsTrue, refl, sym, ap, ◌∙◌, arith, eq-eqb, true≢false}
 use Rattle.std.proofs.lemmas.Bool.{and_parts, and_from, cases_Bool, eqb-true}
 use Rattle.names.specs.declared.permissions.Permission.{Permission}
 use Rattle.names.specs.declared.permissions.Permission.TheVariants.{Read, Write, Link, Lock, Map}
@@ -10,6 +10,8 @@ use Rattle.verdicts.specs.declared.verdict.Verdict.TheVariants.{Denied, NoRule, 
 use Rattle.verdicts.specs.declared.record.Record.{Record}
 use Rattle.verdicts.proofs.LeastNumbers.{least_none}
 use Rattle.verdicts.specs.Least.{hits_of, IsLeastOrNone}
+use Rattle.verdicts.specs.Grounds.{IsVerdictOn}
+use Rattle.verdicts.specs.declared.judging.Grounds.{Grounds}
 use Rattle.verdicts.specs.Records.{IsTold, ToldDenied, ToldMissing, NothingToldDenied}
 use Rattle.names.proofs.PermsLaws.{has-set_of}
 use Rattle.names.proofs.PermsTests.{same_perms}
@@ -96,3 +98,22 @@ told-no_rule r ask missing n least zero is something = (
   some_member missing something,
   λ p. missing-told r ask missing p is,
 )
+
+-- what holds of the grounds of a record makes their verdict the one that the record tells
+pub told-on : (r : Record) (ask : Perms) (g : Grounds) → IsLeastOrNone (ToldDenied r ask) g.rule → g.missing ≡ set_of (has_no_allow r ask) →
+    (v : Verdict) → IsVerdictOn g v → IsTold r ask v
+told-on r ask g least is (Denied n) h = subst (λ m. IsTold r ask (Denied m)) (sym h.1) (told-denied r ask g.rule least h.0)
+told-on r ask g least is (NoRule m) h = subst (λ s. IsTold r ask (NoRule s)) (sym h.2) (told-no_rule r ask g.missing g.rule least h.0 is h.1)
+told-on r ask g least is Allowed h = told-allowed r ask g.missing g.rule least h.0 is h.1
+
+-- on grounds there is at most one verdict
+pub one_on : (g : Grounds) (v w : Verdict) → IsVerdictOn g v → IsVerdictOn g w → v ≡ w
+one_on g (Denied n) (Denied m) f h = ap Denied (f.1 ∙ sym h.1)
+one_on g (Denied n) (NoRule m) f h = absurd (f.0 h.0)
+one_on g (Denied n) Allowed f h = absurd (f.0 h.0)
+one_on g (NoRule m) (Denied n) f h = absurd (h.0 f.0)
+one_on g (NoRule m) (NoRule l) f h = ap NoRule (f.2 ∙ sym h.2)
+one_on g (NoRule m) Allowed f h = absurd (f.1 h.1)
+one_on g Allowed (Denied n) f h = absurd (h.0 f.0)
+one_on g Allowed (NoRule m) f h = absurd (h.1 f.1)
+one_on g Allowed Allowed f h = refl

@@ -2,3 +2,4 @@ pub mod Least
 pub mod Hits
 pub mod Records
 pub mod VerdictText
+pub mod Grounds

@@ -1,30 +1,61 @@
 //! The verdict that a record tells.
 ghost use Rattle.std.specs.Prelude.{◌≡◌, ◌≢◌, ◌⊎◌, ◌&&◌, ◌==◌, if◌then◌else◌};
 ghost use Rattle.names.specs.Permissions.{has, set_of, with_permission};
+ghost use Rattle.verdicts.specs.Grounds.{IsVerdictOn};
 ghost use Rattle.verdicts.specs.Least.{hits_of, IsLeastOrNone};
 ghost use Rattle.verdicts.specs.Records.{IsTold, ToldDenied};
+ghost use Rattle.verdicts.specs.declared.verdict.Verdict.{Verdict};
 
 use crate::record::Record;
 use crate::verdict::Verdict;
 use names::{Permission, Perms, permissions_are_numbered};
 
-// The least number of a rule that denies something that is asked, 0 where none does; and what is asked and no rule allows.
+/// What a verdict is told from. Whoever puts verdicts into numbers can do so without a branch on what the rules say, which a
+/// processor foretells badly.
+#[derive(Clone, Copy, Debug, PartialEq, Eq)]
+pub struct Grounds {
+    /// The least number of a rule that denies something that is asked; 0 where none does.
+    pub rule: u16,
+    /// What is asked and no rule allows.
+    pub missing: Perms,
+}
+
+impl Grounds {
+    /// The verdict on these grounds (apparmor.d(5), "Rule Qualifiers"): denied by the rule, if there is one; else what no rule
+    /// allows; else allowed.
+    pub fn verdict(self) -> Verdict
+        ensures { IsVerdictOn self result }
+    {
+        if self.rule != 0 {
+            Verdict::Denied { rule: self.rule }
+        } else if self.missing.is_empty() {
+            Verdict::Allowed
+        } else {
+            Verdict::NoRule {
+                missing: self.missing,
+            }
+        }
+    }
+}
+
+/// The grounds of what a record tells of what is asked. No memory is taken.
 // One loop finds both, and asks each permission's test once: most names need few instructions then.
-fn gather(record: &Record, ask: Perms) -> (u16, Perms)
-    ensures rule { IsLeastOrNone (ToldDenied «record».now ask) result.0 }
-    ensures missing { result.1 ≡ set_of (λ p. has ask p && ((hits_of «record».now p).allow == 0)) }
+pub fn grounds_of(record: &Record, ask: Perms) -> Grounds
+    ensures rule { IsLeastOrNone (ToldDenied «record».now ask) result.rule }
+    ensures missing { result.missing ≡ set_of (λ p. has ask p && ((hits_of «record».now p).allow == 0)) }
+    ensures told { (verdict : Verdict) → IsVerdictOn result verdict → IsTold «record».now ask verdict }
 {
     permissions_are_numbered();
-    let mut least = 0;
+    let mut rule = 0;
     let mut missing = Perms::NONE;
     for permission in &Permission::ALL {
         if ask.contains(*permission) {
             let hits = record.of(*permission);
-            least = lesser(least, hits.deny);
+            rule = lesser(rule, hits.deny);
             missing = with_missing(missing, *permission, hits.allow);
         }
     }
-    (least, missing)
+    Grounds { rule, missing }
 }
 
 // What is missing, and a permission that is asked and allowed by a rule of this number, or by none.
@@ -54,12 +85,5 @@ fn lesser(one: u16, other: u16) -> u16
 pub fn told(record: &Record, ask: Perms) -> Verdict
     ensures { IsTold «record».now ask result }
 {
-    let (rule, missing) = gather(record, ask);
-    if rule != 0 {
-        Verdict::Denied { rule }
-    } else if missing.is_empty() {
-        Verdict::Allowed
-    } else {
-        Verdict::NoRule { missing }
-    }
+    grounds_of(record, ask).verdict()
 }

@@ -2,9 +2,11 @@
 ghost use Rattle.std.specs.Prelude.{◌≡◌, true};
 ghost use Rattle.names.specs.declared.permissions.Permission.{Permission};
 ghost use Rattle.names.specs.declared.permissions.Perms.{Perms};
+ghost use Rattle.verdicts.specs.Grounds.{IsVerdictOn};
 ghost use Rattle.verdicts.specs.Least.{hits_of, record_of};
 ghost use Rattle.verdicts.specs.Records.{IsTold};
 ghost use Rattle.verdicts.specs.contracts.record.RecordPartialEq.TheImpl as record_impl;
+ghost use Rattle.verdicts.specs.declared.judging.Grounds.{Grounds};
 ghost use Rattle.verdicts.specs.declared.record.LeastHits.{LeastHits};
 ghost use Rattle.verdicts.specs.declared.record.Record.{Record};
 ghost use Rattle.verdicts.specs.declared.verdict.Verdict.{Verdict};
@@ -29,4 +31,9 @@ pub fn equal_records_are_one()
 /// A record tells at most one verdict.
 pub fn records_tell_one_verdict()
     ensures { (r : Record) (ask : Perms) (first second : Verdict) → IsTold r ask first → IsTold r ask second → first ≡ second }
+{}
+
+/// On grounds there is at most one verdict ([`Grounds::verdict`](crate::Grounds::verdict) tells it).
+pub fn grounds_have_one_verdict()
+    ensures { (grounds : Grounds) (first second : Verdict) → IsVerdictOn grounds first → IsVerdictOn grounds second → first ≡ second }
 {}

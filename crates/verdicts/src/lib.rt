@@ -2,7 +2,7 @@
 //!
 //! Nothing here takes memory.
 //!
-//! To be believed are about 80 lines of definitions in `specs/`.
+//! To be believed are about 105 lines of definitions in `specs/`.
 #![tactic(auto)]
 
 mod judging;
@@ -11,8 +11,11 @@ mod laws;
 mod record;
 mod verdict;
 
-pub use judging::told;
+pub use judging::{Grounds, grounds_of, told};
 pub use kind::RuleKind;
-pub use laws::{equal_records_are_one, records_are_their_hits, records_tell_one_verdict};
+pub use laws::{
+    equal_records_are_one, grounds_have_one_verdict, records_are_their_hits,
+    records_tell_one_verdict,
+};
 pub use record::{LeastHits, Record};
 pub use verdict::Verdict;

@@ -1,10 +1,10 @@
--- The count of the steps is that of the name's bytes.
+-- The verdict is that on the record's grounds, and the count of the steps is that of the name's bytes.
 use Rattle.std.proofs.Common.{◌≡◌, length, ap, ◌∙◌, arith}
 use Rattle.coqetwal.specs.Answers.{answer_of}
 use Rattle.coqetwal.proofs.judging.judge.Goals as goal
 
 pub returns : goal.returns
 returns c =
-    let told = c.judge_image-verdict.ensures.verdict in
-    let steps : c.count.result ≡ length c.args.name.now = omega (arith, c.count.ensures, c.judge_image-verdict.ensures.steps, c.new-steps.ensures) in
-    (told.0, told.1, c.judge_image-verdict.result, told.2, c.answer_of.ensures ∙ ap (answer_of c.judge_image-verdict.result) steps)
+    let on = c.answer_on.ensures in
+    let steps : c.count.result ≡ length c.args.name.now = omega (arith, c.count.ensures, c.«record_by_image-record».ensures.steps, c.new-steps.ensures) in
+    (c.«record_by_image-record».result, c.«record_by_image-record».ensures.«record», on.0, c.grounds_of.ensures.told on.0 on.1, on.2 ∙ ap (answer_of on.0) steps)

@@ -4,10 +4,10 @@ use Rattle.names.specs.Permissions.{has}
 use Rattle.names.proofs.PermsTests.{IsPassedBefore}
 use Rattle.verdicts.specs.Least.{IsLeastOrNone, hits_of}
 use Rattle.verdicts.proofs.LeastSteps.{DeniedBefore}
-use Rattle.verdicts.proofs.judging.gather.Given as goal
+use Rattle.verdicts.proofs.judging.grounds_of.Given as goal
 
 abbrev pub invariant-loop-permission : goal.invariant-loop-permission
 invariant-loop-permission l = record {
-  least : IsLeastOrNone (DeniedBefore l.«record» l.ask l.permission-index) l.least;
+  least : IsLeastOrNone (DeniedBefore l.«record» l.ask l.permission-index) l.rule;
   passed : IsPassedBefore (λ p. has l.ask p && ((hits_of l.«record» p).allow == 0)) l.permission-index l.missing;
 }
