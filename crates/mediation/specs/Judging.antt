@@ -1,9 +1,14 @@
 -- What was judged, with its name at the front of a room.
 use Rattle.std.specs.Prelude.{ℕ, List, take}
 use Rattle.mediation.specs.declared.opening.Judged as code
+use Rattle.mediation.specs.declared.opening.Reached as reached_code
 use Rattle.mediation.specs.declared.linking.JudgedLink as link_code
-use Rattle.mediation.specs.Opening.{Judged}
+use Rattle.mediation.specs.Opening.{Judged, Reached}
 use Rattle.mediation.specs.Linking.{JudgedLink}
+
+-- a file that was reached
+abbrev pub reached_of : List ℕ → reached_code.Reached → Reached
+reached_of room r = record { name = take r.name_length room; node = r.node }
 
 -- a file that was judged
 abbrev pub judged_of : List ℕ → code.Judged → Judged

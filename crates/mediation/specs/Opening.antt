@@ -16,7 +16,12 @@ use Rattle.directory_tree.specs.Spots.{node_at}
 use Rattle.verdicts.specs.declared.verdict.Verdict.{Verdict}
 use Rattle.mediation.specs.Judge.{Judge, verdict_by}
 
--- a file that was reached: its name, its node and the verdict
+-- a file that was reached: its name and its node
+pub record Reached : Type 0 where
+  pub name : List ℕ
+  pub node : ℕ
+
+-- a file that was judged: its name, its node and the verdict
 pub record Judged : Type 0 where
   pub name : List ℕ
   pub node : ℕ
@@ -30,20 +35,28 @@ path_of text = elim (path_fault text) [ None ↦ Ok text | Some errno ↦ Err er
 abbrev pub can_be_asked : Perms → Bool
 can_be_asked ask = list_any (has ask) all_permissions && not (has ask Link)
 
--- the verdict on a spot by the name that it has in the tree
-abbrev pub judged_at : Tree → Judge → Perms → Spot → Result Judged Errno
-judged_at t judge ask spot = and_then (judged_name t spot) (λ name. Ok (record { name = name; node = node_at spot; verdict = verdict_by judge name ask }))
+-- a spot by the name that it has in the tree
+abbrev pub reached_at : Tree → Spot → Result Reached Errno
+reached_at t spot = and_then (judged_name t spot) (λ name. Ok (record { name = name; node = node_at spot }))
 
--- the verdict on what a path leads to, a last link followed
-abbrev pub judged_by_path : Tree → Judge → Perms → List ℕ → Result Judged Errno
-judged_by_path t judge ask path = and_then (walk t Follow path) (judged_at t judge ask)
+-- what a path leads to, a last link followed
+abbrev pub reached_by_path : Tree → List ℕ → Result Reached Errno
+reached_by_path t path = and_then (walk t Follow path) (reached_at t)
+
+-- the file that an open reaches, or the first reason why it reaches none that can be judged
+abbrev pub reached : Tree → List ℕ → Perms → Result Reached Errno
+reached t text ask =
+    if can_be_asked ask
+    then and_then (path_of text) (reached_by_path t)
+    else Err EINVAL
+
+-- the verdict on a file that was reached, by its name
+abbrev pub judged_file : Judge → Perms → Reached → Judged
+judged_file judge ask file = record { name = file.name; node = file.node; verdict = verdict_by judge file.name ask }
 
 -- what an open comes to, or the first reason why it fails
 abbrev pub opened : Tree → Judge → List ℕ → Perms → Result Judged Errno
-opened t judge text ask =
-    if can_be_asked ask
-    then and_then (path_of text) (judged_by_path t judge ask)
-    else Err EINVAL
+opened t judge text ask = and_then (reached t text ask) (λ file. Ok (judged_file judge ask file))
 
 -- the answers to an open, at so many changes of the tree, and so many of the policy
 pub data Answered : Type 0 where

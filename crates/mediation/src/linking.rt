@@ -11,7 +11,7 @@ ghost use Rattle.path_lookup.specs.Walking.{IsFault};
 ghost use Rattle.path_lookup.specs.World.{World, Narrows};
 ghost use Rattle.rule_judge.specs.Linking.{link_verdict};
 
-use crate::profiles::{allowed_by, verdict_by};
+use crate::profiles::{allowed_by, judge_name};
 use directory_tree::Last;
 use matcher::AnyProfile;
 use names::{Path, Permission, Perms};
@@ -69,6 +69,6 @@ fn judge_new_name(profile: &AnyProfile, old_allowed: Perms, name: &[u8]) -> Link
     judge_link(
         old_allowed,
         allowed_by(profile, name),
-        verdict_by(profile, name, link),
+        judge_name(profile, name, link),
     )
 }

@@ -16,8 +16,9 @@ use table_runner::record_of_name;
 use table_verifier::{Steps, VerifiedTable};
 use verdicts::{Record, Verdict, told};
 
-/// The verdict on a name.
-pub(crate) fn verdict_by(profile: &AnyProfile, name: &[u8], ask: Perms) -> Verdict
+/// What a profile says of a name (apparmor.d(5), "Rule Qualifiers"): by its rules where it was compiled, else by its table. No
+/// memory is taken.
+pub fn judge_name(profile: &AnyProfile, name: &[u8], ask: Perms) -> Verdict
     ensures { result ≡ verdict_by (judge_of profile.now) name.now ask }
 {
     told(&record_by(profile, name), ask)

@@ -1,4 +1,4 @@
-use Rattle.mediation.proofs.profiles.verdict_by.Goals as goal
+use Rattle.mediation.proofs.profiles.judge_name.Goals as goal
 
 pub returns : goal.returns
 returns c = c.record_by.ensures c.args.ask c.told.result c.told.ensures
