@@ -1,0 +1,5 @@
+mod Lists
+mod Rule
+mod WalkerSteps
+mod KeeperSteps
+mod Meetings
