@@ -10,13 +10,13 @@ use Rattle.row_rule.specs.declared.view.Pending.{Pending}
 use Rattle.row_rule.specs.declared.view.KeeperView.{KeeperView}
 use Rattle.row_rule.specs.declared.view.View.{View}
 use Rattle.row_rule.specs.declared.view.View.TheVariants.{Keeps}
-use Rattle.row_rule.specs.Row.{write, begun, left_of, target_of, count_of, KeptBy, Holds}
+use Rattle.row_rule.specs.Row.{write, pending_count, left_of, target_of, count_of, KeptBy, Holds}
 use Rattle.row_rule.specs.Steps.{opening, one_fewer, setting, closing, IsLater}
 use Rattle.row_rule.proofs.Lists.{prefix_self, prefix_snoc}
 use Rattle.row_rule.proofs.Rule.{later_fits, odd_fits, keeper_at, keeper_moved}
 
 abbrev count_with : KeeperView → Option Pending → ℕ
-count_with k p = 2 * length k.history + begun p
+count_with k p = 2 * length k.history + pending_count p
 
 set_word : (c : ℕ) (cs : List ℕ) (place word : ℕ) → set (c ∷ cs) (place + 1) word ≡ c ∷ set cs place word
 set_word c cs place word = rw add-one refl
@@ -48,50 +48,50 @@ setting_later k change cell left pending = let same = setting_count k change cel
 pub closing_later : (k : KeeperView) (change : Change) → k.pending ≡ Some record { change = change; left = [] } → IsLater k (closing k)
 closing_later k change pending = let more = closing_count k change [] pending in (closing_begins k change [] pending k.history (prefix_self k.history), omega arith)
 
-module _ (Enc : List ℕ → List Change → Type 0) (size : ℕ) where
+module _ (Encodes : List ℕ → List Change → Type 0) (size : ℕ) where
   -- a step at the keeper's seat is one at seat 0
-  at_seat : (k k' : KeeperView) (id : ℕ) (words words' : List ℕ) (views : List View) → Holds Enc size words views → get_elem? views id ≡ some (Keeps k)
-      → (KeptBy Enc size k words views → KeptBy Enc size k' words' (set views 0 (Keeps k'))) → KeptBy Enc size k' words' (set views id (Keeps k'))
+  at_seat : (k k' : KeeperView) (id : ℕ) (words words' : List ℕ) (views : List View) → Holds Encodes size words views → get_elem? views id ≡ some (Keeps k)
+      → (KeptBy Encodes size k words views → KeptBy Encodes size k' words' (set views 0 (Keeps k'))) → KeptBy Encodes size k' words' (set views id (Keeps k'))
   at_seat k k' id words words' views held at step =
-      let t = keeper_at Enc size k id words views held at in subst (λ (seat : ℕ). KeptBy Enc size k' words' (set views seat (Keeps k'))) (sym t.0) (step t.1)
+      let t = keeper_at Encodes size k id words views held at in subst (λ (seat : ℕ). KeptBy Encodes size k' words' (set views seat (Keeps k'))) (sym t.0) (step t.1)
 
-  pub reads_word : (k : KeeperView) (id i : ℕ) (words : List ℕ) (views : List View) → Holds Enc size words views → get_elem? views id ≡ some (Keeps k) → slice_index words i ≡ slice_index (count_of k ∷ k.cells) i
-  reads_word k id i words views held at = let t = keeper_at Enc size k id words views held at in ap (λ (ws : List ℕ). slice_index ws i) t.1.words_are
+  pub reads_word : (k : KeeperView) (id i : ℕ) (words : List ℕ) (views : List View) → Holds Encodes size words views → get_elem? views id ≡ some (Keeps k) → slice_index words i ≡ slice_index (count_of k ∷ k.cells) i
+  reads_word k id i words views held at = let t = keeper_at Encodes size k id words views held at in ap (λ (ws : List ℕ). slice_index ws i) t.1.words_are
 
   counted : (k : KeeperView) (n : ℕ) (words : List ℕ) → words ≡ count_of k ∷ k.cells → n ≡ count_of k + 1 → set words 0 (count_of k + 1) ≡ n ∷ k.cells
   counted k n words words_are more = ap (λ (ws : List ℕ). set ws 0 (count_of k + 1)) words_are ∙ ap (λ (z : ℕ). z ∷ k.cells) (sym more)
 
-  pub opens : (k : KeeperView) (change : Change) (plan : List Cell) (id : ℕ) (words : List ℕ) (views : List View) → Holds Enc size words views → get_elem? views id ≡ some (Keeps k) → k.pending ≡ None
-      → Enc (write k.cells plan) (k.history ++ change ∷ []) → KeptBy Enc size (opening k change plan) (set words 0 (count_of k + 1)) (set views id (Keeps (opening k change plan)))
+  pub opens : (k : KeeperView) (change : Change) (plan : List Cell) (id : ℕ) (words : List ℕ) (views : List View) → Holds Encodes size words views → get_elem? views id ≡ some (Keeps k) → k.pending ≡ None
+      → Encodes (write k.cells plan) (k.history ++ change ∷ []) → KeptBy Encodes size (opening k change plan) (set words 0 (count_of k + 1)) (set views id (Keeps (opening k change plan)))
   opens k change plan id words views held at shut plans =
       let k' : KeeperView = opening k change plan in
       let more : count_of k' ≡ count_of k + 1 = opening_count k change plan shut in
       at_seat k k' id words (set words 0 (count_of k + 1)) views held at (λ r.
-      keeper_moved Enc size k k' words (set words 0 (count_of k + 1)) views r r.long (counted k (count_of k') words r.words_are more) plans r.met_begins (later_fits k k' (omega arith) (λ seen p. p)))
+      keeper_moved Encodes size k k' words (set words 0 (count_of k + 1)) views r r.long (counted k (count_of k') words r.words_are more) plans r.met_begins (later_fits k k' (omega arith) (λ seen p. p)))
 
-  pub closes : (k : KeeperView) (change : Change) (id : ℕ) (words : List ℕ) (views : List View) → Holds Enc size words views → get_elem? views id ≡ some (Keeps k) → k.pending ≡ Some record { change = change; left = [] }
-      → KeptBy Enc size (closing k) (set words 0 (count_of k + 1)) (set views id (Keeps (closing k)))
+  pub closes : (k : KeeperView) (change : Change) (id : ℕ) (words : List ℕ) (views : List View) → Holds Encodes size words views → get_elem? views id ≡ some (Keeps k) → k.pending ≡ Some record { change = change; left = [] }
+      → KeptBy Encodes size (closing k) (set words 0 (count_of k + 1)) (set views id (Keeps (closing k)))
   closes k change id words views held at pending =
       let k' : KeeperView = closing k in
       let more : count_of k' ≡ count_of k + 1 = closing_count k change [] pending in
       let begins : (seen : List Change) → IsPrefix seen k.history → IsPrefix seen k'.history = closing_begins k change [] pending in
       at_seat k k' id words (set words 0 (count_of k + 1)) views held at (λ r.
-      keeper_moved Enc size k k' words (set words 0 (count_of k + 1)) views r r.long (counted k (count_of k') words r.words_are more)
-      (subst (λ (xs : List Cell). Enc (write k.cells xs) k'.history) (ap left_of pending) r.encodes)
+      keeper_moved Encodes size k k' words (set words 0 (count_of k + 1)) views r r.long (counted k (count_of k') words r.words_are more)
+      (subst (λ (xs : List Cell). Encodes (write k.cells xs) k'.history) (ap left_of pending) r.encodes)
       (begins k.met r.met_begins)
       (later_fits k k' (omega arith) begins))
 
-  pub sets_cell : (k : KeeperView) (change : Change) (cell : Cell) (left : List Cell) (id : ℕ) (words : List ℕ) (views : List View) → Holds Enc size words views → get_elem? views id ≡ some (Keeps k)
-      → k.pending ≡ Some record { change = change; left = cell ∷ left } → KeptBy Enc size (setting k cell) (set words (cell.place + 1) cell.word) (set views id (Keeps (setting k cell)))
+  pub sets_cell : (k : KeeperView) (change : Change) (cell : Cell) (left : List Cell) (id : ℕ) (words : List ℕ) (views : List View) → Holds Encodes size words views → get_elem? views id ≡ some (Keeps k)
+      → k.pending ≡ Some record { change = change; left = cell ∷ left } → KeptBy Encodes size (setting k cell) (set words (cell.place + 1) cell.word) (set views id (Keeps (setting k cell)))
   sets_cell k change cell left id words views held at pending =
       let k' : KeeperView = setting k cell in
       let next : one_fewer k.pending ≡ Some record { change = change; left = left } = ap one_fewer pending in
       let was : count_of k ≡ 2 * length k.history + 1 = ap (count_with k) pending in
       let same : count_of k' ≡ count_of k = setting_count k change cell left pending in
       at_seat k k' id words (set words (cell.place + 1) cell.word) views held at (λ r.
-      keeper_moved Enc size k k' words (set words (cell.place + 1) cell.word) views r (length-set k.cells cell.place cell.word ∙ r.long)
+      keeper_moved Encodes size k k' words (set words (cell.place + 1) cell.word) views r (length-set k.cells cell.place cell.word ∙ r.long)
       (ap (λ (ws : List ℕ). set ws (cell.place + 1) cell.word) r.words_are ∙ set_word (count_of k) k.cells cell.place cell.word ∙ ap (λ (z : ℕ). z ∷ k'.cells) (sym same))
-      (let e : Enc (write k.cells (cell ∷ left)) (k.history ++ change ∷ []) = subst (λ (p : Option Pending). Enc (write k.cells (left_of p)) (target_of k.history p)) pending r.encodes in
-      subst (λ (p : Option Pending). Enc (write k'.cells (left_of p)) (target_of k.history p)) (sym next) e)
+      (let e : Encodes (write k.cells (cell ∷ left)) (k.history ++ change ∷ []) = subst (λ (p : Option Pending). Encodes (write k.cells (left_of p)) (target_of k.history p)) pending r.encodes in
+      subst (λ (p : Option Pending). Encodes (write k'.cells (left_of p)) (target_of k.history p)) (sym next) e)
       r.met_begins
       (odd_fits k k' refl same (omega arith)))

@@ -1,5 +1,6 @@
-mod Lists
-mod Rule
-mod WalkerSteps
-mod KeeperSteps
-mod Meetings
+pub mod Lists
+pub mod Writing
+pub mod Rule
+pub mod WalkerSteps
+pub mod KeeperSteps
+pub mod Meetings

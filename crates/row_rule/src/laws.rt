@@ -1,9 +1,11 @@
 //! Laws of the rule. The functions do nothing: each stands for its contract.
+mod cells;
 mod keeper;
 mod meeting;
 mod row;
 mod walker;
 
+pub use cells::{agreement_is_of_each_read, writing_sets_its_places};
 pub use keeper::{
     closing_keeps_rule, keeper_reads_its_row, opening_keeps_rule, setting_keeps_rule,
 };

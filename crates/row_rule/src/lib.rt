@@ -15,9 +15,10 @@ pub use cell::Cell;
 pub use count::{Busy, version_between, version_of};
 pub use encoding::Encoding;
 pub use laws::{
-    beginning_keeps_rule, closing_keeps_rule, ending_keeps_rule, entering_keeps_rule,
-    first_row_keeps_rule, keeper_fixes_row, keeper_reads_its_row, lending_keeps_rule,
-    opening_keeps_rule, parity_tells_changes, reading_keeps_rule, setting_keeps_rule,
-    taking_in_keeps_rule, telling_keeps_rule, version_names_changes, walkers_fit_keeper,
+    agreement_is_of_each_read, beginning_keeps_rule, closing_keeps_rule, ending_keeps_rule,
+    entering_keeps_rule, first_row_keeps_rule, keeper_fixes_row, keeper_reads_its_row,
+    lending_keeps_rule, opening_keeps_rule, parity_tells_changes, reading_keeps_rule,
+    setting_keeps_rule, taking_in_keeps_rule, telling_keeps_rule, version_names_changes,
+    walkers_fit_keeper, writing_sets_its_places,
 };
 pub use view::{KeeperView, Pending, View, WalkerView};
