@@ -19,7 +19,10 @@ module _ (Encodes : List ℕ → List Change → Type 0) (size : ℕ) where
   enters k words views r = walker_added Encodes size k newcomer words views r (newcomer_fits k)
 
   pub sees_count : (k : KeeperView) (w : WalkerView) (id : ℕ) (words : List ℕ) (views : List View) → KeptBy Encodes size k words views → get_elem? views id ≡ some (Walks w) → Sees w (slice_index words 0) k.history
-  sees_count k w id words views r at = let f = walker_fits Encodes size k w id words views r at in (f.begins, half_word Encodes size k words views r)
+  sees_count k w id words views r at =
+      let f : FitsWalker k w = walker_fits Encodes size k w id words views r at in
+      let e = count_is Encodes size k words views r in
+      let low = f.last_low in (f.begins, half_word Encodes size k words views r, (omega arith))
 
   pub begins_walk : (k : KeeperView) (w : WalkerView) (id : ℕ) (words : List ℕ) (views : List View) → KeptBy Encodes size k words views → get_elem? views id ≡ some (Walks w)
       → KeptBy Encodes size k words (set views id (Walks (beginning w (slice_index words 0) k.history)))

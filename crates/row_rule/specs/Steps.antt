@@ -8,7 +8,8 @@ use Rattle.row_rule.specs.declared.view.KeeperView.{KeeperView}
 use Rattle.row_rule.specs.declared.view.WalkerView.{WalkerView}
 use Rattle.row_rule.specs.Row.{count_of, target_of}
 
--- A walker enters, having seen nothing. It begins a walk by reading the count, reads cells, and ends it by reading the count again.
+-- A walker enters, having seen nothing. It begins a walk by reading the count, reads cells, and ends it by reading the count
+-- again.
 abbrev pub newcomer : WalkerView
 newcomer = record { seen = []; count_reads = 0; noted = 0; last = 0; reads = [] }
 
@@ -21,12 +22,13 @@ reading w read = record { seen = w.seen; count_reads = w.count_reads; noted = w.
 abbrev pub ending : WalkerView → ℕ → List Change → WalkerView
 ending w count seen = record { seen = seen; count_reads = w.count_reads + 1; noted = w.noted; last = count; reads = w.reads }
 
--- who reads this count has now seen these changes: those of before and maybe more, half as many as the count
+-- who reads this count has now seen these changes: those of before and maybe more, half as many as the count, which hasn't
+-- fallen since the last reading
 abbrev pub Sees : WalkerView → ℕ → List Change → Type 0
-Sees w count seen = IsPrefix w.seen seen × (length seen ≡ count / 2)
+Sees w count seen = IsPrefix w.seen seen × (length seen ≡ count / 2) × (w.last ≤ count)
 
--- The keeper, with these changes made and none begun, opens a change, with the cells that it will set; sets the next of them; and
--- closes the change.
+-- The keeper, with these changes made and none begun, opens a change, with the cells that it will set; sets the next of them;
+-- and closes the change.
 abbrev pub at_rest : List Change → List ℕ → KeeperView
 at_rest history cells = record { history = history; cells = cells; pending = None; met = [] }
 
@@ -49,8 +51,8 @@ closing k = record { history = target_of k.history k.pending; cells = k.cells; p
 abbrev pub IsLater : KeeperView → KeeperView → Type 0
 IsLater k later = IsPrefix k.history later.history × (count_of k ≤ count_of later)
 
--- A meeting: the keeper lends a walker's seat that has seen its whole history, and takes in the seat that the walker had, noting
--- what that one has seen.
+-- A meeting: the keeper lends a walker's seat that has seen its whole history, and takes in the seat that the walker had,
+-- noting what that one has seen.
 abbrev pub lent_by : KeeperView → WalkerView
 lent_by k = record { seen = k.history; count_reads = 0; noted = count_of k; last = count_of k; reads = [] }
 

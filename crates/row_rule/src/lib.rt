@@ -1,8 +1,8 @@
 //! The rule that a row of words keeps while one keeper changes it and walkers read it beside the keeper, and its laws: each
-//! step of a seat keeps the rule, and tells that seat what it may know. The functions of the laws do nothing: each stands for
-//! its contract. What the cells of a row hold is open: the rule and the laws are of any `Encoding`.
+//! step of a seat keeps the rule, and tells that seat what it may know. The functions of the laws do nothing: each stands
+//! for its contract. What the cells of a row hold is open: the rule and the laws are of any `Encoding`.
 //!
-//! To be believed are about 90 lines of definitions in `specs/`.
+//! To be believed are about 85 lines of definitions in `specs/`.
 #![tactic(auto)]
 
 mod cell;

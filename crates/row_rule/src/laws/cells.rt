@@ -9,7 +9,8 @@ ghost use Rattle.row_rule.specs.Row.{write, Agrees};
 pub fn writing_sets_its_places()
     ensures long { (cells : List ℕ) (plan : List Cell) → length (write cells plan) ≡ length cells }
     ensures others { (cells : List ℕ) (plan : List Cell) (place : ℕ) →
-        ((cell : Cell) → Contains plan cell → cell.place ≢ place) → slice_get (write cells plan) place ≡ slice_get cells place }
+        ((cell : Cell) → Contains plan cell → cell.place ≢ place) →
+        slice_get (write cells plan) place ≡ slice_get cells place }
     ensures parts { (cells : List ℕ) (plan more : List Cell) → write cells (plan ++ more) ≡ write (write cells plan) more }
     ensures last { (cells : List ℕ) (plan : List Cell) (cell : Cell) → cell.place < length cells →
         slice_get (write cells (plan ++ cell ∷ [])) cell.place ≡ Some cell.word }

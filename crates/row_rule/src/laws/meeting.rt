@@ -14,24 +14,25 @@ use crate::encoding::Encoding;
 
 /// The keeper lends a new walker's seat, which has seen all that the keeper has done.
 pub fn lending_keeps_rule<E: Encoding>()
-    ensures { (size : ℕ) (k : KeeperView) (id : ℕ) (words : List ℕ) (views : List View) →
-        Holds E.encodes size words views → get_elem? views id ≡ some (Keeps k) →
-        KeptBy E.encodes size k words (views ++ Walks (lent_by k) ∷ []) }
+    ensures { (capacity size : ℕ) (k : KeeperView) (id : ℕ) (words : List ℕ) (views : List View) →
+        Holds (E.encodes capacity) size words views → get_elem? views id ≡ some (Keeps k) →
+        KeptBy (E.encodes capacity) size k words (views ++ Walks (lent_by k) ∷ []) }
 {}
 
 /// The keeper takes in a walker's seat, and notes what it had seen.
 pub fn taking_in_keeps_rule<E: Encoding>()
-    ensures { (size : ℕ) (k : KeeperView) (w : WalkerView) (id other : ℕ) (words : List ℕ) (views : List View) →
-        Holds E.encodes size words views → get_elem? views id ≡ some (Keeps k) → get_elem? views other ≡ some (Walks w) →
-        KeptBy E.encodes size (meeting k w.seen) words
+    ensures { (capacity size : ℕ) (k : KeeperView) (w : WalkerView) (id other : ℕ) (words : List ℕ) (views : List View) →
+        Holds (E.encodes capacity) size words views → get_elem? views id ≡ some (Keeps k) →
+        get_elem? views other ≡ some (Walks w) →
+        KeptBy (E.encodes capacity) size (meeting k w.seen) words
         (slice_set (slice_set views id (Keeps (meeting k w.seen))) other (Walks newcomer)) }
 {}
 
 /// The keeper is told that what it noted is a beginning of its history, and forgets it.
 pub fn telling_keeps_rule<E: Encoding>()
-    ensures kept { (size : ℕ) (k : KeeperView) (id : ℕ) (words : List ℕ) (views : List View) →
-        Holds E.encodes size words views → get_elem? views id ≡ some (Keeps k) →
-        KeptBy E.encodes size (meeting k []) words (slice_set views id (Keeps (meeting k []))) }
-    ensures told { (size : ℕ) (k : KeeperView) (id : ℕ) (words : List ℕ) (views : List View) →
-        Holds E.encodes size words views → get_elem? views id ≡ some (Keeps k) → IsPrefix k.met k.history }
+    ensures kept { (capacity size : ℕ) (k : KeeperView) (id : ℕ) (words : List ℕ) (views : List View) →
+        Holds (E.encodes capacity) size words views → get_elem? views id ≡ some (Keeps k) →
+        KeptBy (E.encodes capacity) size (meeting k []) words (slice_set views id (Keeps (meeting k []))) }
+    ensures told { (capacity size : ℕ) (k : KeeperView) (id : ℕ) (words : List ℕ) (views : List View) →
+        Holds (E.encodes capacity) size words views → get_elem? views id ≡ some (Keeps k) → IsPrefix k.met k.history }
 {}

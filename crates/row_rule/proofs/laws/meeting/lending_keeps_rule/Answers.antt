@@ -2,4 +2,4 @@ use Rattle.row_rule.proofs.Meetings.{lends}
 use Rattle.row_rule.proofs.laws.meeting.lending_keeps_rule.Goals as goal
 
 pub returns : goal.returns
-returns g c = lends g.E.Encoding.encodes
+returns g c = λ capacity. lends (g.E.Encoding.encodes capacity)

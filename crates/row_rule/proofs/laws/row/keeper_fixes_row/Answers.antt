@@ -2,4 +2,4 @@ use Rattle.row_rule.proofs.Rule.{keeper_fixes}
 use Rattle.row_rule.proofs.laws.row.keeper_fixes_row.Goals as goal
 
 pub returns : goal.returns
-returns g c = keeper_fixes g.E.Encoding.encodes
+returns g c = λ capacity. keeper_fixes (g.E.Encoding.encodes capacity)

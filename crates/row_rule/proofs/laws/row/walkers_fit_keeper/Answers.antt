@@ -2,4 +2,4 @@ use Rattle.row_rule.proofs.Rule.{walker_fits}
 use Rattle.row_rule.proofs.laws.row.walkers_fit_keeper.Goals as goal
 
 pub returns : goal.returns
-returns g c = walker_fits g.E.Encoding.encodes
+returns g c = λ capacity. walker_fits (g.E.Encoding.encodes capacity)

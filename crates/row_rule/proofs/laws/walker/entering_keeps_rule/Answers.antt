@@ -2,4 +2,4 @@ use Rattle.row_rule.proofs.WalkerSteps.{enters}
 use Rattle.row_rule.proofs.laws.walker.entering_keeps_rule.Goals as goal
 
 pub returns : goal.returns
-returns g c = enters g.E.Encoding.encodes
+returns g c = λ capacity. enters (g.E.Encoding.encodes capacity)
