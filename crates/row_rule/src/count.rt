@@ -15,7 +15,7 @@ pub fn version_of(count: u64) -> Option<u64>
     (count % 2 == 0).then_some(count / 2)
 }
 
-/// The version that a walk saw, by the counts that it read first and last.
+/// The version that a walk saw, by the counts that it read first and last: they are one even number. Else Busy.
 pub fn version_between(began: u64, ended: u64) -> Result<u64, Busy>
     ensures still { IfOk result (λ version. (began ≡ version + version) × (ended ≡ began)) }
     ensures busy { IfErr result (λ busy. (busy.began ≡ began) × (busy.ended ≡ ended) × ((began % 2 ≡ 1) ⊎ (ended ≢ began))) }
