@@ -1,11 +1,13 @@
 -- What words that were read tell of the worlds that are seen.
-use Rattle.std.proofs.Common.{◌≡◌, ℕ, zero, suc, ◌+◌, ◌*◌, ◌/◌, ◌%◌, ◌<◌, ◌≤◌, ◌≢◌, List, length, Some, None, sym, ap, ◌∙◌, subst, arith}
+use Rattle.std.proofs.Common.{◌≡◌, ℕ, zero, suc, ◌+◌, ◌*◌, ◌/◌, ◌%◌, ◌<◌, ◌≤◌, ◌≢◌, List, [], length, Some, None, sym, ap, ◌∙◌, subst, arith}
 use Rattle.std.specs.Prelude.{slice_index}
 use Rattle.directory_tree.specs.declared.node.NodeKind.TheVariants.{Link}
 use Rattle.directory_tree.specs.declared.node.Kind.TheVariants as kind
 use Rattle.directory_tree.specs.Walk.{Spot}
 use Rattle.directory_tree.specs.Walk.Spot.{Root, Held}
 use Rattle.directory_tree.specs.Spots.{node_at, kind_at, component_at, shape_of, child_of, directory_of}
+use Rattle.directory_tree.specs.Components.{is_filled}
+use Rattle.directory_tree.proofs.Basics.{true_is_false}
 use Rattle.path_lookup.specs.World.{World}
 use Rattle.tree_row.specs.Slots.{slot_at, text_at, kind_from, entry_at, IsUsed, IsChildSlot, IsDirectorySlot}
 use mathlib.Core.Logic.{dite}
@@ -98,6 +100,13 @@ module _ (capacity after : ℕ) (may may' : List ℕ → Type 0) (same : after �
   pub torn_component : (lengths : ℕ) → Reads may' (λ row. slice_index row (164 * s + 3)) lengths → 255 < lengths % 65536 → (w : World) → ¬ (SeesBy after may' w)
   torn_component lengths reads long w (row, h, enc) =
       let r = (seen_range after row w enc s known.within (known.filled row w h enc) past).1 in let is = ap (λ (z : ℕ). z % 65536) (reads row h) in absurd (omega arith)
+
+  pub torn_unnamed : (lengths : ℕ) → Reads may' (λ row. slice_index row (164 * s + 3)) lengths → lengths % 65536 ≡ 0 → (w : World) → ¬ (SeesBy after may' w)
+  torn_unnamed lengths reads none w (row, h, enc) =
+      let own = used after row w enc s known.within (known.filled row w h enc) past in
+      let filled = (w.sound.named _ _ _ (enc.tree.slots.there s own)).filled in
+      let empty : (slot_at row s).component ≡ [] = ap (text_at row (164 * s + 4)) (ap (λ (z : ℕ). z % 65536) (reads row h) ∙ none) in
+      absurd (true_is_false (sym filled ∙ ap is_filled empty))
 
   pub torn_text : (lengths : ℕ) → Reads may' (λ row. slice_index row (164 * s + 3)) lengths → 1023 < lengths / 65536 → (w : World) → ¬ (SeesBy after may' w)
   torn_text lengths reads long w (row, h, enc) =

@@ -16,6 +16,7 @@ pub use known_row::KnownRow;
 pub use laws::{one_row_one_tree, opening_row_encodes_root, slots_are_counted};
 pub use question::{free_slot, is_child, is_entry_of};
 pub use slot::{
-    COMPONENT, KIND, LENGTHS, NODE, PARENT, SLOT_LENGTH, TEXT, TEXT_FACTOR, cell_place, slot_word,
+    COMPONENT, DIRECTORY, FILE, FREE, KIND, LENGTHS, LINK, NODE, PARENT, SLOT_LENGTH, TEXT,
+    TEXT_FACTOR, cell_place, slot_word,
 };
 pub use text::read_text;

@@ -4,7 +4,7 @@ ghost use Rattle.tree_row.specs.Worlds.{Fewer};
 ghost use Rattle.tree_row.specs.Questions.{TellsEntryOf, TellsChild, TellsFree};
 
 use crate::cells::Cells;
-use crate::slot::{COMPONENT, KIND, LENGTHS, PARENT, TEXT_FACTOR, cell_place, slot_word};
+use crate::slot::{COMPONENT, FREE, KIND, LENGTHS, PARENT, TEXT_FACTOR, cell_place, slot_word};
 use crate::text::has_text;
 use names::LONGEST_COMPONENT;
 use path_lookup::Torn;
@@ -18,7 +18,7 @@ pub fn is_entry_of<C: Cells>(cells: &mut C, directory: usize, slot: usize) -> Re
     ensures ok { IfOk result (TellsEntryOf (C.capacity_of (C.kept cells.old)) (C.may cells.new) directory slot) }
     ensures err { IfErr result (λ _. C.unknown cells.new) }
 {
-    if slot_word(cells, slot, KIND)? == 0 {
+    if slot_word(cells, slot, KIND)? == FREE {
         return Ok(false);
     }
     Ok(slot_word(cells, slot, PARENT)? == directory as u64)
@@ -64,7 +64,7 @@ pub fn free_slot<C: Cells>(cells: &mut C) -> Result<Option<usize>, Torn>
 {
     let slots = cells.capacity() + 1;
     for slot in 1..slots {
-        if slot_word(cells, slot, KIND)? == 0 {
+        if slot_word(cells, slot, KIND)? == FREE {
             return Ok(Some(slot));
         }
     }

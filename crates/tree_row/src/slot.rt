@@ -9,7 +9,7 @@ use path_lookup::Torn;
 /// How many cells a slot has.
 pub const SLOT_LENGTH: usize = 164;
 
-/// The cell of a slot with its kind: 0 free, 1 directory, 2 file, 3 symbolic link.
+/// The cell of a slot with its kind: [`FREE`], [`DIRECTORY`], [`FILE`] or [`LINK`].
 pub const KIND: usize = 0;
 
 /// The cell of a slot with the number of its node.
@@ -26,6 +26,18 @@ pub const COMPONENT: usize = 4;
 
 /// The first cell of the text of a slot's link, which has eight bytes a cell.
 pub const TEXT: usize = 36;
+
+/// The kind of a slot that holds no entry.
+pub const FREE: u64 = 0;
+
+/// The kind of a directory's slot.
+pub const DIRECTORY: u64 = 1;
+
+/// The kind of a file's slot.
+pub const FILE: u64 = 2;
+
+/// The kind of a symbolic link's slot.
+pub const LINK: u64 = 3;
 
 /// What the length of a link's text is multiplied by in the cell of the lengths.
 pub const TEXT_FACTOR: u64 = 65536;
