@@ -1,1 +1,3 @@
 pub mod SeenEntries
+pub mod Knowing
+pub mod Deciding

@@ -3,6 +3,14 @@
 //! To be believed are about 30 lines of definitions in `specs/`.
 #![tactic(auto)]
 
+mod known;
 mod look;
+mod part;
+mod reached;
+mod stop;
 
+pub use known::KnownWords;
 pub use look::{RowEntry, RowLook};
+pub use part::{name_known, name_place_known, walk_known};
+pub use reached::{Reached, reach};
+pub use stop::Stop;
