@@ -29,8 +29,14 @@ IsUnknown capacity known place = (place < row_length capacity) × (known_at know
 abbrev pub InEach : ℕ → (List ℕ → Type 0) → (List ℕ → Tree → Type 0) → Type 0
 InEach capacity may P = (row : List ℕ) (t : Tree) → may row → WellFormed t → Encodes capacity row t → P row t
 
--- why what is known decides no end: it decides that there is none, a word is wanted, or no row that encodes a tree agrees
-abbrev pub Stops : {X : Type 0} → ℕ → List (ℕ × ℕ) → (Tree → Result X Errno) → Stop → Type 0
-Stops capacity known answer (stop.Refused errno) = InEach capacity (Agrees known) (λ row t. answer t ≡ Err errno)
-Stops capacity known answer (stop.Wants place) = IsUnknown capacity known place
-Stops capacity known answer stop.Torn = InEach capacity (Agrees known) (λ row t. ⊥)
+-- why the words that may be read have no end: they decide that there is none; a word is wanted; no row that encodes a tree
+-- agrees with them; or memory was refused
+abbrev pub Stops : {X : Type 0} → ℕ → (List ℕ → Type 0) → (ℕ → Type 0) → Type 0 → (Tree → Result X Errno) → Stop → Type 0
+Stops capacity may wants refused answer (stop.Refused errno) = InEach capacity may (λ row t. answer t ≡ Err errno)
+Stops capacity may wants refused answer (stop.Wants place) = wants place
+Stops capacity may wants refused answer stop.Torn = InEach capacity may (λ row t. ⊥)
+Stops capacity may wants refused answer stop.NoMemory = refused
+
+-- over the words that are known no memory is taken
+abbrev pub StopsKnown : {X : Type 0} → ℕ → List (ℕ × ℕ) → (Tree → Result X Errno) → Stop → Type 0
+StopsKnown capacity known = Stops capacity (Agrees known) (IsUnknown capacity known) ⊥

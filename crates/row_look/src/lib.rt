@@ -7,10 +7,12 @@ mod known;
 mod look;
 mod part;
 mod reached;
+mod reading;
 mod stop;
 
 pub use known::KnownWords;
 pub use look::{RowEntry, RowLook};
 pub use part::{name_known, name_place_known, walk_known};
 pub use reached::{Reached, reach};
+pub use reading::{Reading, name_and_read, walk_and_read};
 pub use stop::Stop;

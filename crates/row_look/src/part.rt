@@ -6,7 +6,7 @@ ghost use Rattle.directory_tree.specs.Place.{named_place};
 ghost use Rattle.directory_tree.specs.Walk.{walk};
 ghost use Rattle.tree_row.specs.Slots.{slot_at};
 ghost use Rattle.tree_row.specs.Worlds.{spot_at};
-ghost use Rattle.row_look.specs.Known.{Agrees, InEach, Stops};
+ghost use Rattle.row_look.specs.Known.{Agrees, InEach, StopsKnown};
 ghost use Rattle.row_look.specs.inner.Wanting.{IsHonest, stop_from};
 
 use crate::known::KnownWords;
@@ -91,7 +91,7 @@ pub fn walk_known(
     scratch: &mut Scratch,
 ) -> Result<RowEntry, Stop>
     ensures found { IfOk result (λ entry. InEach known.now.0 (Agrees known.now.1) (λ row t. walk t last path.now ≡ Ok (spot_at (slot_at row) entry.slot))) }
-    ensures stops { IfErr result (Stops known.now.0 known.now.1 (λ t. walk t last path.now)) }
+    ensures stops { IfErr result (StopsKnown known.now.0 known.now.1 (λ t. walk t last path.now)) }
 {
     let mut look = RowLook::new(PartCells::new(known));
     match resolve(&mut look, path, last, scratch) {
@@ -112,7 +112,7 @@ pub fn name_known(
     ensures fits { IfOk result (λ reached. reached.length ≤ LONGEST_PATH) }
     ensures found { IfOk result (λ reached. InEach known.now.0 (Agrees known.now.1) (λ row t. walk t last path.now ≡ Ok (spot_at (slot_at row) reached.entry.slot))) }
     ensures name { IfOk result (λ reached. InEach known.now.0 (Agrees known.now.1) (λ row t. and_then (walk t last path.now) (judged_name t) ≡ Ok (take reached.length room.new))) }
-    ensures stops { IfErr result (Stops known.now.0 known.now.1 (λ t. and_then (walk t last path.now) (judged_name t))) }
+    ensures stops { IfErr result (StopsKnown known.now.0 known.now.1 (λ t. and_then (walk t last path.now) (judged_name t))) }
 {
     let mut look = RowLook::new(PartCells::new(known));
     match reach(&mut look, path, last, scratch, room) {
@@ -131,7 +131,7 @@ pub fn name_place_known(
 ) -> Result<usize, Stop>
     ensures fits { IfOk result (λ length. length ≤ LONGEST_PATH) }
     ensures name { IfOk result (λ length. InEach known.now.0 (Agrees known.now.1) (λ row t. named_place t path.now ≡ Ok (take length room.new))) }
-    ensures stops { IfErr result (Stops known.now.0 known.now.1 (λ t. named_place t path.now)) }
+    ensures stops { IfErr result (StopsKnown known.now.0 known.now.1 (λ t. named_place t path.now)) }
 {
     let mut look = RowLook::new(PartCells::new(known));
     match name_of_place(&mut look, path, scratch, room) {

@@ -9,4 +9,6 @@ pub enum Stop {
     Wants(usize),
     /// No row that encodes a tree agrees with what is known.
     Torn,
+    /// Memory was refused for a further word.
+    NoMemory,
 }
