@@ -1,0 +1,5 @@
+use Rattle.tree_row.proofs.Opening.{opens}
+use Rattle.tree_row.proofs.laws.opening_row_encodes_root.Goals as goal
+
+pub returns : goal.returns
+returns c = opens

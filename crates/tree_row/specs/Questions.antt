@@ -1,0 +1,31 @@
+-- What the answers to questions about single slots tell, in each row that may be the one that is read.
+use Rattle.std.specs.Prelude.{◌≡◌, ℕ, ◌+◌, Bool, true, false, List, Option, Some, None}
+use Rattle.path_lookup.specs.World.{World}
+use Rattle.tree_row.specs.Slots.{Slot, slot_at, IsUsed, IsFree, IsChildSlot}
+use Rattle.tree_row.specs.Worlds.{EncodesWorld}
+
+-- the answer to a question
+abbrev pub Tells : Bool → Type 0 → Type 0
+Tells true P = P
+Tells false P = ¬ P
+
+-- a slot in use whose entry stands in the directory of another slot
+pub record IsEntryOf (n : ℕ) (f : ℕ → Slot) (directory s : ℕ) : Type 0 where
+  pub used : IsUsed n f s
+  pub under : (f s).parent ≡ directory
+
+abbrev pub TellsEntryOf : ℕ → (List ℕ → Type 0) → ℕ → ℕ → Bool → Type 0
+TellsEntryOf capacity may directory s is = (row : List ℕ) → may row → Tells is (IsEntryOf (capacity + 1) (slot_at row) directory s)
+
+-- of the rows that encode a tree
+abbrev pub TellsChild : ℕ → (List ℕ → Type 0) → ℕ → List ℕ → ℕ → Bool → Type 0
+TellsChild capacity may directory component s is =
+    (row : List ℕ) (w : World) → may row → EncodesWorld capacity row w → Tells is (IsChildSlot (capacity + 1) (slot_at row) directory component s)
+
+-- a free slot, or that none is
+abbrev pub FreeIn : ℕ → (ℕ → Slot) → Option ℕ → Type 0
+FreeIn n f None = (s : ℕ) → ¬ (IsFree n f s)
+FreeIn n f (Some s) = IsFree n f s
+
+abbrev pub TellsFree : ℕ → (List ℕ → Type 0) → Option ℕ → Type 0
+TellsFree capacity may found = (row : List ℕ) → may row → FreeIn (capacity + 1) (slot_at row) found

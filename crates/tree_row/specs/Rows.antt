@@ -1,0 +1,26 @@
+-- What it means that a row's cells encode a tree: the slots in use and the entries correspond one to one. Which slot holds which
+-- entry means nothing, and free slots and bytes past a length may hold anything.
+use Rattle.std.specs.Prelude.{◌≡◌, ℕ, ◌+◌, List, length}
+use Rattle.directory_tree.specs.Tree.{Tree, Entry, Has}
+use Rattle.tree_row.specs.Slots.{Slot, slots_length, slot_at, entry_at, IsUsed, IsDirectorySlot, IsInRange, IsRootSlot}
+
+-- for any way to tell a slot by its number
+pub record EncodesSlots (n : ℕ) (f : ℕ → Slot) (t : Tree) : Type 0 where
+  -- the first slot is the root's
+  pub root : IsRootSlot n (f 0)
+  -- each entry stands in a directory
+  pub in_directory : (s : ℕ) → IsUsed n f s → IsDirectorySlot n f (f s).parent
+  pub in_range : (s : ℕ) → IsUsed n f s → IsInRange (f s)
+  -- each slot in use holds an entry of the tree
+  pub there : (s : ℕ) → IsUsed n f s → Has t (entry_at f s).of (entry_at f s).component (entry_at f s)
+  -- each entry of the tree stands in a slot, and in no other
+  pub held : (d : ℕ) (c : List ℕ) (e : Entry) → Has t d c e → (s : ℕ) × IsUsed n f s × (entry_at f s ≡ e)
+  pub once : (s r : ℕ) → IsUsed n f s → IsUsed n f r → entry_at f s ≡ entry_at f r → s ≡ r
+
+-- how many cells a row has that has room for so many entries besides the root
+abbrev pub row_length : ℕ → ℕ
+row_length capacity = slots_length (capacity + 1)
+
+pub record Encodes (capacity : ℕ) (row : List ℕ) (t : Tree) : Type 0 where
+  pub long : length row ≡ row_length capacity
+  pub slots : EncodesSlots (capacity + 1) (slot_at row) t

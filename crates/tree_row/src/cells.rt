@@ -1,0 +1,43 @@
+//! Cells by their places.
+ghost use Rattle.std.specs.Prelude.{◌≡◌, ◌<◌, ◌≤◌, ℕ, List, IfSome, IfNone, slice_index};
+ghost use Rattle.tree_row.specs.Rows.{row_length};
+ghost use Rattle.tree_row.specs.Worlds.{Fewer, Reads};
+
+/// The most entries, besides the root, that a row may have room for.
+pub const MOST_ENTRIES: usize = 16384;
+
+/// The cells of a row, each read by its place, or not known. Place 0 is that of the first cell of the root's slot.
+pub trait Cells {
+    // What no reading changes.
+    ghost Kept: { Type 0 };
+
+    ghost kept: { Self → Kept };
+
+    // The most entries besides the root.
+    ghost capacity_of: { Kept → ℕ };
+
+    // The rows that may be the one that is read.
+    ghost may: { Self → List ℕ → Type 0 };
+
+    // Every word is known, and this is the row.
+    ghost whole: { Kept → List ℕ → Type 0 };
+
+    // A word that was asked for isn't known.
+    ghost unknown: { Self → Type 0 };
+
+    /// The most entries besides the root.
+    fn capacity(&self) -> usize
+        ensures capacity { result ≡ capacity_of (kept self.now) }
+        ensures small { result ≤ MOST_ENTRIES };
+
+    /// The word at a place, if it is known.
+    fn word(&mut self, place: usize) -> Option<u64>
+        requires { place < row_length (capacity_of (kept self.old)) }
+        ensures kept { kept self.new ≡ kept self.old }
+        ensures fewer { Fewer (may self.old) (may self.new) }
+        ensures some { IfSome result (λ n. Reads (may self.new) (λ row. slice_index row place) n) }
+        ensures none { IfNone result (unknown self.new) };
+
+    // Where every word is known, nothing is unknown, and the row may be the one that is read.
+    ghost whole_may: { (cells : Self) (row : List ℕ) → whole (kept cells) row → may cells row × (¬ (unknown cells)) };
+}

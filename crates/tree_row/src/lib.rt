@@ -1,0 +1,22 @@
+//! A directory tree as a row of 64-bit words: what a row's cells encode, cells that are read by their places, and what
+//! single slots tell.
+//!
+//! To be believed are about 140 lines of definitions in `specs/`.
+#![tactic(auto)]
+
+mod cells;
+mod known_row;
+mod laws;
+mod question;
+mod slot;
+mod text;
+
+pub use cells::{Cells, MOST_ENTRIES};
+pub use known_row::KnownRow;
+pub use laws::{one_row_one_tree, opening_row_encodes_root, slots_are_counted};
+pub use question::{free_slot, is_child, is_entry_of};
+pub use slot::{
+    COMPONENT, DIRECTORY, FILE, FREE, KIND, LENGTHS, LINK, NODE, PARENT, SLOT_LENGTH, TEXT,
+    TEXT_FACTOR, cell_place, slot_word,
+};
+pub use text::read_text;
