@@ -1,0 +1,6 @@
+pub mod Drafting
+pub mod Packing
+pub mod Filling
+pub mod Making
+pub mod Removing
+pub mod Placing

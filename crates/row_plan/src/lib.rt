@@ -1,0 +1,11 @@
+//! What a change of the directory tree sets in a row of words: the cells after which the row encodes the tree with the
+//! change made.
+//!
+//! To be believed are about 60 lines of definitions in `specs/`; those in `specs/inner/` are of private contracts and proofs.
+#![tactic(auto)]
+
+mod cell;
+mod draft;
+mod pack;
+
+pub use cell::Cell;
