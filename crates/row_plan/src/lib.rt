@@ -7,5 +7,6 @@
 mod cell;
 mod draft;
 mod pack;
+mod slot;
 
 pub use cell::Cell;

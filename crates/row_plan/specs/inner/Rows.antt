@@ -1,9 +1,9 @@
 -- Rows after some of their words were set, and plans as they are made.
-use Rattle.std.specs.Prelude.{◌≡◌, ℕ, zero, suc, ◌+◌, ◌*◌, ◌/◌, ◌<◌, List, [], ◌∷◌, length, slice_index, slice_set}
+use Rattle.std.specs.Prelude.{◌≡◌, ◌⊎◌, ℕ, zero, suc, ◌+◌, ◌*◌, ◌/◌, ◌<◌, ◌≤◌, List, [], ◌∷◌, length, slice_index, slice_set, Option, Some, None}
 use Rattle.std.specs.Int.{byte_at, from_le_bytes, w64}
 use Rattle.directory_tree.specs.declared.node.NodeKind.{NodeKind}
 use Rattle.directory_tree.specs.declared.node.NodeKind.TheVariants.{Directory, File, Link}
-use Rattle.tree_row.specs.Slots.{Slot}
+use Rattle.tree_row.specs.Slots.{Slot, slot_at}
 use Rattle.row_plan.specs.declared.cell.Cell.{Cell}
 use Rattle.row_plan.specs.Plan.{write, IsLean}
 
@@ -50,6 +50,38 @@ without_slot row s = with_words row (164 * s) (slice_index (0 ∷ [])) 1
 abbrev pub with_place : List ℕ → ℕ → ℕ → List ℕ → List ℕ
 with_place row s parent name =
     with_text (with_words row (164 * s + 2) (slice_index (parent ∷ (length name + 65536 * (slice_index row (164 * s + 3) / 65536)) ∷ [])) 2) (164 * s + 4) name
+
+-- all cells but those of a slot stay
+abbrev pub KeepsOthers : List ℕ → ℕ → List ℕ → Type 0
+KeepsOthers row s after = (k : ℕ) → (k < 164 * s) ⊎ (164 * s + 164 ≤ k) → slice_index after k ≡ slice_index row k
+
+-- a slot says this from now on
+pub record SetsSlot (row : List ℕ) (s : ℕ) (own : Slot) (after : List ℕ) : Type 0 where
+  pub long : length after ≡ length row
+  pub here : slot_at after s ≡ own
+  pub others : KeepsOthers row s after
+
+-- a slot is free from now on
+pub record FreesSlot (row : List ℕ) (s : ℕ) (after : List ℕ) : Type 0 where
+  pub long : length after ≡ length row
+  pub here : (slot_at after s).kind ≡ 0
+  pub others : KeepsOthers row s after
+
+-- a slot, if one is given, is free from now on
+abbrev pub FreesAny : List ℕ → Option ℕ → List ℕ → Type 0
+FreesAny row None after = after ≡ row
+FreesAny row (Some s) after = FreesSlot row s after
+
+-- what a slot says once its entry is at another place
+abbrev pub moved_slot : Slot → ℕ → List ℕ → Slot
+moved_slot own parent name = record own { parent = parent; component = name }
+
+-- the plan frees the one slot, and then moves the entry of the other
+pub record MovesSlot (row : List ℕ) (plan : List Cell) (s parent : ℕ) (name : List ℕ) (replaced : Option ℕ) : Type 0 where
+  pub lean : IsLean row plan
+  pub between : List ℕ
+  pub frees : FreesAny row replaced between
+  pub moves : SetsSlot between s (moved_slot (slot_at between s) parent name) (write row plan)
 
 -- the number by which a slot tells its kind, and the text that it has
 abbrev pub code_of : NodeKind → ℕ
