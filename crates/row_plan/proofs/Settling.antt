@@ -1,12 +1,14 @@
 -- What slots say after their cells were set.
 use Rattle.std.proofs.Common.{◌≡◌, ℕ, zero, suc, ◌+◌, ◌*◌, ◌/◌, ◌%◌, ◌<◌, ◌≤◌, ◌≢◌, List, [], ◌∷◌, length, sym, refl, ap, ◌∙◌, subst, arith}
-use Rattle.std.specs.Prelude.{slice_index}
+use Rattle.std.specs.Prelude.{slice_index, Option}
 use mathlib.Core.Logic.{◌⊎◌, inl, inr}
 use Rattle.names.specs.declared.paths.TheConstants.{LONGEST_COMPONENT}
 use Rattle.directory_tree.specs.Apply.{max_text}
 use Rattle.tree_row.specs.Slots.{Slot, slot_at, text_at}
 use Rattle.tree_row.proofs.Bytes.{length-text}
-use Rattle.row_plan.specs.inner.Rows.{packed, IsPacked, with_words, with_text, with_slot, without_slot, with_place, KeepsOthers, SetsSlot, FreesSlot, moved_slot}
+use Rattle.row_plan.specs.declared.cell.Cell.{Cell}
+use Rattle.row_plan.specs.Plan.{write, IsLean}
+use Rattle.row_plan.specs.inner.Rows.{Drafts, SameFrom, FreesAny, MovesSlot, packed, IsPacked, with_words, with_text, with_slot, without_slot, with_place, KeepsOthers, SetsSlot, FreesSlot, moved_slot}
 use Rattle.row_plan.proofs.Packing.{text_packed}
 use Rattle.row_plan.proofs.Filling.{length-with_words, outside, inside, text_stays, slot_stays}
 
@@ -144,3 +146,43 @@ other_stays row s after others x other short short_text = slot_stays row after x
 
 pub other_kind : (row : List ℕ) (s : ℕ) (after : List ℕ) → KeepsOthers row s after → (x : ℕ) → x ≢ s → (slot_at after x).kind ≡ (slot_at row x).kind
 other_kind row s after others x other = others (164 * x + 0) (grind arith)
+
+-- cells of a run that were not set before are the row's
+pub run_untouched : (row : List ℕ) (base : ℕ) (word : ℕ → ℕ) (n start count : ℕ) → (start + count ≤ base) ⊎ (base + n ≤ start) → SameFrom row (with_words row base word n) start count
+run_untouched row base word n start count out k l = outside row base word n (start + k) (grind arith)
+
+pub same_after : (row after : List ℕ) (base : ℕ) (word : ℕ → ℕ) (n start count : ℕ) → SameFrom row after start count → (start + count ≤ base) ⊎ (base + n ≤ start) → SameFrom row (with_words after base word n) start count
+same_after row after base word n start count same out k l = outside after base word n (start + k) (grind arith) ∙ same k l
+
+-- the plan of a slot that is filled
+pub fills : (row : List ℕ) (plan : List Cell) (base s : ℕ) (own : Slot) → base ≡ 164 * s + 0
+    → Drafts row plan (with_text (with_text (with_words row base (slice_index (own.kind ∷ own.node ∷ own.parent ∷ (length own.component + 65536 * length own.text) ∷ [])) 4) (base + 4) own.component) (base + 36) own.text)
+    → 164 * s + 164 ≤ length row → length own.component ≤ LONGEST_COMPONENT → length own.text ≤ max_text → IsPacked own.component → IsPacked own.text → IsLean row plan × SetsSlot row s own (write row plan)
+fills row plan base s own is draft fits short short_text packs packs_text =
+    let e : base ≡ 164 * s = omega arith in
+    let d : Drafts row plan (with_slot row s own) =
+    subst (λ (b : ℕ). Drafts row plan (with_text (with_text (with_words row b (slice_index (own.kind ∷ own.node ∷ own.parent ∷ (length own.component + 65536 * length own.text) ∷ [])) 4) (b + 4) own.component) (b + 36) own.text)) e draft in
+    (d.lean, subst (SetsSlot row s own) (sym d.gives) (slot_filled row s own fits short short_text packs packs_text))
+
+-- of a slot that is freed
+pub frees : (row : List ℕ) (plan : List Cell) (base s : ℕ) → base ≡ 164 * s + 0 → Drafts row plan (with_words row base (slice_index (0 ∷ [])) 1) → 164 * s + 164 ≤ length row → IsLean row plan × FreesSlot row s (write row plan)
+frees row plan base s is draft fits =
+    let e : base ≡ 164 * s = omega arith in
+    let d : Drafts row plan (without_slot row s) = subst (λ (b : ℕ). Drafts row plan (with_words row b (slice_index (0 ∷ [])) 1)) e draft in
+    (d.lean, subst (FreesSlot row s) (sym d.gives) (slot_freed row s fits))
+
+-- of a slot whose entry moves, after another slot was freed
+pub moves : (row between : List ℕ) (plan : List Cell) (base s parent lengths : ℕ) (name : List ℕ) (replaced : Option ℕ) → base ≡ 164 * s + 0 → FreesAny row replaced between → lengths ≡ slice_index between (164 * s + 3)
+    → Drafts row plan (with_text (with_words between (base + 2) (slice_index (parent ∷ (length name + 65536 * (lengths / 65536)) ∷ [])) 2) (base + 4) name)
+    → 164 * s + 164 ≤ length between → length name ≤ LONGEST_COMPONENT → length (slot_at between s).text ≤ max_text → IsPacked name → MovesSlot row plan s parent name replaced
+moves row between plan base s parent lengths name replaced is freed reads draft fits short short_text packs =
+    let e : base ≡ 164 * s = omega arith in
+    let d : Drafts row plan (with_place between s parent name) =
+    subst (λ (n : ℕ). Drafts row plan (with_text (with_words between (164 * s + 2) (slice_index (parent ∷ (length name + 65536 * (n / 65536)) ∷ [])) 2) (164 * s + 4) name)) reads
+        (subst (λ (b : ℕ). Drafts row plan (with_text (with_words between (b + 2) (slice_index (parent ∷ (length name + 65536 * (lengths / 65536)) ∷ [])) 2) (b + 4) name)) e draft) in
+    record {
+      lean = d.lean;
+      between = between;
+      frees = freed;
+      moves = subst (SetsSlot between s (moved_slot (slot_at between s) parent name)) (sym d.gives) (slot_moved between s parent name fits short short_text packs);
+    }

@@ -1,5 +1,5 @@
 //! The cells of single slots.
-ghost use Rattle.std.specs.Prelude.{◌≡◌, ◌<◌, ◌≤◌, ◌+◌, ◌*◌, ◌^◌, ℕ, List, IfOk, length};
+ghost use Rattle.std.specs.Prelude.{◌≡◌, ◌≢◌, ◌<◌, ◌≤◌, ◌+◌, ◌*◌, ◌^◌, ℕ, List, IfOk, IfSome, length};
 ghost use Rattle.directory_tree.specs.Apply.{max_text};
 ghost use Rattle.tree_row.specs.Slots.{slot_at};
 ghost use Rattle.tree_row.specs.Rows.{row_length};
@@ -11,7 +11,7 @@ use crate::cell::Cell;
 use crate::draft::{set_text, set_words};
 use names::{LONGEST_COMPONENT, NoMemory};
 use std::alloc::Global;
-use tree_row::{COMPONENT, Cells, KIND, LENGTHS, PARENT, TEXT, TEXT_FACTOR, cell_place, slot_word};
+use tree_row::{COMPONENT, Cells, FREE, KIND, LENGTHS, PARENT, TEXT, TEXT_FACTOR, cell_place, slot_word};
 
 /// What a slot is to hold.
 pub(crate) struct NewEntry<'a> {
@@ -65,6 +65,38 @@ pub(crate) fn free_slot<C: Cells>(
 {
     let mut plan = Vec::new(alloc);
     let base = cell_place(cells, slot, KIND);
-    set_words(cells, &mut plan, base, &[0])?;
+    set_words(cells, &mut plan, base, &[FREE])?;
+    Ok(plan)
+}
+
+/// The cells of an entry that goes to another place, once the slot of the entry that stands there is free.
+pub(crate) fn move_slot<C: Cells>(
+    alloc: Global,
+    cells: &mut C,
+    slot: usize,
+    parent: usize,
+    name: &[u8],
+    replaced: Option<usize>,
+) -> Result<Vec<Cell>, NoMemory>
+    requires slot { slot < C.capacity_of (C.kept cells.old) + 1 }
+    requires fits { length name.now ≤ LONGEST_COMPONENT }
+    requires replaced { IfSome replaced (λ r. (r < C.capacity_of (C.kept cells.old) + 1) × (r ≢ slot)) }
+    requires known { IsRead (C.whole (C.kept cells.old)) }
+    requires text_fits { (row : List ℕ) → C.whole (C.kept cells.old) row → length (slot_at row slot).text ≤ max_text }
+    ensures kept { C.kept cells.new ≡ C.kept cells.old }
+    ensures ok { IfOk result (λ plan. (row : List ℕ) → C.whole (C.kept cells.old) row → length row ≡ row_length (C.capacity_of (C.kept cells.old))
+        → MovesSlot row plan.items slot parent name.now replaced) }
+{
+    let mut plan = match replaced {
+        Some(slot) => free_slot(alloc, cells, slot)?,
+        None => Vec::new(alloc),
+    };
+    let Ok(lengths) = slot_word(cells, slot, LENGTHS) else {
+        unreachable!();
+    };
+    let base = cell_place(cells, slot, KIND);
+    let numbers = [parent as u64, name.len() as u64 + TEXT_FACTOR * (lengths / TEXT_FACTOR)];
+    set_words(cells, &mut plan, base + PARENT, &numbers)?;
+    set_text(cells, &mut plan, base + COMPONENT, name)?;
     Ok(plan)
 }
