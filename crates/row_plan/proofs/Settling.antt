@@ -1,6 +1,6 @@
 -- What slots say after their cells were set.
 use Rattle.std.proofs.Common.{◌≡◌, ℕ, zero, suc, ◌+◌, ◌*◌, ◌/◌, ◌%◌, ◌<◌, ◌≤◌, ◌≢◌, List, [], ◌∷◌, length, sym, refl, ap, ◌∙◌, subst, arith}
-use Rattle.std.specs.Prelude.{slice_index, Option}
+use Rattle.std.specs.Prelude.{slice_index, Option, Some, None, IfSome}
 use mathlib.Core.Logic.{◌⊎◌, inl, inr}
 use Rattle.names.specs.declared.paths.TheConstants.{LONGEST_COMPONENT}
 use Rattle.directory_tree.specs.Apply.{max_text}
@@ -170,6 +170,15 @@ frees row plan base s is draft fits =
     let e : base ≡ 164 * s = omega arith in
     let d : Drafts row plan (without_slot row s) = subst (λ (b : ℕ). Drafts row plan (with_words row b (slice_index (0 ∷ [])) 1)) e draft in
     (d.lean, subst (FreesSlot row s) (sym d.gives) (slot_freed row s fits))
+
+-- a slot that is not freed stays
+pub replaced_stays : (row between : List ℕ) (s : ℕ) (replaced : Option ℕ) → FreesAny row replaced between → IfSome replaced (λ r. r ≢ s) → (k : ℕ) → 164 * s ≤ k → k < 164 * s + 164 → slice_index between k ≡ slice_index row k
+replaced_stays row between s None freed other k low high = ap (λ (z : List ℕ). slice_index z k) freed
+replaced_stays row between s (Some r) freed other k low high = freed.others k (grind arith)
+
+pub long_between : (row between : List ℕ) (replaced : Option ℕ) → FreesAny row replaced between → length between ≡ length row
+long_between row between None freed = ap (λ (z : List ℕ). length z) freed
+long_between row between (Some r) freed = freed.long
 
 -- of a slot whose entry moves, after another slot was freed
 pub moves : (row between : List ℕ) (plan : List Cell) (base s parent lengths : ℕ) (name : List ℕ) (replaced : Option ℕ) → base ≡ 164 * s + 0 → FreesAny row replaced between → lengths ≡ slice_index between (164 * s + 3)

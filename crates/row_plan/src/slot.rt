@@ -4,7 +4,7 @@ ghost use Rattle.directory_tree.specs.Apply.{max_text};
 ghost use Rattle.tree_row.specs.Slots.{slot_at};
 ghost use Rattle.tree_row.specs.Rows.{row_length};
 ghost use Rattle.row_plan.specs.Plan.{write, IsLean};
-ghost use Rattle.row_plan.specs.inner.Rows.{IsRead, SetsSlot, FreesSlot, MovesSlot};
+ghost use Rattle.row_plan.specs.inner.Rows.{IsRead, SetsSlot, FreesSlot, FreesAny, MovesSlot};
 ghost use Rattle.row_plan.specs.inner.Entries.{slot_of};
 
 use crate::cell::Cell;
@@ -69,6 +69,24 @@ pub(crate) fn free_slot<C: Cells>(
     Ok(plan)
 }
 
+// The same where an entry goes; else no cells.
+fn free_any<C: Cells>(
+    alloc: Global,
+    cells: &mut C,
+    slot: Option<usize>,
+) -> Result<Vec<Cell>, NoMemory>
+    requires slot { IfSome slot (λ s. s < C.capacity_of (C.kept cells.old) + 1) }
+    requires known { IsRead (C.whole (C.kept cells.old)) }
+    ensures kept { C.kept cells.new ≡ C.kept cells.old }
+    ensures ok { IfOk result (λ plan. (row : List ℕ) → C.whole (C.kept cells.old) row → length row ≡ row_length (C.capacity_of (C.kept cells.old))
+        → IsLean row plan.items × FreesAny row slot (write row plan.items)) }
+{
+    match slot {
+        Some(slot) => free_slot(alloc, cells, slot),
+        None => Ok(Vec::new(alloc)),
+    }
+}
+
 /// The cells of an entry that goes to another place, once the slot of the entry that stands there is free.
 pub(crate) fn move_slot<C: Cells>(
     alloc: Global,
@@ -80,17 +98,15 @@ pub(crate) fn move_slot<C: Cells>(
 ) -> Result<Vec<Cell>, NoMemory>
     requires slot { slot < C.capacity_of (C.kept cells.old) + 1 }
     requires fits { length name.now ≤ LONGEST_COMPONENT }
-    requires replaced { IfSome replaced (λ r. (r < C.capacity_of (C.kept cells.old) + 1) × (r ≢ slot)) }
+    requires replaced { IfSome replaced (λ r. r < C.capacity_of (C.kept cells.old) + 1) }
+    requires other { IfSome replaced (λ r. r ≢ slot) }
     requires known { IsRead (C.whole (C.kept cells.old)) }
     requires text_fits { (row : List ℕ) → C.whole (C.kept cells.old) row → length (slot_at row slot).text ≤ max_text }
     ensures kept { C.kept cells.new ≡ C.kept cells.old }
     ensures ok { IfOk result (λ plan. (row : List ℕ) → C.whole (C.kept cells.old) row → length row ≡ row_length (C.capacity_of (C.kept cells.old))
         → MovesSlot row plan.items slot parent name.now replaced) }
 {
-    let mut plan = match replaced {
-        Some(slot) => free_slot(alloc, cells, slot)?,
-        None => Vec::new(alloc),
-    };
+    let mut plan = free_any(alloc, cells, replaced)?;
     let Ok(lengths) = slot_word(cells, slot, LENGTHS) else {
         unreachable!();
     };
