@@ -5,3 +5,5 @@ pub mod Settling
 pub mod Making
 pub mod Removing
 pub mod Placing
+pub mod Encoding
+pub mod Enacting

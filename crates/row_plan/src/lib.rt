@@ -4,6 +4,7 @@
 //! To be believed are about 60 lines of definitions in `specs/`; those in `specs/inner/` are of private contracts and proofs.
 #![tactic(auto)]
 
+mod act;
 mod cell;
 mod draft;
 mod pack;

@@ -14,6 +14,7 @@ use std::alloc::Global;
 use tree_row::{COMPONENT, Cells, FREE, KIND, LENGTHS, PARENT, TEXT, TEXT_FACTOR, cell_place, slot_word};
 
 /// What a slot is to hold.
+#[derive(Drop)]
 pub(crate) struct NewEntry<'a> {
     /// As the slot's first cell tells it.
     pub kind: u64,
@@ -52,7 +53,7 @@ pub(crate) fn fill_slot<C: Cells>(
 }
 
 /// The cell of a slot whose entry goes.
-pub(crate) fn free_slot<C: Cells>(
+pub(crate) fn clear_slot<C: Cells>(
     alloc: Global,
     cells: &mut C,
     slot: usize,
@@ -70,7 +71,7 @@ pub(crate) fn free_slot<C: Cells>(
 }
 
 // The same where an entry goes; else no cells.
-fn free_any<C: Cells>(
+fn clear_any<C: Cells>(
     alloc: Global,
     cells: &mut C,
     slot: Option<usize>,
@@ -82,7 +83,7 @@ fn free_any<C: Cells>(
         → IsLean row plan.items × FreesAny row slot (write row plan.items)) }
 {
     match slot {
-        Some(slot) => free_slot(alloc, cells, slot),
+        Some(slot) => clear_slot(alloc, cells, slot),
         None => Ok(Vec::new(alloc)),
     }
 }
@@ -106,7 +107,7 @@ pub(crate) fn move_slot<C: Cells>(
     ensures ok { IfOk result (λ plan. (row : List ℕ) → C.whole (C.kept cells.old) row → length row ≡ row_length (C.capacity_of (C.kept cells.old))
         → MovesSlot row plan.items slot parent name.now replaced) }
 {
-    let mut plan = free_any(alloc, cells, replaced)?;
+    let mut plan = clear_any(alloc, cells, replaced)?;
     let Ok(lengths) = slot_word(cells, slot, LENGTHS) else {
         unreachable!();
     };

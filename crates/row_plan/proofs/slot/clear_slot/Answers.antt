@@ -3,7 +3,7 @@ use Rattle.row_plan.specs.declared.cell.Cell.{Cell}
 use Rattle.row_plan.specs.inner.Rows.{Drafts}
 use Rattle.row_plan.proofs.Drafting.{begins}
 use Rattle.row_plan.proofs.Settling.{frees}
-use Rattle.row_plan.proofs.slot.free_slot.Goals as goal
+use Rattle.row_plan.proofs.slot.clear_slot.Goals as goal
 
 pub returns-clause-ok : goal.returns-clause-ok
 returns-clause-ok g c row whole long =
