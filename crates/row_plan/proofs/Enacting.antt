@@ -61,7 +61,7 @@ module _ (capacity : ℕ) (row : List ℕ) (w : World) (enc : EncodesWorld capac
   abbrev t : Tree
   t = w.tree
 
-  node_is : (d : ℕ) → node_at (w.named d) ≡ (f d).node
+  pub node_is : (d : ℕ) → node_at (w.named d) ≡ (f d).node
   node_is d = ap node_at (enc.named d) ∙ node_of slots f t enc.tree.slots d
 
   directory_slot : (d : ℕ) → d < slots → shape_of (kind_at (w.named d)) ≡ kind.Directory → IsDirectorySlot slots f d

@@ -102,10 +102,9 @@ pub(crate) fn move_slot<C: Cells>(
     requires replaced { IfSome replaced (λ r. r < C.capacity_of (C.kept cells.old) + 1) }
     requires other { IfSome replaced (λ r. r ≢ slot) }
     requires known { IsRead (C.whole (C.kept cells.old)) }
-    requires text_fits { (row : List ℕ) → C.whole (C.kept cells.old) row → length (slot_at row slot).text ≤ max_text }
     ensures kept { C.kept cells.new ≡ C.kept cells.old }
     ensures ok { IfOk result (λ plan. (row : List ℕ) → C.whole (C.kept cells.old) row → length row ≡ row_length (C.capacity_of (C.kept cells.old))
-        → MovesSlot row plan.items slot parent name.now replaced) }
+        → length (slot_at row slot).text ≤ max_text → MovesSlot row plan.items slot parent name.now replaced) }
 {
     let mut plan = clear_any(alloc, cells, replaced)?;
     let Ok(lengths) = slot_word(cells, slot, LENGTHS) else {

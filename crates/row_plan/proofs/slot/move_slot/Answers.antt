@@ -10,7 +10,7 @@ use Rattle.row_plan.proofs.Settling.{same_after, replaced_stays, long_between, m
 use Rattle.row_plan.proofs.slot.move_slot.Goals as goal
 
 pub returns-clause-ok : goal.returns-clause-ok
-returns-clause-ok g c row whole long =
+returns-clause-ok g c row whole long short_row =
     let s = c.args.slot in
     let name = c.args.name.now in
     let base = c.cell_place-base.result in
@@ -35,6 +35,5 @@ returns-clause-ok g c row whole long =
     (same_after row between (base + 2) numbers 2 (base + 4) ((length name + 7) / 8) (λ k l. stays (base + 4 + k) (omega arith) (omega arith)) (inr (omega arith))) in
     let text_row = length-text row (164 * s + 36) (slice_index row (164 * s + 3) / 65536) in
     let text_between = length-text between (164 * s + 36) (slice_index between (164 * s + 3) / 65536) in
-    let short_row = c.requires.text_fits row whole in
     let short_text : length (slot_at between s).text ≤ max_text = omega arith in
     moves row between c.set_text.new.plan.items base s c.args.parent lengths name c.args.replaced place freed.1 (sym reads ∙ sym stays_lengths) two (omega arith) short short_text c.in_ok-set_text.ensures.packed
