@@ -7,3 +7,5 @@ pub mod Removing
 pub mod Placing
 pub mod Encoding
 pub mod Enacting
+pub mod Numbering
+pub mod Outcomes

@@ -8,6 +8,8 @@ mod act;
 mod cell;
 mod draft;
 mod pack;
+mod planning;
 mod slot;
 
 pub use cell::Cell;
+pub use planning::{next_after, plan};

@@ -1,0 +1,1 @@
+-- What a plan of a change does, and why there is none.
