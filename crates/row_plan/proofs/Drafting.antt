@@ -1,12 +1,12 @@
 -- A plan with one cell more.
-use Rattle.std.proofs.Common.{◌≡◌, ℕ, zero, suc, ◌+◌, ◌<◌, ◌≤◌, ◌≢◌, List, [], ◌∷◌, ◌++◌, length, get_or, set, sym, refl, ap, ◌∙◌, subst, arith, length-set, get_or-set_other, get_or-set_same}
+use Rattle.std.proofs.Common.{◌≡◌, ℕ, zero, suc, ◌<◌, ◌≢◌, List, [], ◌∷◌, ◌++◌, length, set, sym, refl, ap, ◌∙◌, arith, length-set, get_or-set_other, get_or-set_same}
 use Rattle.std.specs.Prelude.{slice_index, slice_index_or, slice_set}
 use Rattle.std.specs.List.{All, AllPairs}
 use Rattle.std.proofs.lemmas.List.{set-get_or}
 use Rattle.std.proofs.lemmas.List.Elements.{All-append}
 use Rattle.std.proofs.lemmas.List.Quantifiers.{all_pairs_push}
 use Rattle.row_plan.specs.declared.cell.Cell.{Cell}
-use Rattle.row_plan.specs.Plan.{write, IsLean}
+use Rattle.row_plan.specs.Plan.{write}
 use Rattle.row_plan.specs.inner.Rows.{Drafts}
 
 pub write-append : (row : List ℕ) (xs : List Cell) (cell : Cell) → write row (xs ++ cell ∷ []) ≡ slice_set (write row xs) cell.place cell.word

@@ -2,15 +2,14 @@
 use Rattle.std.proofs.Common.{◌≡◌, ℕ, zero, suc, ◌+◌, ◌<◌, ◌≤◌, ◌≢◌, List, length, Some, None, Option, sym, refl, ap, ◌∙◌, subst, arith}
 use Rattle.std.specs.Prelude.{IfSome, true}
 use Rattle.std.specs.Option.{option_map}
-use mathlib.Core.Logic.{dite}
 use Rattle.names.specs.declared.paths.TheConstants.{LONGEST_COMPONENT}
 use Rattle.directory_tree.specs.declared.node.Kind.TheVariants as kind
 use Rattle.directory_tree.specs.declared.node.NodeKind.{NodeKind}
-use Rattle.directory_tree.specs.Tree.{Tree, Entry, Has, find, is_empty}
+use Rattle.directory_tree.specs.Tree.{Tree, Entry, find, is_empty}
 use Rattle.directory_tree.specs.Walk.{Spot}
 use Rattle.directory_tree.specs.Walk.Spot.{Root, Held}
 use Rattle.directory_tree.specs.Spots.{shape_of, node_at, kind_at, child_of}
-use Rattle.directory_tree.specs.Apply.{entry, with_entry, dropped, moved, placed, without, max_text}
+use Rattle.directory_tree.specs.Apply.{entry, with_entry, dropped, moved, placed, max_text}
 use Rattle.directory_tree.proofs.Basics.{some_inj, none_is_some}
 use Rattle.directory_tree.proofs.Found.{empty_none, find-without_same, find-without_other, without-none, Apart}
 use Rattle.path_lookup.specs.World.{World}
@@ -25,7 +24,7 @@ use Rattle.row_look.specs.declared.look.RowEntry.{RowEntry}
 use Rattle.row_plan.specs.declared.cell.Cell.{Cell}
 use Rattle.row_plan.specs.Plan.{write}
 use Rattle.row_plan.specs.inner.Rows.{SetsSlot, FreesSlot, MovesSlot, moved_slot, text_in, new_slot}
-use Rattle.row_plan.proofs.Settling.{other_stays, other_kind}
+use Rattle.row_plan.proofs.Settling.{other_stays}
 use Rattle.row_plan.proofs.Making.{same_entry}
 use Rattle.row_plan.proofs.Encoding.{in_range_all, encodes_filled, encodes_freed, encodes_moved}
 
@@ -92,7 +91,7 @@ module _ (capacity : ℕ) (row : List ℕ) (w : World) (enc : EncodesWorld capac
   enacts_new made node next s p c after within none directory free short short_text sets =
       let e = node_is p in
       subst (λ (d : ℕ). Encodes capacity after (with_entry t (entry d c node made) next)) (sym e)
-          (encodes_filled capacity row t enc.tree after made node next s p c (ap (λ (z : ℕ). find t.entries z c) (sym e) ∙ none) free (directory_slot p within directory) short short_text sets)
+      (encodes_filled capacity row t enc.tree after made node next s p c (ap (λ (z : ℕ). find t.entries z c) (sym e) ∙ none) free (directory_slot p within directory) short short_text sets)
 
   pub enacts_removal : (d r : ℕ) (c after : List ℕ) → r < slots → (f r).kind ≢ 0 → child_of t (w.named d) c ≡ Some (w.named r) → (shape_of (kind_at (w.named r)) ≡ kind.Directory → is_empty t.entries (node_at (w.named r)) ≡ true)
       → FreesSlot row r after → Encodes capacity after (dropped t (node_at (w.named d)) c)
@@ -107,7 +106,7 @@ module _ (capacity : ℕ) (row : List ℕ) (w : World) (enc : EncodesWorld capac
       let e = node_is p in
       let put = encodes_moved capacity row t enc.tree after s p (node_at (w.named d)) c name used (child_found d s c used is) (ap (λ (z : ℕ). find t.entries z name) (sym e) ∙ none) (directory_slot p within directory) short sets in
       subst (λ (es : List Entry). Encodes capacity after record { entries = placed (node_at (w.named d)) c (node_at (w.named p)) name es; next = t.next }) (sym (without-none t.entries (node_at (w.named p)) name none))
-          (subst (λ (z : ℕ). Encodes capacity after record { entries = placed (node_at (w.named d)) c z name t.entries; next = t.next }) (sym e) put)
+      (subst (λ (z : ℕ). Encodes capacity after record { entries = placed (node_at (w.named d)) c z name t.entries; next = t.next }) (sym e) put)
 
   -- to a place where one stands, which goes first
   module _ (d s p r : ℕ) (c name between after : List ℕ) (within : p < slots) (within_r : r < slots) (filled_r : (f r).kind ≢ 0) (used : IsUsed slots f s) (is : child_of t (w.named d) c ≡ Some (w.named s))
@@ -174,7 +173,7 @@ module _ (capacity : ℕ) (row : List ℕ) (w : World) (enc : EncodesWorld capac
         let none : find gone.entries (h p).node name ≡ None = ap (λ (z : ℕ). find gone.entries z name) node_p ∙ find-without_same t.entries into name in
         let directory_between : IsDirectorySlot slots h p = record { within = within; kind = ap (λ (z : Slot). z.kind) same_p ∙ p_is.kind } in
         subst (λ (z : ℕ). Encodes capacity after record { entries = placed from c z name gone.entries; next = t.next }) node_p
-            (encodes_moved capacity between gone encodes_between after s p from c name used_between found none directory_between short sets)
+        (encodes_moved capacity between gone encodes_between after s p from c name used_between found none directory_between short sets)
 
   -- whatever stood at the new place
   pub enacts_move : (d s p : ℕ) (c name : List ℕ) (replaced : Option RowEntry) (plan : List Cell) → p < slots → s < slots → (f s).kind ≢ 0

@@ -1,16 +1,15 @@
 -- The cells of a row after some of them were set.
-use Rattle.std.proofs.Common.{◌≡◌, ℕ, zero, suc, ◌+◌, ◌-◌, ◌*◌, ◌/◌, ◌%◌, ◌<◌, ◌≤◌, ◌≢◌, List, [], ◌∷◌, ◌++◌, length, get_or, set, sym, refl, ap, ◌∙◌, subst, arith, add-one, length-set, get_or-set_other, get_or-set_same}
+use Rattle.std.proofs.Common.{◌≡◌, ℕ, zero, suc, ◌+◌, ◌*◌, ◌/◌, ◌%◌, ◌<◌, ◌≤◌, List, [], ◌∷◌, ◌++◌, length, sym, refl, ap, ◌∙◌, subst, arith, add-one, length-set, get_or-set_other, get_or-set_same}
 use Rattle.std.specs.Prelude.{slice_index, slice_set}
 use Rattle.std.specs.Int.{byte_at}
-use mathlib.Core.Logic.{◌⊎◌, inl, inr, dite}
+use mathlib.Core.Logic.{◌⊎◌, dite}
 use native.Mathlib.Decide.{ℕ_discrete}
 use Rattle.names.specs.declared.paths.TheConstants.{LONGEST_COMPONENT}
 use Rattle.directory_tree.specs.Apply.{max_text}
-use Rattle.tree_row.specs.Slots.{Slot, slot_at, text_at}
+use Rattle.tree_row.specs.Slots.{slot_at, text_at}
 use Rattle.tree_row.proofs.Bytes.{length-text}
 use Rattle.row_plan.specs.declared.cell.Cell.{Cell}
-use Rattle.row_plan.specs.inner.Rows.{Drafts, SameFrom, packed, IsPacked, with_words, with_text, with_slot, without_slot, with_place}
-use Rattle.row_plan.proofs.Packing.{text_packed}
+use Rattle.row_plan.specs.inner.Rows.{Drafts, with_words}
 
 pub length-with_words : (row : List ℕ) (base : ℕ) (word : ℕ → ℕ) (n : ℕ) → length (with_words row base word n) ≡ length row
 length-with_words row base word zero = refl

@@ -1,11 +1,10 @@
 -- What slots say after their cells were set.
-use Rattle.std.proofs.Common.{◌≡◌, ℕ, zero, suc, ◌+◌, ◌*◌, ◌/◌, ◌%◌, ◌<◌, ◌≤◌, ◌≢◌, List, [], ◌∷◌, length, sym, refl, ap, ◌∙◌, subst, arith}
+use Rattle.std.proofs.Common.{◌≡◌, ℕ, ◌+◌, ◌*◌, ◌/◌, ◌%◌, ◌<◌, ◌≤◌, ◌≢◌, List, [], ◌∷◌, length, sym, ap, ◌∙◌, subst, arith}
 use Rattle.std.specs.Prelude.{slice_index, Option, Some, None, IfSome}
 use mathlib.Core.Logic.{◌⊎◌, inl, inr}
 use Rattle.names.specs.declared.paths.TheConstants.{LONGEST_COMPONENT}
 use Rattle.directory_tree.specs.Apply.{max_text}
 use Rattle.tree_row.specs.Slots.{Slot, slot_at, text_at}
-use Rattle.tree_row.proofs.Bytes.{length-text}
 use Rattle.row_plan.specs.declared.cell.Cell.{Cell}
 use Rattle.row_plan.specs.Plan.{write, IsLean}
 use Rattle.row_plan.specs.inner.Rows.{Drafts, SameFrom, FreesAny, MovesSlot, packed, IsPacked, with_words, with_text, with_slot, without_slot, with_place, KeepsOthers, SetsSlot, FreesSlot, moved_slot}
@@ -188,7 +187,7 @@ moves row between plan base s parent lengths name replaced is freed reads draft 
     let e : base ≡ 164 * s = omega arith in
     let d : Drafts row plan (with_place between s parent name) =
     subst (λ (n : ℕ). Drafts row plan (with_text (with_words between (164 * s + 2) (slice_index (parent ∷ (length name + 65536 * (n / 65536)) ∷ [])) 2) (164 * s + 4) name)) reads
-        (subst (λ (b : ℕ). Drafts row plan (with_text (with_words between (b + 2) (slice_index (parent ∷ (length name + 65536 * (lengths / 65536)) ∷ [])) 2) (b + 4) name)) e draft) in
+    (subst (λ (b : ℕ). Drafts row plan (with_text (with_words between (b + 2) (slice_index (parent ∷ (length name + 65536 * (lengths / 65536)) ∷ [])) 2) (b + 4) name)) e draft) in
     record {
       lean = d.lean;
       between = between;

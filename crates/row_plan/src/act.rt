@@ -141,7 +141,14 @@ pub(crate) fn plan_move<C: Cells>(
 {
     let replaced = slot_of(moved.replaced);
     let parent = moved.to.directory.slot();
-    move_slot(alloc, cells, moved.entry.slot(), parent, moved.to.component, replaced)
+    move_slot(
+        alloc,
+        cells,
+        moved.entry.slot(),
+        parent,
+        moved.to.component,
+        replaced,
+    )
 }
 
 // The slot of an entry, if there is one.

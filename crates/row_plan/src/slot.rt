@@ -11,7 +11,9 @@ use crate::cell::Cell;
 use crate::draft::{set_text, set_words};
 use names::{LONGEST_COMPONENT, NoMemory};
 use std::alloc::Global;
-use tree_row::{COMPONENT, Cells, FREE, KIND, LENGTHS, PARENT, TEXT, TEXT_FACTOR, cell_place, slot_word};
+use tree_row::{
+    COMPONENT, Cells, FREE, KIND, LENGTHS, PARENT, TEXT, TEXT_FACTOR, cell_place, slot_word,
+};
 
 /// What a slot is to hold.
 #[derive(Drop)]
@@ -111,7 +113,10 @@ pub(crate) fn move_slot<C: Cells>(
         unreachable!();
     };
     let base = cell_place(cells, slot, KIND);
-    let numbers = [parent as u64, name.len() as u64 + TEXT_FACTOR * (lengths / TEXT_FACTOR)];
+    let numbers = [
+        parent as u64,
+        name.len() as u64 + TEXT_FACTOR * (lengths / TEXT_FACTOR),
+    ];
     set_words(cells, &mut plan, base + PARENT, &numbers)?;
     set_text(cells, &mut plan, base + COMPONENT, name)?;
     Ok(plan)

@@ -1,6 +1,5 @@
 -- What plans of acts do.
 use Rattle.std.specs.Prelude.{◌≡◌, ℕ, List}
-use Rattle.directory_tree.specs.Tree.{Tree}
 use Rattle.path_lookup.specs.World.{World}
 use Rattle.change_checks.specs.declared.act.Act.{Act}
 use Rattle.change_checks.specs.Act.{acted, IsTested, NamesOnly}

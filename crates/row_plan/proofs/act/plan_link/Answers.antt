@@ -1,4 +1,4 @@
-use Rattle.std.proofs.Common.{◌≡◌, ◌+◌, ◌*◌, ◌∙◌, ℕ, List, [], length, sym, ap, subst, arith}
+use Rattle.std.proofs.Common.{◌≡◌, ◌+◌, ◌*◌, ◌∙◌, ℕ, [], length, sym, ap, subst, arith}
 use Rattle.std.specs.Prelude.{slice_index}
 use Rattle.std.proofs.lemmas.Result.{IfOk-weaker}
 use Rattle.directory_tree.specs.Spots.{node_at}
@@ -31,4 +31,4 @@ returns-clause-ok g c = IfOk-weaker c.fill_slot.result _ _ (λ plan fills next r
     let sets : SetsSlot row s (new_slot File (node_at (w.named file)) p component) (write row plan.items) =
     subst (λ (own : Slot). SetsSlot row s own (write row plan.items)) (λ i. record { kind = 2; node = number i; parent = c.slot-2.ensures i; component = component; text = [] }) filled.1 in
     (filled.0, enacts_new capacity row w enc File (node_at (w.named file)) w.tree.next s p component (write row plan.items) c.requires.slots.1.within tested.free tested.directory (c.vacant_slot-slot.ensures.free row whole) c.requires.fits (omega arith) sets)
-) c.fill_slot.ensures.ok
+    ) c.fill_slot.ensures.ok

@@ -1,4 +1,4 @@
-use Rattle.std.proofs.Common.{◌≡◌, ◌+◌, ◌<◌, ℕ, List, length, sym, subst}
+use Rattle.std.proofs.Common.{◌≡◌, ◌+◌, length, sym, subst}
 use Rattle.std.proofs.lemmas.Result.{IfOk-weaker}
 use Rattle.change_checks.specs.Act.{kind_of_new}
 use Rattle.tree_row.specs.Slots.{Slot}
@@ -26,4 +26,4 @@ returns-clause-ok g c = IfOk-weaker c.fill_slot.result _ _ (λ plan fills row w 
     let sets : SetsSlot row s (new_slot node w.tree.next p component) (write row plan.items) =
     subst (λ (own : Slot). SetsSlot row s own (write row plan.items)) (λ i. record { kind = c.kind_word.ensures i; node = sym is i; parent = c.slot.ensures i; component = component; text = c.link_text.ensures i }) filled.1 in
     (filled.0, enacts_new capacity row w enc node w.tree.next (w.tree.next + 1) s p component (write row plan.items) c.requires.slots.within tested.free tested.directory (c.vacant_slot-slot.ensures.free row whole) c.requires.fits.0 (fits_node c.args.node.now c.requires.fits.1) sets)
-) c.fill_slot.ensures.ok
+    ) c.fill_slot.ensures.ok

@@ -9,7 +9,6 @@ use Rattle.tree_row.specs.Slots.{slot_at}
 use Rattle.row_look.specs.declared.look.RowEntry.{RowEntry}
 use Rattle.directory_tree.specs.Apply.{max_text}
 use Rattle.row_plan.specs.declared.cell.Cell.{Cell}
-use Rattle.row_plan.specs.Plan.{write}
 use Rattle.row_plan.specs.inner.Rows.{MovesSlot}
 use Rattle.row_plan.proofs.Enacting.{enacts_move}
 use Rattle.row_plan.proofs.Encoding.{in_range_all}
@@ -29,7 +28,7 @@ move_slot-requires-clause-other g c =
     let m = c.args.moved.now in
     let tested = c.requires.tested row w whole enc in
     subst (λ (o : Option ℕ). IfSome o (λ r. r ≢ c.slot.result)) (sym c.slot_of-replaced.ensures)
-        (subst (λ (z : ℕ). IfSome (option_map (λ (e : RowEntry). e.slot) m.replaced) (λ r. r ≢ z)) (sym c.slot.ensures) (other_slot w m.entry.slot m.replaced tested.other))
+    (subst (λ (z : ℕ). IfSome (option_map (λ (e : RowEntry). e.slot) m.replaced) (λ r. r ≢ z)) (sym c.slot.ensures) (other_slot w m.entry.slot m.replaced tested.other))
 
 pub returns-clause-ok : goal.returns-clause-ok
 returns-clause-ok g c = IfOk-weaker c.move_slot.result _ _ (λ plan moves next row w whole enc is.
@@ -46,4 +45,4 @@ returns-clause-ok g c = IfOk-weaker c.move_slot.result _ _ (λ plan moves next r
     same_moves row plan.items name c.slot.ensures c.slot-parent.ensures c.slot_of-replaced.ensures (moves row whole enc.tree.long (subst (λ (z : ℕ). length (slot_at row z).text ≤ max_text) (sym c.slot.ensures) range.1)) in
     let known_r : IfSome m.replaced (λ e. (e.slot < capacity + 1) × ((slot_at row e.slot).kind ≢ 0)) = IfSome_then m.replaced known.3 (λ e k. (k.within, k.filled row w whole enc)) in
     (moved.lean, enacts_move capacity row w enc m.from.directory.slot s p m.from.component.now name m.replaced plan.items known.2.within known.1.within filled_s known_r tested.there tested.onto tested.other tested.empty tested.directory c.requires.fits moved)
-) c.move_slot.ensures.ok
+    ) c.move_slot.ensures.ok

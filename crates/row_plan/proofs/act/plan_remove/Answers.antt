@@ -1,4 +1,4 @@
-use Rattle.std.proofs.Common.{◌≡◌, ◌+◌, ℕ, List, length, sym, subst}
+use Rattle.std.proofs.Common.{ℕ, subst}
 use Rattle.std.proofs.lemmas.Result.{IfOk-weaker}
 use Rattle.row_plan.specs.Plan.{write}
 use Rattle.row_plan.specs.inner.Rows.{FreesSlot}
@@ -14,4 +14,4 @@ returns-clause-ok g c = IfOk-weaker c.clear_slot.result _ _ (λ plan clears next
     let cleared = clears row whole enc.tree.long in
     let frees : FreesSlot row r (write row plan.items) = subst (λ (z : ℕ). FreesSlot row z (write row plan.items)) c.slot.ensures cleared.1 in
     (cleared.0, enacts_removal capacity row w enc c.args.place.now.directory.slot r c.args.place.now.component.now (write row plan.items) known.within (known.filled row w whole enc) tested.there tested.empty frees)
-) c.clear_slot.ensures.ok
+    ) c.clear_slot.ensures.ok

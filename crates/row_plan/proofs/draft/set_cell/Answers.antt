@@ -1,8 +1,8 @@
-use Rattle.std.proofs.Common.{◌≡◌, ℕ, ◌∙◌, List, sym, ap, subst}
+use Rattle.std.proofs.Common.{◌∙◌, List, sym, subst}
 use Rattle.std.specs.Prelude.{slice_set}
 use Rattle.row_plan.specs.declared.cell.Cell.{Cell}
 use Rattle.row_plan.specs.inner.Rows.{Drafts}
-use Rattle.row_plan.proofs.Drafting.{stays, grows}
+use Rattle.row_plan.proofs.Drafting.{grows}
 use Rattle.row_plan.proofs.draft.set_cell.Goals as goal
 
 pub returns-in-Ok-clause-ok : goal.returns-in-Ok-clause-ok

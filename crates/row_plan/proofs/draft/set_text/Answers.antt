@@ -1,6 +1,6 @@
-use Rattle.std.proofs.Common.{◌≡◌, ℕ, ◌+◌, ◌/◌, ◌<◌, ◌∙◌, List, length, sym, ap, subst, arith}
+use Rattle.std.proofs.Common.{◌≡◌, ℕ, ◌+◌, ◌/◌, ◌<◌, ◌∙◌, length, sym, subst, arith}
 use mathlib.Core.Logic.{inr}
-use Rattle.std.specs.Prelude.{slice_index, slice_set}
+use Rattle.std.specs.Prelude.{slice_set}
 use Rattle.row_plan.specs.inner.Rows.{Drafts, packed, with_words}
 use Rattle.row_plan.proofs.Packing.{packs}
 use Rattle.row_plan.proofs.Filling.{outside, drafts_more}

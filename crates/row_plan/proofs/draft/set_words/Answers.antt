@@ -1,6 +1,6 @@
-use Rattle.std.proofs.Common.{◌≡◌, ℕ, ◌+◌, ◌<◌, ◌∙◌, List, length, sym, ap, subst, arith}
+use Rattle.std.proofs.Common.{◌≡◌, ℕ, ◌+◌, ◌<◌, ◌∙◌, length, sym, subst, arith}
 use mathlib.Core.Logic.{inr}
-use Rattle.std.specs.Prelude.{slice_index, slice_set}
+use Rattle.std.specs.Prelude.{slice_index}
 use Rattle.row_plan.specs.inner.Rows.{Drafts, with_words}
 use Rattle.row_plan.proofs.Filling.{outside, drafts_more}
 use Rattle.row_plan.proofs.draft.set_words.Goals as goal

@@ -1,12 +1,11 @@
-use Rattle.std.proofs.Common.{◌≡◌, ℕ, ◌+◌, ◌*◌, ◌/◌, ◌<◌, ◌≤◌, ◌∙◌, List, [], ◌∷◌, length, sym, ap, subst, refl, arith}
-use mathlib.Core.Logic.{inl, inr}
+use Rattle.std.proofs.Common.{◌+◌, ◌*◌, ◌/◌, List, [], ◌∷◌, length, sym, subst, refl, arith}
+use mathlib.Core.Logic.{inr}
 use Rattle.std.specs.Prelude.{slice_index}
 use Rattle.row_plan.specs.declared.cell.Cell.{Cell}
 use Rattle.row_plan.specs.inner.Rows.{Drafts, packed, with_words, with_text}
 use Rattle.row_plan.specs.inner.Entries.{slot_of}
 use Rattle.row_plan.proofs.Drafting.{begins}
 use Rattle.row_plan.proofs.Settling.{run_untouched, same_after, fills}
-use Rattle.row_plan.proofs.Filling.{length-with_words}
 use Rattle.row_plan.proofs.slot.fill_slot.Goals as goal
 
 pub returns-clause-ok : goal.returns-clause-ok
@@ -27,5 +26,5 @@ returns-clause-ok g c row whole long =
     let two = c.in_ok-set_text.ensures.ok row numbered first (omega arith) one (run_untouched row base numbers 4 (base + 4) ((length own.component + 7) / 8) (inr (omega arith))) in
     let three = c.in_ok-set_text-2.ensures.ok row named second (omega arith) two
     (same_after row numbered (base + 4) (packed own.component) ((length own.component + 7) / 8) (base + 36) ((length own.text + 7) / 8)
-        (run_untouched row base numbers 4 (base + 36) ((length own.text + 7) / 8) (inr (omega arith))) (inr (omega arith))) in
+    (run_untouched row base numbers 4 (base + 36) ((length own.text + 7) / 8) (inr (omega arith))) (inr (omega arith))) in
     fills row c.set_text-2.new.plan.items base c.args.slot own place three (omega arith) short short_text c.in_ok-set_text.ensures.packed c.in_ok-set_text-2.ensures.packed
