@@ -1,0 +1,5 @@
+use Rattle.row_rule.proofs.Writing.{agrees_each}
+use Rattle.row_rule.proofs.laws.cells.agreement_is_of_each_read.Goals as goal
+
+pub returns : goal.returns
+returns c = agrees_each

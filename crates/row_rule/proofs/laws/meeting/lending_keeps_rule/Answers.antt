@@ -1,0 +1,5 @@
+use Rattle.row_rule.proofs.Meetings.{lends}
+use Rattle.row_rule.proofs.laws.meeting.lending_keeps_rule.Goals as goal
+
+pub returns : goal.returns
+returns g c = λ capacity. lends (g.E.Encoding.encodes capacity)

@@ -1,0 +1,5 @@
+use Rattle.row_rule.proofs.Rule.{keeper_fixes}
+use Rattle.row_rule.proofs.laws.row.keeper_fixes_row.Goals as goal
+
+pub returns : goal.returns
+returns g c = λ capacity. keeper_fixes (g.E.Encoding.encodes capacity)

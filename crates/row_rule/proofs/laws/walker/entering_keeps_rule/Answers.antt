@@ -1,0 +1,5 @@
+use Rattle.row_rule.proofs.WalkerSteps.{enters}
+use Rattle.row_rule.proofs.laws.walker.entering_keeps_rule.Goals as goal
+
+pub returns : goal.returns
+returns g c = λ capacity. enters (g.E.Encoding.encodes capacity)
