@@ -5,17 +5,10 @@ use Rattle.std.specs.List.{All, AllPairs}
 use Rattle.std.proofs.lemmas.List.{set-get_or}
 use Rattle.std.proofs.lemmas.List.Elements.{All-append}
 use Rattle.std.proofs.lemmas.List.Quantifiers.{all_pairs_push}
-use Rattle.row_plan.specs.declared.cell.Cell.{Cell}
-use Rattle.row_plan.specs.Plan.{write}
+use Rattle.row_rule.specs.declared.cell.Cell.{Cell}
+use Rattle.row_rule.specs.Row.{write}
+use Rattle.row_rule.proofs.Writing.{write_append}
 use Rattle.row_plan.specs.inner.Rows.{Drafts}
-
-pub write-append : (row : List ℕ) (xs : List Cell) (cell : Cell) → write row (xs ++ cell ∷ []) ≡ slice_set (write row xs) cell.place cell.word
-write-append row [] cell = refl
-write-append row (x ∷ xs) cell = write-append (slice_set row x.place x.word) xs cell
-
-pub length-write : (row : List ℕ) (xs : List Cell) → length (write row xs) ≡ length row
-length-write row [] = refl
-length-write row (x ∷ xs) = length-write (slice_set row x.place x.word) xs ∙ length-set row x.place x.word
 
 -- a word that is set stays the row's: no plan makes a change there
 pub stays : (row : List ℕ) (plan : List Cell) (after : List ℕ) (place word : ℕ) → place < length row → Drafts row plan after → slice_index after place ≡ slice_index row place → slice_index row place ≡ word
@@ -47,7 +40,7 @@ grows row plan after place word within draft same other =
     let cell : Cell = record { place = place; word = word } in
     let lean = draft.lean in
     record {
-      gives = write-append row plan cell ∙ ap (λ (z : List ℕ). slice_set z place word) draft.gives;
+      gives = write_append row plan (cell ∷ []) ∙ ap (λ (z : List ℕ). slice_set z place word) draft.gives;
       lean = record {
         within = All-append (λ (z : Cell). z.place < length row) plan (cell ∷ []) lean.within (λ k d l. one (λ (z : Cell). z.place < length row) cell within k d l);
         once = all_pairs_push (λ (z later : Cell). z.place ≢ later.place) plan cell lean.once (λ k d l e. lean.changes k d l

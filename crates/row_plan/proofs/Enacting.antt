@@ -21,8 +21,8 @@ use Rattle.change_checks.specs.declared.act.NewNode.{NewNode}
 use Rattle.change_checks.specs.declared.act.NewNode.TheVariants as new
 use Rattle.change_checks.specs.Act.{kind_of_new, FitsNode}
 use Rattle.row_look.specs.declared.look.RowEntry.{RowEntry}
-use Rattle.row_plan.specs.declared.cell.Cell.{Cell}
-use Rattle.row_plan.specs.Plan.{write}
+use Rattle.row_rule.specs.declared.cell.Cell.{Cell}
+use Rattle.row_rule.specs.Row.{write}
 use Rattle.row_plan.specs.inner.Rows.{SetsSlot, FreesSlot, MovesSlot, moved_slot, text_in, new_slot}
 use Rattle.row_plan.proofs.Settling.{other_stays}
 use Rattle.row_plan.proofs.Making.{same_entry}

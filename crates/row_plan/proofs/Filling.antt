@@ -8,7 +8,7 @@ use Rattle.names.specs.declared.paths.TheConstants.{LONGEST_COMPONENT}
 use Rattle.directory_tree.specs.Apply.{max_text}
 use Rattle.tree_row.specs.Slots.{slot_at, text_at}
 use Rattle.tree_row.proofs.Bytes.{length-text}
-use Rattle.row_plan.specs.declared.cell.Cell.{Cell}
+use Rattle.row_rule.specs.declared.cell.Cell.{Cell}
 use Rattle.row_plan.specs.inner.Rows.{Drafts, with_words}
 
 pub length-with_words : (row : List ℕ) (base : ℕ) (word : ℕ → ℕ) (n : ℕ) → length (with_words row base word n) ≡ length row

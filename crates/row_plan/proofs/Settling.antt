@@ -5,8 +5,9 @@ use mathlib.Core.Logic.{◌⊎◌, inl, inr}
 use Rattle.names.specs.declared.paths.TheConstants.{LONGEST_COMPONENT}
 use Rattle.directory_tree.specs.Apply.{max_text}
 use Rattle.tree_row.specs.Slots.{Slot, slot_at, text_at}
-use Rattle.row_plan.specs.declared.cell.Cell.{Cell}
-use Rattle.row_plan.specs.Plan.{write, IsLean}
+use Rattle.row_rule.specs.declared.cell.Cell.{Cell}
+use Rattle.row_rule.specs.Row.{write}
+use Rattle.row_plan.specs.Plan.{IsLean}
 use Rattle.row_plan.specs.inner.Rows.{Drafts, SameFrom, FreesAny, MovesSlot, packed, IsPacked, with_words, with_text, with_slot, without_slot, with_place, KeepsOthers, SetsSlot, FreesSlot, moved_slot}
 use Rattle.row_plan.proofs.Packing.{text_packed}
 use Rattle.row_plan.proofs.Filling.{length-with_words, outside, inside, text_stays, slot_stays}

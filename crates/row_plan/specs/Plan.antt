@@ -10,12 +10,8 @@ use Rattle.directory_tree.specs.Apply.{Changed, apply, has_room}
 use Rattle.path_lookup.specs.World.{World}
 use Rattle.tree_row.specs.Rows.{Encodes}
 use Rattle.tree_row.specs.Worlds.{EncodesWorld}
-use Rattle.row_plan.specs.declared.cell.Cell.{Cell}
-
--- the row after these cells have been set, in order
-abbrev pub write : List ℕ → List Cell → List ℕ
-write row [] = row
-write row (cell ∷ cells) = write (slice_set row cell.place cell.word) cells
+use Rattle.row_rule.specs.declared.cell.Cell.{Cell}
+use Rattle.row_rule.specs.Row.{write}
 
 -- No cell too many: each place is one of the row's, none is set twice, and each word is another than stood there.
 pub record IsLean (row : List ℕ) (plan : List Cell) : Type 0 where

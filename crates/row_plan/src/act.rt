@@ -11,11 +11,11 @@ ghost use Rattle.tree_row.specs.Worlds.{EncodesWorld};
 ghost use Rattle.row_plan.specs.inner.Rows.{code_of, text_in};
 ghost use Rattle.row_plan.specs.inner.Acts.{IsTreeRead, NamesSlots, PassedTests, PlansAct};
 
-use crate::cell::Cell;
 use crate::slot::{NewEntry, clear_slot, fill_slot, move_slot};
 use change_checks::{Act, Move, NewNode, Place};
 use names::NoMemory;
 use row_look::RowEntry;
+use row_rule::Cell;
 use std::alloc::Global;
 use tree_row::{Cells, DIRECTORY, FILE, LINK, NODE, free_slot, slot_word, slots_are_counted};
 

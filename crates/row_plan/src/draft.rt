@@ -3,9 +3,9 @@ ghost use Rattle.std.specs.Prelude.{◌≡◌, ◌<◌, ◌≤◌, ◌+◌, ◌/
 ghost use Rattle.tree_row.specs.Rows.{row_length};
 ghost use Rattle.row_plan.specs.inner.Rows.{Drafts, SameFrom, IsRead, with_words, with_text, IsPacked};
 
-use crate::cell::Cell;
 use crate::pack::packed_word;
 use names::NoMemory;
+use row_rule::Cell;
 use tree_row::Cells;
 
 /// Plans a cell, where another word stands there.

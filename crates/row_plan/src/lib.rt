@@ -5,11 +5,9 @@
 #![tactic(auto)]
 
 mod act;
-mod cell;
 mod draft;
 mod pack;
 mod planning;
 mod slot;
 
-pub use cell::Cell;
 pub use planning::{next_after, plan};

@@ -3,13 +3,14 @@ ghost use Rattle.std.specs.Prelude.{◌≡◌, ◌≢◌, ◌<◌, ◌≤◌, �
 ghost use Rattle.directory_tree.specs.Apply.{max_text};
 ghost use Rattle.tree_row.specs.Slots.{slot_at};
 ghost use Rattle.tree_row.specs.Rows.{row_length};
-ghost use Rattle.row_plan.specs.Plan.{write, IsLean};
+ghost use Rattle.row_rule.specs.Row.{write};
+ghost use Rattle.row_plan.specs.Plan.{IsLean};
 ghost use Rattle.row_plan.specs.inner.Rows.{IsRead, SetsSlot, FreesSlot, FreesAny, MovesSlot};
 ghost use Rattle.row_plan.specs.inner.Entries.{slot_of};
 
-use crate::cell::Cell;
 use crate::draft::{set_text, set_words};
 use names::{LONGEST_COMPONENT, NoMemory};
+use row_rule::Cell;
 use std::alloc::Global;
 use tree_row::{
     COMPONENT, Cells, FREE, KIND, LENGTHS, PARENT, TEXT, TEXT_FACTOR, cell_place, slot_word,

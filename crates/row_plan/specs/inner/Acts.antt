@@ -6,8 +6,9 @@ use Rattle.change_checks.specs.Act.{acted, IsTested, NamesOnly}
 use Rattle.tree_row.specs.Rows.{Encodes}
 use Rattle.tree_row.specs.Worlds.{EncodesWorld, Knows}
 use Rattle.row_look.specs.declared.look.RowEntry.{RowEntry}
-use Rattle.row_plan.specs.declared.cell.Cell.{Cell}
-use Rattle.row_plan.specs.Plan.{write, IsLean}
+use Rattle.row_rule.specs.declared.cell.Cell.{Cell}
+use Rattle.row_rule.specs.Row.{write}
+use Rattle.row_plan.specs.Plan.{IsLean}
 
 -- every cell is known, and the row that is read encodes a tree
 abbrev pub IsTreeRead : ℕ → (List ℕ → Type 0) → Type 0

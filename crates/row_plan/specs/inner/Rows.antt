@@ -4,8 +4,9 @@ use Rattle.std.specs.Int.{byte_at, from_le_bytes, w64}
 use Rattle.directory_tree.specs.declared.node.NodeKind.{NodeKind}
 use Rattle.directory_tree.specs.declared.node.NodeKind.TheVariants.{Directory, File, Link}
 use Rattle.tree_row.specs.Slots.{Slot, slot_at}
-use Rattle.row_plan.specs.declared.cell.Cell.{Cell}
-use Rattle.row_plan.specs.Plan.{write, IsLean}
+use Rattle.row_rule.specs.declared.cell.Cell.{Cell}
+use Rattle.row_rule.specs.Row.{write}
+use Rattle.row_plan.specs.Plan.{IsLean}
 
 -- what a plan makes of a row, with no cell too many
 pub record Drafts (row : List ℕ) (plan : List Cell) (after : List ℕ) : Type 0 where

@@ -5,7 +5,7 @@ use Rattle.directory_tree.specs.Spots.{node_at}
 use Rattle.directory_tree.specs.declared.node.NodeKind.TheVariants.{File}
 use Rattle.tree_row.specs.Slots.{Slot}
 use Rattle.tree_row.specs.Rows.{row_length}
-use Rattle.row_plan.specs.Plan.{write}
+use Rattle.row_rule.specs.Row.{write}
 use Rattle.row_plan.specs.inner.Rows.{SetsSlot, new_slot}
 use Rattle.row_plan.proofs.Enacting.{enacts_new, node_is}
 use Rattle.row_plan.proofs.act.plan_link.Goals as goal

@@ -3,7 +3,7 @@ use Rattle.std.proofs.lemmas.Result.{IfOk-weaker}
 use Rattle.change_checks.specs.Act.{kind_of_new}
 use Rattle.tree_row.specs.Slots.{Slot}
 use Rattle.tree_row.specs.Rows.{row_length}
-use Rattle.row_plan.specs.Plan.{write}
+use Rattle.row_rule.specs.Row.{write}
 use Rattle.row_plan.specs.inner.Rows.{SetsSlot, new_slot}
 use Rattle.row_plan.proofs.Enacting.{enacts_new, fits_node}
 use Rattle.row_plan.proofs.act.plan_make.Goals as goal

@@ -8,7 +8,7 @@ use Rattle.path_lookup.specs.World.{World}
 use Rattle.tree_row.specs.Slots.{slot_at}
 use Rattle.row_look.specs.declared.look.RowEntry.{RowEntry}
 use Rattle.directory_tree.specs.Apply.{max_text}
-use Rattle.row_plan.specs.declared.cell.Cell.{Cell}
+use Rattle.row_rule.specs.declared.cell.Cell.{Cell}
 use Rattle.row_plan.specs.inner.Rows.{MovesSlot}
 use Rattle.row_plan.proofs.Enacting.{enacts_move}
 use Rattle.row_plan.proofs.Encoding.{in_range_all}

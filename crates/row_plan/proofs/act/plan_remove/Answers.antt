@@ -1,6 +1,6 @@
 use Rattle.std.proofs.Common.{ℕ, subst}
 use Rattle.std.proofs.lemmas.Result.{IfOk-weaker}
-use Rattle.row_plan.specs.Plan.{write}
+use Rattle.row_rule.specs.Row.{write}
 use Rattle.row_plan.specs.inner.Rows.{FreesSlot}
 use Rattle.row_plan.proofs.Enacting.{enacts_removal}
 use Rattle.row_plan.proofs.act.plan_remove.Goals as goal

@@ -1,6 +1,6 @@
 use Rattle.std.proofs.Common.{◌∙◌, List, sym, subst}
 use Rattle.std.specs.Prelude.{slice_set}
-use Rattle.row_plan.specs.declared.cell.Cell.{Cell}
+use Rattle.row_rule.specs.declared.cell.Cell.{Cell}
 use Rattle.row_plan.specs.inner.Rows.{Drafts}
 use Rattle.row_plan.proofs.Drafting.{grows}
 use Rattle.row_plan.proofs.draft.set_cell.Goals as goal

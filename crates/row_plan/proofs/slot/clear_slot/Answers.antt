@@ -1,5 +1,5 @@
 use Rattle.std.proofs.Common.{List, sym, subst, refl, arith}
-use Rattle.row_plan.specs.declared.cell.Cell.{Cell}
+use Rattle.row_rule.specs.declared.cell.Cell.{Cell}
 use Rattle.row_plan.specs.inner.Rows.{Drafts}
 use Rattle.row_plan.proofs.Drafting.{begins}
 use Rattle.row_plan.proofs.Settling.{frees}

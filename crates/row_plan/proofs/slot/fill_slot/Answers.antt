@@ -1,7 +1,7 @@
 use Rattle.std.proofs.Common.{◌+◌, ◌*◌, ◌/◌, List, [], ◌∷◌, length, sym, subst, refl, arith}
 use mathlib.Core.Logic.{inr}
 use Rattle.std.specs.Prelude.{slice_index}
-use Rattle.row_plan.specs.declared.cell.Cell.{Cell}
+use Rattle.row_rule.specs.declared.cell.Cell.{Cell}
 use Rattle.row_plan.specs.inner.Rows.{Drafts, packed, with_words, with_text}
 use Rattle.row_plan.specs.inner.Entries.{slot_of}
 use Rattle.row_plan.proofs.Drafting.{begins}

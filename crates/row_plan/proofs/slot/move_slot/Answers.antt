@@ -4,7 +4,7 @@ use Rattle.std.specs.Prelude.{slice_index}
 use Rattle.directory_tree.specs.Apply.{max_text}
 use Rattle.tree_row.specs.Slots.{slot_at}
 use Rattle.tree_row.proofs.Bytes.{length-text}
-use Rattle.row_plan.specs.Plan.{write}
+use Rattle.row_rule.specs.Row.{write}
 use Rattle.row_plan.specs.inner.Rows.{Drafts, with_words}
 use Rattle.row_plan.proofs.Settling.{same_after, replaced_stays, long_between, moves}
 use Rattle.row_plan.proofs.slot.move_slot.Goals as goal
