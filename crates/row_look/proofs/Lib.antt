@@ -1,1 +1,4 @@
 pub mod SeenEntries
+pub mod Knowing
+pub mod Deciding
+pub mod Taking

@@ -3,6 +3,16 @@
 //! To be believed are about 30 lines of definitions in `specs/`.
 #![tactic(auto)]
 
+mod known;
 mod look;
+mod part;
+mod reached;
+mod reading;
+mod stop;
 
+pub use known::KnownWords;
 pub use look::{RowEntry, RowLook};
+pub use part::{name_known, name_place_known, walk_known};
+pub use reached::{Reached, reach};
+pub use reading::{Reading, name_and_read, walk_and_read};
+pub use stop::Stop;

@@ -1,5 +1,5 @@
 //! A row in memory.
-ghost use Rattle.std.specs.Prelude.{◌≡◌, ◌<◌, ◌≤◌, IfOk, slice_set};
+ghost use Rattle.std.specs.Prelude.{◌≡◌, ◌<◌, ◌≤◌, IfOk, slice_index, slice_set};
 ghost use Rattle.tree_row.specs.Rows.{row_length};
 ghost use Rattle.tree_row.specs.OpeningRow.{opening_row};
 
@@ -38,6 +38,14 @@ impl KnownRow {
         cells[0] = 1;
         cells[1] = 1;
         Ok(KnownRow { capacity, cells })
+    }
+
+    /// The word at a place.
+    pub fn cell(&self, place: usize) -> u64
+        requires { place < row_length self.now.0 }
+        ensures { result ≡ slice_index self.now.1 place }
+    {
+        self.cells[place]
     }
 
     /// Sets the word at a place.

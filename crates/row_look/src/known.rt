@@ -1,0 +1,73 @@
+//! What is known of a row.
+ghost use Rattle.std.specs.Prelude.{◌≡◌, ◌≤◌, ◌+◌, [], length, OnOk, OnErr};
+ghost use Rattle.row_look.specs.Known.{known_at, Learns};
+
+use std::alloc::{AllocError, Global};
+use std::collections::BTreeMap;
+use std::marker::Model;
+use tree_row::MOST_ENTRIES;
+
+/// Words of a row that are known, by their places.
+///
+/// It is seen as the pair of the row's capacity and of what is known, each word with its place.
+#[derive(Drop)]
+pub struct KnownWords {
+    capacity: usize,
+    words: BTreeMap<usize, u64>,
+}
+
+impl Model for KnownWords {
+    ghost use Rattle.std.specs.Prelude.{◌≤◌, ℕ, List};
+
+    ghost Value = { ℕ × List (ℕ × ℕ) };
+
+    ghost view = { λ k. (k.capacity, k.words.entries) };
+
+    ghost invariant = { λ k. k.capacity ≤ 16384 };
+}
+
+impl KnownWords {
+    /// Of a row with room for so many entries nothing is known.
+    pub fn new(alloc: Global, capacity: usize) -> KnownWords
+        requires { capacity ≤ MOST_ENTRIES }
+        ensures { result ≡ (capacity, []) }
+    {
+        KnownWords {
+            capacity,
+            words: BTreeMap::new(alloc),
+        }
+    }
+
+    /// The most entries of the row.
+    pub fn capacity(&self) -> usize
+        ensures capacity { result ≡ self.now.0 }
+        ensures small { result ≤ MOST_ENTRIES }
+    {
+        self.capacity
+    }
+
+    /// How many words are known.
+    pub fn count(&self) -> usize
+        ensures { result ≡ length self.now.1 }
+    {
+        self.words.len()
+    }
+
+    /// The word at a place, if it is known.
+    pub fn word(&self, place: usize) -> Option<u64>
+        ensures { result ≡ known_at self.now.1 place }
+    {
+        self.words.get(&place).copied()
+    }
+
+    /// From now on the word at a place is known. Where memory is refused, nothing changes.
+    pub fn learn(&mut self, place: usize, word: u64) -> Result<(), AllocError>
+        ensures capacity { self.new.0 ≡ self.old.0 }
+        ensures learns { OnOk result (Learns self.old.1 self.new.1 place word) }
+        ensures count { OnOk result (length self.new.1 ≤ length self.old.1 + 1) }
+        ensures refused { OnErr result (self.new ≡ self.old) }
+    {
+        self.words.insert(place, word)?;
+        Ok(())
+    }
+}
