@@ -48,3 +48,10 @@ Refuses capacity w change errno = ((errno ≡ ENOMEM) × IsOk (outcome_in capaci
 -- every cell is known: this is the row that is read, and it encodes a tree with this next number
 abbrev pub Plannable : ℕ → (List ℕ → Type 0) → ℕ → Type 0
 Plannable capacity whole next = (row : List ℕ) × (w : World) × whole row × EncodesWorld capacity row w × (w.tree.next ≡ next)
+
+-- the row encodes what the change made of the tree, with this next number
+pub record Changes (capacity : ℕ) (row : List ℕ) (w : World) (change : Change) (next : ℕ) : Type 0 where
+  pub after : World
+  pub made : outcome_in capacity w change ≡ Ok after.tree
+  pub next_is : after.tree.next ≡ next
+  pub encodes : EncodesWorld capacity row after

@@ -6,8 +6,10 @@
 
 mod act;
 mod draft;
+mod memory;
 mod pack;
 mod planning;
 mod slot;
 
+pub use memory::{change_row, set_cells};
 pub use planning::{next_after, plan};
