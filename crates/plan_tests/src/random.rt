@@ -1,0 +1,136 @@
+//! Changes that are drawn at random.
+ghost use Rattle.std.specs.Prelude.{◌≤◌, ◌<◌, length};
+ghost use Rattle.tree_row.specs.declared.TheConstants.{MOST_ENTRIES};
+
+use crate::lines::path;
+use crate::twins::{apply, expect_same_paths, new_twins};
+use directory_tree::{Change, LinkBytes};
+use std::alloc::Global;
+use std::process::Abort;
+use std::test::Fail;
+
+// What changes are drawn of, and of which both trees have to tell the same after each. Components of seven, eight and nine
+// bytes end in, at and behind the end of a cell.
+const PATHS: [&str; 36] = [
+    "/a",
+    "/b",
+    "/c",
+    "/l",
+    "/seven77",
+    "/eight888",
+    "/nine99999",
+    "/a/a",
+    "/a/b",
+    "/a/l",
+    "/a/eight888",
+    "/b/a",
+    "/b/b",
+    "/b/seven77",
+    "/b/nine99999",
+    "/c/a",
+    "/c/l",
+    "/l/a",
+    "/l/b",
+    "/l/l",
+    "/a/a/a",
+    "/a/a/b",
+    "/a/b/a",
+    "/a/b/nine99999",
+    "/b/a/a",
+    "/b/a/l/b",
+    "/a/b/a/b",
+    "/seven77/a",
+    "/eight888/b",
+    "/nine99999/a/eight888",
+    "/a/../b",
+    "/l/../c",
+    "/b/./a/",
+    "/a/b/../../c/b",
+    "/a/.",
+    "/",
+];
+
+// The texts of new links.
+const TEXTS: [&str; 8] = [
+    "a",
+    "/b",
+    "../a",
+    "l",
+    "/a/b/..",
+    "a/eight888",
+    "../b/nine99999/",
+    "/a/a/./../b/../a/nine99999/../../l/eight888/seven77",
+];
+
+#[derive(Drop)]
+struct Random {
+    state: u64,
+}
+
+impl Random {
+    // A number below this one (Knuth's constants of a linear congruential generator).
+    fn below(&mut self, n: usize) -> usize
+        requires { 0 < n }
+        ensures { result < n }
+    {
+        self.state = self
+            .state
+            .wrapping_mul(6364136223846793005)
+            .wrapping_add(1442695040888963407);
+        (self.state >> 33) as usize % n
+    }
+
+    fn path(&mut self) -> Result<names::Path<'static>, Fail> {
+        path(PATHS[self.below(PATHS.len())].as_bytes())
+    }
+
+    fn text(&mut self) -> LinkBytes<'static> {
+        LinkBytes::new(TEXTS[self.below(TEXTS.len())].as_bytes())
+    }
+
+    fn change(&mut self) -> Result<Change<'static>, Fail> {
+        let made = match self.below(9) {
+            0 | 1 => Change::Mkdir(self.path()?),
+            2 => Change::Create(self.path()?),
+            3 => Change::Symlink(self.text(), self.path()?),
+            4 => Change::Link(self.path()?, self.path()?),
+            5 => Change::Unlink(self.path()?),
+            6 => Change::Rmdir(self.path()?),
+            _ => Change::Rename(self.path()?, self.path()?),
+        };
+        Ok(made)
+    }
+}
+
+// So many changes of a tree that has room for so many entries.
+fn change_at_random(
+    rt: &impl Abort,
+    alloc: Global,
+    capacity: usize,
+    changes: usize,
+) -> Result<(), Fail>
+    requires { capacity ≤ MOST_ENTRIES }
+{
+    let mut twins = new_twins(alloc, capacity)?;
+    let mut random = Random {
+        state: capacity as u64,
+    };
+    for _ in 0..changes {
+        let _ = apply(rt, alloc, &mut twins, &random.change()?);
+        expect_same_paths(rt, &mut twins, &PATHS)?;
+    }
+    Ok(())
+}
+
+#[test]
+fn small_trees_change_at_random(rt: HostRuntime) -> Result<(), Fail> {
+    for capacity in 0..12 {
+        change_at_random(&rt, rt.alloc(), capacity, 150)?;
+    }
+    Ok(())
+}
+
+#[test]
+fn a_larger_tree_changes_at_random(rt: HostRuntime) -> Result<(), Fail> {
+    change_at_random(&rt, rt.alloc(), 40, 1500)
+}
