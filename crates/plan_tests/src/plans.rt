@@ -1,6 +1,5 @@
 //! The cells of plans, one by one.
 ghost use Rattle.std.specs.Prelude.{◌≡◌, ◌≤◌};
-ghost use Rattle.tree_row.specs.declared.TheConstants.{MOST_ENTRIES};
 ghost use Rattle.row_plan.specs.Plan.{Plannable};
 
 use crate::lines::{change, path};
@@ -12,6 +11,7 @@ use row_rule::Cell;
 use std::alloc::Global;
 use std::process::Abort;
 use std::test::Fail;
+use tree_row::MOST_ENTRIES;
 
 // A change, and its plan, or by what number it is refused.
 type Row<'a> = (&'a str, Result<&'a [(usize, u64)], Errno>);
@@ -34,10 +34,17 @@ fn plan_again(alloc: Global, twins: &mut Twins, made: &Change<'_>) -> Result<Vec
     requires { Plannable twins.old.look.cells.0 (λ row. row ≡ twins.old.look.cells.1) twins.old.next }
     ensures { Plannable twins.new.look.cells.0 (λ row. row ≡ twins.new.look.cells.1) twins.new.next }
 {
-    match plan(alloc, &mut twins.look, twins.next, made) {
-        Err(Errno::ENOMEM) => plan(alloc, &mut twins.look, twins.next, made),
+    match plan_once(alloc, twins, made) {
+        Err(Errno::ENOMEM) => plan_once(alloc, twins, made),
         answer => answer,
     }
+}
+
+fn plan_once(alloc: Global, twins: &mut Twins, made: &Change<'_>) -> Result<Vec<Cell>, Errno>
+    requires { Plannable twins.old.look.cells.0 (λ row. row ≡ twins.old.look.cells.1) twins.old.next }
+    ensures { Plannable twins.new.look.cells.0 (λ row. row ≡ twins.new.look.cells.1) twins.new.next }
+{
+    plan(alloc, &mut twins.look, twins.next, made)
 }
 
 fn is_plan(planned: &Result<Vec<Cell>, Errno>, wanted: &Result<&[(usize, u64)], Errno>) -> bool {

@@ -1,6 +1,5 @@
 //! Changes that are drawn at random.
 ghost use Rattle.std.specs.Prelude.{◌≤◌, ◌<◌, length};
-ghost use Rattle.tree_row.specs.declared.TheConstants.{MOST_ENTRIES};
 
 use crate::lines::path;
 use crate::twins::{apply, expect_same_paths, new_twins};
@@ -8,6 +7,7 @@ use directory_tree::{Change, LinkBytes};
 use std::alloc::Global;
 use std::process::Abort;
 use std::test::Fail;
+use tree_row::MOST_ENTRIES;
 
 // What changes are drawn of, and of which both trees have to tell the same after each. Components of seven, eight and nine
 // bytes end in, at and behind the end of a cell.

@@ -1,6 +1,5 @@
 //! Changes of both trees, one after another.
 ghost use Rattle.std.specs.Prelude.{◌≤◌};
-ghost use Rattle.tree_row.specs.declared.TheConstants.{MOST_ENTRIES};
 
 use crate::lines::change;
 use crate::twins::{apply, expect_same_paths, new_twins};
@@ -8,6 +7,7 @@ use names::Errno;
 use std::alloc::Global;
 use std::process::Abort;
 use std::test::Fail;
+use tree_row::MOST_ENTRIES;
 
 // Of these paths both trees have to tell the same after each change.
 const PATHS: [&str; 16] = [

@@ -1,5 +1,6 @@
 //! One tree twice: in a row in memory, and in plain memory.
 ghost use Rattle.std.specs.Prelude.{◌≡◌, ◌≤◌, IfOk};
+ghost use Rattle.tree_row.specs.OpeningRow.{opening_row};
 ghost use Rattle.row_plan.specs.Plan.{Plannable};
 
 use crate::lines::path;
@@ -20,34 +21,42 @@ pub(crate) struct Twins {
     /// The number of the next node.
     pub next: u64,
     pub plain: PlainTree,
-    // So many changes were made.
-    version: u64,
 }
 
-// Where memory is refused once, as `rt try --test --fail-alloc N` does it, it is asked for again.
 pub(crate) fn new_twins(alloc: Global, capacity: usize) -> Result<Twins, Fail>
     requires { capacity ≤ MOST_ENTRIES }
     ensures { IfOk result (λ twins. Plannable twins.look.cells.0 (λ row. row ≡ twins.look.cells.1) twins.next) }
 {
     opening_row_encodes_root();
     root_alone_is_well_formed();
-    let row = match KnownRow::new(alloc, capacity) {
-        Ok(row) => row,
-        Err(_) => KnownRow::new(alloc, capacity)?,
-    };
-    let plain = match PlainTree::new(alloc, capacity) {
-        Ok(tree) => tree,
-        Err(_) => PlainTree::new(alloc, capacity).ok().ok_or("memory")?,
-    };
+    let plain = new_plain(alloc, capacity)?;
+    let row = new_row(alloc, capacity)?;
     Ok(Twins {
         look: RowLook::new(row),
         next: 2,
         plain,
-        version: 0,
     })
 }
 
-// Makes a change in both trees, which have to answer alike.
+// Where memory is refused once, as `rt try --test --fail-alloc N` does it, it is asked for again.
+fn new_row(alloc: Global, capacity: usize) -> Result<KnownRow, Fail>
+    requires { capacity ≤ MOST_ENTRIES }
+    ensures { IfOk result (λ row. row ≡ (capacity, opening_row capacity)) }
+{
+    match KnownRow::new(alloc, capacity) {
+        Ok(row) => Ok(row),
+        Err(_) => Ok(KnownRow::new(alloc, capacity)?),
+    }
+}
+
+fn new_plain(alloc: Global, capacity: usize) -> Result<PlainTree, Fail> {
+    match PlainTree::new(alloc, capacity) {
+        Ok(tree) => Ok(tree),
+        Err(_) => Ok(PlainTree::new(alloc, capacity).ok().ok_or("memory")?),
+    }
+}
+
+// Makes a change in both trees, which have to answer alike: by what number it is refused, or the version that it makes.
 pub(crate) fn apply(
     rt: &impl Abort,
     alloc: Global,
@@ -57,21 +66,21 @@ pub(crate) fn apply(
     requires { Plannable twins.old.look.cells.0 (λ row. row ≡ twins.old.look.cells.1) twins.old.next }
     ensures { Plannable twins.new.look.cells.0 (λ row. row ≡ twins.new.look.cells.1) twins.new.next }
 {
-    let planned = apply_row(rt, alloc, twins, made);
-    let applied = match twins.plain.apply(made) {
-        Err(Errno::ENOMEM) => twins.plain.apply(made),
-        answer => answer,
-    };
-    assert_eq!(rt; planned, applied.err());
-    if planned.is_none() {
-        twins.version = twins.plain.version();
-    }
-    assert_eq!(rt; twins.plain.version(), twins.version);
-    applied
+    let refusal = apply_row(rt, alloc, twins, made);
+    let answer = apply_plain(&mut twins.plain, made);
+    assert_eq!(rt; refusal, answer.err());
+    answer
 }
 
-// Makes a change in the row, or answers by what number it is refused. Where memory is refused, nothing is changed, and the
-// change can be made again.
+// Where memory is refused, nothing is changed, and the change can be made again.
+fn apply_plain(plain: &mut PlainTree, made: &Change<'_>) -> Result<u64, Errno> {
+    match plain.apply(made) {
+        Err(Errno::ENOMEM) => plain.apply(made),
+        answer => answer,
+    }
+}
+
+// Makes a change in the row, or answers by what number it is refused.
 fn apply_row(rt: &impl Abort, alloc: Global, twins: &mut Twins, made: &Change<'_>) -> Option<Errno>
     requires { Plannable twins.old.look.cells.0 (λ row. row ≡ twins.old.look.cells.1) twins.old.next }
     ensures { Plannable twins.new.look.cells.0 (λ row. row ≡ twins.new.look.cells.1) twins.new.next }
@@ -142,8 +151,8 @@ fn tell<L: Look>(look: &mut L, at: &Path<'_>, rooms: &mut Rooms) -> Result<Told,
 
 // Both trees tell the same of a path.
 pub(crate) fn expect_same(rt: &impl Abort, twins: &mut Twins, at: &Path<'_>)
-    ensures look { twins.new.look.cells ≡ twins.old.look.cells }
-    ensures next { twins.new.next ≡ twins.old.next }
+    requires { Plannable twins.old.look.cells.0 (λ row. row ≡ twins.old.look.cells.1) twins.old.next }
+    ensures { Plannable twins.new.look.cells.0 (λ row. row ≡ twins.new.look.cells.1) twins.new.next }
 {
     let mut ours = new_rooms();
     let mut plain = new_rooms();
@@ -168,8 +177,8 @@ pub(crate) fn expect_same_paths(
     twins: &mut Twins,
     paths: &[&str],
 ) -> Result<(), Fail>
-    ensures look { twins.new.look.cells ≡ twins.old.look.cells }
-    ensures next { twins.new.next ≡ twins.old.next }
+    requires { Plannable twins.old.look.cells.0 (λ row. row ≡ twins.old.look.cells.1) twins.old.next }
+    ensures { Plannable twins.new.look.cells.0 (λ row. row ≡ twins.new.look.cells.1) twins.new.next }
 {
     for at in paths {
         expect_same(rt, twins, &path(at.as_bytes())?);
