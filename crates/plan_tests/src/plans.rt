@@ -3,10 +3,9 @@ ghost use Rattle.std.specs.Prelude.{◌≡◌, ◌≤◌};
 ghost use Rattle.row_plan.specs.Plan.{Plannable};
 
 use crate::lines::{change, path};
-use crate::twins::{Twins, apply, expect_same, new_twins};
+use crate::twins::Twins;
 use directory_tree::{Change, LinkBytes};
 use names::Errno;
-use row_plan::plan;
 use row_rule::Cell;
 use std::alloc::Global;
 use std::process::Abort;
@@ -19,12 +18,12 @@ type Row<'a> = (&'a str, Result<&'a [(usize, u64)], Errno>);
 fn expect_plans(rt: &impl Abort, alloc: Global, capacity: usize, rows: &[Row]) -> Result<(), Fail>
     requires { capacity ≤ MOST_ENTRIES }
 {
-    let mut twins = new_twins(alloc, capacity)?;
+    let mut twins = Twins::new(alloc, capacity).ok().ok_or("memory")?;
     for (line, wanted) in rows {
         let made = change(line)?;
         let planned = plan_again(alloc, &mut twins, &made);
         assert!(rt; is_plan(&planned, wanted), "{line}: {planned:?}");
-        assert_eq!(rt; apply(rt, alloc, &mut twins, &made).err(), wanted.err());
+        assert!(rt; twins.apply(alloc, &made).is_ok(), "{line}");
     }
     Ok(())
 }
@@ -34,17 +33,10 @@ fn plan_again(alloc: Global, twins: &mut Twins, made: &Change<'_>) -> Result<Vec
     requires { Plannable twins.old.look.cells.0 (λ row. row ≡ twins.old.look.cells.1) twins.old.next }
     ensures { Plannable twins.new.look.cells.0 (λ row. row ≡ twins.new.look.cells.1) twins.new.next }
 {
-    match plan_once(alloc, twins, made) {
-        Err(Errno::ENOMEM) => plan_once(alloc, twins, made),
+    match twins.plan(alloc, made) {
+        Err(Errno::ENOMEM) => twins.plan(alloc, made),
         answer => answer,
     }
-}
-
-fn plan_once(alloc: Global, twins: &mut Twins, made: &Change<'_>) -> Result<Vec<Cell>, Errno>
-    requires { Plannable twins.old.look.cells.0 (λ row. row ≡ twins.old.look.cells.1) twins.old.next }
-    ensures { Plannable twins.new.look.cells.0 (λ row. row ≡ twins.new.look.cells.1) twins.new.next }
-{
-    plan(alloc, &mut twins.look, twins.next, made)
 }
 
 fn is_plan(planned: &Result<Vec<Cell>, Errno>, wanted: &Result<&[(usize, u64)], Errno>) -> bool {
@@ -128,7 +120,7 @@ fn no_cell_too_many_is_planned(rt: HostRuntime) -> Result<(), Fail> {
 // A link whose component and text are as long as they may be, which fill their cells but for one byte each.
 #[test]
 fn longest_texts_fit(rt: HostRuntime) -> Result<(), Fail> {
-    let mut twins = new_twins(rt.alloc(), 1)?;
+    let mut twins = Twins::new(rt.alloc(), 1).ok().ok_or("memory")?;
     make_longest(&rt, rt.alloc(), &mut twins)
 }
 
@@ -139,12 +131,12 @@ fn make_longest(rt: &impl Abort, alloc: Global, twins: &mut Twins) -> Result<(),
     name[0] = b'/';
     let text = long_text();
     let made = Change::Symlink(LinkBytes::new(&text), path(&name)?);
-    assert_eq!(rt; apply(rt, alloc, twins, &made), Ok(1));
-    expect_same(rt, twins, &path(&name)?);
+    assert_eq!(rt; twins.apply(alloc, &made), Ok(Ok(1)));
+    assert!(rt; twins.is_same_at(&path(&name)?));
     let moved = Change::Rename(path(&name)?, path(b"/n")?);
-    assert_eq!(rt; apply(rt, alloc, twins, &moved), Ok(2));
-    expect_same(rt, twins, &path(&name)?);
-    expect_same(rt, twins, &path(b"/n")?);
+    assert_eq!(rt; twins.apply(alloc, &moved), Ok(Ok(2)));
+    assert!(rt; twins.is_same_at(&path(&name)?));
+    assert!(rt; twins.is_same_at(&path(b"/n")?));
     Ok(())
 }
 

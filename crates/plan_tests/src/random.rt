@@ -1,13 +1,21 @@
 //! Changes that are drawn at random.
-ghost use Rattle.std.specs.Prelude.{◌≤◌, ◌<◌, length};
+ghost use Rattle.std.specs.Prelude.{◌≤◌, ◌<◌};
 
-use crate::lines::path;
-use crate::twins::{apply, expect_same_paths, new_twins};
+use crate::twins::Twins;
 use directory_tree::{Change, LinkBytes};
+use names::Path;
 use std::alloc::Global;
-use std::process::Abort;
-use std::test::Fail;
 use tree_row::MOST_ENTRIES;
+
+/// Why changes at random stopped.
+#[derive(Clone, Copy, Debug, PartialEq, Eq)]
+pub(crate) enum Failure {
+    NoMemory,
+    /// One of the paths that changes are drawn of is none.
+    NotAPath,
+    /// The two trees differ: what is proved of plans is wrong.
+    Differ,
+}
 
 // What changes are drawn of, and of which both trees have to tell the same after each. Components of seven, eight and nine
 // bytes end in, at and behind the end of a cell.
@@ -80,15 +88,15 @@ impl Random {
         (self.state >> 33) as usize % n
     }
 
-    fn path(&mut self) -> Result<names::Path<'static>, Fail> {
-        path(PATHS[self.below(PATHS.len())].as_bytes())
+    fn path(&mut self) -> Option<Path<'static>> {
+        Path::check(PATHS[self.below(PATHS.len())].as_bytes()).ok()
     }
 
     fn text(&mut self) -> LinkBytes<'static> {
         LinkBytes::new(TEXTS[self.below(TEXTS.len())].as_bytes())
     }
 
-    fn change(&mut self) -> Result<Change<'static>, Fail> {
+    fn change(&mut self) -> Option<Change<'static>> {
         let made = match self.below(9) {
             0 | 1 => Change::Mkdir(self.path()?),
             2 => Change::Create(self.path()?),
@@ -98,39 +106,57 @@ impl Random {
             6 => Change::Rmdir(self.path()?),
             _ => Change::Rename(self.path()?, self.path()?),
         };
-        Ok(made)
+        Some(made)
     }
 }
 
-// So many changes of a tree that has room for so many entries.
-fn change_at_random(
-    rt: &impl Abort,
+/// Makes so many changes of a tree that has room for so many entries, and answers how many were made. After each both trees
+/// have to tell the same of all paths.
+pub(crate) fn change_at_random(
     alloc: Global,
     capacity: usize,
     changes: usize,
-) -> Result<(), Fail>
+) -> Result<u64, Failure>
     requires { capacity ≤ MOST_ENTRIES }
 {
-    let mut twins = new_twins(alloc, capacity)?;
+    let Ok(mut twins) = Twins::new(alloc, capacity) else {
+        return Err(Failure::NoMemory);
+    };
     let mut random = Random {
         state: capacity as u64,
     };
+    let mut made = 0;
     for _ in 0..changes {
-        let _ = apply(rt, alloc, &mut twins, &random.change()?);
-        expect_same_paths(rt, &mut twins, &PATHS)?;
+        let Some(change) = random.change() else {
+            return Err(Failure::NotAPath);
+        };
+        match twins.apply(alloc, &change) {
+            Ok(Ok(version)) => made = version,
+            Ok(Err(_)) => {}
+            Err(_) => return Err(Failure::Differ),
+        }
+        if !twins.is_same_at_all(&PATHS) {
+            return Err(Failure::Differ);
+        }
     }
-    Ok(())
+    Ok(made)
 }
 
-#[test]
-fn small_trees_change_at_random(rt: HostRuntime) -> Result<(), Fail> {
-    for capacity in 0..12 {
-        change_at_random(&rt, rt.alloc(), capacity, 150)?;
-    }
-    Ok(())
-}
+#[cfg(test)]
+mod tests {
+    use super::*;
+    use std::test::Fail;
 
-#[test]
-fn a_larger_tree_changes_at_random(rt: HostRuntime) -> Result<(), Fail> {
-    change_at_random(&rt, rt.alloc(), 40, 1500)
+    #[test]
+    fn small_trees_change_at_random(rt: HostRuntime) -> Result<(), Fail> {
+        for capacity in 0..12 {
+            assert!(rt; change_at_random(rt.alloc(), capacity, 150).is_ok());
+        }
+        Ok(())
+    }
+
+    #[test]
+    fn a_larger_tree_changes_at_random(rt: HostRuntime) {
+        assert!(rt; change_at_random(rt.alloc(), 40, 1500).is_ok());
+    }
 }

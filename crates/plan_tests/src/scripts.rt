@@ -2,7 +2,7 @@
 ghost use Rattle.std.specs.Prelude.{◌≤◌};
 
 use crate::lines::change;
-use crate::twins::{apply, expect_same_paths, new_twins};
+use crate::twins::Twins;
 use names::Errno;
 use std::alloc::Global;
 use std::process::Abort;
@@ -20,10 +20,10 @@ type Row<'a> = (&'a str, Result<u64, Errno>);
 fn run(rt: &impl Abort, alloc: Global, capacity: usize, rows: &[Row]) -> Result<(), Fail>
     requires { capacity ≤ MOST_ENTRIES }
 {
-    let mut twins = new_twins(alloc, capacity)?;
+    let mut twins = Twins::new(alloc, capacity).ok().ok_or("memory")?;
     for (line, wanted) in rows {
-        assert_eq!(rt; apply(rt, alloc, &mut twins, &change(line)?), *wanted);
-        expect_same_paths(rt, &mut twins, &PATHS)?;
+        assert_eq!(rt; twins.apply(alloc, &change(line)?), Ok(*wanted));
+        assert!(rt; twins.is_same_at_all(&PATHS), "{line}");
     }
     Ok(())
 }

@@ -1,4 +1,4 @@
-//! A plan as it is made: cells that are to be set, but those whose word stands there already.
+//! A plan as it is made: the cells that are to be set, without those whose word stands there already.
 ghost use Rattle.std.specs.Prelude.{◌≡◌, ◌<◌, ◌≤◌, ◌+◌, ◌/◌, ℕ, List, OnOk, length, slice_index, slice_set};
 ghost use Rattle.tree_row.specs.Rows.{row_length};
 ghost use Rattle.row_plan.specs.inner.Rows.{Drafts, SameFrom, IsRead, with_words, with_text, IsPacked};
@@ -8,8 +8,8 @@ use names::NoMemory;
 use row_rule::Cell;
 use tree_row::Cells;
 
-/// Plans a cell, where another word stands there.
-pub(crate) fn set_cell<C: Cells>(
+/// Adds a cell to a plan, where another word stands there.
+pub(crate) fn add_cell<C: Cells>(
     cells: &mut C,
     plan: &mut Vec<Cell>,
     place: usize,
@@ -33,8 +33,8 @@ pub(crate) fn set_cell<C: Cells>(
     }
 }
 
-/// Plans words one after another.
-pub(crate) fn set_words<C: Cells>(
+/// Adds words one after another.
+pub(crate) fn add_words<C: Cells>(
     cells: &mut C,
     plan: &mut Vec<Cell>,
     base: usize,
@@ -49,13 +49,13 @@ pub(crate) fn set_words<C: Cells>(
     // No row has more slots, and so no place is large.
     let _most = cells.capacity();
     for (i, word) in words.iter().enumerate() {
-        set_cell(cells, plan, base + i, *word)?;
+        add_cell(cells, plan, base + i, *word)?;
     }
     Ok(())
 }
 
-/// Plans the words of a text.
-pub(crate) fn set_text<C: Cells>(
+/// Adds the words of a text.
+pub(crate) fn add_text<C: Cells>(
     cells: &mut C,
     plan: &mut Vec<Cell>,
     base: usize,
@@ -71,7 +71,7 @@ pub(crate) fn set_text<C: Cells>(
     // No row has more slots, and so no place is large.
     let _most = cells.capacity();
     for k in 0..text.len().div_ceil(8) {
-        set_cell(cells, plan, base + k, packed_word(text, k))?;
+        add_cell(cells, plan, base + k, packed_word(text, k))?;
     }
     Ok(())
 }

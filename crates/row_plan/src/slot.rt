@@ -8,7 +8,7 @@ ghost use Rattle.row_plan.specs.Plan.{IsLean};
 ghost use Rattle.row_plan.specs.inner.Rows.{IsRead, SetsSlot, FreesSlot, FreesAny, MovesSlot};
 ghost use Rattle.row_plan.specs.inner.Entries.{slot_of};
 
-use crate::draft::{set_text, set_words};
+use crate::draft::{add_text, add_words};
 use names::{LONGEST_COMPONENT, NoMemory};
 use row_rule::Cell;
 use std::alloc::Global;
@@ -49,9 +49,9 @@ pub(crate) fn fill_slot<C: Cells>(
     let lengths = entry.component.len() as u64 + TEXT_FACTOR * entry.text.len() as u64;
     let base = cell_place(cells, slot, KIND);
     let numbers = [entry.kind, entry.node, entry.parent as u64, lengths];
-    set_words(cells, &mut plan, base, &numbers)?;
-    set_text(cells, &mut plan, base + COMPONENT, entry.component)?;
-    set_text(cells, &mut plan, base + TEXT, entry.text)?;
+    add_words(cells, &mut plan, base, &numbers)?;
+    add_text(cells, &mut plan, base + COMPONENT, entry.component)?;
+    add_text(cells, &mut plan, base + TEXT, entry.text)?;
     Ok(plan)
 }
 
@@ -69,7 +69,7 @@ pub(crate) fn clear_slot<C: Cells>(
 {
     let mut plan = Vec::new(alloc);
     let base = cell_place(cells, slot, KIND);
-    set_words(cells, &mut plan, base, &[FREE])?;
+    add_words(cells, &mut plan, base, &[FREE])?;
     Ok(plan)
 }
 
@@ -118,7 +118,7 @@ pub(crate) fn move_slot<C: Cells>(
         parent as u64,
         name.len() as u64 + TEXT_FACTOR * (lengths / TEXT_FACTOR),
     ];
-    set_words(cells, &mut plan, base + PARENT, &numbers)?;
-    set_text(cells, &mut plan, base + COMPONENT, name)?;
+    add_words(cells, &mut plan, base + PARENT, &numbers)?;
+    add_text(cells, &mut plan, base + COMPONENT, name)?;
     Ok(plan)
 }

@@ -19,12 +19,12 @@ returns-clause-ok g c row whole long =
     let numbers = slice_index (own.kind ∷ own.node ∷ own.parent ∷ (length own.component + 65536 * length own.text) ∷ []) in
     let numbered = with_words row base numbers 4 in
     let named = with_text numbered (base + 4) own.component in
-    let first = subst (λ k. g.C.Cells.whole k row) (sym c.set_words.ensures.kept) whole in
-    let second = subst (λ k. g.C.Cells.whole k row) (sym c.set_text.ensures.kept) first in
+    let first = subst (λ k. g.C.Cells.whole k row) (sym c.add_words.ensures.kept) whole in
+    let second = subst (λ k. g.C.Cells.whole k row) (sym c.add_text.ensures.kept) first in
     let start : Drafts row c.new-plan.result.items row = subst (λ (p : List Cell). Drafts row p row) (sym c.new-plan.ensures.items) (begins row) in
-    let one = c.in_ok-set_words.ensures.ok row row whole (omega arith) start (λ k l. refl) in
-    let two = c.in_ok-set_text.ensures.ok row numbered first (omega arith) one (run_untouched row base numbers 4 (base + 4) ((length own.component + 7) / 8) (inr (omega arith))) in
-    let three = c.in_ok-set_text-2.ensures.ok row named second (omega arith) two
+    let one = c.in_ok-add_words.ensures.ok row row whole (omega arith) start (λ k l. refl) in
+    let two = c.in_ok-add_text.ensures.ok row numbered first (omega arith) one (run_untouched row base numbers 4 (base + 4) ((length own.component + 7) / 8) (inr (omega arith))) in
+    let three = c.in_ok-add_text-2.ensures.ok row named second (omega arith) two
     (same_after row numbered (base + 4) (packed own.component) ((length own.component + 7) / 8) (base + 36) ((length own.text + 7) / 8)
     (run_untouched row base numbers 4 (base + 36) ((length own.text + 7) / 8) (inr (omega arith))) (inr (omega arith))) in
-    fills row c.set_text-2.new.plan.items base c.args.slot own place three (omega arith) short short_text c.in_ok-set_text.ensures.packed c.in_ok-set_text-2.ensures.packed
+    fills row c.add_text-2.new.plan.items base c.args.slot own place three (omega arith) short short_text c.in_ok-add_text.ensures.packed c.in_ok-add_text-2.ensures.packed

@@ -1,6 +1,6 @@
 use Rattle.std.proofs.Common.{◌≡◌, ◌+◌, ◌/◌, ◌≤◌, ℕ, List, length}
 use Rattle.row_plan.specs.inner.Rows.{Drafts, SameFrom, packed, with_words}
-use Rattle.row_plan.proofs.draft.set_text.Given as goal
+use Rattle.row_plan.proofs.draft.add_text.Given as goal
 
 abbrev pub invariant-loop-k : goal.invariant-loop-k
 invariant-loop-k g l = record {

@@ -5,7 +5,7 @@ use Rattle.tree_row.specs.Slots.{slot_at}
 use Rattle.tree_row.specs.Worlds.{spot_at, EncodesWorld}
 use Rattle.tree_row.specs.OpeningRow.{opening_row}
 use Rattle.row_plan.specs.Plan.{Plannable}
-use Rattle.plan_tests.proofs.twins.new_twins.Goals as goal
+use Rattle.plan_tests.proofs.twins.Twins.new.Goals as goal
 
 pub returns : goal.returns
 returns c =

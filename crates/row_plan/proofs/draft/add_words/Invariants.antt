@@ -1,7 +1,7 @@
 use Rattle.std.proofs.Common.{◌≡◌, ◌+◌, ◌≤◌, ℕ, List, length}
 use Rattle.std.specs.Prelude.{slice_index}
 use Rattle.row_plan.specs.inner.Rows.{Drafts, SameFrom, with_words}
-use Rattle.row_plan.proofs.draft.set_words.Given as goal
+use Rattle.row_plan.proofs.draft.add_words.Given as goal
 
 abbrev pub invariant-loop-i : goal.invariant-loop-i
 invariant-loop-i g l = record {
