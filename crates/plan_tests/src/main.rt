@@ -14,8 +14,7 @@ mod twins;
 
 use crate::random::{Failure, change_at_random};
 use std::alloc::{AllocError, Global};
-use std::env;
-use std::io;
+use std::{env, io};
 use tree_row::MOST_ENTRIES;
 
 fn main(rt: HostRuntime) -> io::Result<()> {

@@ -18,7 +18,7 @@ type Row<'a> = (&'a str, Result<&'a [(usize, u64)], Errno>);
 fn expect_plans(rt: &impl Abort, alloc: Global, capacity: usize, rows: &[Row]) -> Result<(), Fail>
     requires { capacity ≤ MOST_ENTRIES }
 {
-    let mut twins = Twins::new(alloc, capacity).ok().ok_or("memory")?;
+    let mut twins = Twins::new(alloc, capacity)?;
     for (line, wanted) in rows {
         let made = change(line)?;
         let planned = plan_again(alloc, &mut twins, &made);
@@ -120,7 +120,7 @@ fn no_cell_too_many_is_planned(rt: HostRuntime) -> Result<(), Fail> {
 // A link whose component and text are as long as they may be, which fill their cells but for one byte each.
 #[test]
 fn longest_texts_fit(rt: HostRuntime) -> Result<(), Fail> {
-    let mut twins = Twins::new(rt.alloc(), 1).ok().ok_or("memory")?;
+    let mut twins = Twins::new(rt.alloc(), 1)?;
     make_longest(&rt, rt.alloc(), &mut twins)
 }
 

@@ -20,7 +20,7 @@ type Row<'a> = (&'a str, Result<u64, Errno>);
 fn run(rt: &impl Abort, alloc: Global, capacity: usize, rows: &[Row]) -> Result<(), Fail>
     requires { capacity ≤ MOST_ENTRIES }
 {
-    let mut twins = Twins::new(alloc, capacity).ok().ok_or("memory")?;
+    let mut twins = Twins::new(alloc, capacity)?;
     for (line, wanted) in rows {
         assert_eq!(rt; twins.apply(alloc, &change(line)?), Ok(*wanted));
         assert!(rt; twins.is_same_at_all(&PATHS), "{line}");

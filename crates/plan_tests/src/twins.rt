@@ -54,10 +54,7 @@ impl Twins {
         requires { Plannable self.old.look.cells.0 (λ row. row ≡ self.old.look.cells.1) self.old.next }
         ensures { Plannable self.new.look.cells.0 (λ row. row ≡ self.new.look.cells.1) self.new.next }
     {
-        let refusal = match self.apply_row(alloc, change) {
-            Some(Errno::ENOMEM) => self.apply_row(alloc, change),
-            answer => answer,
-        };
+        let refusal = self.apply_row(alloc, change);
         let answer = apply_plain(&mut self.plain, change);
         if refusal == answer.err() {
             Ok(answer)
@@ -66,8 +63,19 @@ impl Twins {
         }
     }
 
-    // Makes a change in the row, or answers by what number it is refused.
+    // Makes a change in the row, or answers by what number it is refused. Where memory is refused, nothing is changed, and the
+    // change can be made again.
     fn apply_row(&mut self, alloc: Global, change: &Change<'_>) -> Option<Errno>
+        requires { Plannable self.old.look.cells.0 (λ row. row ≡ self.old.look.cells.1) self.old.next }
+        ensures { Plannable self.new.look.cells.0 (λ row. row ≡ self.new.look.cells.1) self.new.next }
+    {
+        match self.apply_row_once(alloc, change) {
+            Some(Errno::ENOMEM) => self.apply_row_once(alloc, change),
+            answer => answer,
+        }
+    }
+
+    fn apply_row_once(&mut self, alloc: Global, change: &Change<'_>) -> Option<Errno>
         requires { Plannable self.old.look.cells.0 (λ row. row ≡ self.old.look.cells.1) self.old.next }
         ensures { Plannable self.new.look.cells.0 (λ row. row ≡ self.new.look.cells.1) self.new.next }
     {
@@ -96,16 +104,17 @@ impl Twins {
         requires { Plannable self.old.look.cells.0 (λ row. row ≡ self.old.look.cells.1) self.old.next }
         ensures { Plannable self.new.look.cells.0 (λ row. row ≡ self.new.look.cells.1) self.new.next }
     {
-        let mut ours = new_rooms();
-        let mut plain = new_rooms();
-        match tell(&mut self.look, path, &mut ours) {
-            Ok(told) => {
-                tell(&mut self.plain, path, &mut plain) == Ok(told)
-                    && ours.name[..told.name] == plain.name[..told.name]
-                    && ours.text[..told.text] == plain.text[..told.text]
-            }
-            Err(fault) => tell(&mut self.plain, path, &mut plain) == Err(fault),
-        }
+        let mut rooms = new_rooms();
+        let told = self.tell_row(path, &mut rooms);
+        tells(&mut self.plain, path, told, &rooms)
+    }
+
+    // What the row tells of a path.
+    fn tell_row(&mut self, path: &Path<'_>, rooms: &mut Rooms) -> Result<Told, WalkFault>
+        requires { Plannable self.old.look.cells.0 (λ row. row ≡ self.old.look.cells.1) self.old.next }
+        ensures { Plannable self.new.look.cells.0 (λ row. row ≡ self.new.look.cells.1) self.new.next }
+    {
+        tell(&mut self.look, path, rooms)
     }
 
     /// The same of all these paths.
@@ -198,4 +207,22 @@ fn tell<L: Look>(look: &mut L, path: &Path<'_>, rooms: &mut Rooms) -> Result<Tol
         name,
         text,
     })
+}
+
+// Whether the tree in plain memory tells this of a path.
+fn tells(
+    plain: &mut PlainTree,
+    path: &Path<'_>,
+    wanted: Result<Told, WalkFault>,
+    ours: &Rooms,
+) -> bool {
+    let mut rooms = new_rooms();
+    match tell(plain, path, &mut rooms) {
+        Ok(told) => {
+            wanted == Ok(told)
+                && ours.name[..told.name] == rooms.name[..told.name]
+                && ours.text[..told.text] == rooms.text[..told.text]
+        }
+        Err(fault) => wanted == Err(fault),
+    }
 }

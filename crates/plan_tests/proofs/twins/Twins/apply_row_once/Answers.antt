@@ -1,7 +1,7 @@
 use Rattle.std.proofs.Common.{◌≡◌, ℕ, List, sym, refl, subst}
 use Rattle.tree_row.specs.Worlds.{EncodesWorld}
 use Rattle.row_plan.specs.Plan.{Plannable}
-use Rattle.plan_tests.proofs.twins.Twins.apply_row.Goals as goal
+use Rattle.plan_tests.proofs.twins.Twins.apply_row_once.Goals as goal
 
 pub returns-in-Ok : goal.returns-in-Ok
 returns-in-Ok c =
