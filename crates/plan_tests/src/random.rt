@@ -1,0 +1,162 @@
+//! Changes that are drawn at random.
+ghost use Rattle.std.specs.Prelude.{◌≤◌, ◌<◌};
+
+use crate::twins::Twins;
+use directory_tree::{Change, LinkBytes};
+use names::Path;
+use std::alloc::Global;
+use tree_row::MOST_ENTRIES;
+
+/// Why changes at random stopped.
+#[derive(Clone, Copy, Debug, PartialEq, Eq)]
+pub(crate) enum Failure {
+    NoMemory,
+    /// One of the paths that changes are drawn of is none.
+    NotAPath,
+    /// The two trees differ: what is proved of plans is wrong.
+    Differ,
+}
+
+// What changes are drawn of, and of which both trees have to tell the same after each. Components of seven, eight and nine
+// bytes end in, at and behind the end of a cell.
+const PATHS: [&str; 36] = [
+    "/a",
+    "/b",
+    "/c",
+    "/l",
+    "/seven77",
+    "/eight888",
+    "/nine99999",
+    "/a/a",
+    "/a/b",
+    "/a/l",
+    "/a/eight888",
+    "/b/a",
+    "/b/b",
+    "/b/seven77",
+    "/b/nine99999",
+    "/c/a",
+    "/c/l",
+    "/l/a",
+    "/l/b",
+    "/l/l",
+    "/a/a/a",
+    "/a/a/b",
+    "/a/b/a",
+    "/a/b/nine99999",
+    "/b/a/a",
+    "/b/a/l/b",
+    "/a/b/a/b",
+    "/seven77/a",
+    "/eight888/b",
+    "/nine99999/a/eight888",
+    "/a/../b",
+    "/l/../c",
+    "/b/./a/",
+    "/a/b/../../c/b",
+    "/a/.",
+    "/",
+];
+
+// The texts of new links.
+const TEXTS: [&str; 8] = [
+    "a",
+    "/b",
+    "../a",
+    "l",
+    "/a/b/..",
+    "a/eight888",
+    "../b/nine99999/",
+    "/a/a/./../b/../a/nine99999/../../l/eight888/seven77",
+];
+
+#[derive(Drop)]
+struct Random {
+    state: u64,
+}
+
+impl Random {
+    // A number below this one (Knuth's constants of a linear congruential generator).
+    fn below(&mut self, n: usize) -> usize
+        requires { 0 < n }
+        ensures { result < n }
+    {
+        self.state = self
+            .state
+            .wrapping_mul(6364136223846793005)
+            .wrapping_add(1442695040888963407);
+        (self.state >> 33) as usize % n
+    }
+
+    fn path(&mut self) -> Option<Path<'static>> {
+        Path::check(PATHS[self.below(PATHS.len())].as_bytes()).ok()
+    }
+
+    fn text(&mut self) -> LinkBytes<'static> {
+        LinkBytes::new(TEXTS[self.below(TEXTS.len())].as_bytes())
+    }
+
+    fn change(&mut self) -> Option<Change<'static>> {
+        let made = match self.below(9) {
+            0 | 1 => Change::Mkdir(self.path()?),
+            2 => Change::Create(self.path()?),
+            3 => Change::Symlink(self.text(), self.path()?),
+            4 => Change::Link(self.path()?, self.path()?),
+            5 => Change::Unlink(self.path()?),
+            6 => Change::Rmdir(self.path()?),
+            _ => Change::Rename(self.path()?, self.path()?),
+        };
+        Some(made)
+    }
+}
+
+/// Makes so many changes of a tree that has room for so many entries, and answers how many were made. After each both trees
+/// have to tell the same of all paths.
+pub(crate) fn change_at_random(
+    alloc: Global,
+    capacity: usize,
+    changes: usize,
+) -> Result<u64, Failure>
+    requires { capacity ≤ MOST_ENTRIES }
+{
+    let Ok(mut twins) = Twins::new(alloc, capacity) else {
+        return Err(Failure::NoMemory);
+    };
+    let mut random = Random {
+        state: capacity as u64,
+    };
+    let mut made = 0;
+    for _ in 0..changes {
+        let Some(change) = random.change() else {
+            return Err(Failure::NotAPath);
+        };
+        match twins.apply(alloc, &change) {
+            Ok(Ok(version)) => made = version,
+            Ok(Err(_)) => {}
+            Err(_) => return Err(Failure::Differ),
+        }
+        if !twins.is_same_at_all(&PATHS) {
+            return Err(Failure::Differ);
+        }
+    }
+    Ok(made)
+}
+
+#[cfg(test)]
+mod tests {
+    use super::*;
+    use std::test::Fail;
+
+    #[test]
+    fn small_trees_change_at_random(rt: HostRuntime) -> Result<(), Fail> {
+        for capacity in 0..12 {
+            assert!(rt; change_at_random(rt.alloc(), capacity, 150).is_ok());
+        }
+        Ok(())
+    }
+
+    #[test]
+    fn a_larger_tree_changes_at_random(rt: HostRuntime) {
+        assert!(rt; change_at_random(rt.alloc(), 40, 1500).is_ok());
+    }
+}
