@@ -87,18 +87,21 @@ impl PolicyReader {
         };
         let (reader, found) = look_up(reader, name);
         self.reader = Some(reader);
-        if found.is_err() {
-            self.refusals = self.refusals.and_one();
+        match found {
+            Ok(found) => Ok(found),
+            Err(refused) => {
+                self.refusals = self.refusals.and_one();
+                Err(refused)
+            }
         }
-        found
     }
 
     /// Learns what was told: from now on the reader has seen these changes.
     pub fn learn(&mut self, told: Told)
         ensures { self.new ≡ record { seen = told; refused = self.old.refused } }
     {
-        let Told { reader } = told;
-        self.reader = Some(reader);
+        let Told { reader: learned } = told;
+        self.reader = Some(learned);
     }
 }
 

@@ -15,6 +15,9 @@ impl Model for Refusals {
     ghost also_owns = { λ _. ftrue };
 }
 
+// A struct with a history for contracts alone has this only where it is proved. This one owns nothing.
+unsafe impl Send for Refusals {}
+
 impl Refusals {
     pub(crate) fn new() -> Refusals
         ensures { result.count ≡ 0 }

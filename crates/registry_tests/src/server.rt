@@ -1,7 +1,7 @@
 //! What a server does: it has one publisher, and a reader for each thread.
 use crate::testing::{compiled, new_publisher};
 use matcher::{AnyProfile, judge};
-use names::{Permission, Perms};
+use names::{NoMemory, Permission, Perms};
 use profile_registry::{NoSeat, PolicyReader, Publisher};
 use std::alloc::Global;
 use std::process::Abort;
@@ -39,11 +39,9 @@ fn may_read(reader: &mut PolicyReader, name: &[u8], file: &[u8]) -> Reply {
 fn install<R: Wait>(
     rt: &R,
     publisher: &Mutex<Publisher>,
-    alloc: Global,
     name: &[u8],
-    text: &[u8],
-) -> Result<u64, Fail> {
-    let profile = compiled(alloc, text)?;
+    profile: Arc<AnyProfile>,
+) -> Result<u64, NoMemory> {
     let mut locked = publisher.lock(rt);
     let version = publish_one(rt, &mut locked, name, profile);
     MutexGuard::unlock(locked);
@@ -55,12 +53,12 @@ fn publish_one<R: Wait>(
     publisher: &mut Publisher,
     name: &[u8],
     profile: Arc<AnyProfile>,
-) -> Result<u64, Fail> {
+) -> Result<u64, NoMemory> {
     if publisher.changes() >= 1 << 59 {
-        return Err(Fail::from("too many changes"));
+        return Err(NoMemory);
     }
     publisher.replace(name, profile)?;
-    Ok(publisher.publish(rt)?)
+    publisher.publish(rt)
 }
 
 // A new reader, for a thread.
@@ -89,13 +87,9 @@ fn serve<R: Abort + Threads + Wait + Sync>(
     alloc: Global,
     publisher: &Mutex<Publisher>,
 ) -> Result<(), Fail> {
-    install(
-        rt,
-        publisher,
-        alloc,
-        b"web",
-        b"profile web {\n  /srv/** r,\n}\n",
-    )?;
+    let wide = compiled(alloc, b"profile web {\n  /srv/** r,\n}\n")?;
+    let narrow = compiled(alloc, b"profile web {\n  deny /srv/** r,\n}\n")?;
+    install(rt, publisher, b"web", wide)?;
     let mut one = join_in(rt, publisher)?;
     let mut other = join_in(rt, publisher)?;
     let replies = join(
@@ -104,13 +98,7 @@ fn serve<R: Abort + Threads + Wait + Sync>(
         || may_read(&mut other, b"mail", b"/srv/index"),
     );
     assert_eq!(rt; replies, (Reply::Allowed, Reply::Unknown));
-    install(
-        rt,
-        publisher,
-        alloc,
-        b"web",
-        b"profile web {\n  deny /srv/** r,\n}\n",
-    )?;
+    assert_eq!(rt; install(rt, publisher, b"web", narrow)?, 2);
     catch_up(rt, publisher, &mut one)?;
     assert_eq!(rt; may_read(&mut one, b"web", b"/srv/index"), Reply::Denied);
     Ok(())

@@ -84,6 +84,17 @@ fn read_all(reader: &mut PolicyReader) -> bool {
     false
 }
 
+// What a reader says of its pairs, and what the publisher beside it says of its versions.
+fn read_beside<R: Threads + Wait + Sync>(
+    rt: &R,
+    reader: &mut PolicyReader,
+    publisher: &mut Publisher,
+    a: &Arc<AnyProfile>,
+    b: &Arc<AnyProfile>,
+) -> (bool, bool) {
+    join(rt, || read_all(reader), || publish_all(rt, publisher, a, b))
+}
+
 fn run<R: Abort + Threads + Wait + Sync>(
     rt: &R,
     alloc: Global,
@@ -94,13 +105,7 @@ fn run<R: Abort + Threads + Wait + Sync>(
     let (one, (other, published)) = join(
         rt,
         || read_all(&mut one),
-        || {
-            join(
-                rt,
-                || read_all(&mut other),
-                || publish_all(rt, publisher, &a, &b),
-            )
-        },
+        || read_beside(rt, &mut other, publisher, &a, &b),
     );
     assert!(rt; published, "a version that wasn't due");
     assert!(rt;
@@ -116,4 +121,18 @@ fn each_pair_was_published(rt: HostRuntime) -> Result<(), Fail> {
     let outcome = run(&rt, rt.alloc(), &mut publisher);
     publisher.close(&rt);
     outcome
+}
+
+// Another thread is lent the publisher.
+fn told_there<R: Threads>(rt: &R, publisher: &mut Publisher) -> bool {
+    join(rt, || publisher.tell().is_ok(), || ()).0
+}
+
+#[test]
+fn a_publisher_is_lent_to_another_thread(rt: HostRuntime) -> Result<(), Fail> {
+    let mut publisher = new_publisher(rt.alloc())?;
+    let told = told_there(&rt, &mut publisher);
+    publisher.close(&rt);
+    assert!(rt; told);
+    Ok(())
 }
