@@ -13,7 +13,7 @@ use crate::plan::{Plan, planned};
 use crate::rates::{publish_names, rate};
 use crate::storm::storm;
 use profile_registry::Publisher;
-use std::alloc::{Global, AllocGlobal};
+use std::alloc::{AllocGlobal, Global};
 use std::io::Print;
 use std::rt::Clock;
 use std::sync::Wait;
@@ -21,7 +21,7 @@ use std::thread::Threads;
 use std::{env, io};
 
 fn main(rt: HostRuntime) -> io::Result<()> {
-    let words = env::args(&rt)?.collect(rt.alloc())?;
+    let words: Vec<String> = env::args(&rt)?.collect(rt.alloc())?;
     let Some(plan) = planned(&words) else {
         return println!(rt; "usage: registry_bench [READERS CHANGES READS]");
     };
@@ -44,7 +44,10 @@ fn run<R: Clock + Print + Threads + Wait + Sync>(
         Ok(false) => "a pair was read that had not been published",
         Err(_) => "no memory",
     };
-    println!(rt; "{} readers, {} changes: {outcome}", plan.readers, plan.changes)?;
+    println!(rt;
+        "{} readers, {} changes: {outcome}",
+        plan.readers, plan.changes
+    )?;
     if plan.reads == 0 {
         return Ok(());
     }

@@ -2,6 +2,7 @@
 use profile_registry::PLACES;
 
 /// So many readers beside so many changes, and so many reads in each thread that is timed.
+#[derive(Clone, Copy)]
 pub(crate) struct Plan {
     pub readers: usize,
     pub changes: u64,

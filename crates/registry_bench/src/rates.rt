@@ -21,7 +21,17 @@ pub(crate) fn publish_names<R: Wait>(
     let mut names = Vec::new(alloc);
     for k in 0..NAMES {
         let profile = compiled(alloc, b"profile daemon {\n  /srv/** r,\n}\n")?;
-        let text = [b'd', b'a', b'e', b'm', b'o', b'n', b'_', b'0' + k / 10, b'0' + k % 10];
+        let text = [
+            b'd',
+            b'a',
+            b'e',
+            b'm',
+            b'o',
+            b'n',
+            b'_',
+            b'0' + k / 10,
+            b'0' + k % 10,
+        ];
         stage(publisher, &text, Some(&profile))?;
         let Ok(name) = Vec::from_slice(alloc, &text) else {
             return Err(NoMemory);

@@ -4,7 +4,7 @@ use crate::profiles::{compiled, stage};
 use matcher::AnyProfile;
 use names::NoMemory;
 use profile_registry::{PolicyReader, Publisher};
-use std::alloc::Global;
+use std::alloc::{AllocError, Global};
 use std::sync::{Arc, Wait};
 use std::thread::{Threads, join, map_vec};
 
@@ -43,13 +43,21 @@ pub(crate) fn storm<R: Threads + Wait + Sync>(
     let last = plan.changes;
     let (right, published) = join(
         rt,
-        || map_vec(rt, readers, &|reader: PolicyReader| read_all(reader, last)),
+        || read_in_threads(rt, readers, last),
         || publish_all(rt, publisher, &first, &second, last),
     );
     let Ok(right) = right else {
         return Err(NoMemory);
     };
     Ok(published && right.iter().all(|right| *right))
+}
+
+fn read_in_threads<R: Threads + Sync>(
+    rt: &R,
+    readers: Vec<PolicyReader>,
+    last: u64,
+) -> Result<Vec<bool>, AllocError> {
+    map_vec(rt, readers, &|reader: PolicyReader| read_all(reader, last))
 }
 
 fn new_readers(
