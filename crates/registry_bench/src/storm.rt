@@ -4,9 +4,9 @@ use crate::profiles::{compiled, stage};
 use matcher::AnyProfile;
 use names::NoMemory;
 use profile_registry::{PolicyReader, Publisher};
-use std::alloc::{AllocError, Global};
+use std::alloc::Global;
 use std::sync::{Arc, Wait};
-use std::thread::{Threads, join, map_vec};
+use std::thread::{Threads, spawn};
 
 // A reader gives up after so many looks, of which a run needs fewer.
 const LOOKS: u64 = 1 << 32;
@@ -31,7 +31,7 @@ fn published_after(version: u64) -> Stands {
 
 /// Makes the changes beside the readers. Says whether each pair that was read was what is published after so many changes, no
 /// reader's versions fell, and each saw the last.
-pub(crate) fn storm<R: Threads + Wait + Sync>(
+pub(crate) fn storm<R: Threads + Wait>(
     rt: &R,
     alloc: Global,
     plan: &Plan,
@@ -39,42 +39,26 @@ pub(crate) fn storm<R: Threads + Wait + Sync>(
 ) -> Result<bool, NoMemory> {
     let first = compiled(alloc, b"profile first {\n  /a r,\n}\n")?;
     let second = compiled(alloc, b"profile second {\n  /b rw,\n}\n")?;
-    let readers = new_readers(alloc, publisher, plan.readers)?;
     let last = plan.changes;
-    let (right, published) = join(
-        rt,
-        || read_in_threads(rt, readers, last),
-        || publish_all(rt, publisher, &first, &second, last),
-    );
-    let Ok(right) = right else {
-        return Err(NoMemory);
-    };
-    Ok(published && right.iter().all(|right| *right))
-}
-
-fn read_in_threads<R: Threads + Sync>(
-    rt: &R,
-    readers: Vec<PolicyReader>,
-    last: u64,
-) -> Result<Vec<bool>, AllocError> {
-    map_vec(rt, readers, &|reader: PolicyReader| read_all(reader, last))
-}
-
-fn new_readers(
-    alloc: Global,
-    publisher: &mut Publisher,
-    count: usize,
-) -> Result<Vec<PolicyReader>, NoMemory> {
     let mut readers = Vec::new(alloc);
-    for _ in 0..count {
+    for _ in 0..plan.readers {
         let Ok(reader) = publisher.reader() else {
             return Err(NoMemory);
         };
-        if readers.push(reader).is_err() {
+        let Ok(thread) = spawn(rt, move || read_all(reader, last)) else {
+            return Err(NoMemory);
+        };
+        if readers.push(thread).is_err() {
             return Err(NoMemory);
         }
     }
-    Ok(readers)
+    let mut right = publish_all(rt, publisher, &first, &second, last);
+    for reader in readers {
+        if !reader.join(rt) {
+            right = false;
+        }
+    }
+    Ok(right)
 }
 
 // Makes so many changes, one or two at a time. Says whether each version was the one that is due.

@@ -1,7 +1,6 @@
-use denote.Param.Send.{sendable, given_sync}
-use Rattle.std.proofs.Crossing.{crosses}
+use denote.Param.Send.{sendable}
 use Rattle.profile_registry.proofs.Sending.{reader_send}
 use Rattle.registry_bench.proofs.storm.storm.Goals as goal
 
-pub join-right-requires-send-F : goal.join-right-requires-send-F
-join-right-requires-send-F g c κs within = search (sendable, given_sync, crosses, reader_send, c.type_bounds.sync-R) depth 40 fits 20000
+pub spawn-requires-send-F : goal.spawn-requires-send-F
+spawn-requires-send-F g c κs within = search (sendable, reader_send) depth 40
