@@ -61,6 +61,7 @@ bench: aa-trace
 	sh bench/compile.sh
 	sh bench/match.sh
 	sh bench/judge.sh
+	sh bench/registry.sh
 
 calls: aa-trace $(LIBRARY)
 	python3 tools/calls.py

@@ -1,0 +1,60 @@
+//! What `crates/registry_bench` times, over a lock: a map of shared profiles with its version, behind std's RwLock. It takes
+//! READS, and prints how many reads a second one thread and four make, so many in each.
+use std::collections::HashMap;
+use std::env;
+use std::sync::{Arc, RwLock};
+use std::thread;
+use std::time::Instant;
+
+const NAMES: usize = 64;
+
+struct Profile {
+    table: Vec<u32>,
+}
+
+struct Store {
+    profiles: HashMap<Vec<u8>, Arc<Profile>>,
+    version: u64,
+}
+
+/// A share of the profile under a name, and the version.
+fn get(store: &RwLock<Store>, name: &[u8]) -> (Option<Arc<Profile>>, u64) {
+    let store = store.read().unwrap();
+    (store.profiles.get(name).cloned(), store.version)
+}
+
+fn read_names(store: &RwLock<Store>, names: &[Vec<u8>], start: usize, reads: u64) -> u64 {
+    let mut found = 0;
+    let mut next = start;
+    for _ in 0..reads {
+        if next >= names.len() {
+            next = 0;
+        }
+        if let (Some(profile), 1..) = get(store, &names[next]) {
+            found += profile.table.len() as u64;
+        }
+        next += 1;
+    }
+    found
+}
+
+fn rate(store: &RwLock<Store>, names: &[Vec<u8>], threads: usize, reads: u64) -> u64 {
+    let start = Instant::now();
+    let found: u64 = thread::scope(|scope| {
+        let work: Vec<_> = (0..threads)
+            .map(|k| scope.spawn(move || read_names(store, names, k * 16, reads)))
+            .collect();
+        work.into_iter().map(|work| work.join().unwrap()).sum()
+    });
+    (found as u128 * 1_000_000_000 / start.elapsed().as_nanos()) as u64
+}
+
+fn main() {
+    let reads = env::args().nth(1).and_then(|word| word.parse().ok()).expect("READS");
+    let names: Vec<Vec<u8>> = (0..NAMES).map(|k| format!("daemon_{k:02}").into_bytes()).collect();
+    let profiles = names.iter().map(|name| (name.clone(), Arc::new(Profile { table: vec![0] }))).collect();
+    let store = RwLock::new(Store { profiles, version: NAMES as u64 });
+    for threads in [1, 4] {
+        println!("{threads} threads: {} reads a second", rate(&store, &names, threads, reads));
+    }
+}

@@ -1,0 +1,4 @@
+pub mod Prefixes
+pub mod Storing
+pub mod Keeping
+pub mod Sending

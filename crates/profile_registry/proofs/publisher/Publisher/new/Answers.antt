@@ -1,0 +1,5 @@
+use Rattle.profile_registry.proofs.Keeping.{starts}
+use Rattle.profile_registry.proofs.publisher.Publisher.new.Goals as goal
+
+pub new-requires-3-clause-rule : goal.new-requires-3-clause-rule
+new-requires-3-clause-rule c = starts c.new.result c.new.ensures.contents

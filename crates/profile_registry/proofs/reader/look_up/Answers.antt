@@ -1,0 +1,5 @@
+use Rattle.profile_registry.proofs.Keeping.{turns}
+use Rattle.profile_registry.proofs.reader.look_up.Goals as goal
+
+pub enter_as-requires : goal.enter_as-requires
+enter_as-requires c = turns _ _

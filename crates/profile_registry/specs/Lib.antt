@@ -1,0 +1,4 @@
+pub mod Changes
+pub mod Views
+pub mod Rule
+pub mod inner

@@ -1,0 +1,21 @@
+//! Published profiles: readers take them while one publisher replaces them, and no reader waits.
+//!
+//! A [`Publisher`] stages changes and makes them visible all at once. A [`PolicyReader`] answers by what was published at one
+//! moment of its call.
+//!
+//! To be believed are about 45 lines of definitions in `specs/`; those in `specs/inner/` are of private contracts and proofs.
+#![tactic(auto)]
+
+mod absorbing;
+mod faults;
+mod known;
+mod looking;
+mod publisher;
+mod reader;
+mod refusals;
+mod steps;
+mod store;
+
+pub use faults::{NoEntry, NoSeat};
+pub use publisher::{PLACES, Publisher};
+pub use reader::{PolicyReader, Told};

@@ -1,0 +1,32 @@
+//! What a reader takes from the store.
+ghost use Rattle.std.specs.Prelude.{◌≡◌, IfOk};
+ghost use Rattle.std.specs.Option.{option_map};
+ghost use Rattle.profile_registry.specs.Changes.{judge_shared};
+ghost use Rattle.profile_registry.specs.Rule.{policy_of};
+
+use crate::faults::NoEntry;
+use crate::store::Store;
+use matcher::AnyProfile;
+use std::sync::Arc;
+
+impl Store {
+    /// How many changes made the store.
+    pub(crate) fn version(&self) -> u64
+        ensures { result ≡ self.now.version }
+    {
+        self.version
+    }
+
+    /// A share of the profile under a name, if there is one.
+    pub(crate) fn profile(&self, name: &[u8]) -> Result<Option<Arc<AnyProfile>>, NoEntry>
+        ensures { IfOk result (λ profile. option_map judge_shared profile ≡ policy_of self.now name.now) }
+    {
+        match self.profiles.get(name) {
+            Some(profile) => match Arc::try_clone(profile) {
+                Ok(share) => Ok(Some(share)),
+                Err(_) => Err(NoEntry),
+            },
+            None => Ok(None),
+        }
+    }
+}

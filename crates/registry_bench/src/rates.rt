@@ -1,0 +1,109 @@
+//! Reads, timed.
+use crate::profiles::{compiled, stage};
+use names::NoMemory;
+use profile_registry::{PolicyReader, Publisher};
+use std::alloc::{AllocError, Global};
+use std::io;
+use std::rt::Clock;
+use std::sync::Wait;
+use std::thread::{Threads, map_vec};
+use std::time::Instant;
+
+// So many names have a profile.
+const NAMES: u8 = 64;
+
+/// Publishes a profile of its own under each of 64 names.
+pub(crate) fn publish_names<R: Wait>(
+    rt: &R,
+    alloc: Global,
+    publisher: &mut Publisher,
+) -> Result<Vec<Vec<u8>>, NoMemory> {
+    let mut names = Vec::new(alloc);
+    for k in 0..NAMES {
+        let profile = compiled(alloc, b"profile daemon {\n  /srv/** r,\n}\n")?;
+        let text = [
+            b'd',
+            b'a',
+            b'e',
+            b'm',
+            b'o',
+            b'n',
+            b'_',
+            b'0' + k / 10,
+            b'0' + k % 10,
+        ];
+        stage(publisher, &text, Some(&profile))?;
+        let Ok(name) = Vec::from_slice(alloc, &text) else {
+            return Err(NoMemory);
+        };
+        if names.push(name).is_err() {
+            return Err(NoMemory);
+        }
+    }
+    publisher.publish(rt)?;
+    Ok(names)
+}
+
+/// One thread's work: it starts at this name.
+#[derive(Drop)]
+struct Work {
+    reader: PolicyReader,
+    start: usize,
+}
+
+/// How many reads a second so many threads make together, each of so many reads.
+pub(crate) fn rate<R: Clock + Threads + Sync>(
+    rt: &R,
+    alloc: Global,
+    publisher: &mut Publisher,
+    names: &[Vec<u8>],
+    threads: usize,
+    reads: u64,
+) -> io::Result<u64> {
+    let mut all = Vec::new(alloc);
+    for k in 0..threads {
+        let Ok(reader) = publisher.reader() else {
+            return Err(AllocError.into());
+        };
+        all.push(Work {
+            reader,
+            start: k % 1024 * 16,
+        })?;
+    }
+    let start = Instant::now(rt)?;
+    let found = map_vec(rt, all, &|work: Work| read_names(work, names, reads))?;
+    let nanoseconds = start.elapsed(rt)?.as_nanos();
+    let mut total: u64 = 0;
+    for found in &found {
+        total = total.saturating_add(*found);
+    }
+    Ok(per_second(total, nanoseconds))
+}
+
+fn per_second(count: u64, nanoseconds: u128) -> u64 {
+    if nanoseconds == 0 {
+        return 0;
+    }
+    let rate = count as u128 * 1_000_000_000 / nanoseconds;
+    u64::try_from(rate).unwrap_or(u64::MAX)
+}
+
+// Reads each name in turn. Answers how many profiles were found.
+fn read_names(work: Work, names: &[Vec<u8>], reads: u64) -> u64 {
+    let Work { mut reader, start } = work;
+    let mut found: u64 = 0;
+    let mut next = start;
+    for _ in 0..reads {
+        if next >= names.len() {
+            next = 0;
+        }
+        let Some(name) = names.get(next) else {
+            return 0;
+        };
+        if let Ok((Some(_), _)) = reader.get(name.as_slice()) {
+            found = found.saturating_add(1);
+        }
+        next += 1;
+    }
+    found
+}

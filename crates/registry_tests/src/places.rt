@@ -1,0 +1,45 @@
+//! The places for readers.
+use crate::testing::{Found, look, new_publisher};
+use profile_registry::{NoEntry, NoSeat, PLACES, PolicyReader, Publisher};
+use std::alloc::Global;
+use std::process::Abort;
+use std::test::Fail;
+
+// Each place is taken once, and can be taken again when its reader, or its note, is let go.
+fn fills(rt: &impl Abort, alloc: Global, publisher: &mut Publisher) -> Result<(), Fail> {
+    let mut readers: Vec<PolicyReader> = Vec::with_capacity(alloc, PLACES)?;
+    for _ in 1..PLACES {
+        readers.push(publisher.reader()?)?;
+    }
+    let told = publisher.tell()?;
+    assert_eq!(rt; publisher.reader().err(), Some(NoSeat));
+    assert_eq!(rt; publisher.tell().err(), Some(NoSeat));
+    drop(told);
+    readers.push(publisher.reader()?)?;
+    assert_eq!(rt; publisher.reader().err(), Some(NoSeat));
+    for reader in readers.iter_mut() {
+        assert_eq!(rt; look(reader, b"p")?, (Found::Nothing, 0));
+    }
+    drop(readers.pop());
+    drop(publisher.reader()?);
+    Ok(())
+}
+
+#[test]
+fn readers_have_places(rt: HostRuntime) -> Result<(), Fail> {
+    let mut publisher = new_publisher(rt.alloc())?;
+    let outcome = fills(&rt, rt.alloc(), &mut publisher);
+    publisher.close(&rt);
+    outcome
+}
+
+#[test]
+fn no_entry_where_the_publisher_is_closed(rt: HostRuntime) -> Result<(), Fail> {
+    let mut publisher = new_publisher(rt.alloc())?;
+    let reader = publisher.reader();
+    publisher.close(&rt);
+    let mut reader = reader?;
+    assert_eq!(rt; look(&mut reader, b"p"), Err(NoEntry));
+    assert_eq!(rt; look(&mut reader, b"p"), Err(NoEntry));
+    Ok(())
+}
