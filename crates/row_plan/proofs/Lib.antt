@@ -1,0 +1,11 @@
+pub mod Drafting
+pub mod Packing
+pub mod Filling
+pub mod Settling
+pub mod Making
+pub mod Removing
+pub mod Placing
+pub mod Encoding
+pub mod Enacting
+pub mod Numbering
+pub mod Outcomes
