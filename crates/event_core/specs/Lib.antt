@@ -1,0 +1,5 @@
+pub mod Machine
+pub mod Walking
+pub mod Takes
+pub mod Runs
+pub mod Right
