@@ -1,1 +1,3 @@
 pub mod Rooms
+pub mod Ruled
+pub mod Runs

@@ -2,4 +2,5 @@ pub mod Machine
 pub mod Walking
 pub mod Takes
 pub mod Runs
+pub mod Rule
 pub mod Right
