@@ -1,3 +1,5 @@
 pub mod Rooms
 pub mod Ruled
 pub mod Runs
+pub mod Calls
+pub mod Rightly
