@@ -1,12 +1,11 @@
 -- What each call has read, after any legal run: what the policy said of its profile, and the counts, by events of its own span.
-use Rattle.std.proofs.Common.{◌≡◌, ◌≢◌, ℕ, ◌+◌, ◌*◌, ◌/◌, ◌%◌, ◌==◌, ◌≤◌, Bool, true, false, List, [], ◌∷◌, ◌++◌, length, take, Some, None, Option, sym, refl, ap, ◌∙◌, subst, arith, append_assoc, append-nil, length-append, eqb-true}
+use Rattle.std.proofs.Common.{◌≡◌, ◌≢◌, ℕ, ◌%◌, ◌==◌, Bool, true, false, List, [], ◌∷◌, ◌++◌, length, Some, None, Option, sym, refl, ap, ◌∙◌, subst, arith, append_assoc, append-nil, length-append, eqb-true}
 use Rattle.std.proofs.lemmas.List.{take-append-le}
 use Rattle.std.proofs.lemmas.List.Elements.{All-append, All-cons, All-nil}
 use Rattle.std.proofs.lemmas.Bool.{eqb-false}
 use Rattle.std.proofs.Math.Seq.{take-length}
-use Rattle.std.specs.Prelude.{if◌then◌else◌, Ok}
+use Rattle.std.specs.Prelude.{if◌then◌else◌}
 use Rattle.std.specs.List.{All}
-use Rattle.directory_tree.specs.declared.change.Change.{Change}
 use Rattle.mediation.specs.Deeds.{Deed, policy_after}
 use Rattle.mediation.specs.Judge.{Judge}
 use Rattle.justification.specs.declared.answer.Answer.{Answer}
@@ -16,16 +15,16 @@ use Rattle.row_rule.specs.declared.view.WalkerView.{WalkerView}
 use Rattle.row_rule.specs.declared.view.View.TheVariants.{Keeps, Walks}
 use Rattle.row_rule.specs.Row.{count_of, FitsWalker, Agrees}
 use Rattle.row_rule.specs.Steps.{newcomer, beginning, reading, ending, opening, setting, closing}
-use Rattle.row_rule.proofs.Rule.{at_rest_where_even, half_count, even_encodes}
+use Rattle.row_rule.proofs.Rule.{even_encodes}
 use Rattle.tree_row.specs.Rows.{row_length}
-use Rattle.event_core.specs.Machine.{Call, Event, Policed, Stage, Session, Machine, EncodesChanges, with_session, moved_on, first}
+use Rattle.event_core.specs.Machine.{Call, Event, Policed, Stage, Session, Machine, EncodesChanges, with_session}
 use Rattle.event_core.specs.Machine.Event.{begin, read_policy, read_count, read_cell, check_count, answer, open_change, set_cell, close_change, publish}
 use Rattle.event_core.specs.Machine.Stage.{resting, begun, unpublished, policed, walking, checked}
 use Rattle.event_core.specs.Walking.{IsStill}
-use Rattle.event_core.specs.Takes.{Moves, Answers, Takes, after_policy}
+use Rattle.event_core.specs.Takes.{Moves, Takes, after_policy}
 use Rattle.event_core.specs.Runs.{Legal}
 use Rattle.event_core.specs.Rule.{view_of, KeepsRule}
-use Rattle.event_core.specs.Right.{BeginsCall, Span, Happened, IsTreeVersion, IsPolicyVersion, IsCount}
+use Rattle.event_core.specs.Right.{BeginsCall, Span, Happened, IsPolicyVersion, IsCount}
 use Rattle.event_core.proofs.Ruled.{fits_at}
 
 -- what a call that found its profile published has read
@@ -133,8 +132,8 @@ session_step capacity events m s session event others calls own = λ r.
       | true ↦ λ is. subst (λ (z : ℕ). IsCall capacity (events ++ event ∷ []) m.deeds m.capacity z session.stage) (eqb-true s r is) own
       | false ↦ λ is. same_later capacity events m.deeds m.capacity r event (others r (λ e. not_false r e is)) (m.sessions r).stage (calls r)
     ] refl where
-  not_false : (r : ℕ) → r ≡ s → (s == r) ≡ false → ⊥
-  not_false r e is = eqb-false s r is (sym e)
+      not_false : (r : ℕ) → r ≡ s → (s == r) ≡ false → ⊥
+      not_false r e is = eqb-false s r is (sym e)
 
 -- the keeper's steps leave all calls as they are
 keeper_step : (capacity : ℕ) (events : List Event) (m : Machine) (k : KeeperView) (event : Event) → ((r : ℕ) → ¬ (BeginsCall r event)) → AreCalls capacity events m → AreCalls capacity (events ++ event ∷ []) (record m { keeper = k })
@@ -215,8 +214,8 @@ moves_calls capacity events answers m (read_cell s) new legal rule calls (p, w, 
     (session_step capacity events m s (record { name = (m.sessions s).name; stage = walking p (reading w record { place = place; word = word }) next }) (read_cell s) (λ r other none. none) calls
     (same_later capacity events m.deeds m.capacity s (read_cell s) (λ none. none) (walking p (reading w record { place = place; word = word }) next)
     (retold (at_stage capacity events m s (walking p w (Some place)) calls at)))) where
-  retold : Counted capacity events m.deeds s p w → Counted capacity events m.deeds s p (reading w record { place = place; word = word })
-  retold k = record { polled = k.polled; count = k.count }
+      retold : Counted capacity events m.deeds s p w → Counted capacity events m.deeds s p (reading w record { place = place; word = word })
+      retold k = record { polled = k.polled; count = k.count }
 moves_calls capacity events answers m (check_count s) new legal rule calls (p, w, at, is) =
     subst (AreCalls capacity (events ++ check_count s ∷ [])) (sym is)
     (session_step capacity events m s (record { name = (m.sessions s).name; stage = checked p (ending w (count_of m.keeper) m.keeper.history) }) (check_count s) (λ r other none. none) calls

@@ -3,3 +3,5 @@ pub mod Ruled
 pub mod Runs
 pub mod Calls
 pub mod Rightly
+pub mod Deeds
+pub mod Once

@@ -1,5 +1,5 @@
 -- Each answer of a legal run is right.
-use Rattle.std.proofs.Common.{◌≡◌, ◌≢◌, ℕ, ◌+◌, ◌*◌, ◌/◌, ◌%◌, ◌≤◌, List, [], ◌∷◌, ◌++◌, length, take, Some, None, Option, sym, refl, ap, ◌∙◌, subst, arith, length-append}
+use Rattle.std.proofs.Common.{◌≡◌, ℕ, ◌+◌, ◌/◌, ◌%◌, List, [], ◌++◌, length, take, Some, sym, refl, ap, ◌∙◌, subst, arith, length-append}
 use Rattle.std.proofs.Math.Seq.{take-append_seam}
 use Rattle.std.specs.Prelude.{Result, Ok, Err}
 use mathlib.Core.List.{IsPrefix}
@@ -8,22 +8,19 @@ use Rattle.directory_tree.specs.declared.change.Change.{Change}
 use Rattle.directory_tree.specs.Tree.{Tree}
 use Rattle.directory_tree.specs.Apply.{tree_after}
 use Rattle.directory_tree.proofs.Changes.{tree_after_well}
-use Rattle.verdicts.specs.declared.verdict.Verdict.{Verdict}
-use Rattle.mediation.specs.Judge.{Judge, verdict_by}
 use Rattle.mediation.specs.Opening.{Reached, reached}
 use Rattle.justification.specs.declared.answer.Answer.{Answer}
 use Rattle.justification.specs.declared.answer.Answer.TheVariants.{Judged, Failed, NoProfile, Busy, NoEntry}
 use Rattle.justification.specs.Justified.{Justified}
 use Rattle.justification.specs.Versions.{IsTreeAt, IsPublishedAt}
-use Rattle.row_rule.specs.declared.view.KeeperView.{KeeperView}
 use Rattle.row_rule.specs.declared.view.WalkerView.{WalkerView}
-use Rattle.row_rule.specs.Row.{count_of, FitsWalker}
+use Rattle.row_rule.specs.Row.{FitsWalker}
 use Rattle.row_rule.proofs.Rule.{at_rest_where_even, half_count}
 use Rattle.event_core.specs.Machine.{Call, Event, Policed, Stage, Machine, first}
 use Rattle.event_core.specs.Machine.Event.{begin, read_policy, read_count, read_cell, check_count, answer, open_change, set_cell, close_change, publish}
 use Rattle.event_core.specs.Machine.Stage.{resting, begun, unpublished, policed, walking, checked}
 use Rattle.event_core.specs.Walking.{Decides, IsStill, Tells, MayAnswer}
-use Rattle.event_core.specs.Takes.{Answers, Takes}
+use Rattle.event_core.specs.Takes.{Takes}
 use Rattle.event_core.specs.Runs.{Legal}
 use Rattle.event_core.specs.Rule.{view_of, KeepsRule}
 use Rattle.event_core.specs.Right.{Span, Happened, IsTreeVersion, IsPolicyVersion, IsCount, IsRight}
@@ -83,12 +80,18 @@ tells_right capacity events m s p w (Judged verdict node tree policy) name f k (
     let (t, at, found) = decided_tree m p w tree (Ok file) events capacity s f k still half decides in record {
       call = p.call;
       span = k.counted.polled.span;
-      justified = (t, file, p.judge, at, found,
-          subst (λ (n : ℕ). IsPublishedAt m.deeds n p.call.profile (Some p.judge)) (sym policy_is) k.counted.polled.published,
-          (refl, sym verdict_is));
+      justified = (
+        t,
+        file,
+        p.judge,
+        at,
+        found,
+        subst (λ (n : ℕ). IsPublishedAt m.deeds n p.call.profile (Some p.judge)) (sym policy_is) k.counted.polled.published,
+        (refl, sym verdict_is),
+      );
       of_span = (
         stood_so capacity events s p.call k.counted.polled.span (read_count s) (IsCount w.noted) (IsTreeVersion tree)
-        (even_version w.noted tree still.0 (half ∙ ap (λ (n : ℕ). n / 2) still.1)) k.counted.count,
+            (even_version w.noted tree still.0 (half ∙ ap (λ (n : ℕ). n / 2) still.1)) k.counted.count,
         subst (λ (n : ℕ). Happened capacity k.counted.polled.span (read_policy s) (IsPolicyVersion n)) (sym policy_is) k.counted.polled.read,
       );
     }

@@ -1,7 +1,7 @@
 -- What a history makes of the root alone it makes at any capacity that is as long as the history: a change makes one entry at most.
-use Rattle.std.proofs.Common.{◌≡◌, ℕ, ◌+◌, ◌<◌, ◌≤◌, Bool, true, false, List, [], ◌∷◌, ◌++◌, length, Some, None, Option, sym, refl, ap, ◌∙◌, subst, arith, length-append}
+use Rattle.std.proofs.Common.{◌≡◌, ℕ, ◌+◌, ◌≤◌, Bool, true, false, List, [], ◌∷◌, ◌++◌, length, Some, None, Option, refl, ap, ◌∙◌, arith, length-append}
 use Rattle.std.proofs.lemmas.Bool.{lt-ltb}
-use Rattle.std.specs.Prelude.{Result, Ok, Err, nat_lt, if◌then◌else◌, ◌&&◌, ◌==◌}
+use Rattle.std.specs.Prelude.{Result, Ok, Err, nat_lt, if◌then◌else◌, ◌==◌}
 use Rattle.names.specs.declared.errors.Errno.{Errno}
 use Rattle.names.specs.declared.errors.Errno.TheVariants.{EPERM, ENOENT, EEXIST, ENOTDIR, EISDIR, EINVAL, ENOSPC, ENOTEMPTY, EOVERFLOW}
 use Rattle.directory_tree.specs.declared.change.Change.{Change}
@@ -9,7 +9,7 @@ use Rattle.directory_tree.specs.declared.change.Change.TheVariants as change
 use Rattle.directory_tree.specs.declared.node.NodeKind.{NodeKind}
 use Rattle.directory_tree.specs.declared.node.NodeKind.TheVariants.{Directory, File, Link}
 use Rattle.directory_tree.specs.Tree.{Tree, Entry, root_alone, find, is_at, is_directory, is_empty}
-use Rattle.directory_tree.specs.Apply.{Changed, Target, and_then, entry, with_entry, make_at, make, is_file, link_to, link_from, link, without, dropped, unlink_at, unlink, rmdir_at, rmdir, place_one, placed, moved, goes_below, onto_kind, rename_onto, rename_from, rename, parent_of, text_of, directory_target, other_target, at_one, at_two, apply, max_changes, has_room, apply_counted, after_from, tree_after}
+use Rattle.directory_tree.specs.Apply.{Changed, Target, and_then, entry, with_entry, make_at, make, is_file, link_to, link_from, link, without, dropped, unlink_at, unlink, rmdir_at, rmdir, placed, moved, goes_below, onto_kind, rename_onto, rename_from, rename, parent_of, text_of, directory_target, other_target, at_one, at_two, apply, max_changes, has_room, after_from, tree_after}
 use Rattle.directory_tree.proofs.Basics.{ok_inj, err_is_ok}
 
 abbrev good : Tree → Changed
@@ -170,18 +170,18 @@ all_room : (n capacity count : ℕ) (t : Tree) (cs : List Change) (u : Tree) →
 all_room n capacity count t [] u low fits h = h
 all_room n capacity count t (c ∷ cs) u low fits h =
     by (nat_lt count max_changes) (apply t (has_room capacity t) c) refl (λ v more k. all_room n capacity (count + 1) v cs u (omega arith) (omega arith) k) h where
-  roomy : has_room n t ≡ true
-  roomy = lt-ltb (length t.entries) n (omega arith)
+      roomy : has_room n t ≡ true
+      roomy = lt-ltb (length t.entries) n (omega arith)
 
-  by : (counted : Bool) (r : Changed) → apply t (has_room capacity t) c ≡ r
-      → ((v : Tree) → length v.entries ≤ length t.entries + 1 → after_from capacity (count + 1) v cs ≡ Ok u → after_from n (count + 1) v cs ≡ Ok u)
-      → and_then (if counted then r else Err EOVERFLOW) (λ v. after_from capacity (count + 1) v cs) ≡ Ok u
-      → and_then (if counted then apply t (has_room n t) c else Err EOVERFLOW) (λ v. after_from n (count + 1) v cs) ≡ Ok u
-  by false r is on k = absurd (err_is_ok EOVERFLOW u k)
-  by true (Err e) is on k = absurd (err_is_ok e u k)
-  by true (Ok v) is on k =
-      let made : apply t (has_room n t) c ≡ Ok v = ap (λ (b : Bool). apply t b c) roomy ∙ with_room t (has_room capacity t) c v is in
-      ap (λ (x : Changed). and_then x (λ z. after_from n (count + 1) z cs)) made ∙ on v (grows t (has_room capacity t) c v is) k
+      by : (counted : Bool) (r : Changed) → apply t (has_room capacity t) c ≡ r
+          → ((v : Tree) → length v.entries ≤ length t.entries + 1 → after_from capacity (count + 1) v cs ≡ Ok u → after_from n (count + 1) v cs ≡ Ok u)
+          → and_then (if counted then r else Err EOVERFLOW) (λ v. after_from capacity (count + 1) v cs) ≡ Ok u
+          → and_then (if counted then apply t (has_room n t) c else Err EOVERFLOW) (λ v. after_from n (count + 1) v cs) ≡ Ok u
+      by false r is on k = absurd (err_is_ok EOVERFLOW u k)
+      by true (Err e) is on k = absurd (err_is_ok e u k)
+      by true (Ok v) is on k =
+          let made : apply t (has_room n t) c ≡ Ok v = ap (λ (b : Bool). apply t b c) roomy ∙ with_room t (has_room capacity t) c v is in
+          ap (λ (x : Changed). and_then x (λ z. after_from n (count + 1) z cs)) made ∙ on v (grows t (has_room capacity t) c v is) k
 
 pub roomy_after : (n capacity : ℕ) (cs : List Change) (u : Tree) → length cs ≤ n → tree_after capacity cs ≡ Ok u → tree_after n cs ≡ Ok u
 roomy_after n capacity cs u fits h = all_room n capacity 0 root_alone cs u (omega arith) (omega arith) h

@@ -1,15 +1,15 @@
 -- Each legal step keeps the rule of the row.
-use Rattle.std.proofs.Common.{◌≡◌, ℕ, ◌+◌, ◌*◌, ◌/◌, ◌%◌, ◌==◌, Bool, true, false, List, [], ◌∷◌, ◌++◌, length, set, Some, None, Option, sym, refl, ap, ◌∙◌, subst, arith, le_refl}
-use Rattle.std.specs.Prelude.{slice_get, if◌then◌else◌, Ok}
+use Rattle.std.proofs.Common.{◌≡◌, ℕ, ◌+◌, ◌==◌, Bool, true, false, List, [], ◌∷◌, ◌++◌, set, Some, None, Option, sym, refl, subst, le_refl}
+use Rattle.std.specs.Prelude.{slice_get, if◌then◌else◌}
 use Rattle.directory_tree.specs.declared.change.Change.{Change}
 use Rattle.directory_tree.specs.Tree.{root_alone}
 use Rattle.row_rule.specs.declared.cell.Cell.{Cell}
 use Rattle.row_rule.specs.declared.view.KeeperView.{KeeperView}
 use Rattle.row_rule.specs.declared.view.WalkerView.{WalkerView}
-use Rattle.row_rule.specs.declared.view.View.{View}
 use Rattle.row_rule.specs.declared.view.View.TheVariants.{Keeps, Walks}
-use Rattle.row_rule.specs.Row.{count_of, FitsWalker, KeptBy, Agrees, write}
-use Rattle.row_rule.specs.Steps.{newcomer, at_rest, beginning, reading, ending, opening, setting, closing}
+use Rattle.row_rule.specs.declared.view.Pending.{Pending}
+use Rattle.row_rule.specs.Row.{count_of, FitsWalker, KeptBy, write, left_of, target_of}
+use Rattle.row_rule.specs.Steps.{newcomer, beginning, reading, ending, opening, setting, closing}
 use Rattle.row_rule.proofs.Lists.{prefix_self}
 use Rattle.row_rule.proofs.Rule.{half_count, newcomer_fits, walker_fits, walker_moved, opening_kept}
 use Rattle.row_rule.proofs.KeeperSteps.{opens, sets_cell, closes}
@@ -18,10 +18,10 @@ use Rattle.tree_row.specs.OpeningRow.{opening_row}
 use Rattle.tree_row.proofs.Opening as opening_row_is
 use Rattle.justification.specs.declared.answer.Answer.{Answer}
 use Rattle.mediation.specs.Judge.{Judge}
-use Rattle.event_core.specs.Machine.{Call, Event, Policed, Stage, Session, Machine, EncodesChanges, with_session, moved_on, answered, with_keeper, with_deeds, first}
+use Rattle.event_core.specs.Machine.{Call, Event, Stage, Session, Machine, EncodesChanges, with_session, first}
 use Rattle.event_core.specs.Machine.Event.{begin, read_policy, read_count, read_cell, check_count, answer, open_change, set_cell, close_change, publish}
-use Rattle.event_core.specs.Machine.Stage.{resting, begun, unpublished, policed, walking, checked}
-use Rattle.event_core.specs.Takes.{Moves, Answers, Takes, after_policy}
+use Rattle.event_core.specs.Machine.Stage.{resting, begun, walking, checked}
+use Rattle.event_core.specs.Takes.{Moves, Takes, after_policy}
 use Rattle.event_core.specs.Rule.{view_of, KeepsRule}
 
 abbrev Kept : ℕ → KeeperView → WalkerView → Type 0
@@ -123,3 +123,7 @@ pub takes_keep : (old new : Machine) (event : Event) (told : Option Answer) → 
 takes_keep old new event None rule moves = moves_keep old new event rule moves
 takes_keep old new event (Some told) rule (s, which, (name, may, is)) =
     subst KeepsRule (sym is) (session_moved old s (record { name = name; stage = resting }) rule (newcomer_fits old.keeper))
+
+-- with no change open the row encodes the history
+pub row_encodes : (m : Machine) → KeepsRule m → m.keeper.pending ≡ None → EncodesChanges m.capacity m.keeper.cells m.keeper.history
+row_encodes m rule shut = subst (λ (p : Option Pending). EncodesChanges m.capacity (write m.keeper.cells (left_of p)) (target_of m.keeper.history p)) shut (rule 0).encodes

@@ -4,3 +4,4 @@ pub mod Takes
 pub mod Runs
 pub mod Rule
 pub mod Right
+pub mod Deeds

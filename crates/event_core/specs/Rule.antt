@@ -1,11 +1,11 @@
 -- The rule of the row, as a machine keeps it: it is the rule that a row keeps which threads share.
-use Rattle.std.specs.Prelude.{ℕ, List, [], ◌∷◌, Option}
+use Rattle.std.specs.Prelude.{ℕ, [], ◌∷◌}
 use Rattle.row_rule.specs.declared.view.WalkerView.{WalkerView}
 use Rattle.row_rule.specs.declared.view.View.TheVariants.{Keeps, Walks}
 use Rattle.row_rule.specs.Row.{KeptBy, count_of}
 use Rattle.row_rule.specs.Steps.{newcomer}
 use Rattle.tree_row.specs.Rows.{row_length}
-use Rattle.event_core.specs.Machine.{Call, Policed, Stage, Machine, EncodesChanges}
+use Rattle.event_core.specs.Machine.{Stage, Machine, EncodesChanges}
 use Rattle.event_core.specs.Machine.Stage.{resting, begun, unpublished, policed, walking, checked}
 
 -- what a session's walk knows; outside of one, nothing
