@@ -5,3 +5,4 @@ pub mod Calls
 pub mod Rightly
 pub mod Deeds
 pub mod Once
+pub mod Told

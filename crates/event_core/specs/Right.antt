@@ -64,3 +64,13 @@ pub record IsRight (capacity : ℕ) (events : List Event) (m : Machine) (s : ℕ
   pub span : Span events s call
   pub justified : Justified call.profile call.path call.ask m.keeper.history m.deeds told
   pub of_span : IsOfSpan capacity s span told
+
+-- Among these events one answers the session so, and the answer is right where it is given.
+pub record IsToldIn (capacity : ℕ) (events : List Event) (s : ℕ) (told : Answer) : Type 0 where
+  pub before : List Event
+  pub after : List Event
+  pub parts : events ≡ before ++ answer s ∷ after
+  pub answers : List (ℕ × Answer)
+  pub machine : Machine
+  pub legal : Legal capacity before answers machine
+  pub right : IsRight capacity before machine s told

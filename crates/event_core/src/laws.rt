@@ -1,5 +1,5 @@
 //! Laws of legal runs.
-ghost use Rattle.std.specs.Prelude.{◌≡◌, ℕ, List, ◌++◌, Some, None, length};
+ghost use Rattle.std.specs.Prelude.{◌≡◌, ℕ, List, ◌∷◌, ◌++◌, Some, None, length};
 ghost use mathlib.Core.List.{IsPrefix};
 ghost use Rattle.justification.specs.declared.answer.Answer.{Answer};
 ghost use Rattle.row_rule.specs.Row.{target_of};
@@ -8,7 +8,7 @@ ghost use Rattle.event_core.specs.Machine.Event.{answer};
 ghost use Rattle.event_core.specs.Takes.{Answers, Takes};
 ghost use Rattle.event_core.specs.Runs.{Runs, Legal};
 ghost use Rattle.event_core.specs.Rule.{KeepsRule};
-ghost use Rattle.event_core.specs.Right.{IsRight};
+ghost use Rattle.event_core.specs.Right.{IsRight, IsToldIn};
 ghost use Rattle.event_core.specs.Deeds.{opened_by, closed_by, published_by};
 
 /// Every answer of a legal run is right: it is justified by the changes of the tree and of the policy made until then, at a
@@ -17,6 +17,12 @@ ghost use Rattle.event_core.specs.Deeds.{opened_by, closed_by, published_by};
 pub fn answers_are_right()
     ensures { (capacity : ℕ) (events : List Event) (answers : List (ℕ × Answer)) (m : Machine) (s : ℕ) (told : Answer) (new : Machine) →
         Legal capacity events answers m → Takes m (answer s) (Some told) new → IsRight capacity events m s told }
+{}
+
+/// Wherever an answer stands in the list of a legal run's answers, one of its events gave it, and it was right there.
+pub fn listed_answers_are_right()
+    ensures { (capacity : ℕ) (events : List Event) (answers before after : List (ℕ × Answer)) (m : Machine) (s : ℕ) (told : Answer) →
+        Legal capacity events answers m → answers ≡ before ++ (s, told) ∷ after → IsToldIn capacity events s told }
 {}
 
 /// There is one answer to a call: after a legal run a session is answered in one way, and the machine then stands in one way.
