@@ -6,3 +6,4 @@ pub mod Rightly
 pub mod Deeds
 pub mod Once
 pub mod Told
+pub mod Examples

@@ -5,3 +5,4 @@ pub mod Runs
 pub mod Rule
 pub mod Right
 pub mod Deeds
+pub mod Examples

@@ -1,5 +1,5 @@
 //! Laws of legal runs.
-ghost use Rattle.std.specs.Prelude.{◌≡◌, ℕ, List, ◌∷◌, ◌++◌, Some, None, length};
+ghost use Rattle.std.specs.Prelude.{◌≡◌, ℕ, List, [], ◌∷◌, ◌++◌, Some, None, length};
 ghost use mathlib.Core.List.{IsPrefix};
 ghost use Rattle.justification.specs.declared.answer.Answer.{Answer};
 ghost use Rattle.row_rule.specs.Row.{target_of};
@@ -9,6 +9,10 @@ ghost use Rattle.event_core.specs.Takes.{Answers, Takes};
 ghost use Rattle.event_core.specs.Runs.{Runs, Legal};
 ghost use Rattle.event_core.specs.Rule.{KeepsRule};
 ghost use Rattle.event_core.specs.Right.{IsRight, IsToldIn};
+ghost use Rattle.names.specs.declared.errors.Errno.TheVariants.{EINVAL};
+ghost use Rattle.verdicts.specs.declared.verdict.Verdict.TheVariants.{NoRule};
+ghost use Rattle.justification.specs.declared.answer.Answer.TheVariants.{Judged, Failed, NoProfile};
+ghost use Rattle.event_core.specs.Examples.{to_read, nothing, unpublished_call, whole_call};
 ghost use Rattle.event_core.specs.Deeds.{opened_by, closed_by, published_by};
 
 /// Every answer of a legal run is right: it is justified by the changes of the tree and of the policy made until then, at a
@@ -64,4 +68,12 @@ pub fn versions_never_fall()
 pub fn steps_go_on_runs()
     ensures { (capacity : ℕ) (events later : List Event) (answers more : List (ℕ × Answer)) (m to : Machine) →
         Legal capacity events answers m → Runs m later more to → Legal capacity (events ++ later) (answers ++ more) to }
+{}
+
+/// Runs that are legal, and how they are answered: a profile that isn't published; one that is, without rules; and a call that
+/// asks for nothing.
+pub fn calls_are_answered()
+    ensures no_profile { (capacity : ℕ) → (m : Machine) × Legal capacity unpublished_call ((1, NoProfile 0) ∷ []) m }
+    ensures judged { (capacity : ℕ) → (m : Machine) × Legal capacity (whole_call to_read) ((1, Judged (NoRule to_read) 1 0 1) ∷ []) m }
+    ensures failed { (capacity : ℕ) → (m : Machine) × Legal capacity (whole_call nothing) ((1, Failed EINVAL 0) ∷ []) m }
 {}
