@@ -7,3 +7,4 @@ pub mod Deeds
 pub mod Once
 pub mod Told
 pub mod Examples
+pub mod Props
