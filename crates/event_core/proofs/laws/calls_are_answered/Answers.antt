@@ -1,0 +1,11 @@
+use Rattle.event_core.proofs.Examples.{no_profile, judged_root, failed_root}
+use Rattle.event_core.proofs.laws.calls_are_answered.Goals as goal
+
+pub returns-clause-no_profile : goal.returns-clause-no_profile
+returns-clause-no_profile c = no_profile
+
+pub returns-clause-judged : goal.returns-clause-judged
+returns-clause-judged c = judged_root
+
+pub returns-clause-failed : goal.returns-clause-failed
+returns-clause-failed c = failed_root

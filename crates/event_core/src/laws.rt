@@ -1,0 +1,79 @@
+//! Laws of legal runs.
+ghost use Rattle.std.specs.Prelude.{◌≡◌, ℕ, List, [], ◌∷◌, ◌++◌, Some, None, length};
+ghost use mathlib.Core.List.{IsPrefix};
+ghost use Rattle.justification.specs.declared.answer.Answer.{Answer};
+ghost use Rattle.row_rule.specs.Row.{target_of};
+ghost use Rattle.event_core.specs.Machine.{Event, Machine, EncodesChanges};
+ghost use Rattle.event_core.specs.Machine.Event.{answer};
+ghost use Rattle.event_core.specs.Takes.{Answers, Takes};
+ghost use Rattle.event_core.specs.Runs.{Runs, Legal};
+ghost use Rattle.event_core.specs.Rule.{KeepsRule};
+ghost use Rattle.event_core.specs.Right.{IsRight, IsToldIn};
+ghost use Rattle.names.specs.declared.errors.Errno.TheVariants.{EINVAL};
+ghost use Rattle.verdicts.specs.declared.verdict.Verdict.TheVariants.{NoRule};
+ghost use Rattle.justification.specs.declared.answer.Answer.TheVariants.{Judged, Failed, NoProfile};
+ghost use Rattle.event_core.specs.Examples.{to_read, nothing, unpublished_call, whole_call};
+ghost use Rattle.event_core.specs.Deeds.{opened_by, closed_by, published_by};
+
+/// Every answer of a legal run is right: it is justified by the changes of the tree and of the policy made until then, at a
+/// version of each that was current at an event of its own call. In whatever order the steps of opens, of the keeper and of
+/// publications happen, an open judged by a compiled profile answers what its rules say of a name that its file had.
+pub fn answers_are_right()
+    ensures { (capacity : ℕ) (events : List Event) (answers : List (ℕ × Answer)) (m : Machine) (s : ℕ) (told : Answer) (new : Machine) →
+        Legal capacity events answers m → Takes m (answer s) (Some told) new → IsRight capacity events m s told }
+{}
+
+/// Wherever an answer stands in the list of a legal run's answers, one of its events gave it, and it was right there.
+pub fn listed_answers_are_right()
+    ensures { (capacity : ℕ) (events : List Event) (answers before after : List (ℕ × Answer)) (m : Machine) (s : ℕ) (told : Answer) →
+        Legal capacity events answers m → answers ≡ before ++ (s, told) ∷ after → IsToldIn capacity events s told }
+{}
+
+/// There is one answer to a call: after a legal run a session is answered in one way, and the machine then stands in one way.
+pub fn answers_are_the_only_ones()
+    ensures { (capacity : ℕ) (events : List Event) (answers : List (ℕ × Answer)) (m : Machine) (s : ℕ) (told other : Answer) (new another : Machine) →
+        Legal capacity events answers m → Answers m s told new → Answers m s other another → (told ≡ other) × (new ≡ another) }
+{}
+
+/// A legal run keeps the rule of the row, and while no change is being made the row encodes the changes that were made.
+pub fn runs_keep_rule()
+    ensures rule { (capacity : ℕ) (events : List Event) (answers : List (ℕ × Answer)) (m : Machine) →
+        Legal capacity events answers m → KeepsRule m }
+    ensures encodes { (capacity : ℕ) (events : List Event) (answers : List (ℕ × Answer)) (m : Machine) →
+        Legal capacity events answers m → m.keeper.pending ≡ None → EncodesChanges m.capacity m.keeper.cells m.keeper.history }
+{}
+
+/// The changes of the tree, the open one last, are those that the events opened, and as many were made as the events closed. The
+/// policy's changes are those that the events published.
+pub fn runs_do_what_events_say()
+    ensures tree { (capacity : ℕ) (events : List Event) (answers : List (ℕ × Answer)) (m : Machine) →
+        Legal capacity events answers m → target_of m.keeper.history m.keeper.pending ≡ opened_by events }
+    ensures version { (capacity : ℕ) (events : List Event) (answers : List (ℕ × Answer)) (m : Machine) →
+        Legal capacity events answers m → length m.keeper.history ≡ closed_by events }
+    ensures policy { (capacity : ℕ) (events : List Event) (answers : List (ℕ × Answer)) (m : Machine) →
+        Legal capacity events answers m → m.deeds ≡ published_by events }
+{}
+
+/// No version falls, and what was done isn't undone; the capacity stays.
+pub fn versions_never_fall()
+    ensures tree { (from : Machine) (events : List Event) (answers : List (ℕ × Answer)) (to : Machine) →
+        Runs from events answers to → IsPrefix from.keeper.history to.keeper.history }
+    ensures policy { (from : Machine) (events : List Event) (answers : List (ℕ × Answer)) (to : Machine) →
+        Runs from events answers to → IsPrefix from.deeds to.deeds }
+    ensures capacity { (from : Machine) (events : List Event) (answers : List (ℕ × Answer)) (to : Machine) →
+        Runs from events answers to → to.capacity ≡ from.capacity }
+{}
+
+/// A legal run goes on with a legal step.
+pub fn steps_go_on_runs()
+    ensures { (capacity : ℕ) (events later : List Event) (answers more : List (ℕ × Answer)) (m to : Machine) →
+        Legal capacity events answers m → Runs m later more to → Legal capacity (events ++ later) (answers ++ more) to }
+{}
+
+/// Runs that are legal, and how they are answered: a profile that isn't published; one that is, without rules; and a call that
+/// asks for nothing.
+pub fn calls_are_answered()
+    ensures no_profile { (capacity : ℕ) → (m : Machine) × Legal capacity unpublished_call ((1, NoProfile 0) ∷ []) m }
+    ensures judged { (capacity : ℕ) → (m : Machine) × Legal capacity (whole_call to_read) ((1, Judged (NoRule to_read) 1 0 1) ∷ []) m }
+    ensures failed { (capacity : ℕ) → (m : Machine) × Legal capacity (whole_call nothing) ((1, Failed EINVAL 0) ∷ []) m }
+{}

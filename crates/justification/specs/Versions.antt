@@ -1,0 +1,15 @@
+-- Versions: the tree after so many of its changes, and the policy after so many of its own.
+use Rattle.std.specs.Prelude.{◌≡◌, ℕ, ◌≤◌, List, length, take, Option, Ok}
+use Rattle.directory_tree.specs.declared.change.Change.{Change}
+use Rattle.directory_tree.specs.Tree.{Tree}
+use Rattle.directory_tree.specs.Apply.{tree_after}
+use Rattle.mediation.specs.Deeds.{Deed, policy_after}
+use Rattle.mediation.specs.Judge.{Judge}
+
+-- t is what the first so many changes make of the root alone, where there is room for each of them
+abbrev pub IsTreeAt : List Change → ℕ → Tree → Type 0
+IsTreeAt changes version t = (version ≤ length changes) × (tree_after (length changes) (take version changes) ≡ Ok t)
+
+-- after the first so many changes of the policy this is what is published under the name, if anything is
+abbrev pub IsPublishedAt : List Deed → ℕ → List ℕ → Option Judge → Type 0
+IsPublishedAt deeds version profile published = (version ≤ length deeds) × (policy_after (take version deeds) profile ≡ published)
