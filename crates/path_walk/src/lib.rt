@@ -1,5 +1,6 @@
-//! A directory tree, the walk of a path, the tests of changes, and the tree in plain memory. Nothing here is its own: the
-//! names are those of `directory_tree`, `path_lookup`, `change_checks` and `plain_tree`.
+//! A directory tree, the walk of a path, the tests of changes, and the tree in plain memory and as a row of words. Nothing
+//! here is its own: the names are those of `directory_tree`, `path_lookup`, `change_checks`, `plain_tree`, `row_rule`,
+//! `tree_row`, `row_look` and `row_plan`.
 #![tactic(auto)]
 
 pub use change_checks::{Act, ChangeLook, Move, NewNode, Place, check_change};
@@ -16,3 +17,13 @@ pub use path_lookup::{
     name_of_place, resolve, split_path,
 };
 pub use plain_tree::{PlainEntry, PlainTree};
+pub use row_look::{
+    KnownWords, Reached, Reading, RowEntry, RowLook, Stop, name_and_read, name_known,
+    name_place_and_read, name_place_known, reach, torn_rows_encode_no_tree, walk_and_read,
+    walk_known,
+};
+pub use row_plan::{change_row, next_after, plan, set_cells};
+pub use row_rule::Cell;
+pub use tree_row::{
+    Cells, KnownRow, MOST_ENTRIES, one_row_one_tree, opening_row_encodes_root, slots_are_counted,
+};

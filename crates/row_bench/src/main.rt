@@ -1,0 +1,66 @@
+//! Does one piece of work over a tree in a row in memory again and again, for the bench: `row_bench WORK CAPACITY COUNT` plans a
+//! change so often, or follows a path, in a tree that has room for so many entries and is half full, and prints how many cells
+//! were planned, or how many bytes the names had.
+#![tactic(auto)]
+
+ghost use Rattle.std.specs.Prelude.{◌≤◌};
+
+mod tree;
+mod work;
+
+use crate::tree::Tree;
+use crate::work::{Work, work_of};
+use std::alloc::{AllocError, Global};
+use std::{env, io};
+use tree_row::MOST_ENTRIES;
+
+fn main(rt: HostRuntime) -> io::Result<()> {
+    let mut args = env::args(&rt)?;
+    let _program = args.next();
+    let work = args.next();
+    let capacity = args.next();
+    let count = args.next();
+    let line = match (work, number(&capacity), number(&count)) {
+        (Some(work), Some(capacity), Some(count)) if 64 <= capacity && capacity <= MOST_ENTRIES => {
+            report(
+                rt.alloc(),
+                &work,
+                done(rt.alloc(), work.as_bytes(), capacity, count),
+            )?
+        }
+        _ => format!(in rt.alloc();
+            "usage: row_bench WORK CAPACITY COUNT, with a CAPACITY of 64 to {MOST_ENTRIES}"
+        )?,
+    };
+    println!(rt; "{line}")
+}
+
+// The number that a word tells, if there is one and it tells one.
+fn number(word: &Option<String>) -> Option<usize> {
+    match word {
+        Some(word) => word.as_str().parse().ok(),
+        None => None,
+    }
+}
+
+// How much was done in all; none where there is no such work, or it can't be done.
+fn done(alloc: Global, word: &[u8], capacity: usize, count: usize) -> Option<u64>
+    requires { capacity ≤ MOST_ENTRIES }
+{
+    let work = work_of(word)?;
+    let mut tree = Tree::new(alloc, capacity)?;
+    if !tree.grow(alloc, capacity / 2) {
+        return None;
+    }
+    match work {
+        Work::Change(change) => tree.plan_often(alloc, &change, count),
+        Work::Walk(path) => tree.reach_often(&path, count),
+    }
+}
+
+fn report(alloc: Global, work: &str, done: Option<u64>) -> Result<String, AllocError> {
+    match done {
+        Some(done) => format!(in alloc; "{work} {done}"),
+        None => format!(in alloc; "{work} can't be done"),
+    }
+}
