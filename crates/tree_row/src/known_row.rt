@@ -90,7 +90,7 @@ impl Cells for KnownRow {
     ghost whole_may = { λ known row is. (is, λ u. u) };
 
     fn capacity(&self) -> usize {
-        self.capacity
+        KnownRow::capacity(self)
     }
 
     fn word(&mut self, place: usize) -> Option<u64> {
