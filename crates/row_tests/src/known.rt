@@ -4,7 +4,8 @@ use directory_tree::Last;
 use names::Errno;
 use path_lookup::Scratch;
 use row_look::{
-    KnownWords, Stop, name_and_read, name_known, name_place_known, walk_and_read, walk_known,
+    KnownWords, Stop, name_and_read, name_known, name_place_and_read, name_place_known,
+    walk_and_read, walk_known,
 };
 use std::alloc::Global;
 use std::test::Fail;
@@ -128,6 +129,35 @@ fn no_word_is_read_where_none_may_be(rt: HostRuntime) -> Result<(), Fail> {
     assert_eq!(rt; came.read.count(), 0);
     // The kind of the first slot past the root's.
     assert_eq!(rt; came.end.err(), Some(Stop::Wants(164)));
+    Ok(())
+}
+
+#[test]
+fn words_are_read_where_they_may_be(rt: HostRuntime) -> Result<(), Fail> {
+    let row = row_of(rt.alloc(), 8, &SLOTS)?;
+    let known = KnownWords::new(rt.alloc(), row.capacity());
+    let came = walk_and_read(
+        rt.alloc(),
+        &known,
+        &row,
+        100,
+        &path(b"/l")?,
+        Last::Stay,
+        &mut Scratch::new(),
+    );
+    assert_eq!(rt; came.end.ok().map(|entry| entry.slot()), Some(7));
+    let mut room = [0; 4096];
+    let came = name_place_and_read(
+        rt.alloc(),
+        &known,
+        &row,
+        100,
+        &path(b"/l/new")?,
+        &mut Scratch::new(),
+        &mut room,
+    );
+    assert_eq!(rt; came.end.ok(), Some(21));
+    assert!(rt; room.starts_with(b"/a_long_directory/new"));
     Ok(())
 }
 
