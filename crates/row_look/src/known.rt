@@ -1,5 +1,6 @@
 //! What is known of a row.
-ghost use Rattle.std.specs.Prelude.{◌≡◌, ◌≤◌, ◌+◌, [], length, OnOk, OnErr};
+ghost use Rattle.std.specs.Prelude.{◌≡◌, ◌≤◌, ◌+◌, [], length, OnOk, OnErr, ◌⊎◌, ℕ};
+ghost use Rattle.std.specs.Option.{option_or};
 ghost use Rattle.row_look.specs.Known.{known_at, Learns};
 
 use std::alloc::{AllocError, Global};
@@ -68,6 +69,18 @@ impl KnownWords {
         ensures refused { OnErr result (self.new ≡ self.old) }
     {
         self.words.insert(place, word)?;
+        Ok(())
+    }
+
+    /// From now on what `later` has is known, too; where both have a word, that of `later` counts. Where memory is refused,
+    /// a part of it may be known.
+    pub fn append(&mut self, later: KnownWords) -> Result<(), AllocError>
+        ensures capacity { self.new.0 ≡ self.old.0 }
+        ensures ok { OnOk result ((place : ℕ) → known_at self.new.1 place ≡ option_or (known_at later.1 place) (known_at self.old.1 place)) }
+        ensures either { (place : ℕ) → (known_at self.new.1 place ≡ known_at self.old.1 place) ⊎ (known_at self.new.1 place ≡ known_at later.1 place) }
+    {
+        let mut words = later.words;
+        self.words.append(&mut words)?;
         Ok(())
     }
 }

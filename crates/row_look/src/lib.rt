@@ -1,9 +1,10 @@
 //! A row of words as a look: paths are walked and entries named over the words of a row, all of which are known, or some.
 //!
-//! To be believed are about 30 lines of definitions in `specs/`.
+//! To be believed are about 45 lines of definitions in `specs/`.
 #![tactic(auto)]
 
 mod known;
+mod laws;
 mod look;
 mod part;
 mod reached;
@@ -11,8 +12,9 @@ mod reading;
 mod stop;
 
 pub use known::KnownWords;
+pub use laws::torn_rows_encode_no_tree;
 pub use look::{RowEntry, RowLook};
 pub use part::{name_known, name_place_known, walk_known};
 pub use reached::{Reached, reach};
-pub use reading::{Reading, name_and_read, walk_and_read};
+pub use reading::{Reading, name_and_read, name_place_and_read, walk_and_read};
 pub use stop::Stop;

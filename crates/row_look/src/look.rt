@@ -168,8 +168,8 @@ impl<C: Cells> ChangeLook for RowLook<C> {
     ghost capacity_kept = { λ before after same. ap C.capacity_of same };
 
     fn is_empty(&mut self, directory: RowEntry) -> Result<bool, Torn> {
-        let slots = self.cells.capacity() + 1;
-        for slot in 1..slots {
+        let end = self.cells.capacity() + 1;
+        for slot in 1..end {
             if is_entry_of(&mut self.cells, directory.slot, slot)? {
                 return Ok(false);
             }

@@ -2,6 +2,7 @@
 ghost use Rattle.std.specs.Prelude.{◌≡◌, ◌≤◌, IfOk, IfErr, Ok, Err, length, take};
 ghost use Rattle.directory_tree.specs.Apply.{and_then};
 ghost use Rattle.directory_tree.specs.Name.{judged_name};
+ghost use Rattle.directory_tree.specs.Place.{named_place};
 ghost use Rattle.directory_tree.specs.Walk.{walk};
 ghost use Rattle.tree_row.specs.Slots.{slot_at};
 ghost use Rattle.tree_row.specs.Worlds.{spot_at};
@@ -15,7 +16,7 @@ use crate::reached::{Reached, reach};
 use crate::stop::Stop;
 use directory_tree::Last;
 use names::{LONGEST_PATH, Path};
-use path_lookup::{NAME_ROOM, Scratch, WalkFault, resolve};
+use path_lookup::{NAME_ROOM, Scratch, WalkFault, name_of_place, resolve};
 use std::alloc::Global;
 use tree_row::{Cells, KnownRow};
 
@@ -189,6 +190,35 @@ pub fn name_and_read(
         Ok(reached) => Reading {
             read: look.into_cells().read,
             end: Ok(reached),
+        },
+        Err(fault) => look.into_cells().stopped(fault),
+    }
+}
+
+/// The name of the place that a path names, as far as what is known and at most `most` further words of `row` decide it, as
+/// [`walk_and_read`] reads them. It is written to the front of `room`, and its length answered.
+pub fn name_place_and_read(
+    alloc: Global,
+    known: &KnownWords,
+    row: &KnownRow,
+    most: usize,
+    path: &Path<'_>,
+    scratch: &mut Scratch,
+    room: &mut [u8; NAME_ROOM],
+) -> Reading<usize>
+    requires { row.now.0 ≡ known.now.0 }
+    ensures own { Agrees result.read.1 row.now.1 }
+    ensures new { AreNew known.now.1 result.read.1 }
+    ensures few { length result.read.1 ≤ most }
+    ensures fits { IfOk result.end (λ length. length ≤ LONGEST_PATH) }
+    ensures name { IfOk result.end (λ length. InEach known.now.0 (AgreesBoth known.now.1 result.read.1) (λ row t. named_place t path.now ≡ Ok (take length room.new))) }
+    ensures stops { IfErr result.end (StopsReading known.now.0 known.now.1 result.read.1 most (λ t. named_place t path.now)) }
+{
+    let mut look = RowLook::new(ReadCells::new(alloc, known, row, most));
+    match name_of_place(&mut look, path, scratch, room) {
+        Ok(length) => Reading {
+            read: look.into_cells().read,
+            end: Ok(length),
         },
         Err(fault) => look.into_cells().stopped(fault),
     }

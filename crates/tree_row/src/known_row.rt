@@ -40,6 +40,21 @@ impl KnownRow {
         Ok(KnownRow { capacity, cells })
     }
 
+    /// The most entries, besides the root.
+    pub fn capacity(&self) -> usize
+        ensures capacity { result ≡ self.now.0 }
+        ensures small { result ≤ MOST_ENTRIES }
+    {
+        self.capacity
+    }
+
+    /// How many cells it has.
+    pub fn length(&self) -> usize
+        ensures { result ≡ row_length self.now.0 }
+    {
+        self.cells.len()
+    }
+
     /// The word at a place.
     pub fn cell(&self, place: usize) -> u64
         requires { place < row_length self.now.0 }
@@ -75,7 +90,7 @@ impl Cells for KnownRow {
     ghost whole_may = { λ known row is. (is, λ u. u) };
 
     fn capacity(&self) -> usize {
-        self.capacity
+        KnownRow::capacity(self)
     }
 
     fn word(&mut self, place: usize) -> Option<u64> {

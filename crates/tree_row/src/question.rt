@@ -18,7 +18,8 @@ pub fn is_entry_of<C: Cells>(cells: &mut C, directory: usize, slot: usize) -> Re
     ensures ok { IfOk result (TellsEntryOf (C.capacity_of (C.kept cells.old)) (C.may cells.new) directory slot) }
     ensures err { IfErr result (λ _. C.unknown cells.new) }
 {
-    if slot_word(cells, slot, KIND)? == FREE {
+    let kind = slot_word(cells, slot, KIND)?;
+    if kind == FREE {
         return Ok(false);
     }
     Ok(slot_word(cells, slot, PARENT)? == directory as u64)

@@ -27,4 +27,4 @@ pub returns-clause-keeps : goal.returns-clause-keeps
 returns-clause-keeps g c e = known_after _ _ _ _ (ap g.C.Cells.capacity_of c.loop-slot.invariant.kept) c.loop-slot.invariant.fewer e.slot
 
 pub returns-clause-answer : goal.returns-clause-answer
-returns-clause-answer g c = empty_seen _ _ _ _ _ _ (ap g.C.Cells.capacity_of c.loop-slot.invariant.kept) (subst (λ (z : ℕ). z + 1 ≤ c.loop-slot.slot) c.capacity-slots.ensures.capacity c.loop-slot-test.false) c.loop-slot.invariant.fewer c.requires c.loop-slot.invariant.none
+returns-clause-answer g c = empty_seen _ _ _ _ _ _ (ap g.C.Cells.capacity_of c.loop-slot.invariant.kept) (subst (λ (z : ℕ). z + 1 ≤ c.loop-slot.slot) c.capacity-end.ensures.capacity c.loop-slot-test.false) c.loop-slot.invariant.fewer c.requires c.loop-slot.invariant.none

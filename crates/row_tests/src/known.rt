@@ -1,0 +1,183 @@
+//! Walks over words that come to be known one after the other.
+use crate::rows::{SLOTS, path, row_of};
+use directory_tree::Last;
+use names::Errno;
+use path_lookup::Scratch;
+use row_look::{
+    KnownWords, Stop, name_and_read, name_known, name_place_and_read, name_place_known,
+    walk_and_read, walk_known,
+};
+use std::alloc::Global;
+use std::test::Fail;
+use tree_row::KnownRow;
+
+// A path, how many words a walk along it and the name of what is there need, and the name.
+type Walk<'a> = (&'a [u8], usize, Result<&'a [u8], Errno>);
+
+// Of the slots: a free one has its kind read; one in use its kind and its directory, and its lengths where that is the one
+// that is looked in; and its component's words where the length is the same, too, as far as they agree.
+const WALKS: [Walk<'static>; 5] = [
+    // No word at all: the root is the root in every row.
+    (b"/", 0, Ok(b"/")),
+    // Slots 1 to 4: 2, 2, 3 and 1 words; slot 5: 3 words, and 2 of its component.
+    (b"/a_long_directory", 13, Ok(b"/a_long_directory/")),
+    // Besides, of slot 1 the lengths, of slot 2 the lengths and 3 words of the component.
+    (
+        b"/a_long_directory/file.of.17.bytes.",
+        18,
+        Ok(b"/a_long_directory/file.of.17.bytes."),
+    ),
+    // Slots 1 to 8: 2, 2, 3, 1, 3, 1, 4 and 1 words, since only slot 7 has a component of one byte.
+    (b"/x", 17, Err(Errno::ENOENT)),
+    // Slots 1 to 3, the component of slot 3, and its text.
+    (b"/ring", 9, Err(Errno::ELOOP)),
+];
+
+// The words that a walk asks for, one after the other, and whether none is asked for twice and the end is this.
+fn is_asked(alloc: Global, row: &KnownRow, walk: &Walk) -> Result<bool, Fail> {
+    let (text, words, want) = walk;
+    let text = path(text)?;
+    let mut known = KnownWords::new(alloc, 8);
+    let mut room = [0; 4096];
+    for asked in 0..row.length() {
+        match name_known(&known, &text, Last::Follow, &mut Scratch::new(), &mut room) {
+            Ok(reached) => return Ok(asked == *words && Ok(&room[..reached.length]) == *want),
+            Err(Stop::Refused(errno)) => return Ok(asked == *words && Err(errno) == *want),
+            Err(Stop::Wants(place)) => {
+                if place >= row.length() || known.word(place).is_some() {
+                    return Ok(false);
+                }
+                known.learn(place, row.cell(place)).ok().ok_or("memory")?;
+            }
+            Err(Stop::Torn) | Err(Stop::NoMemory) => return Ok(false),
+        }
+    }
+    Ok(false)
+}
+
+// The same walk, which reads at most so many words at a time.
+fn is_read(alloc: Global, row: &KnownRow, walk: &Walk, most: usize) -> Result<bool, Fail> {
+    let (text, words, want) = walk;
+    let text = path(text)?;
+    let mut known = KnownWords::new(alloc, 8);
+    let mut room = [0; 4096];
+    for _ in 0..row.length() {
+        if known.capacity() != row.capacity() {
+            return Ok(false);
+        }
+        let came = name_and_read(
+            alloc,
+            &known,
+            row,
+            most,
+            &text,
+            Last::Follow,
+            &mut Scratch::new(),
+            &mut room,
+        );
+        let read = came.read.count();
+        known.append(came.read).ok().ok_or("memory")?;
+        match came.end {
+            Ok(reached) => return Ok(
+                known.count() == *words && Ok(&room[..reached.length]) == *want,
+            ),
+            Err(Stop::Refused(errno)) => return Ok(known.count() == *words && Err(errno) == *want),
+            Err(Stop::Wants(place)) => {
+                if read != most || known.word(place).is_some() {
+                    return Ok(false);
+                }
+            }
+            Err(Stop::Torn) | Err(Stop::NoMemory) => return Ok(false),
+        }
+    }
+    Ok(false)
+}
+
+#[test]
+fn words_are_asked_for_once(rt: HostRuntime) -> Result<(), Fail> {
+    let row = row_of(rt.alloc(), 8, &SLOTS)?;
+    for walk in &WALKS {
+        assert!(rt; is_asked(rt.alloc(), &row, walk)?, "{walk:?}");
+    }
+    Ok(())
+}
+
+#[test]
+fn words_are_read_a_few_at_a_time(rt: HostRuntime) -> Result<(), Fail> {
+    let row = row_of(rt.alloc(), 8, &SLOTS)?;
+    for walk in &WALKS {
+        for most in 1..20 {
+            assert!(rt; is_read(rt.alloc(), &row, walk, most)?, "{walk:?} {most}");
+        }
+    }
+    Ok(())
+}
+
+#[test]
+fn no_word_is_read_where_none_may_be(rt: HostRuntime) -> Result<(), Fail> {
+    let row = row_of(rt.alloc(), 8, &SLOTS)?;
+    let known = KnownWords::new(rt.alloc(), row.capacity());
+    let came = walk_and_read(
+        rt.alloc(),
+        &known,
+        &row,
+        0,
+        &path(b"/l")?,
+        Last::Stay,
+        &mut Scratch::new(),
+    );
+    assert_eq!(rt; came.read.count(), 0);
+    // The kind of the first slot past the root's.
+    assert_eq!(rt; came.end.err(), Some(Stop::Wants(164)));
+    Ok(())
+}
+
+#[test]
+fn words_are_read_where_they_may_be(rt: HostRuntime) -> Result<(), Fail> {
+    let row = row_of(rt.alloc(), 8, &SLOTS)?;
+    let known = KnownWords::new(rt.alloc(), row.capacity());
+    let came = walk_and_read(
+        rt.alloc(),
+        &known,
+        &row,
+        100,
+        &path(b"/l")?,
+        Last::Stay,
+        &mut Scratch::new(),
+    );
+    assert_eq!(rt; came.end.ok().map(|entry| entry.slot()), Some(7));
+    let mut room = [0; 4096];
+    let came = name_place_and_read(
+        rt.alloc(),
+        &known,
+        &row,
+        100,
+        &path(b"/l/new")?,
+        &mut Scratch::new(),
+        &mut room,
+    );
+    assert_eq!(rt; came.end.ok(), Some(21));
+    assert!(rt; room.starts_with(b"/a_long_directory/new"));
+    Ok(())
+}
+
+#[test]
+fn what_is_known_may_fit_no_tree(rt: HostRuntime) -> Result<(), Fail> {
+    let mut known = KnownWords::new(rt.alloc(), 8);
+    let at = path(b"/a")?;
+    // Slot 1 holds the entry `a` of the root, and its kind is none.
+    for (place, word) in [(164, 4), (166, 0), (167, 1), (168, 97)] {
+        known.learn(place, word).ok().ok_or("memory")?;
+    }
+    let end = walk_known(&known, &at, Last::Follow, &mut Scratch::new());
+    assert_eq!(rt; end.err(), Some(Stop::Torn));
+    // As a file, it is found.
+    known.learn(164, 2).ok().ok_or("memory")?;
+    let end = walk_known(&known, &at, Last::Follow, &mut Scratch::new());
+    assert_eq!(rt; end.ok().map(|entry| entry.slot()), Some(1));
+    let mut room = [0; 4096];
+    let end = name_place_known(&known, &path(b"/b")?, &mut Scratch::new(), &mut room);
+    assert_eq!(rt; end, Ok(2));
+    assert!(rt; room.starts_with(b"/b"));
+    Ok(())
+}

@@ -1,0 +1,13 @@
+//! Tests of `tree_row` and `row_look`, and nothing else: as they stand here, each library is proved once.
+#![tactic(auto)]
+
+#[cfg(test)]
+mod known;
+#[cfg(test)]
+mod lying;
+#[cfg(test)]
+mod rows;
+#[cfg(test)]
+mod torn;
+#[cfg(test)]
+mod walks;
