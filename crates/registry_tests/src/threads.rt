@@ -14,8 +14,8 @@ const LAST: u64 = 3 * ROUNDS;
 
 const ROUNDS: u64 = 200;
 
-// A reader gives up after so many looks, of which a long run of the publisher needs fewer.
-const LOOKS: u64 = 1 << 32;
+// A reader gives up after so many looks, which take some seconds: a run of the publisher takes some milliseconds.
+const LOOKS: u64 = 1 << 27;
 
 // What is published under the name after so many changes.
 fn published_after(version: u64) -> Found {
