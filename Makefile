@@ -2,7 +2,8 @@
 # make run        builds it, judges a name by examples/passwd.profile and by its image, and runs two scripts of examples/
 # make test       the gate: every proof from nothing, must-fail edits, tests, programs
 # make bench      times on large inputs, each with the ratio to half the size or to another input, of compiled profiles, of
-#                 the loop that runs names through a table, beside the same loop in C, and of names judged from C
+#                 the loop that runs names through a table, beside the same loop in C, of names judged from C, of plans and
+#                 walks over a row, and of reads of what is published, beside a lock
 # make tour       runs every command of README.md and docs/TOUR.md, and compares what it prints
 # make calls      calls the library for C, and compares its answers with those of ./aa-trace
 # make embed      builds the examples for those who embed the library, ./embed in C and ./embed_rs in Rust, and runs them
@@ -61,6 +62,7 @@ bench: aa-trace
 	sh bench/compile.sh
 	sh bench/match.sh
 	sh bench/judge.sh
+	sh bench/row.sh
 	sh bench/registry.sh
 
 calls: aa-trace $(LIBRARY)

@@ -9,6 +9,6 @@ mod laws;
 
 pub use encoding::TreeRow;
 pub use laws::{
-    answers_are_right, answers_are_the_only_ones, listed_answers_are_right,
+    answers_are_right, answers_are_the_only_ones, calls_are_answered, listed_answers_are_right,
     runs_do_what_events_say, runs_keep_rule, steps_go_on_runs, versions_never_fall,
 };

@@ -1,0 +1,47 @@
+#!/bin/sh
+# Times plans of changes, and walks, over a tree in a row in memory that is half full, with room for so many entries: what one of
+# each takes, and how many there are a second. There is no index yet: a child is found by reading slots one after another, a cell
+# of each at least, so that times grow with the room. Each is the least of RUNS runs of COUNT and of none, one less the other.
+set -eu
+cd "$(dirname "$0")/.."
+RUNS=${RUNS:-7}
+work=$(mktemp -d)
+trap 'rm -rf "$work"' EXIT
+
+echo 'proving and building row_bench ..'
+if ! (cd crates/row_bench && rt run -- mkdir 64 3) >"$work/log" 2>&1; then
+    cat "$work/log"
+    exit 1
+fi
+BENCH=crates/row_bench/out/row_bench
+
+# least WORK CAPACITY COUNT: the least time of a run, in nanoseconds
+least() {
+    best=
+    run=0
+    while [ "$run" -lt "$RUNS" ]; do
+        begin=$(date +%s%N)
+        "$BENCH" "$1" "$2" "$3" >"$work/out"
+        took=$(($(date +%s%N) - begin))
+        if [ -z "$best" ] || [ "$took" -lt "$best" ]; then best=$took; fi
+        run=$((run + 1))
+    done
+    echo "$best"
+}
+
+printf '%-8s' ''
+for capacity in 1024 16384; do printf ' | %26s' "$capacity entries"; done
+printf '\n%-8s' work
+for capacity in 1024 16384; do printf ' | %13s %12s' microseconds 'a second'; done
+printf '\n'
+for work_name in mkdir create symlink link unlink rmdir rename replace walk1 walk4 walk16; do
+    printf '%-8s' "$work_name"
+    for capacity in 1024 16384; do
+        count=$((40000000 / capacity))
+        some=$(least "$work_name" "$capacity" "$count")
+        none=$(least "$work_name" "$capacity" 0)
+        awk -v took=$((some - none)) -v count="$count" \
+            'BEGIN { each = took / count; if (each <= 0) each = 1; printf " | %13.2f %12.0f", each / 1000, 1e9 / each }'
+    done
+    printf '\n'
+done
