@@ -1,6 +1,6 @@
 //! Changes of one tree in a row in memory and in plain memory, which have to answer alike: tests of `row_plan`, and nothing
-//! else. The program draws changes at random: `plan_tests CAPACITY CHANGES` prints how many of so many were made in a tree with
-//! room for so many entries, or why it stopped.
+//! else. The program draws changes at random: `plan_tests CAPACITY ROUNDS` prints how many of a hundred a round were made in trees
+//! with room for so many entries, or why it stopped.
 #![tactic(auto)]
 
 #[cfg(test)]
@@ -21,12 +21,12 @@ fn main(rt: HostRuntime) -> io::Result<()> {
     let mut args = env::args(&rt)?;
     let _program = args.next();
     let capacity = args.next();
-    let changes = args.next();
-    let line = match (number(&capacity), number(&changes)) {
-        (Some(capacity), Some(changes)) if capacity <= MOST_ENTRIES => {
-            report(rt.alloc(), change_at_random(rt.alloc(), capacity, changes))?
+    let rounds = args.next();
+    let line = match (number(&capacity), number(&rounds)) {
+        (Some(capacity), Some(rounds)) if capacity <= MOST_ENTRIES => {
+            report(rt.alloc(), change_at_random(rt.alloc(), capacity, rounds))?
         }
-        _ => format!(in rt.alloc(); "usage: plan_tests CAPACITY CHANGES")?,
+        _ => format!(in rt.alloc(); "usage: plan_tests CAPACITY ROUNDS")?,
     };
     println!(rt; "{line}")
 }
