@@ -164,8 +164,8 @@ mod tests {
 
     #[test]
     fn trees_change_at_random(rt: HostRuntime) -> Result<(), Fail> {
-        for capacity in 0..41 {
-            assert!(rt; change_at_random(rt.alloc(), capacity, 1).is_ok());
+        for third in 0..14 {
+            assert!(rt; change_at_random(rt.alloc(), 3 * third, 1).is_ok());
         }
         Ok(())
     }
