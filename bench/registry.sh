@@ -1,14 +1,17 @@
 #!/bin/sh
 # Reads of published profiles: first each of READERS readers beside a publisher that makes CHANGES changes, where each pair
 # that is read must have been published; then how many reads a second one thread and four make, of READS reads in each, beside
-# the same reads of a map behind std's RwLock in Rust (bench/rwlock.rs, by rustc -O), and the ratio of both. Each rate is the
-# most of RUNS runs. Where rustc is missing, the rates stand alone.
+# the same reads of a map behind std's RwLock in Rust (bench/rwlock.rs, by rustc -O), and the ratio of both. Of the four threads
+# each reads all 64 names, or 16 of its own. Each rate is the middle one of RUNS runs; the most of them would be, for the lock on
+# a busy machine, one in which the threads ran one after another. On such a machine UNDER='chrt -f 20', as root, lets the runs go
+# first. Where rustc is missing, the rates stand alone.
 set -eu
 cd "$(dirname "$0")/.."
 READERS=${READERS:-8}
 CHANGES=${CHANGES:-10000}
 READS=${READS:-2000000}
-RUNS=${RUNS:-5}
+RUNS=${RUNS:-7}
+UNDER=${UNDER:-}
 work=$(mktemp -d)
 trap 'rm -rf "$work"' EXIT
 
@@ -27,24 +30,29 @@ if command -v rustc >/dev/null 2>&1; then
 fi
 run=0
 while [ "$run" -lt "$RUNS" ]; do
-    "$BENCH" 0 0 "$READS" >>"$work/registry"
-    if [ -n "$lock" ]; then "$work/rwlock" "$READS" >>"$work/lock"; fi
+    $UNDER "$BENCH" 0 0 "$READS" >>"$work/registry"
+    if [ -n "$lock" ]; then $UNDER "$work/rwlock" "$READS" >>"$work/lock"; fi
     run=$((run + 1))
 done
 
-# most THREADS FILE: the most reads a second of so many threads, in millions
-most() {
-    awk -v threads="$1" '$1 == threads && $2 == "threads:" && $3 > best { best = $3 } END { printf "%.2f", best / 1000000 }' "$2"
+# middle NAME FILE: the middle one of the rates that stand after this name, in millions
+middle() {
+    sed -n "s/^$1: \([0-9]*\) .*/\1/p" "$2" | sort -n | awk '{ rate[NR] = $1 } END { printf "%.2f", rate[int((NR + 1) / 2)] / 1000000 }'
 }
 
-printf '%7s %20s %20s %7s\n' threads 'registry, million/s' 'RwLock, million/s' ratio
-for threads in 1 4; do
-    registry=$(most "$threads" "$work/registry")
+printf '%-27s %20s %20s %7s\n' threads 'registry, million/s' 'RwLock, million/s' ratio
+for name in one four_all four_own; do
+    case $name in
+    one) threads='1' ;;
+    four_all) threads='4, all names each' ;;
+    four_own) threads='4, names of their own' ;;
+    esac
+    registry=$(middle "$name" "$work/registry")
     held=-
     ratio=-
     if [ -n "$lock" ]; then
-        held=$(most "$threads" "$work/lock")
+        held=$(middle "$name" "$work/lock")
         ratio=$(awk -v one="$registry" -v other="$held" 'BEGIN { printf "%.1f", one / other }')
     fi
-    printf '%7s %20s %20s %7s\n' "$threads" "$registry" "$held" "$ratio"
+    printf '%-27s %20s %20s %7s\n' "$threads" "$registry" "$held" "$ratio"
 done

@@ -1,5 +1,6 @@
 //! What `crates/registry_bench` times, over a lock: a map of shared profiles with its version, behind std's RwLock. It takes
-//! READS, and prints how many reads a second one thread and four make, so many in each.
+//! READS, and prints how many reads a second one thread and four make, so many in each: where each of the four reads all names,
+//! and where it has names of its own.
 use std::collections::HashMap;
 use std::env;
 use std::sync::{Arc, RwLock};
@@ -23,6 +24,7 @@ fn get(store: &RwLock<Store>, name: &[u8]) -> (Option<Arc<Profile>>, u64) {
     (store.profiles.get(name).cloned(), store.version)
 }
 
+/// Reads each of a thread's names in turn, from `start` on.
 fn read_names(store: &RwLock<Store>, names: &[Vec<u8>], start: usize, reads: u64) -> u64 {
     let mut found = 0;
     let mut next = start;
@@ -38,11 +40,14 @@ fn read_names(store: &RwLock<Store>, names: &[Vec<u8>], start: usize, reads: u64
     found
 }
 
-fn rate(store: &RwLock<Store>, names: &[Vec<u8>], threads: usize, reads: u64) -> u64 {
+fn rate(store: &RwLock<Store>, names: &[Vec<u8>], threads: usize, own: bool, reads: u64) -> u64 {
     let start = Instant::now();
     let found: u64 = thread::scope(|scope| {
         let work: Vec<_> = (0..threads)
-            .map(|k| scope.spawn(move || read_names(store, names, k * 16, reads)))
+            .map(|k| {
+                let (names, start) = if own { (&names[k * 16..k * 16 + 16], 0) } else { (names, k * 16) };
+                scope.spawn(move || read_names(store, names, start, reads))
+            })
             .collect();
         work.into_iter().map(|work| work.join().unwrap()).sum()
     });
@@ -54,7 +59,7 @@ fn main() {
     let names: Vec<Vec<u8>> = (0..NAMES).map(|k| format!("daemon_{k:02}").into_bytes()).collect();
     let profiles = names.iter().map(|name| (name.clone(), Arc::new(Profile { table: vec![0] }))).collect();
     let store = RwLock::new(Store { profiles, version: NAMES as u64 });
-    for threads in [1, 4] {
-        println!("{threads} threads: {} reads a second", rate(&store, &names, threads, reads));
-    }
+    println!("one: {} reads a second", rate(&store, &names, 1, false, reads));
+    println!("four_all: {} reads a second", rate(&store, &names, 4, false, reads));
+    println!("four_own: {} reads a second", rate(&store, &names, 4, true, reads));
 }

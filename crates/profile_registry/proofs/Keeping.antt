@@ -16,8 +16,8 @@ use Rattle.mediation.specs.Deeds.{Deed, Policy, published, removed, after_deed, 
 use Rattle.profile_registry.specs.declared.known.Known.{Known}
 use Rattle.profile_registry.specs.declared.store.Contents.{Contents}
 use Rattle.profile_registry.specs.declared.store.Store.{Store}
-use Rattle.profile_registry.specs.Changes.{deed_of}
-use Rattle.profile_registry.specs.Rule.{policy_of, IsMadeBy, IsPublished, newcomer, sees, publishes}
+use Rattle.mediation.specs.PolicyChanges.{deed_of}
+use Rattle.profile_registry.specs.Rule.{policy_of, IsMadeBy, IsPublished, newcomer, sees, publishes, learned}
 use Rattle.profile_registry.specs.inner.Contents.{contents_of, with_change}
 use Rattle.profile_registry.specs.inner.Names.{Profiles, profiles_after}
 use Rattle.profile_registry.proofs.Prefixes.{prefix_self, prefix_none, prefix_whole, prefix_more}
@@ -86,13 +86,17 @@ pub admits : Admits IsPublished newcomer
 admits x views h = (h.0, h.1, λ seat known e. ⊎_elim (h.2 seat known) (λ (t : newcomer ≡ known). subst (Fits h.0) t (prefix_none h.0)) (at_snoc views newcomer known seat e))
 
 abbrev knowing : List Deed → Known
-knowing deeds = record { marker = record {}; seen = deeds }
+knowing deeds = record { marker = record {}; seen = deeds; entries = 0 }
+
+-- what a reader knows that was let in once more
+abbrev after_entry : List Deed → Known → Known
+after_entry deeds known = record { marker = record {}; seen = deeds; entries = known.entries + 1 }
 
 pub turns : (id : ℕ) (known : Known) → Turns IsPublished id known (λ x. x) sees
 turns id known x views h at = (
-  knowing h.0,
-  (h.0, h.1, fits_set h.0 views id (knowing h.0) (prefix_self h.0) h.2),
-  (h.2 id known at, h.1),
+  after_entry h.0 known,
+  (h.0, h.1, fits_set h.0 views id (after_entry h.0 known) (prefix_self h.0) h.2),
+  (h.2 id known at, h.1, refl),
 )
 
 pub brings : (id : ℕ) (known : Known) (x y : Store) (changes : List PolicyChange) → length known.seen ≡ x.version → contents_of y ≡ fold with_change (contents_of x) changes
@@ -114,10 +118,11 @@ pub forks : (id : ℕ) (known : Known) → Forks IsPublished id known known know
 forks id known x views h at =
     (h.0, h.1, λ seat other e. ⊎_elim (λ (l : get_elem? (set views id known) seat ≡ some other). fits_set h.0 views id known (h.2 id known at) h.2 seat other l) (λ (t : known ≡ other). subst (Fits h.0) t (h.2 id known at)) (at_snoc (set views id known) known other seat e))
 
-pub merges : (id : ℕ) (known : Known) (other : ℕ) (note : Known) → Merges IsPublished id known other note note newcomer
+pub merges : (id : ℕ) (known : Known) (other : ℕ) (note : Known) → Merges IsPublished id known other note (learned known note) newcomer
 merges id known other note x views h at away there =
-    let told : Fits h.0 note = ⊎_elim (λ (t : (other ≡ id) × (note ≡ note)). absurd (away t.0)) (λ (t : (other ≢ id) × (get_elem? views other ≡ some note)). h.2 other note t.1) (at_set views id other note note there) in
-    (h.0, h.1, fits_set h.0 (set views id note) other newcomer (prefix_none h.0) (fits_set h.0 views id note told h.2))
+    let both = learned known note in
+    let told : Fits h.0 note = ⊎_elim (λ (t : (other ≡ id) × (both ≡ note)). absurd (away t.0)) (λ (t : (other ≢ id) × (get_elem? views other ≡ some note)). h.2 other note t.1) (at_set views id other both note there) in
+    (h.0, h.1, fits_set h.0 (set views id both) other newcomer (prefix_none h.0) (fits_set h.0 views id both told h.2))
 
 only : (seat : ℕ) (known : Known) → get_elem? (newcomer ∷ []) seat ≡ some known → Fits [] known
 only zero known e = subst (Fits []) (some-injective newcomer known e) (prefix_self [])

@@ -13,7 +13,7 @@ use Rattle.std.specs.FinMap.Entries.{find, put, find-put, by_order}
 use Rattle.std.specs.declared.alloc.Global.{Global}
 use Rattle.std.specs.declared.sync.Arc.{Arc}
 use Rattle.matcher.specs.declared.profiles.AnyProfile.{AnyProfile}
-use Rattle.profile_registry.specs.Changes.{judge_shared}
+use Rattle.mediation.specs.PolicyChanges.{judge_shared}
 use Rattle.profile_registry.specs.inner.Contents.{said}
 use Rattle.profile_registry.specs.inner.Names.{Profiles}
 

@@ -1,4 +1,3 @@
-pub mod Changes
 pub mod Views
 pub mod Rule
 pub mod inner

@@ -1,6 +1,6 @@
 -- The rule of the published policy: what is always true of the store that readers read, and of all that publisher and readers
 -- know. Readers may come at any time, and know nothing then.
-use Rattle.std.specs.Prelude.{◌≡◌, ℕ, List, [], ◌++◌, length}
+use Rattle.std.specs.Prelude.{◌≡◌, ℕ, ◌+◌, List, [], ◌++◌, length}
 use Rattle.std.specs.Ordering.{nat_cmp}
 use Rattle.std.specs.Cmp.Lexicographic.{slice_cmp}
 use Rattle.std.specs.BTreeMap.{get_by}
@@ -9,7 +9,7 @@ use mathlib.Core.Option.{some}
 use mathlib.Core.List.{IsPrefix}
 use lib.ListN.{get_elem?}
 use Rattle.mediation.specs.Deeds.{Deed, Policy, policy_after}
-use Rattle.profile_registry.specs.Changes.{judge_shared}
+use Rattle.mediation.specs.PolicyChanges.{judge_shared}
 use Rattle.profile_registry.specs.declared.known.Known.{Known}
 use Rattle.profile_registry.specs.declared.store.Store.{Store}
 
@@ -29,11 +29,11 @@ IsPublished store views =
     × ((seat : ℕ) (known : Known) → get_elem? views seat ≡ some known → IsPrefix known.seen deeds)
 
 abbrev pub newcomer : Known
-newcomer = record { marker = record {}; seen = [] }
+newcomer = record { marker = record {}; seen = []; entries = 0 }
 
--- A reader's entry, at a store: it sees at least what it had seen, and it is all that made the store.
+-- A reader's entry, at a store: it sees at least what it had seen, and it is all that made the store. The entry is counted.
 abbrev pub sees : Known → Store → Store → Known → Type 0
-sees before store after now = IsPrefix before.seen now.seen × IsMadeBy now.seen store
+sees before store after now = IsPrefix before.seen now.seen × IsMadeBy now.seen store × (now.entries ≡ before.entries + 1)
 
 -- The publisher's step, from a store to the next one: what it knew to be published, and after it what was staged.
 abbrev pub publishes : List Deed → Known → Store → Store → Known → Type 0
@@ -44,4 +44,4 @@ abbrev pub noted : Known → Known
 noted publisher = publisher
 
 abbrev pub learned : Known → Known → Known
-learned reader note = note
+learned reader note = record reader { seen = note.seen }

@@ -1,6 +1,6 @@
 -- What contracts see of a publisher and of a reader.
-use Rattle.std.specs.Prelude.{ℕ, ◌+◌, List, length}
-use Rattle.mediation.specs.Deeds.{Deed}
+use Rattle.std.specs.Prelude.{◌≡◌, ◌⊎◌, ℕ, ◌+◌, List, length, IsSome}
+use Rattle.mediation.specs.Deeds.{Deed, policy_after}
 
 -- the changes that were published, and after these the ones that are staged
 pub record Publishing : Type 0 where
@@ -11,7 +11,16 @@ pub record Publishing : Type 0 where
 abbrev pub changes_of : Publishing → ℕ
 changes_of p = length p.published + length p.staged
 
--- the changes that were published, up to where the reader saw them last, and how often it wasn't answered
+-- the changes that were published, up to where the reader saw them last, how often it was let in since it last learned a note,
+-- and how often it wasn't answered
 pub record Reading : Type 0 where
   pub seen : List Deed
+  pub entries : ℕ
   pub refused : ℕ
+
+-- Why a reader isn't answered: it isn't let in, and sees nothing new; or it is, and was given no share of the profile that stands
+-- under the name.
+abbrev pub IsUnanswered : Reading → Reading → List ℕ → Type 0
+IsUnanswered before now name =
+    ((now.seen ≡ before.seen) × (now.entries ≡ before.entries))
+    ⊎ ((now.entries ≡ before.entries + 1) × IsSome (policy_after now.seen name))

@@ -1,7 +1,7 @@
 //! How a change is taken into what is published.
 ghost use Rattle.std.specs.Prelude.{◌≡◌, OnOk, OnErr};
 ghost use Rattle.std.specs.FinMap.{insert, remove, empty};
-ghost use Rattle.profile_registry.specs.Changes.{judge_shared, deed_of};
+ghost use Rattle.mediation.specs.PolicyChanges.{judge_shared, deed_of};
 ghost use Rattle.profile_registry.specs.inner.Contents.{contents_of, with_profiles, with_change};
 ghost use Rattle.profile_registry.specs.inner.Names.{profiles_after};
 

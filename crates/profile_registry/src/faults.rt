@@ -2,7 +2,8 @@
 
 use thiserror::Error;
 
-/// No reader is made: each of the [`PLACES`](crate::PLACES) for readers is taken.
+/// No reader is made: each of the [`PLACES`](crate::PLACES) for readers was found taken, as may also happen while readers come and
+/// go, or so many share the store that no other can be counted.
 #[derive(Clone, Copy, Debug, PartialEq, Eq, Error)]
 #[error("no place for a reader")]
 pub struct NoSeat;

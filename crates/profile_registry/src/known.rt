@@ -1,16 +1,17 @@
 //! What publisher and readers know, for contracts alone.
-ghost use Rattle.std.specs.Prelude.{List, []};
+ghost use Rattle.std.specs.Prelude.{ℕ, List, []};
 ghost use Rattle.std.specs.Borrow.{ftrue};
 ghost use Rattle.std.specs.Coded.{codes};
 ghost use Rattle.mediation.specs.Deeds.{Deed};
 
 use std::marker::{Brand, Model, PhantomData};
 
-/// What a publisher, a reader or a note knows of the changes that were published: the first of them, up to some moment.
-/// No value of it is made.
+/// What a publisher, a reader or a note knows of the changes that were published: the first of them, up to some moment. A reader
+/// knows how often it was let in, too. No value of it is made.
 pub struct Known {
     marker: PhantomData<u8>,
     pub ghost seen: { List Deed } by { Prim.hlevel codes },
+    pub ghost entries: { ℕ },
 }
 
 impl Model for Known {

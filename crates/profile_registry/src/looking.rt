@@ -1,7 +1,7 @@
 //! What a reader takes from the store.
-ghost use Rattle.std.specs.Prelude.{◌≡◌, IfOk};
+ghost use Rattle.std.specs.Prelude.{◌≡◌, IfOk, OnErr, IsSome};
 ghost use Rattle.std.specs.Option.{option_map};
-ghost use Rattle.profile_registry.specs.Changes.{judge_shared};
+ghost use Rattle.mediation.specs.PolicyChanges.{judge_shared};
 ghost use Rattle.profile_registry.specs.Rule.{policy_of};
 
 use crate::faults::NoEntry;
@@ -17,9 +17,10 @@ impl Store {
         self.version
     }
 
-    /// A share of the profile under a name, if there is one.
+    /// A share of the profile under a name, if there is one. It is refused only where there is one, of which no share is given.
     pub(crate) fn profile(&self, name: &[u8]) -> Result<Option<Arc<AnyProfile>>, NoEntry>
-        ensures { IfOk result (λ profile. option_map judge_shared profile ≡ policy_of self.now name.now) }
+        ensures ok { IfOk result (λ profile. option_map judge_shared profile ≡ policy_of self.now name.now) }
+        ensures err { OnErr result (IsSome (policy_of self.now name.now)) }
     {
         match self.profiles.get(name) {
             Some(profile) => match Arc::try_clone(profile) {

@@ -1,8 +1,8 @@
 //! The one who changes what is published.
-ghost use Rattle.std.specs.Prelude.{◌≡◌, ◌+◌, ◌-◌, ◌^◌, ◌<◌, [], ◌∷◌, ◌++◌, IfOk, OnOk, OnErr, Some, None, length, map, drop};
+ghost use Rattle.std.specs.Prelude.{◌≡◌, ◌+◌, ◌-◌, ◌^◌, ◌<◌, [], ◌∷◌, ◌++◌, IfOk, IsOk, OnOk, OnErr, Some, None, length, map, drop};
 ghost use Rattle.left_right.specs.Sides.{view};
 ghost use Rattle.mediation.specs.Deeds.{published, removed};
-ghost use Rattle.profile_registry.specs.Changes.{deed_of, judge_shared};
+ghost use Rattle.mediation.specs.PolicyChanges.{deed_of, judge_shared};
 ghost use Rattle.profile_registry.specs.Views.{changes_of};
 
 use crate::faults::NoSeat;
@@ -34,7 +34,7 @@ pub struct Publisher {
 impl Model for Publisher {
     ghost use Rattle.std.specs.Prelude.{◌≡◌, ◌+◌, ◌^◌, ◌<◌, [], length, map, drop, IsSomeAnd};
     ghost use Rattle.std.specs.Option.{option_map, unwrap_or};
-    ghost use Rattle.profile_registry.specs.Changes.{deed_of};
+    ghost use Rattle.mediation.specs.PolicyChanges.{deed_of};
     ghost use Rattle.profile_registry.specs.Views.{Publishing};
 
     ghost Value = { Publishing };
@@ -123,11 +123,12 @@ impl Publisher {
     }
 
     /// Makes all staged changes visible at once, and answers the policy's new version: how many changes were published. It
-    /// waits for readers that are inside since before the last call.
+    /// waits for readers that are inside since before the last call. Where nothing is staged it answers the version as it is.
     pub fn publish(&mut self, rt: &impl Wait) -> Result<u64, NoMemory>
         ensures ok { IfOk result (λ version. (self.new ≡ record { published = self.old.published ++ self.old.staged; staged = [] })
             × (version ≡ length self.new.published)) }
         ensures err { OnErr result (self.new ≡ self.old) }
+        ensures unstaged { self.old.staged ≡ [] → IsOk result }
     {
         let Some(writer) = self.writer.take() else {
             unreachable!()
@@ -154,7 +155,7 @@ impl Publisher {
 
     /// A new reader, which has seen all that was published.
     pub fn reader(&mut self) -> Result<PolicyReader, NoSeat>
-        ensures ok { IfOk result (λ reader. reader ≡ record { seen = self.old.published; refused = 0 }) }
+        ensures ok { IfOk result (λ reader. reader ≡ record { seen = self.old.published; entries = 0; refused = 0 }) }
         ensures same { self.new ≡ self.old }
     {
         Ok(PolicyReader::new(self.tell()?))
@@ -196,6 +197,7 @@ fn publish_staged<R: Wait>(rt: &R, writer: StoreWriter) -> (StoreWriter, Result<
     ensures err { OnErr result.1 (((view result.0.desk.place).seen ≡ (view writer.desk.place).seen)
         × (drop result.0.behind result.0.log.items ≡ drop writer.behind writer.log.items)) }
     ensures whole { length (view result.0.desk.place).seen ≡ result.0.desk.shown.value.version }
+    ensures unstaged { drop writer.behind writer.log.items ≡ [] → IsOk result.1 }
 {
     if !writer.has_pending_operations() {
         let version = writer.published().version();

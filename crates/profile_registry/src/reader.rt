@@ -1,9 +1,10 @@
 //! Those who read what is published.
-ghost use Rattle.std.specs.Prelude.{◌≡◌, ◌+◌, IfOk, OnErr, IsSome, length};
+ghost use Rattle.std.specs.Prelude.{◌≡◌, ◌⊎◌, ◌+◌, IfOk, OnOk, OnErr, IsSome, length};
 ghost use Rattle.std.specs.Option.{option_map};
 ghost use Rattle.left_right.specs.Sides.{view};
 ghost use Rattle.mediation.specs.Deeds.{policy_after};
-ghost use Rattle.profile_registry.specs.Changes.{judge_shared};
+ghost use Rattle.mediation.specs.PolicyChanges.{judge_shared};
+ghost use Rattle.profile_registry.specs.Views.{IsUnanswered};
 ghost use mathlib.Core.List.{IsPrefix};
 
 use crate::faults::NoEntry;
@@ -21,16 +22,19 @@ pub struct Told {
 }
 
 impl Model for Told {
-    ghost use Rattle.std.specs.Prelude.{List};
+    ghost use Rattle.std.specs.Prelude.{◌≡◌, List};
     ghost use Rattle.mediation.specs.Deeds.{Deed};
 
     ghost Value = { List Deed };
 
     ghost view = { λ told. told.reader.place.me.0.client.seen };
+
+    // Its reader was never let in.
+    ghost invariant = { λ told. told.reader.place.me.0.client.entries ≡ 0 };
 }
 
-/// Reads the published policy, without waiting. Contracts see the changes that it has seen published, and how often it wasn't
-/// answered.
+/// Reads the published policy, without waiting. Contracts see the changes that it has seen published, how often it was let in
+/// since it last learned a note, and how often it wasn't answered.
 #[derive(Drop)]
 pub struct PolicyReader {
     // Nothing while it is lent to a call.
@@ -47,6 +51,7 @@ impl Model for PolicyReader {
 
     ghost view = { λ r. record {
       seen = unwrap_or (option_map (λ reader. reader.place.me.0.client.seen) r.reader) [];
+      entries = unwrap_or (option_map (λ reader. reader.place.me.0.client.entries) r.reader) 0;
       refused = r.refusals.count;
     } };
 
@@ -55,6 +60,7 @@ impl Model for PolicyReader {
 
 impl Told {
     pub(crate) fn new(reader: StoreReader) -> Told
+        requires { (view reader.place).entries ≡ 0 }
         ensures { result ≡ (view reader.place).seen }
     {
         Told { reader }
@@ -64,7 +70,7 @@ impl Told {
 impl PolicyReader {
     /// A reader that has learned what was told.
     pub(crate) fn new(told: Told) -> PolicyReader
-        ensures { result ≡ record { seen = told; refused = 0 } }
+        ensures { result ≡ record { seen = told; entries = 0; refused = 0 } }
     {
         let Told { reader } = told;
         PolicyReader {
@@ -74,13 +80,14 @@ impl PolicyReader {
     }
 
     /// The profile under a name, if there is one, and the policy's version: how many changes made the policy that it is from.
-    /// That policy was published at one moment of the call, and has all changes that the reader had seen before.
+    /// That policy was published at one moment of the call, at which the reader was let in, and has all changes that the reader
+    /// had seen before.
     pub fn get(&mut self, name: &[u8]) -> Result<(Option<Arc<AnyProfile>>, u64), NoEntry>
         ensures seen { IsPrefix self.old.seen self.new.seen }
         ensures profile { IfOk result (λ found. option_map judge_shared found.0 ≡ policy_after self.new.seen name.now) }
         ensures version { IfOk result (λ found. found.1 ≡ length self.new.seen) }
-        ensures ok { IfOk result (λ _. self.new.refused ≡ self.old.refused) }
-        ensures err { OnErr result (self.new.refused ≡ self.old.refused + 1) }
+        ensures ok { OnOk result ((self.new.entries ≡ self.old.entries + 1) × (self.new.refused ≡ self.old.refused)) }
+        ensures err { OnErr result (IsUnanswered self.old self.new name.now × (self.new.refused ≡ self.old.refused + 1)) }
     {
         let Some(reader) = self.reader.take() else {
             unreachable!()
@@ -98,7 +105,7 @@ impl PolicyReader {
 
     /// Learns what was told: from now on the reader has seen these changes.
     pub fn learn(&mut self, told: Told)
-        ensures { self.new ≡ record { seen = told; refused = self.old.refused } }
+        ensures { self.new ≡ record { seen = told; entries = 0; refused = self.old.refused } }
     {
         let Told { reader: learned } = told;
         self.reader = Some(learned);
@@ -113,6 +120,9 @@ fn look_up(
     ensures seen { IsPrefix (view reader.place).seen (view result.0.place).seen }
     ensures profile { IfOk result.1 (λ found. option_map judge_shared found.0 ≡ policy_after (view result.0.place).seen name.now) }
     ensures version { IfOk result.1 (λ found. found.1 ≡ length (view result.0.place).seen) }
+    ensures ok { OnOk result.1 ((view result.0.place).entries ≡ (view reader.place).entries + 1) }
+    ensures err { OnErr result.1 ((view result.0.place ≡ view reader.place)
+        ⊎ (((view result.0.place).entries ≡ (view reader.place).entries + 1) × IsSome (policy_after (view result.0.place).seen name.now))) }
 {
     match reader.enter_as::<Sees>() {
         Ok(reading) => {

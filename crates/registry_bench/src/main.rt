@@ -1,7 +1,8 @@
 //! Reads published profiles in threads while one publisher changes them, and times reads.
 //!
 //! With no arguments it makes a few changes beside two readers. With the arguments READERS, CHANGES and READS it makes so many
-//! changes beside so many readers, and then times reads in one thread and in four, so many in each.
+//! changes beside so many readers, and then times reads in one thread and in four, so many in each: where each of the four reads
+//! all names, and where it has names of its own.
 #![tactic(auto)]
 
 mod plan;
@@ -10,7 +11,7 @@ mod rates;
 mod storm;
 
 use crate::plan::{Plan, planned};
-use crate::rates::{publish_names, rate};
+use crate::rates::{Share, publish_names, rate};
 use crate::storm::storm;
 use profile_registry::Publisher;
 use std::alloc::{AllocGlobal, Global};
@@ -54,9 +55,10 @@ fn run<R: Clock + Print + Threads + Wait + Sync>(
     let Ok(names) = publish_names(rt, alloc, publisher) else {
         return println!(rt; "no memory");
     };
-    for threads in [1, 4] {
-        let rate = rate(rt, alloc, publisher, &names, threads, plan.reads)?;
-        println!(rt; "{threads} threads: {rate} reads a second")?;
-    }
-    Ok(())
+    let one = rate(rt, alloc, publisher, &names, 1, Share::All, plan.reads)?;
+    println!(rt; "one: {one} reads a second")?;
+    let all = rate(rt, alloc, publisher, &names, 4, Share::All, plan.reads)?;
+    println!(rt; "four_all: {all} reads a second")?;
+    let own = rate(rt, alloc, publisher, &names, 4, Share::Own, plan.reads)?;
+    println!(rt; "four_own: {own} reads a second")
 }

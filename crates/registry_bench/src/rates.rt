@@ -44,10 +44,21 @@ pub(crate) fn publish_names<R: Wait>(
     Ok(names)
 }
 
-/// One thread's work: it starts at this name.
+/// Which names a thread reads.
+#[derive(Clone, Copy)]
+pub(crate) enum Share {
+    /// All of them, and so does each other thread.
+    All,
+    /// Sixteen that no other thread reads.
+    Own,
+}
+
+/// One thread's work: it reads the names from `first` up to `end`, again and again, and starts at `start`.
 #[derive(Drop)]
 struct Work {
     reader: PolicyReader,
+    first: usize,
+    end: usize,
     start: usize,
 }
 
@@ -58,6 +69,7 @@ pub(crate) fn rate<R: Clock + Threads + Sync>(
     publisher: &mut Publisher,
     names: &[Vec<u8>],
     threads: usize,
+    share: Share,
     reads: u64,
 ) -> io::Result<u64> {
     let mut all = Vec::new(alloc);
@@ -65,9 +77,16 @@ pub(crate) fn rate<R: Clock + Threads + Sync>(
         let Ok(reader) = publisher.reader() else {
             return Err(AllocError.into());
         };
+        let start = k % 1024 * 16;
+        let (first, end) = match share {
+            Share::All => (0, names.len()),
+            Share::Own => (start, start + 16),
+        };
         all.push(Work {
             reader,
-            start: k % 1024 * 16,
+            first,
+            end,
+            start,
         })?;
     }
     let start = Instant::now(rt)?;
@@ -88,14 +107,19 @@ fn per_second(count: u64, nanoseconds: u128) -> u64 {
     u64::try_from(rate).unwrap_or(u64::MAX)
 }
 
-// Reads each name in turn. Answers how many profiles were found.
+// Reads each of its names in turn. Answers how many profiles were found.
 fn read_names(work: Work, names: &[Vec<u8>], reads: u64) -> u64 {
-    let Work { mut reader, start } = work;
+    let Work {
+        mut reader,
+        first,
+        end,
+        start,
+    } = work;
     let mut found: u64 = 0;
     let mut next = start;
     for _ in 0..reads {
-        if next >= names.len() {
-            next = 0;
+        if next >= end {
+            next = first;
         }
         let Some(name) = names.get(next) else {
             return 0;

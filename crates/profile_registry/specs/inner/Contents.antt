@@ -6,7 +6,7 @@ use Rattle.std.specs.declared.sync.Arc.{Arc}
 use Rattle.matcher.specs.declared.profiles.AnyProfile.{AnyProfile}
 use Rattle.matcher.specs.declared.profiles.PolicyChange.{PolicyChange}
 use Rattle.mediation.specs.Judge.{Judge}
-use Rattle.profile_registry.specs.Changes.{judge_shared, deed_of}
+use Rattle.mediation.specs.PolicyChanges.{judge_shared, deed_of}
 use Rattle.profile_registry.specs.declared.store.Contents.{Contents}
 use Rattle.profile_registry.specs.declared.store.Store.{Store}
 use Rattle.profile_registry.specs.inner.Names.{Profiles, profiles_after}

@@ -1,5 +1,5 @@
 use Rattle.std.proofs.Common.{map, drop}
-use Rattle.profile_registry.specs.Changes.{deed_of}
+use Rattle.mediation.specs.PolicyChanges.{deed_of}
 use Rattle.profile_registry.proofs.publisher.publish_staged.Given as goal
 
 abbrev pub ghosts-publish_batch : goal.ghosts-publish_batch

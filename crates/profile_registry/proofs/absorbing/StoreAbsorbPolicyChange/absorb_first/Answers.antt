@@ -1,6 +1,6 @@
 use Rattle.std.proofs.Common.{rules, ◌≡◌, ◌+◌}
 use Rattle.profile_registry.specs.inner.Contents.{contents_of, with_profiles}
-use Rattle.profile_registry.specs.Changes.{deed_of}
+use Rattle.mediation.specs.PolicyChanges.{deed_of}
 use Rattle.profile_registry.specs.inner.Names.{profiles_after}
 use Rattle.profile_registry.proofs.absorbing.StoreAbsorbPolicyChange.absorb_first.Goals as goal
 
