@@ -1,7 +1,8 @@
 #!/bin/sh
 # Times plans of changes, and walks, over a tree in a row in memory that is half full, with room for so many entries: what one of
 # each takes, and how many there are a second. There is no index yet: a child is found by reading slots one after another, a cell
-# of each at least, so that times grow with the room. Each is the least of RUNS runs of COUNT and of none, one less the other.
+# of each at least, so that times grow with the room. Each is the least of RUNS runs of COUNT, as the program tells it, without
+# the making of the tree.
 set -eu
 cd "$(dirname "$0")/.."
 RUNS=${RUNS:-7}
@@ -17,16 +18,11 @@ BENCH=crates/row_bench/out/row_bench
 
 # least WORK CAPACITY COUNT: the least time of a run, in nanoseconds
 least() {
-    best=
     run=0
     while [ "$run" -lt "$RUNS" ]; do
-        begin=$(date +%s%N)
-        "$BENCH" "$1" "$2" "$3" >"$work/out"
-        took=$(($(date +%s%N) - begin))
-        if [ -z "$best" ] || [ "$took" -lt "$best" ]; then best=$took; fi
+        "$BENCH" "$1" "$2" "$3" timed
         run=$((run + 1))
-    done
-    echo "$best"
+    done | awk 'NR == 1 || $3 < best { best = $3 } END { print best }'
 }
 
 printf '%-8s' ''
@@ -37,11 +33,10 @@ printf '\n'
 for work_name in mkdir create symlink link unlink rmdir rename replace walk1 walk4 walk16; do
     printf '%-8s' "$work_name"
     for capacity in 1024 16384; do
-        count=$((40000000 / capacity))
-        some=$(least "$work_name" "$capacity" "$count")
-        none=$(least "$work_name" "$capacity" 0)
-        awk -v took=$((some - none)) -v count="$count" \
-            'BEGIN { each = took / count; if (each <= 0) each = 1; printf " | %13.2f %12.0f", each / 1000, 1e9 / each }'
+        count=$((10000000 / capacity))
+        took=$(least "$work_name" "$capacity" "$count")
+        awk -v took="$took" -v count="$count" \
+            'BEGIN { each = took / count; printf " | %13.2f %12.0f", each / 1000, 1e9 / each }'
     done
     printf '\n'
 done

@@ -1,5 +1,5 @@
-//! A directory tree, the walk of a path, the tests of changes, and the tree in plain memory and as a row of words. Nothing
-//! here is its own: the names are those of `directory_tree`, `path_lookup`, `change_checks`, `plain_tree`, `row_rule`,
+//! A directory tree, the walk of a path, the tests of changes, and the tree in plain memory and as a row of words, with the rule
+//! that such a row keeps. Nothing here is its own: the names are those of `directory_tree`, `path_lookup`, `change_checks`, `plain_tree`, `row_rule`,
 //! `tree_row`, `row_look` and `row_plan`.
 #![tactic(auto)]
 
@@ -23,7 +23,14 @@ pub use row_look::{
     walk_known,
 };
 pub use row_plan::{change_row, next_after, plan, set_cells};
-pub use row_rule::Cell;
+pub use row_rule::{
+    Busy, Cell, Encoding, KeeperView, Pending, View, WalkerView, agreement_is_of_each_read,
+    beginning_keeps_rule, closing_keeps_rule, ending_keeps_rule, entering_keeps_rule,
+    first_row_keeps_rule, keeper_fixes_row, keeper_reads_its_row, lending_keeps_rule,
+    opening_keeps_rule, parity_tells_changes, reading_keeps_rule, setting_keeps_rule,
+    taking_in_keeps_rule, telling_keeps_rule, version_between, version_names_changes, version_of,
+    walkers_fit_keeper, writing_sets_its_places,
+};
 pub use tree_row::{
     Cells, KnownRow, MOST_ENTRIES, one_row_one_tree, opening_row_encodes_root, slots_are_counted,
 };

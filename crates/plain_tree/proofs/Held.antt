@@ -20,7 +20,7 @@ then_same : (r : Changed) → and_then r (λ u. Ok u) ≡ r
 then_same (Ok t) = refl
 then_same (Err e) = refl
 
-after_more : (capacity count : ℕ) (t v : Tree) (cs : List Change) (c : Change) (n : ℕ) → n ≡ count + length cs → after_from capacity count t cs ≡ Ok v
+pub after_more : (capacity count : ℕ) (t v : Tree) (cs : List Change) (c : Change) (n : ℕ) → n ≡ count + length cs → after_from capacity count t cs ≡ Ok v
     → after_from capacity count t (cs ++ c ∷ []) ≡ apply_counted capacity n v c
 after_more capacity count t v [] c n is h =
     let same : count ≡ n = omega arith in

@@ -6,10 +6,18 @@
 #[cfg(test)]
 mod lines;
 #[cfg(test)]
+mod place;
+#[cfg(test)]
 mod plans;
 mod random;
 #[cfg(test)]
+mod refusals;
+#[cfg(test)]
 mod scripts;
+#[cfg(test)]
+mod steps;
+#[cfg(test)]
+mod testing;
 mod twins;
 
 use crate::random::{Failure, change_at_random};

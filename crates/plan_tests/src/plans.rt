@@ -1,8 +1,6 @@
 //! The cells of plans, one by one.
-ghost use Rattle.std.specs.Prelude.{◌≡◌, ◌≤◌};
-ghost use Rattle.row_plan.specs.Plan.{Plannable};
-
 use crate::lines::{change, path};
+use crate::steps::new_tree;
 use crate::twins::Twins;
 use directory_tree::{Change, LinkBytes};
 use names::Errno;
@@ -10,33 +8,19 @@ use row_rule::Cell;
 use std::alloc::Global;
 use std::process::Abort;
 use std::test::Fail;
-use tree_row::MOST_ENTRIES;
 
 // A change, and its plan, or by what number it is refused.
 type Row<'a> = (&'a str, Result<&'a [(usize, u64)], Errno>);
 
-fn expect_plans(rt: &impl Abort, alloc: Global, capacity: usize, rows: &[Row]) -> Result<(), Fail>
-    requires { capacity ≤ MOST_ENTRIES }
-{
-    let mut twins = Twins::new(alloc, capacity)?;
+fn expect_plans(rt: &impl Abort, alloc: Global, capacity: usize, rows: &[Row]) -> Result<(), Fail> {
+    let mut tree = new_tree(alloc, capacity)?;
     for (line, wanted) in rows {
         let made = change(line)?;
-        let planned = plan_again(alloc, &mut twins, &made);
+        let planned = tree.plan(&made);
         assert!(rt; is_plan(&planned, wanted), "{line}: {planned:?}");
-        assert!(rt; twins.apply(alloc, &made).is_ok(), "{line}");
+        assert!(rt; tree.apply(&made).is_ok(), "{line}");
     }
     Ok(())
-}
-
-// Where memory is refused once, it is asked for again.
-fn plan_again(alloc: Global, twins: &mut Twins, made: &Change<'_>) -> Result<Vec<Cell>, Errno>
-    requires { Plannable twins.old.look.cells.0 (λ row. row ≡ twins.old.look.cells.1) twins.old.next }
-    ensures { Plannable twins.new.look.cells.0 (λ row. row ≡ twins.new.look.cells.1) twins.new.next }
-{
-    match twins.plan(alloc, made) {
-        Err(Errno::ENOMEM) => twins.plan(alloc, made),
-        answer => answer,
-    }
 }
 
 fn is_plan(planned: &Result<Vec<Cell>, Errno>, wanted: &Result<&[(usize, u64)], Errno>) -> bool {
@@ -120,23 +104,21 @@ fn no_cell_too_many_is_planned(rt: HostRuntime) -> Result<(), Fail> {
 // A link whose component and text are as long as they may be, which fill their cells but for one byte each.
 #[test]
 fn longest_texts_fit(rt: HostRuntime) -> Result<(), Fail> {
-    let mut twins = Twins::new(rt.alloc(), 1)?;
-    make_longest(&rt, rt.alloc(), &mut twins)
+    let mut tree = new_tree(rt.alloc(), 1)?;
+    make_longest(&rt, &mut tree)
 }
 
-fn make_longest(rt: &impl Abort, alloc: Global, twins: &mut Twins) -> Result<(), Fail>
-    requires { Plannable twins.old.look.cells.0 (λ row. row ≡ twins.old.look.cells.1) twins.old.next }
-{
+fn make_longest(rt: &impl Abort, tree: &mut Twins) -> Result<(), Fail> {
     let mut name = [b'n'; 256];
     name[0] = b'/';
     let text = long_text();
     let made = Change::Symlink(LinkBytes::new(&text), path(&name)?);
-    assert_eq!(rt; twins.apply(alloc, &made), Ok(Ok(1)));
-    assert!(rt; twins.is_same_at(&path(&name)?));
+    assert_eq!(rt; tree.apply(&made), Ok(Ok(1)));
+    assert!(rt; tree.is_same_at(&path(&name)?));
     let moved = Change::Rename(path(&name)?, path(b"/n")?);
-    assert_eq!(rt; twins.apply(alloc, &moved), Ok(Ok(2)));
-    assert!(rt; twins.is_same_at(&path(&name)?));
-    assert!(rt; twins.is_same_at(&path(b"/n")?));
+    assert_eq!(rt; tree.apply(&moved), Ok(Ok(2)));
+    assert!(rt; tree.is_same_at(&path(&name)?));
+    assert!(rt; tree.is_same_at(&path(b"/n")?));
     Ok(())
 }
 

@@ -145,7 +145,7 @@ fn change_one_tree(alloc: Global, capacity: usize, random: &mut Random) -> Resul
         let Some(change) = random.change() else {
             return Err(Failure::NotAPath);
         };
-        match twins.apply(alloc, &change) {
+        match twins.apply(&change) {
             Ok(Ok(version)) => made = version,
             Ok(Err(_)) => {}
             Err(_) => return Err(Failure::Differ),

@@ -1,29 +1,19 @@
 //! Changes of both trees, one after another.
-ghost use Rattle.std.specs.Prelude.{◌≤◌};
-
-use crate::lines::change;
-use crate::twins::Twins;
+use crate::lines::{change, path};
+use crate::steps::{new_tree, step};
+use crate::twins::{Rooms, Twins};
+use directory_tree::{Change, Kind, LinkBytes};
 use names::Errno;
 use std::alloc::Global;
 use std::process::Abort;
 use std::test::Fail;
-use tree_row::MOST_ENTRIES;
-
-// Of these paths both trees have to tell the same after each change.
-const PATHS: [&str; 16] = [
-    "/", "/a", "/b", "/c", "/d", "/e", "/f", "/g", "/h", "/l", "/a/b", "/a/c", "/a/f", "/a/g",
-    "/b/f", "/d/a",
-];
 
 type Row<'a> = (&'a str, Result<u64, Errno>);
 
-fn run(rt: &impl Abort, alloc: Global, capacity: usize, rows: &[Row]) -> Result<(), Fail>
-    requires { capacity ≤ MOST_ENTRIES }
-{
-    let mut twins = Twins::new(alloc, capacity)?;
+fn run(rt: &impl Abort, alloc: Global, capacity: usize, rows: &[Row]) -> Result<(), Fail> {
+    let mut tree = new_tree(alloc, capacity)?;
     for (line, wanted) in rows {
-        assert_eq!(rt; twins.apply(alloc, &change(line)?), Ok(*wanted));
-        assert!(rt; twins.is_same_at_all(&PATHS), "{line}");
+        step(rt, &mut tree, &change(line)?, *wanted);
     }
     Ok(())
 }
@@ -228,4 +218,99 @@ fn renames_are_refused(rt: HostRuntime) -> Result<(), Fail> {
             ("rename /g /g", Ok(9)),
         ],
     )
+}
+
+// Changes, and after each the number of the node that the line's last byte names.
+fn expect_numbers(
+    rt: &impl Abort,
+    tree: &mut Twins,
+    rows: &[(&str, Option<u64>)],
+) -> Result<(), Fail> {
+    for (line, number) in rows {
+        let found = number_after(tree, line)?;
+        assert_eq!(rt; found, *number, "{line}");
+    }
+    Ok(())
+}
+
+// The change may be refused.
+fn number_after(tree: &mut Twins, line: &str) -> Result<Option<u64>, Fail> {
+    let name = line.as_bytes().last().ok_or("an empty line")?;
+    let _ = tree.apply(&change(line)?).ok().ok_or("other answers")?;
+    let told = tree
+        .tell(&path(&[b'/', *name])?, &mut Rooms::new())
+        .ok()
+        .ok_or("other nodes")?;
+    Ok(told.ok().map(|told| told.node))
+}
+
+// A refused change takes no number, and a node that is gone gives none back.
+#[test]
+fn nodes_are_numbered(rt: HostRuntime) -> Result<(), Fail> {
+    let mut tree = new_tree(rt.alloc(), 3)?;
+    expect_numbers(
+        &rt,
+        &mut tree,
+        &[
+            ("create /a", Some(2)),
+            ("create /a", Some(2)),
+            ("create /b", Some(3)),
+            ("unlink /b", None),
+            ("mkdir /b", Some(4)),
+            ("link /a /c", Some(2)),
+            ("create /d", None),
+        ],
+    )
+}
+
+// A new link's text and its path, and what is answered.
+type TextRow<'a> = (&'a [u8], &'a [u8], Result<u64, Errno>);
+
+fn expect_links(rt: &impl Abort, tree: &mut Twins, rows: &[TextRow]) -> Result<(), Fail> {
+    for (text, at, wanted) in rows {
+        step(
+            rt,
+            tree,
+            &Change::Symlink(LinkBytes::new(text), path(at)?),
+            *wanted,
+        );
+    }
+    Ok(())
+}
+
+#[test]
+fn texts_of_links_are_tested(rt: HostRuntime) -> Result<(), Fail> {
+    let mut tree = new_tree(rt.alloc(), 9)?;
+    make_links(&rt, &mut tree)
+}
+
+fn make_links(rt: &impl Abort, tree: &mut Twins) -> Result<(), Fail> {
+    let long = long_text();
+    let rows: [TextRow; 6] = [
+        (&long[..1023], b"/k", Ok(1)),
+        (&long, b"/l", Err(Errno::ENAMETOOLONG)),
+        (&[b'a'; 255], b"/m", Ok(2)),
+        (&[b'a'; 256], b"/n", Err(Errno::ENAMETOOLONG)),
+        (b"", b"/o", Err(Errno::ENOENT)),
+        (b"a\0", b"/p", Err(Errno::EINVAL)),
+    ];
+    expect_links(rt, tree, &rows)?;
+    let mut rooms = Rooms::new();
+    let told = tree
+        .tell(&path(b"/k")?, &mut rooms)
+        .ok()
+        .ok_or("other texts")?;
+    let told = told.ok().ok_or("no link")?;
+    assert_eq!(rt; (told.kind, told.text), (Kind::Link, 1023));
+    assert!(rt; rooms.text[..] == long[..1023]);
+    Ok(())
+}
+
+// 128 components of one byte, with slashes between and behind them.
+fn long_text() -> [u8; 1024] {
+    let mut text = [b'/'; 1024];
+    for i in 0..128 {
+        text[8 * i] = b'b';
+    }
+    text
 }

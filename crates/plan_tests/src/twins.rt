@@ -1,16 +1,16 @@
 //! One tree twice: in a row in memory, and in plain memory.
 ghost use Rattle.std.specs.Prelude.{◌≡◌, ◌≤◌, IfOk};
 ghost use Rattle.tree_row.specs.OpeningRow.{opening_row};
-ghost use Rattle.row_plan.specs.Plan.{Plannable};
 
 use directory_tree::{Change, Kind, LONGEST_LINK_TEXT, Last, root_alone_is_well_formed};
 use names::{Errno, LONGEST_PATH, NoMemory, Path};
-use path_lookup::{Look, NAME_ROOM, Scratch, WalkFault, name_of, resolve};
+use path_lookup::{Look, NAME_ROOM, Scratch, WalkFault, name_of, name_of_place, resolve};
 use plain_tree::PlainTree;
 use row_look::RowLook;
 use row_plan::{change_row, plan};
 use row_rule::Cell;
 use std::alloc::Global;
+use std::marker::Model;
 use tree_row::{KnownRow, MOST_ENTRIES, opening_row_encodes_root};
 
 /// The row and the tree in plain memory differ: the proofs are wrong.
@@ -20,41 +20,55 @@ pub(crate) struct Differ;
 /// One tree twice.
 #[derive(Drop)]
 pub(crate) struct Twins {
-    /// The tree in a row in memory.
-    pub look: RowLook<KnownRow>,
-    /// The number of the next node.
-    pub next: u64,
-    /// The same tree in plain memory.
-    pub plain: PlainTree,
+    alloc: Global,
+    // The tree in a row in memory, and the number of the next node.
+    look: RowLook<KnownRow>,
+    next: u64,
+    // The same tree in plain memory.
+    plain: PlainTree,
+}
+
+impl Model for Twins {
+    ghost use Rattle.std.specs.Prelude.{◌≡◌, ℕ, List};
+    ghost use Rattle.row_plan.specs.Plan.{Plannable};
+
+    ghost Value = { (ℕ × List ℕ) × ℕ };
+
+    ghost view = { λ t. (t.look.cells, t.next) };
+
+    ghost invariant = { λ t. Plannable t.look.cells.0 (λ row. row ≡ t.look.cells.1) t.next };
 }
 
 impl Twins {
     /// The root alone. Where memory is refused once, it is asked for again, since tests refuse it.
     pub(crate) fn new(alloc: Global, capacity: usize) -> Result<Twins, NoMemory>
         requires { capacity ≤ MOST_ENTRIES }
-        ensures { IfOk result (λ twins. Plannable twins.look.cells.0 (λ row. row ≡ twins.look.cells.1) twins.next) }
     {
         opening_row_encodes_root();
         root_alone_is_well_formed();
         let plain = new_plain(alloc, capacity)?;
         let row = new_row(alloc, capacity)?;
         Ok(Twins {
+            alloc,
             look: RowLook::new(row),
             next: 2,
             plain,
         })
     }
 
+    /// How many changes were made.
+    pub(crate) fn version(&self) -> u64 {
+        self.plain.version()
+    }
+
+    /// By what number the tree in plain memory would refuse a change, if it would.
+    pub(crate) fn test(&mut self, change: &Change<'_>) -> Option<Errno> {
+        self.plain.test(change).err()
+    }
+
     /// Makes a change in both trees, which have to answer alike: by what number it is refused, or the version that it makes.
-    pub(crate) fn apply(
-        &mut self,
-        alloc: Global,
-        change: &Change<'_>,
-    ) -> Result<Result<u64, Errno>, Differ>
-        requires { Plannable self.old.look.cells.0 (λ row. row ≡ self.old.look.cells.1) self.old.next }
-        ensures { Plannable self.new.look.cells.0 (λ row. row ≡ self.new.look.cells.1) self.new.next }
-    {
-        let refusal = self.apply_row(alloc, change);
+    pub(crate) fn apply(&mut self, change: &Change<'_>) -> Result<Result<u64, Errno>, Differ> {
+        let refusal = self.apply_row(change);
         let answer = apply_plain(&mut self.plain, change);
         if refusal == answer.err() {
             Ok(answer)
@@ -65,24 +79,18 @@ impl Twins {
 
     // Makes a change in the row, or answers by what number it is refused. Where memory is refused, nothing is changed, and the
     // change can be made again.
-    fn apply_row(&mut self, alloc: Global, change: &Change<'_>) -> Option<Errno>
-        requires { Plannable self.old.look.cells.0 (λ row. row ≡ self.old.look.cells.1) self.old.next }
-        ensures { Plannable self.new.look.cells.0 (λ row. row ≡ self.new.look.cells.1) self.new.next }
-    {
-        match self.apply_row_once(alloc, change) {
-            Some(Errno::ENOMEM) => self.apply_row_once(alloc, change),
+    fn apply_row(&mut self, change: &Change<'_>) -> Option<Errno> {
+        match self.apply_row_once(change) {
+            Some(Errno::ENOMEM) => self.apply_row_once(change),
             answer => answer,
         }
     }
 
-    fn apply_row_once(&mut self, alloc: Global, change: &Change<'_>) -> Option<Errno>
-        requires { Plannable self.old.look.cells.0 (λ row. row ≡ self.old.look.cells.1) self.old.next }
-        ensures { Plannable self.new.look.cells.0 (λ row. row ≡ self.new.look.cells.1) self.new.next }
-    {
+    fn apply_row_once(&mut self, change: &Change<'_>) -> Option<Errno> {
         if self.next == u64::MAX {
             return Some(Errno::EOVERFLOW);
         }
-        match change_row(alloc, &mut self.look, self.next, change) {
+        match change_row(self.alloc, &mut self.look, self.next, change) {
             Ok(next) => {
                 self.next = next;
                 None
@@ -91,37 +99,72 @@ impl Twins {
         }
     }
 
-    /// The cells that a change would set in the row.
-    pub(crate) fn plan(&mut self, alloc: Global, change: &Change<'_>) -> Result<Vec<Cell>, Errno>
-        requires { Plannable self.old.look.cells.0 (λ row. row ≡ self.old.look.cells.1) self.old.next }
-        ensures { Plannable self.new.look.cells.0 (λ row. row ≡ self.new.look.cells.1) self.new.next }
-    {
-        plan(alloc, &mut self.look, self.next, change)
+    /// The cells that a change would set in the row. Where memory is refused once, it is asked for again.
+    pub(crate) fn plan(&mut self, change: &Change<'_>) -> Result<Vec<Cell>, Errno> {
+        match self.plan_once(change) {
+            Err(Errno::ENOMEM) => self.plan_once(change),
+            answer => answer,
+        }
     }
 
-    /// Whether both trees tell the same of a path: where it leads, and the name and a link's text of what is there.
-    pub(crate) fn is_same_at(&mut self, path: &Path<'_>) -> bool
-        requires { Plannable self.old.look.cells.0 (λ row. row ≡ self.old.look.cells.1) self.old.next }
-        ensures { Plannable self.new.look.cells.0 (λ row. row ≡ self.new.look.cells.1) self.new.next }
-    {
-        let mut rooms = new_rooms();
-        let told = self.tell_row(path, &mut rooms);
-        tells(&mut self.plain, path, told, &rooms)
+    fn plan_once(&mut self, change: &Change<'_>) -> Result<Vec<Cell>, Errno> {
+        plan(self.alloc, &mut self.look, self.next, change)
+    }
+
+    /// What both trees tell of a path: where it leads, and the name and a link's text of what is there, which are put into the
+    /// rooms.
+    pub(crate) fn tell(
+        &mut self,
+        path: &Path<'_>,
+        rooms: &mut Rooms,
+    ) -> Result<Result<Told, WalkFault>, Differ> {
+        let told = self.tell_row(path, rooms);
+        if tells(&mut self.plain, path, told, rooms) {
+            Ok(told)
+        } else {
+            Err(Differ)
+        }
     }
 
     // What the row tells of a path.
-    fn tell_row(&mut self, path: &Path<'_>, rooms: &mut Rooms) -> Result<Told, WalkFault>
-        requires { Plannable self.old.look.cells.0 (λ row. row ≡ self.old.look.cells.1) self.old.next }
-        ensures { Plannable self.new.look.cells.0 (λ row. row ≡ self.new.look.cells.1) self.new.next }
-    {
+    fn tell_row(&mut self, path: &Path<'_>, rooms: &mut Rooms) -> Result<Told, WalkFault> {
         tell(&mut self.look, path, rooms)
     }
 
-    /// The same of all these paths.
-    pub(crate) fn is_same_at_all(&mut self, paths: &[&str]) -> bool
-        requires { Plannable self.old.look.cells.0 (λ row. row ≡ self.old.look.cells.1) self.old.next }
-        ensures { Plannable self.new.look.cells.0 (λ row. row ≡ self.new.look.cells.1) self.new.next }
+    /// The name of the place that a path names, as both trees tell it, or why it has none. It is put into the room.
+    pub(crate) fn name_place(
+        &mut self,
+        path: &Path<'_>,
+        room: &mut [u8; NAME_ROOM],
+    ) -> Result<Result<usize, WalkFault>, Differ>
+        ensures { IfOk result (λ told. IfOk told (λ length. length ≤ LONGEST_PATH)) }
     {
+        let told = self.name_place_in_row(path, room);
+        if names_place(&mut self.plain, path, told, room) {
+            Ok(told)
+        } else {
+            Err(Differ)
+        }
+    }
+
+    fn name_place_in_row(
+        &mut self,
+        path: &Path<'_>,
+        room: &mut [u8; NAME_ROOM],
+    ) -> Result<usize, WalkFault>
+        ensures { IfOk result (λ length. length ≤ LONGEST_PATH) }
+    {
+        name_of_place(&mut self.look, path, &mut Scratch::new(), room)
+    }
+
+    /// Whether both trees tell the same of a path, and of the place that it names.
+    pub(crate) fn is_same_at(&mut self, path: &Path<'_>) -> bool {
+        self.tell(path, &mut Rooms::new()).is_ok()
+            && self.name_place(path, &mut [0; NAME_ROOM]).is_ok()
+    }
+
+    /// The same of all these paths.
+    pub(crate) fn is_same_at_all(&mut self, paths: &[&str]) -> bool {
         for path in paths {
             let Ok(path) = Path::check(path.as_bytes()) else {
                 return false;
@@ -163,27 +206,30 @@ fn apply_plain(plain: &mut PlainTree, change: &Change<'_>) -> Result<u64, Errno>
     }
 }
 
-// What a look tells of the entry that a path leads to.
+/// What a tree tells of the entry that a path leads to.
 #[derive(Debug, Clone, Copy, PartialEq, Eq)]
-struct Told {
-    node: u64,
-    kind: Kind,
-    // The lengths of its name and of its link's text.
-    name: usize,
-    text: usize,
+pub(crate) struct Told {
+    pub node: u64,
+    pub kind: Kind,
+    /// How long its name is.
+    pub name: usize,
+    /// How long its link's text is.
+    pub text: usize,
 }
 
-// Where names and texts are written to.
+/// Where names and texts are written to.
 #[derive(Drop)]
-struct Rooms {
-    name: [u8; NAME_ROOM],
-    text: [u8; LONGEST_LINK_TEXT],
+pub(crate) struct Rooms {
+    pub name: [u8; NAME_ROOM],
+    pub text: [u8; LONGEST_LINK_TEXT],
 }
 
-fn new_rooms() -> Rooms {
-    Rooms {
-        name: [0; NAME_ROOM],
-        text: [0; LONGEST_LINK_TEXT],
+impl Rooms {
+    pub(crate) fn new() -> Rooms {
+        Rooms {
+            name: [0; NAME_ROOM],
+            text: [0; LONGEST_LINK_TEXT],
+        }
     }
 }
 
@@ -216,13 +262,27 @@ fn tells(
     wanted: Result<Told, WalkFault>,
     ours: &Rooms,
 ) -> bool {
-    let mut rooms = new_rooms();
+    let mut rooms = Rooms::new();
     match tell(plain, path, &mut rooms) {
         Ok(told) => {
             wanted == Ok(told)
                 && ours.name[..told.name] == rooms.name[..told.name]
                 && ours.text[..told.text] == rooms.text[..told.text]
         }
+        Err(fault) => wanted == Err(fault),
+    }
+}
+
+// Whether the tree in plain memory has this name for the place that a path names.
+fn names_place(
+    plain: &mut PlainTree,
+    path: &Path<'_>,
+    wanted: Result<usize, WalkFault>,
+    ours: &[u8; NAME_ROOM],
+) -> bool {
+    let mut room = [0; NAME_ROOM];
+    match name_of_place(plain, path, &mut Scratch::new(), &mut room) {
+        Ok(length) => wanted == Ok(length) && ours[..length] == room[..length],
         Err(fault) => wanted == Err(fault),
     }
 }

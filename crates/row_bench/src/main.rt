@@ -1,6 +1,7 @@
 //! Does one piece of work over a tree in a row in memory again and again, for the bench: `row_bench WORK CAPACITY COUNT` plans a
 //! change so often, or follows a path, in a tree that has room for so many entries and is half full, and prints how many cells
-//! were planned, or how many bytes the names had.
+//! were planned, or how many bytes the names had. With one word more it also prints how many nanoseconds that took, without the
+//! making of the tree.
 #![tactic(auto)]
 
 ghost use Rattle.std.specs.Prelude.{◌≤◌};
@@ -11,6 +12,7 @@ mod work;
 use crate::tree::Tree;
 use crate::work::{Work, work_of};
 use std::alloc::{AllocError, Global};
+use std::time::Instant;
 use std::{env, io};
 use tree_row::MOST_ENTRIES;
 
@@ -20,13 +22,14 @@ fn main(rt: HostRuntime) -> io::Result<()> {
     let work = args.next();
     let capacity = args.next();
     let count = args.next();
+    let is_timed = args.next().is_some();
     let line = match (work, number(&capacity), number(&count)) {
         (Some(work), Some(capacity), Some(count)) if 64 <= capacity && capacity <= MOST_ENTRIES => {
-            report(
-                rt.alloc(),
-                &work,
-                done(rt.alloc(), work.as_bytes(), capacity, count),
-            )?
+            let mut tree = half_full(rt.alloc(), capacity);
+            let start = Instant::now(&rt)?;
+            let done = done(rt.alloc(), &mut tree, work.as_bytes(), count);
+            let nanoseconds = start.elapsed(&rt)?.as_nanos();
+            report(rt.alloc(), &work, done, is_timed.then_some(nanoseconds))?
         }
         _ => format!(in rt.alloc();
             "usage: row_bench WORK CAPACITY COUNT, with a CAPACITY of 64 to {MOST_ENTRIES}"
@@ -43,24 +46,38 @@ fn number(word: &Option<String>) -> Option<usize> {
     }
 }
 
-// How much was done in all; none where there is no such work, or it can't be done.
-fn done(alloc: Global, word: &[u8], capacity: usize, count: usize) -> Option<u64>
+// A tree that has room for so many entries, and half of them; none where memory is refused.
+fn half_full(alloc: Global, capacity: usize) -> Option<Tree>
     requires { capacity ≤ MOST_ENTRIES }
 {
-    let work = work_of(word)?;
     let mut tree = Tree::new(alloc, capacity)?;
-    if !tree.grow(alloc, capacity / 2) {
-        return None;
+    if tree.grow(alloc, capacity / 2) {
+        Some(tree)
+    } else {
+        None
     }
-    match work {
+}
+
+// How much was done in all; none where there is no such work, or it can't be done.
+fn done(alloc: Global, tree: &mut Option<Tree>, word: &[u8], count: usize) -> Option<u64> {
+    let Some(tree) = tree else {
+        return None;
+    };
+    match work_of(word)? {
         Work::Change(change) => tree.plan_often(alloc, &change, count),
         Work::Walk(path) => tree.reach_often(&path, count),
     }
 }
 
-fn report(alloc: Global, work: &str, done: Option<u64>) -> Result<String, AllocError> {
-    match done {
-        Some(done) => format!(in alloc; "{work} {done}"),
-        None => format!(in alloc; "{work} can't be done"),
+fn report(
+    alloc: Global,
+    work: &str,
+    done: Option<u64>,
+    nanoseconds: Option<u128>,
+) -> Result<String, AllocError> {
+    match (done, nanoseconds) {
+        (Some(done), None) => format!(in alloc; "{work} {done}"),
+        (Some(done), Some(nanoseconds)) => format!(in alloc; "{work} {done} {nanoseconds}"),
+        (None, _) => format!(in alloc; "{work} can't be done"),
     }
 }

@@ -1,10 +1,12 @@
-//! Tests of `tree_row` and `row_look`, and nothing else: as they stand here, each library is proved once.
+//! Tests of `tree_row`, `row_look` and `walk_words`, and nothing else: as they stand here, each library is proved once.
 #![tactic(auto)]
 
 #[cfg(test)]
 mod known;
 #[cfg(test)]
 mod lying;
+#[cfg(test)]
+mod opens;
 #[cfg(test)]
 mod rows;
 #[cfg(test)]

@@ -1,5 +1,5 @@
 //! A row in memory.
-ghost use Rattle.std.specs.Prelude.{◌≡◌, ◌<◌, ◌≤◌, IfOk, slice_index, slice_set};
+ghost use Rattle.std.specs.Prelude.{◌≡◌, ◌<◌, ◌≤◌, IfOk, Some, slice_get, slice_index, slice_set};
 ghost use Rattle.tree_row.specs.Rows.{row_length};
 ghost use Rattle.tree_row.specs.OpeningRow.{opening_row};
 
@@ -58,7 +58,8 @@ impl KnownRow {
     /// The word at a place.
     pub fn cell(&self, place: usize) -> u64
         requires { place < row_length self.now.0 }
-        ensures { result ≡ slice_index self.now.1 place }
+        ensures word { result ≡ slice_index self.now.1 place }
+        ensures there { slice_get self.now.1 place ≡ Some result }
     {
         self.cells[place]
     }

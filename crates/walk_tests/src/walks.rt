@@ -1,10 +1,13 @@
 //! Walks and names in the small tree, by looks that come to an end.
-use crate::steps::path;
 use crate::toy::{EndsAfter, Place, SmallTree};
 use names::{Errno, Path};
 use path_walk::{Last, Scratch, WalkFault, name_of, resolve};
 use std::process::Abort;
 use std::test::Fail;
+
+fn path(bytes: &[u8]) -> Result<Path<'_>, Fail> {
+    Ok(Path::check(bytes).ok().ok_or("a path")?)
+}
 
 // A path, whether a link at its end is followed, how often that is read in all, and where it leads.
 type Walk<'a> = (&'a [u8], Last, u64, Result<Place, WalkFault>);

@@ -7,8 +7,8 @@ use Rattle.tree_row.specs.OpeningRow.{opening_row}
 use Rattle.row_plan.specs.Plan.{Plannable}
 use Rattle.plan_tests.proofs.twins.Twins.new.Goals as goal
 
-pub returns : goal.returns
-returns c =
+pub invariant_of-result : goal.invariant_of-result
+invariant_of-result c =
     let row = opening_row c.args.capacity in
     let w : World = record { tree = root_alone; named = spot_at (slot_at row); sound = c.root_alone_is_well_formed.ensures } in
     let enc : EncodesWorld c.args.capacity row w = record { tree = c.opening_row_encodes_root.ensures c.args.capacity; named = λ s. refl } in

@@ -3,7 +3,7 @@ use Rattle.row_look.proofs.Taking.{none_of, own_more, new_more, honest_more}
 use Rattle.row_look.proofs.reading.ReadCellsCells.word.Goals as goal
 
 pub invariant_of-self-in-Ok-clause-own : goal.invariant_of-self-in-Ok-clause-own
-invariant_of-self-in-Ok-clause-own c = own_more _ _ _ c.args.place c.cell-word.result c.in-Ok.ensures.learns c.cell-word.ensures c.args.self.now.own
+invariant_of-self-in-Ok-clause-own c = own_more _ _ _ c.args.place c.cell-word.result c.in-Ok.ensures.learns c.cell-word.ensures.word c.args.self.now.own
 
 pub invariant_of-self-in-Ok-clause-new : goal.invariant_of-self-in-Ok-clause-new
 invariant_of-self-in-Ok-clause-new c =

@@ -1,22 +1,28 @@
 //! Names of the places that paths lead to.
-use crate::steps::{expect_answers, new_tree, path};
+use crate::lines::path;
+use crate::steps::{expect_answers, new_tree};
+use crate::twins::Twins;
 use names::Errno;
-use path_walk::{PlainTree, Scratch, WalkFault, name_of_place};
+use path_lookup::{NAME_ROOM, WalkFault};
 use std::process::Abort;
 use std::test::Fail;
 
 type Row<'a> = (&'a [u8], Result<&'a [u8], WalkFault>);
 
-fn expect_names(rt: &impl Abort, tree: &mut PlainTree, rows: &[Row]) -> Result<(), Fail> {
+fn expect_names(rt: &impl Abort, tree: &mut Twins, rows: &[Row]) -> Result<(), Fail> {
     for row in rows {
         assert!(rt; is_named(tree, row)?, "{row:?}");
     }
     Ok(())
 }
 
-fn is_named(tree: &mut PlainTree, (at, wanted): &Row<'_>) -> Result<bool, Fail> {
-    let mut room = [0; 4096];
-    let got = match name_of_place(tree, &path(at)?, &mut Scratch::new(), &mut room) {
+fn is_named(tree: &mut Twins, (at, wanted): &Row<'_>) -> Result<bool, Fail> {
+    let mut room = [0; NAME_ROOM];
+    let told = tree
+        .name_place(&path(at)?, &mut room)
+        .ok()
+        .ok_or("other names")?;
+    let got = match told {
         Ok(length) => Ok(&room[..length]),
         Err(fault) => Err(fault),
     };

@@ -1,7 +1,8 @@
 //! Each test of a change, and for each two of them which one goes before.
-use crate::steps::{TextRow, change, expect, expect_answers, expect_texts, new_tree};
+use crate::lines::change;
+use crate::steps::{TextRow, expect, expect_answers, expect_texts, new_tree};
+use crate::twins::Twins;
 use names::Errno;
-use path_walk::PlainTree;
 use std::alloc::Global;
 use std::process::Abort;
 use std::test::Fail;
@@ -24,14 +25,14 @@ fn tree_after(
     alloc: Global,
     capacity: usize,
     first: &[&str],
-) -> Result<PlainTree, Fail> {
+) -> Result<Twins, Fail> {
     let mut tree = new_tree(alloc, capacity)?;
     expect_made(rt, &mut tree, first)?;
     Ok(tree)
 }
 
 // Each of these changes is made, one after the other.
-fn expect_made(rt: &impl Abort, tree: &mut PlainTree, lines: &[&str]) -> Result<(), Fail> {
+fn expect_made(rt: &impl Abort, tree: &mut Twins, lines: &[&str]) -> Result<(), Fail> {
     for line in lines {
         expect(rt, tree, &change(line)?, None);
     }
@@ -39,11 +40,7 @@ fn expect_made(rt: &impl Abort, tree: &mut PlainTree, lines: &[&str]) -> Result<
 }
 
 // Each of these changes is refused by this error.
-fn expect_refused(
-    rt: &impl Abort,
-    tree: &mut PlainTree,
-    rows: &[(&str, Errno)],
-) -> Result<(), Fail> {
+fn expect_refused(rt: &impl Abort, tree: &mut Twins, rows: &[(&str, Errno)]) -> Result<(), Fail> {
     for (line, errno) in rows {
         expect(rt, tree, &change(line)?, Some(*errno));
     }
@@ -458,7 +455,7 @@ fn renames_that_are_made(rt: HostRuntime) -> Result<(), Fail> {
 }
 
 // Each of these 41 links leads to the one before it, and the first to a directory.
-fn make_chain(rt: &impl Abort, tree: &mut PlainTree) -> Result<(), Fail> {
+fn make_chain(rt: &impl Abort, tree: &mut Twins) -> Result<(), Fail> {
     let mut text = b'd';
     for name in b'0'..b'0' + 41 {
         expect_texts(rt, tree, &[(&[text], &[b'/', name], None)])?;
