@@ -6,5 +6,6 @@ pub mod Rightly
 pub mod Deeds
 pub mod Once
 pub mod Told
+pub mod OneCall
 pub mod Examples
 pub mod Props

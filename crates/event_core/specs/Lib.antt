@@ -6,3 +6,5 @@ pub mod Rule
 pub mod Right
 pub mod Deeds
 pub mod Examples
+pub mod Lawful
+pub mod Coded

@@ -1,10 +1,10 @@
 //! Laws of legal runs.
-ghost use Rattle.std.specs.Prelude.{◌≡◌, ℕ, List, [], ◌∷◌, ◌++◌, Some, None, length};
+ghost use Rattle.std.specs.Prelude.{◌≡◌, ℕ, List, [], ◌∷◌, ◌++◌, Some, None, Contains, length};
 ghost use mathlib.Core.List.{IsPrefix};
 ghost use Rattle.justification.specs.declared.answer.Answer.{Answer};
 ghost use Rattle.row_rule.specs.Row.{target_of};
-ghost use Rattle.event_core.specs.Machine.{Event, Machine, EncodesChanges};
-ghost use Rattle.event_core.specs.Machine.Event.{answer};
+ghost use Rattle.event_core.specs.Machine.{Call, Event, Machine, EncodesChanges};
+ghost use Rattle.event_core.specs.Machine.Event.{begin, answer};
 ghost use Rattle.event_core.specs.Takes.{Answers, Takes};
 ghost use Rattle.event_core.specs.Runs.{Runs, Legal};
 ghost use Rattle.event_core.specs.Rule.{KeepsRule};
@@ -33,6 +33,13 @@ pub fn listed_answers_are_right()
 pub fn answers_are_the_only_ones()
     ensures { (capacity : ℕ) (events : List Event) (answers : List (ℕ × Answer)) (m : Machine) (s : ℕ) (told other : Answer) (new another : Machine) →
         Legal capacity events answers m → Answers m s told new → Answers m s other another → (told ≡ other) × (new ≡ another) }
+{}
+
+/// A session begins a call only once the one before was answered: between two beginnings of its calls it answers. So of its calls
+/// at most one is open at a time.
+pub fn one_call_at_a_time()
+    ensures { (capacity : ℕ) (before middle after : List Event) (answers : List (ℕ × Answer)) (m : Machine) (s : ℕ) (call next : Call) →
+        Legal capacity (before ++ begin s call ∷ middle ++ begin s next ∷ after) answers m → Contains middle (answer s) }
 {}
 
 /// A legal run keeps the rule of the row, and while no change is being made the row encodes the changes that were made.

@@ -1,14 +1,20 @@
 //! A machine over events, as definitions and laws: opens by any number of sessions beside one keeper of the tree and
 //! publications of policy, in every order of their steps. The functions of the laws do nothing: each stands for its contract.
+//! [`EventMachine`] is what code that takes the events promises.
 //!
 //! To be believed are about 400 lines of definitions in `specs/`.
 #![tactic(auto)]
 
 mod encoding;
+mod event;
 mod laws;
+mod taking;
 
 pub use encoding::TreeRow;
+pub use event::{Event, StepFault};
 pub use laws::{
     answers_are_right, answers_are_the_only_ones, calls_are_answered, listed_answers_are_right,
-    runs_do_what_events_say, runs_keep_rule, steps_go_on_runs, versions_never_fall,
+    one_call_at_a_time, runs_do_what_events_say, runs_keep_rule, steps_go_on_runs,
+    versions_never_fall,
 };
+pub use taking::EventMachine;

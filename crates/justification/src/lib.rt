@@ -1,8 +1,15 @@
 //! When an answer to an open is right: by the tree and the policy of the versions that it names, whoever found it, and however.
+//! [`justify`] tests an answer, afresh, by trees and profiles in plain memory.
 //!
-//! To be believed are about 60 lines of definitions in `specs/`.
+//! To be believed are about 60 lines of definitions in `specs/`; those in `specs/inner/` are of private contracts and proofs.
 #![tactic(auto)]
 
 mod answer;
+mod justifying;
+mod laws;
+mod publishing;
+mod reaching;
 
 pub use answer::Answer;
+pub use justifying::justify;
+pub use laws::{judged_is_not_failed, one_verdict_is_justified};

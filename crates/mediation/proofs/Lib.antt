@@ -1,3 +1,4 @@
 pub mod Asked
 pub mod ToldLaws
 pub mod Telling
+pub mod DeedLaws

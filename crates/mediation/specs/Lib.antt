@@ -8,3 +8,4 @@ pub mod History
 pub mod Answers
 pub mod Judging
 pub mod inner
+pub mod PolicyChanges

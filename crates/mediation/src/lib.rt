@@ -16,5 +16,5 @@ pub use answer::{Answer, LinkAnswer};
 pub use bench::Bench;
 pub use laws::{tables_of_rules_judge_as_their_rules, told_is_the_one_verdict};
 pub use linking::{JudgedLink, judge_names};
-pub use opening::{Judged, Reached, judge_file, reach_file};
+pub use opening::{Judged, Reached, can_be_asked, judge_file, reach_file, reach_path};
 pub use profiles::judge_name;

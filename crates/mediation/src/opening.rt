@@ -86,15 +86,16 @@ pub fn reach_file<L: Look>(
     }
 }
 
-/// Something is asked, and not to link: links are judged by a call of their own.
-fn can_be_asked(ask: Perms) -> bool
+/// Whether something is asked, and not to link: links are judged by a call of their own.
+pub fn can_be_asked(ask: Perms) -> bool
     ensures { result ≡ can_be_asked ask }
 {
     !ask.is_empty() && !ask.contains(Permission::Link)
 }
 
-/// Finds the file that a checked path leads to.
-fn reach_path<L: Look>(
+/// Finds the file that a checked path leads to, as [`reach_file`] does once it has tested what is asked and the path. No memory
+/// is taken.
+pub fn reach_path<L: Look>(
     look: &mut L,
     path: &Path<'_>,
     scratch: &mut Scratch,

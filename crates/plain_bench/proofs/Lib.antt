@@ -1,4 +1,3 @@
-pub mod DeedLaws
 pub mod Answering
 pub mod LinkJudging
 pub mod OneWorld

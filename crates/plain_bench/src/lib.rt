@@ -5,9 +5,7 @@
 //! To be believed are the 5 lines of definitions in `specs/`; those in `specs/inner/` are of private contracts and proofs.
 #![tactic(auto)]
 
-mod deeds;
 mod plain_bench;
-mod policy;
 mod working;
 
 pub use mediation::{Answer, Bench, LinkAnswer};

@@ -1,13 +1,15 @@
 //! A bench in plain memory.
 ghost use Rattle.std.specs.Prelude.{◌≤◌};
 
-use crate::policy::Policy;
 use path_lookup::{NAME_ROOM, Scratch};
 use plain_tree::PlainTree;
+use policy_map::Policy;
+use std::alloc::Global;
 
 /// A tree and the published profiles, with the room that walks and names need.
 #[derive(Drop)]
 pub struct PlainBench {
+    pub(crate) alloc: Global,
     pub(crate) tree: PlainTree,
     pub(crate) policy: Policy,
     pub(crate) scratch: Scratch,

@@ -1,26 +1,30 @@
 //! What is done on a bench in plain memory.
 ghost use Rattle.std.specs.Prelude.{◌≡◌, ◌≤◌, ℕ, List, IfOk, IfErr, OnOk, OnErr, IsOk, Ok, Err, length, take};
 ghost use Rattle.mediation.specs.Answers.{link_answered};
+ghost use Rattle.mediation.specs.Deeds.{published_rules};
 ghost use Rattle.mediation.specs.History.{new_history};
 ghost use Rattle.mediation.specs.Judging.{link_of};
 ghost use Rattle.mediation.specs.Linking.{link_judged, answer_by_verdict};
+ghost use Rattle.mediation.specs.PolicyChanges.{deed_of};
 ghost use Rattle.mediation.specs.Profiles.{judge_of};
 ghost use Rattle.directory_tree.specs.declared.change.Change.TheVariants.{Link};
 ghost use Rattle.directory_tree.specs.Plain.{outcome};
 ghost use Rattle.plain_bench.specs.PlainHistory.{history_of};
 ghost use Rattle.plain_bench.specs.inner.Settling.{settled};
+ghost use Rattle.rule_reader.specs.Profile.{profile_value};
 
 use crate::plain_bench::PlainBench;
-use crate::policy::Policy;
 use directory_tree::{Change, links_are_found, plain_trees_are_well_formed};
-use matcher::{AnyProfile, MakeFault};
+use matcher::{AnyProfile, CompiledProfile, MakeFault, PolicyChange};
 use mediation::{Answer, Bench, JudgedLink, LinkAnswer, judge_file, judge_names};
 use names::{Errno, NoMemory, Path, Perms};
 use path_lookup::{NAME_ROOM, Scratch, WalkFault};
 use plain_tree::PlainTree;
+use policy_map::Policy;
 use rule_judge::LinkVerdict;
 use rule_reader::Profile;
 use std::alloc::Global;
+use std::sync::Arc;
 
 impl PlainBench {
     /// The root alone, with room for so many entries, and no profile.
@@ -28,6 +32,7 @@ impl PlainBench {
         ensures { IfOk result (λ bench. history_of bench ≡ new_history capacity) }
     {
         Ok(PlainBench {
+            alloc,
             tree: PlainTree::new(alloc, capacity)?,
             policy: Policy::new(alloc),
             scratch: Scratch::new(),
@@ -101,6 +106,19 @@ fn settle(
             tree_version: tree.version(),
             policy_version,
         }),
+    }
+}
+
+/// The change that publishes a profile under its own name.
+fn replacement(alloc: Global, compiled: CompiledProfile) -> Result<PolicyChange, NoMemory>
+    ensures { IfOk result (λ change. deed_of change ≡ published_rules (profile_value compiled.profile)) }
+{
+    let Ok(name) = Vec::from_slice(alloc, compiled.profile().name()) else {
+        return Err(NoMemory);
+    };
+    match Arc::new(alloc, AnyProfile::Compiled(compiled)) {
+        Ok(profile) => Ok(PolicyChange::Replace(name, profile)),
+        Err(_) => Err(NoMemory),
     }
 }
 
@@ -183,10 +201,15 @@ impl Bench for PlainBench {
     }
 
     fn publish(&mut self, profile: Profile) -> Result<u64, MakeFault> {
-        self.policy.publish(profile)
+        let compiled = CompiledProfile::make(self.alloc, profile)?;
+        let change = replacement(self.alloc, compiled)?;
+        Ok(self.policy.publish(&[change])?)
     }
 
     fn remove(&mut self, name: &[u8]) -> Result<u64, NoMemory> {
-        Ok(self.policy.remove(name))
+        let Ok(name) = Vec::from_slice(self.alloc, name) else {
+            return Err(NoMemory);
+        };
+        self.policy.publish(&[PolicyChange::Remove(name)])
     }
 }

@@ -1,0 +1,45 @@
+-- What may be asked of a machine besides its steps.
+use Rattle.std.specs.Prelude.{◌≡◌, ◌⊎◌, ℕ, zero, suc, List, [], ◌∷◌, ◌++◌, length, Option, Some, None, Result, Ok, Err}
+use Rattle.names.specs.declared.errors.Errno.{Errno}
+use Rattle.directory_tree.specs.declared.change.Change.{Change}
+use Rattle.directory_tree.specs.Apply.{tree_after}
+use Rattle.justification.specs.declared.answer.Answer.{Answer}
+use Rattle.row_rule.specs.declared.cell.Cell.{Cell}
+use Rattle.row_rule.specs.Row.{write}
+use Rattle.row_plan.specs.Plan.{IsLean}
+use Rattle.row_rule.specs.declared.view.WalkerView.{WalkerView}
+use Rattle.event_core.specs.Machine.{Call, Event, Policed, Machine, EncodesChanges}
+use Rattle.event_core.specs.Machine.Event.{begin, read_policy, read_count, read_cell, check_count, answer, open_change, set_cell, close_change, publish}
+use Rattle.event_core.specs.Machine.Stage.{resting, begun, unpublished, policed, walking, checked}
+use Rattle.event_core.specs.Takes.{Takes}
+
+-- some legal step takes the event
+abbrev pub IsLawful : Machine → Event → Type 0
+IsLawful old event = (told : Option Answer) × (new : Machine) × Takes old event told new
+
+-- It is a session's turn to take the event: its call has come to just that. A machine that goes on with each call takes each event
+-- whose turn it is. Nothing is said of the keeper's events and of publications.
+abbrev pub HasTurn : Machine → Event → Type 0
+HasTurn m (begin s call) = (m.sessions s).stage ≡ resting
+HasTurn m (read_policy s) = (call : Call) × ((m.sessions s).stage ≡ begun call)
+HasTurn m (read_count s) = (p : Policed) × ((m.sessions s).stage ≡ policed p)
+HasTurn m (read_cell s) = (p : Policed) × (w : WalkerView) × (place : ℕ) × ((m.sessions s).stage ≡ walking p w (Some place))
+HasTurn m (check_count s) = (p : Policed) × (w : WalkerView) × ((m.sessions s).stage ≡ walking p w None)
+HasTurn m (answer s) = ((call : Call) × (version : ℕ) × ((m.sessions s).stage ≡ unpublished call version))
+    ⊎ ((p : Policed) × (w : WalkerView) × ((m.sessions s).stage ≡ checked p w))
+HasTurn m (open_change change) = ⊥
+HasTurn m set_cell = ⊥
+HasTurn m close_change = ⊥
+HasTurn m (publish deeds) = ⊥
+
+-- so many readings of a cell
+abbrev pub cell_reads : ℕ → ℕ → List Event
+cell_reads s zero = []
+cell_reads s (suc count) = read_cell s ∷ cell_reads s count
+
+-- Of a change, while none is open: it may be opened with a plan of so many cells; or the definition refuses it by this number, that
+-- of too many changes among them.
+abbrev pub IsTested : Machine → Change → Result ℕ Errno → Type 0
+IsTested m change (Ok count) = (plan : List Cell) × (m.keeper.pending ≡ None) × IsLean m.keeper.cells plan
+    × EncodesChanges m.capacity (write m.keeper.cells plan) (m.keeper.history ++ change ∷ []) × (length plan ≡ count)
+IsTested m change (Err errno) = (m.keeper.pending ≡ None) × (tree_after m.capacity (m.keeper.history ++ change ∷ []) ≡ Err errno)

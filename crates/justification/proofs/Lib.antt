@@ -1,0 +1,4 @@
+pub mod Agreeing
+pub mod Growing
+pub mod Lookups
+pub mod SameVerdicts

@@ -1,0 +1,66 @@
+//! The steps of a keeper, one after another.
+use directory_tree::Change;
+use event_core::StepFault;
+use names::{Errno, Path};
+use row_keeper::{Keeper, NotNow};
+use std::alloc::Global;
+use std::test::Fail;
+
+fn mkdir(path: &[u8]) -> Result<Change<'_>, Fail> {
+    Ok(Change::Mkdir(Path::check(path).ok().ok_or("a path")?))
+}
+
+fn keeper(alloc: Global) -> Result<Keeper, Fail> {
+    Ok(Keeper::new(alloc, 2).ok().ok_or("memory")?)
+}
+
+// Makes a change, and answers how many cells it set.
+fn make(keeper: &mut Keeper, change: &Change<'_>) -> Result<usize, Fail> {
+    keeper.open(change).ok().ok_or("not opened")?;
+    let cells = keeper.cells_left().ok_or("no change is open")?;
+    for _ in 0..cells {
+        keeper.set().ok().ok_or("not set")?;
+    }
+    keeper.close().ok().ok_or("not closed")?;
+    Ok(cells)
+}
+
+#[test]
+fn steps_of_one_change(rt: HostRuntime) -> Result<(), Fail> {
+    let mut keeper = keeper(rt.alloc())?;
+    let change = mkdir(b"/a")?;
+    assert_eq!(rt; keeper.capacity(), 2);
+    assert_eq!(rt; keeper.cells_left(), None);
+    assert_eq!(rt; keeper.set(), Err(NotNow));
+    assert_eq!(rt; keeper.close(), Err(NotNow));
+    // The slot behind the root's: its kind, node, parent (0 as it stands), length and component.
+    assert_eq!(rt; keeper.test(&change), Ok(Ok(4)));
+    assert_eq!(rt; keeper.open(&change), Ok(()));
+    assert_eq!(rt; (keeper.count(), keeper.version()), (1, 0));
+    assert_eq!(rt; keeper.open(&change), Err(StepFault::NotNow));
+    assert_eq!(rt; keeper.test(&change), Err(StepFault::NotNow));
+    assert_eq!(rt; keeper.close(), Err(NotNow));
+    for left in 0..4 {
+        assert_eq!(rt; keeper.cells_left(), Some(4 - left));
+        assert_eq!(rt; keeper.set(), Ok(()));
+    }
+    assert_eq!(rt; keeper.set(), Err(NotNow));
+    assert_eq!(rt; (keeper.count(), keeper.version()), (1, 0));
+    assert_eq!(rt; keeper.close(), Ok(()));
+    assert_eq!(rt; (keeper.count(), keeper.version()), (2, 1));
+    assert_eq!(rt; keeper.cells_left(), None);
+    Ok(())
+}
+
+#[test]
+fn changes_until_no_room(rt: HostRuntime) -> Result<(), Fail> {
+    let mut keeper = keeper(rt.alloc())?;
+    assert_eq!(rt; make(&mut keeper, &mkdir(b"/a")?)?, 4);
+    assert_eq!(rt; keeper.test(&mkdir(b"/a")?), Ok(Err(Errno::EEXIST)));
+    assert_eq!(rt; keeper.open(&mkdir(b"/a")?), Err(StepFault::NotNow));
+    // Here the parent is another word than 0.
+    assert_eq!(rt; make(&mut keeper, &mkdir(b"/a/b")?)?, 5);
+    assert_eq!(rt; keeper.test(&mkdir(b"/c")?), Ok(Err(Errno::ENOSPC)));
+    assert_eq!(rt; (keeper.count(), keeper.version()), (4, 2));
+    Ok(())
+}

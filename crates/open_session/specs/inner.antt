@@ -1,0 +1,3 @@
+-- Words of private contracts and proofs alone.
+pub mod Standing
+pub mod Ends

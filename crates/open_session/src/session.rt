@@ -1,0 +1,32 @@
+//! A session.
+use crate::stage::Stage;
+use path_lookup::NAME_ROOM;
+use std::marker::Model;
+
+/// One who opens paths, a call at a time.
+///
+/// It is seen as the pair of the capacity of the row that it reads and of the session of the machine over events: the name that
+/// its last answer judged, and where it stands in its call.
+#[derive(Drop)]
+pub struct Session {
+    pub(crate) capacity: usize,
+    // The name stands at the front.
+    pub(crate) name: Box<[u8; NAME_ROOM]>,
+    pub(crate) name_length: usize,
+    // Where a walk writes the name that it comes to. An answer swaps it with `name`, and so needs no memory.
+    pub(crate) room: Box<[u8; NAME_ROOM]>,
+    pub(crate) stage: Stage,
+}
+
+impl Model for Session {
+    ghost use Rattle.std.specs.Prelude.{ℕ, ◌≤◌, take};
+    ghost use Rattle.event_core.specs.Machine as machine;
+
+    ghost Value = { ℕ × machine.Session };
+
+    ghost use Rattle.open_session.specs.inner.Standing.{stage_of, IsStanding};
+
+    ghost view = { λ s. (s.capacity, record { name = take s.name_length s.name.value; stage = stage_of s.stage }) };
+
+    ghost invariant = { λ s. (s.capacity ≤ 16384) × (s.name_length ≤ 4095) × IsStanding s.capacity s.room.value s.stage };
+}

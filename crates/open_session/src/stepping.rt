@@ -1,0 +1,229 @@
+//! A session's steps.
+ghost use Rattle.std.specs.Prelude.{◌≡◌, ◌≤◌, ◌<◌, ℕ, IfOk, OnOk, OnErr, IfErr, length};
+ghost use Rattle.tree_row.specs.Rows.{row_length};
+ghost use Rattle.event_core.specs.Machine.{new_session};
+ghost use Rattle.open_session.specs.Steps.{Begins, ReadsPolicy, ReadsCount, ReadsCell, CellReads, ChecksCount, Answers, MayStep, MayTell};
+ghost use Rattle.open_session.specs.Seen.{SeesTree};
+
+use crate::call::{Call, Policed};
+use crate::session::Session;
+use crate::stage::Stage;
+use crate::walk::{Checked, Walk};
+use crate::walking::Readings;
+use event_core::StepFault;
+use justification::Answer;
+use names::{NoMemory, Perms};
+use path_lookup::{NAME_ROOM, Scratch};
+use policy_map::Policy;
+use row_keeper::Keeper;
+use std::alloc::{AllocError, Global};
+use std::mem;
+use tree_row::MOST_ENTRIES;
+
+impl Session {
+    /// Of one who never began a call, over a row with room for so many entries.
+    pub fn new(alloc: Global, capacity: usize) -> Result<Session, NoMemory>
+        requires { capacity ≤ MOST_ENTRIES }
+        ensures { IfOk result (λ session. session ≡ (capacity, new_session)) }
+    {
+        let Ok(name) = Box::new(alloc, [0; NAME_ROOM]) else {
+            return Err(NoMemory);
+        };
+        let Ok(room) = Box::new(alloc, [0; NAME_ROOM]) else {
+            return Err(NoMemory);
+        };
+        Ok(Session {
+            capacity,
+            name,
+            name_length: 0,
+            room,
+            stage: Stage::Resting,
+        })
+    }
+
+    /// The name that the last answer judged, empty where it judged none.
+    pub fn name(&self) -> &[u8]
+        ensures { result.now ≡ self.now.1.name }
+    {
+        &self.name[..self.name_length]
+    }
+
+    /// Begins a call: may this profile open this path for this?
+    pub fn begin(
+        &mut self,
+        alloc: Global,
+        profile: &[u8],
+        path: &[u8],
+        ask: Perms,
+    ) -> Result<(), StepFault>
+        ensures capacity { self.new.0 ≡ self.old.0 }
+        ensures ok { OnOk result (Begins (record { profile = profile.now; path = path.now; ask = ask }) self.old.1 self.new.1) }
+        ensures err { OnErr result (self.new ≡ self.old) }
+        ensures not_now { IfErr result (λ fault. fault ≡ StepFault.NotNow →
+            ¬ (MayStep (Begins (record { profile = profile.now; path = path.now; ask = ask })) self.old.1)) }
+    {
+        let Stage::Resting = self.stage else {
+            return Err(StepFault::NotNow);
+        };
+        match Call::new(alloc, profile, path, ask) {
+            Ok(call) => {
+                self.stage = Stage::Begun(call);
+                Ok(())
+            }
+            Err(AllocError) => Err(StepFault::NoMemory),
+        }
+    }
+
+    /// Reads the policy: its version, and what it says of the profile's name.
+    pub fn read_policy(&mut self, policy: &Policy) -> Result<(), StepFault>
+        ensures capacity { self.new.0 ≡ self.old.0 }
+        ensures ok { OnOk result (ReadsPolicy policy.now self.old.1 self.new.1) }
+        ensures err { OnErr result (self.new ≡ self.old) }
+        ensures not_now { IfErr result (λ fault. fault ≡ StepFault.NotNow → ¬ (MayStep (ReadsPolicy policy.now) self.old.1)) }
+    {
+        match mem::replace(&mut self.stage, Stage::Resting) {
+            Stage::Begun(call) => match call.after_policy(policy) {
+                Ok(stage) => {
+                    self.stage = stage;
+                    Ok(())
+                }
+                Err(call) => {
+                    self.stage = Stage::Begun(call);
+                    Err(StepFault::NoMemory)
+                }
+            },
+            other => {
+                self.stage = other;
+                Err(StepFault::NotNow)
+            }
+        }
+    }
+
+    /// Reads the count, and chooses what it does next: it reads the word at a place, or the count.
+    pub fn read_count(
+        &mut self,
+        alloc: Global,
+        keeper: &Keeper,
+        scratch: &mut Scratch,
+    ) -> Result<(), StepFault>
+        requires { keeper.now.0 ≡ self.old.0 }
+        ensures capacity { self.new.0 ≡ self.old.0 }
+        ensures ok { OnOk result (ReadsCount self.old.0 keeper.now.1 self.old.1 self.new.1) }
+        ensures err { OnErr result (self.new ≡ self.old) }
+        ensures not_now { IfErr result (λ fault. fault ≡ StepFault.NotNow → ¬ (MayStep (ReadsCount self.old.0 keeper.now.1) self.old.1)) }
+    {
+        match mem::replace(&mut self.stage, Stage::Resting) {
+            Stage::Policed(policed) => {
+                let walk = Walk::begin(alloc, policed, keeper, scratch, &mut self.room);
+                self.stage = Stage::Walking(walk);
+                Ok(())
+            }
+            other => {
+                self.stage = other;
+                Err(StepFault::NotNow)
+            }
+        }
+    }
+
+    /// Reads the word at the place that it chose, and chooses anew.
+    pub fn read_cell(&mut self, keeper: &Keeper, scratch: &mut Scratch) -> Result<(), StepFault>
+        requires capacity { keeper.now.0 ≡ self.old.0 }
+        requires long { length keeper.now.1.cells ≡ row_length self.old.0 }
+        ensures capacity { self.new.0 ≡ self.old.0 }
+        ensures ok { OnOk result (ReadsCell self.old.0 keeper.now.1.cells self.old.1 self.new.1) }
+        ensures err { OnErr result (self.new ≡ self.old) }
+        ensures not_now { IfErr result (λ fault. fault ≡ StepFault.NotNow → ¬ (MayStep (ReadsCell self.old.0 keeper.now.1.cells) self.old.1)) }
+    {
+        match self.read_cells(keeper, 1, scratch) {
+            Ok(0) => Err(StepFault::NotNow),
+            Ok(_) => Ok(()),
+            Err(fault) => Err(fault),
+        }
+    }
+
+    /// Reads as many cells as its walk needs, at most so many, in one walk over the words that it knows and those. Answers how
+    /// many there were. Where memory is refused, those before it were read.
+    pub fn read_cells(
+        &mut self,
+        keeper: &Keeper,
+        most: usize,
+        scratch: &mut Scratch,
+    ) -> Result<usize, StepFault>
+        requires capacity { keeper.now.0 ≡ self.old.0 }
+        requires long { length keeper.now.1.cells ≡ row_length self.old.0 }
+        ensures capacity { self.new.0 ≡ self.old.0 }
+        ensures ok { IfOk result (λ count. (count ≤ most) × CellReads self.old.0 keeper.now.1.cells count self.old.1 self.new.1) }
+        ensures all { IfOk result (λ count. count < most → ¬ (MayStep (ReadsCell self.old.0 keeper.now.1.cells) self.new.1)) }
+        ensures err { IfErr result (λ fault. (fault ≡ StepFault.NoMemory)
+            × ((count : ℕ) × (count < most) × CellReads self.old.0 keeper.now.1.cells count self.old.1 self.new.1)) }
+    {
+        match mem::replace(&mut self.stage, Stage::Resting) {
+            Stage::Walking(walk) => {
+                let Readings { walk, count } = walk.read_cells(
+                    keeper.row(),
+                    most,
+                    scratch,
+                    &mut self.room,
+                );
+                self.stage = Stage::Walking(walk);
+                count
+            }
+            other => {
+                self.stage = other;
+                Ok(0)
+            }
+        }
+    }
+
+    /// Reads the count again, once it needs no cell.
+    pub fn check_count(&mut self, keeper: &Keeper) -> Result<(), StepFault>
+        requires { SeesTree self.old.0 keeper.now.1 self.old.1.stage }
+        ensures capacity { self.new.0 ≡ self.old.0 }
+        ensures ok { OnOk result (ChecksCount keeper.now.1 self.old.1 self.new.1) }
+        ensures err { OnErr result (self.new ≡ self.old) }
+        ensures not_now { IfErr result (λ fault. fault ≡ StepFault.NotNow → ¬ (MayStep (ChecksCount keeper.now.1) self.old.1)) }
+    {
+        match mem::replace(&mut self.stage, Stage::Resting) {
+            Stage::Walking(walk) => match walk.next_place() {
+                None => {
+                    let last = keeper.count();
+                    let seen = keeper.history().again();
+                    self.stage = Stage::Checked(Checked { walk, last, seen });
+                    Ok(())
+                }
+                Some(_) => {
+                    self.stage = Stage::Walking(walk);
+                    Err(StepFault::NotNow)
+                }
+            },
+            other => {
+                self.stage = other;
+                Err(StepFault::NotNow)
+            }
+        }
+    }
+
+    /// Answers the call, and rests. No memory is taken.
+    pub fn answer(&mut self) -> Result<Answer, StepFault>
+        ensures capacity { self.new.0 ≡ self.old.0 }
+        ensures ok { IfOk result (λ told. Answers self.old.0 told self.old.1 self.new.1) }
+        ensures err { IfErr result (λ fault. (fault ≡ StepFault.NotNow) × (self.new ≡ self.old) × ¬ (MayTell self.old.0 self.old.1)) }
+    {
+        match mem::replace(&mut self.stage, Stage::Resting) {
+            Stage::Unpublished(_, policy_version) => {
+                self.name_length = 0;
+                Ok(Answer::NoProfile { policy_version })
+            }
+            Stage::Checked(checked) => {
+                let told = checked.told(&self.room);
+                mem::swap(&mut self.name, &mut self.room);
+                self.name_length = told.name_length;
+                Ok(told.answer)
+            }
+            other => {
+                self.stage = other;
+                Err(StepFault::NotNow)
+            }
+        }
+    }
+}

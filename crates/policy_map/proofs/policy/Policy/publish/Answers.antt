@@ -1,0 +1,17 @@
+use Rattle.std.proofs.Common.{None, ◌≡◌, ◌∙◌, ◌++◌, arith, ap, sym, map, length, length-append}
+use Rattle.std.proofs.lemmas.List.{length-map}
+use Rattle.mediation.specs.Deeds.{after_deeds, policy_after}
+use Rattle.mediation.specs.PolicyChanges.{deed_of}
+use Rattle.mediation.proofs.DeedLaws.{after_both}
+use Rattle.policy_map.proofs.policy.Policy.publish.Goals as goal
+
+pub invariant_of-self : goal.invariant_of-self
+invariant_of-self c =
+    let old = c.self.inside in
+    let deeds = map deed_of c.args.changes.now in
+    let more : c.and_all-self-inside.result.list ≡ old.deeds.list ++ deeds = c.and_all-self-inside.ensures in
+    let counted = c.self.invariant.counted in
+    record {
+      published = c.in-Ok.ensures ∙ ap (λ p. after_deeds p deeds) c.self.invariant.published ∙ sym (after_both (λ name. None) old.deeds.list deeds) ∙ ap policy_after (sym more);
+      counted = omega (arith, counted, ap length more, length-append old.deeds.list deeds, length-map c.args.changes.now deed_of);
+    }

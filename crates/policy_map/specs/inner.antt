@@ -1,0 +1,3 @@
+-- Words of private contracts and proofs alone.
+pub mod Profiles
+pub mod Holding

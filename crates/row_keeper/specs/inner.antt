@@ -1,0 +1,3 @@
+-- Words of private contracts and proofs alone.
+pub mod Kept
+pub mod Planned

@@ -1,0 +1,210 @@
+//! The row, and the change that is being made in it.
+ghost use Rattle.std.specs.Prelude.{◌≡◌, ◌≢◌, ◌≤◌, [], length, None, IfOk, OnOk, OnErr, IfErr};
+ghost use Rattle.std.specs.Option.{option_map};
+ghost use Rattle.row_rule.specs.Row.{count_of};
+ghost use Rattle.row_rule.specs.Steps.{at_rest};
+ghost use Rattle.tree_row.specs.OpeningRow.{opening_row};
+ghost use Rattle.row_keeper.specs.Keeping.{IsOpened, MayOpen, IsSet, MaySet, IsClosed, MayClose, IsTested};
+ghost use Rattle.row_keeper.specs.inner.Planned.{IsPlanned};
+
+use crate::history::History;
+use crate::open_change::OpenChange;
+use crate::refusal::NotNow;
+use directory_tree::Change;
+use event_core::StepFault;
+use names::{Errno, NoMemory};
+use row_look::RowLook;
+use row_plan::{next_after, plan};
+use row_rule::Cell;
+use std::alloc::Global;
+use std::marker::Model;
+use tree_row::{KnownRow, MOST_ENTRIES};
+
+/// The most changes that are counted: 2^60 - 1.
+const MOST_CHANGES: u64 = 1152921504606846975;
+
+/// A row of words and its keeper, in plain memory. It is seen as the pair of the row's capacity and what the keeper knows: the
+/// changes that were made, the cells as they stand, and the change that is open with the cells that are left to set.
+#[derive(Drop)]
+pub struct Keeper {
+    alloc: Global,
+    look: RowLook<KnownRow>,
+    // The number of the next node, once the open change is closed.
+    next: u64,
+    // How many changes were made, and which.
+    version: u64,
+    history: History,
+    // The change that is being made, and how many of its cells are set.
+    opened: Option<OpenChange>,
+    set: usize,
+}
+
+impl Model for Keeper {
+    ghost use Rattle.std.specs.Prelude.{ℕ};
+    ghost use Rattle.row_rule.specs.declared.view.KeeperView.{KeeperView};
+
+    ghost Value = { ℕ × KeeperView };
+
+    ghost use Rattle.row_keeper.specs.inner.Kept.{view_with, IsKept};
+
+    ghost view = { λ k. (k.look.cells.0, view_with k.look.cells.1 k.history.events k.opened k.set) };
+
+    ghost invariant = { λ k. IsKept k.look.cells.0 k.look.cells.1 k.next k.version k.history.events k.opened k.set };
+}
+
+impl Keeper {
+    /// The row of the root alone, with room for so many entries. All its memory is taken here.
+    pub fn new(alloc: Global, capacity: usize) -> Result<Keeper, NoMemory>
+        requires { capacity ≤ MOST_ENTRIES }
+        ensures { IfOk result (λ keeper. keeper ≡ (capacity, at_rest [] (opening_row capacity))) }
+    {
+        let Ok(row) = KnownRow::new(alloc, capacity) else {
+            return Err(NoMemory);
+        };
+        Ok(Keeper {
+            alloc,
+            look: RowLook::new(row),
+            next: 2,
+            version: 0,
+            history: History::new(),
+            opened: None,
+            set: 0,
+        })
+    }
+
+    /// Opens a change: plans its cells, of which none is set yet.
+    pub fn open(&mut self, change: &Change<'_>) -> Result<(), StepFault>
+        ensures capacity { self.new.0 ≡ self.old.0 }
+        ensures ok { OnOk result (IsOpened self.old.0 self.old.1 change.now self.new.1) }
+        ensures same { OnErr result (self.new ≡ self.old) }
+        ensures not_now { IfErr result (λ fault. fault ≡ StepFault.NotNow → ¬ (MayOpen self.old.0 self.old.1 change.now)) }
+    {
+        let Ok(plan) = self.planned(change)? else {
+            return Err(StepFault::NotNow);
+        };
+        self.next = next_after(self.next, change);
+        self.opened = Some(OpenChange {
+            plan,
+            target: self.history.and(change),
+        });
+        self.set = 0;
+        Ok(())
+    }
+
+    /// Sets the next cell of the open change.
+    pub fn set(&mut self) -> Result<(), NotNow>
+        ensures capacity { self.new.0 ≡ self.old.0 }
+        ensures ok { OnOk result (IsSet self.old.1 self.new.1) }
+        ensures same { OnErr result (self.new ≡ self.old) }
+        ensures not_now { OnErr result (¬ (MaySet self.old.1)) }
+    {
+        let Some(opened) = &self.opened else {
+            return Err(NotNow);
+        };
+        let Some(cell) = opened.plan.get(self.set) else {
+            return Err(NotNow);
+        };
+        self.look.cells.set(cell.place, cell.word);
+        self.set += 1;
+        Ok(())
+    }
+
+    /// Closes the open change, once all its cells are set: the change is made.
+    pub fn close(&mut self) -> Result<(), NotNow>
+        ensures capacity { self.new.0 ≡ self.old.0 }
+        ensures ok { OnOk result (IsClosed self.old.1 self.new.1) }
+        ensures same { OnErr result (self.new ≡ self.old) }
+        ensures not_now { OnErr result (¬ (MayClose self.old.1)) }
+    {
+        let Some(opened) = &self.opened else {
+            return Err(NotNow);
+        };
+        if self.set < opened.plan.len() {
+            return Err(NotNow);
+        }
+        self.history = opened.target.again();
+        self.opened = None;
+        self.version += 1;
+        Ok(())
+    }
+
+    /// How many cells a change would set, or by which number it is refused, that of too many changes among them. Not now while
+    /// another change is open. It changes nothing.
+    pub fn test(&mut self, change: &Change<'_>) -> Result<Result<usize, Errno>, StepFault>
+        ensures same { self.new ≡ self.old }
+        ensures ok { IfOk result (IsTested self.old.0 self.old.1 change.now) }
+        ensures not_now { IfErr result (λ fault. fault ≡ StepFault.NotNow → self.old.1.pending ≢ None) }
+    {
+        match self.planned(change)? {
+            Ok(plan) => Ok(Ok(plan.len())),
+            Err(errno) => Ok(Err(errno)),
+        }
+    }
+
+    /// The count: two for each change that was made, and one more while a change is open.
+    pub fn count(&self) -> u64
+        ensures { result ≡ count_of self.now.1 }
+    {
+        2 * self.version + u64::from(self.opened.is_some())
+    }
+
+    /// How many changes were made.
+    pub fn version(&self) -> u64
+        ensures { result ≡ length self.now.1.history }
+    {
+        self.version
+    }
+
+    /// How many cells the open change has still to set. None while no change is open.
+    pub fn cells_left(&self) -> Option<usize>
+        ensures { result ≡ option_map (λ pending. length pending.left) self.now.1.pending }
+    {
+        match &self.opened {
+            Some(opened) => Some(opened.plan.len() - self.set),
+            None => None,
+        }
+    }
+
+    /// The most entries, besides the root.
+    pub fn capacity(&self) -> usize
+        ensures capacity { result ≡ self.now.0 }
+        ensures small { result ≤ MOST_ENTRIES }
+    {
+        self.look.cells.capacity()
+    }
+
+    /// The row as it stands.
+    pub fn row(&self) -> &KnownRow
+        ensures { result.now ≡ (self.now.0, self.now.1.cells) }
+    {
+        &self.look.cells
+    }
+
+    /// The changes that were made, for contracts alone.
+    pub fn history(&self) -> &History
+        ensures { result.now.events ≡ self.now.1.history }
+    {
+        &self.history
+    }
+
+    // The cells of a change while none is open, or by which number it is refused.
+    fn planned(&mut self, change: &Change<'_>) -> Result<Result<Vec<Cell>, Errno>, StepFault>
+        ensures same { self.new ≡ self.old }
+        ensures ok { IfOk result (IsPlanned self.old.0 self.old.1 change.now) }
+        ensures not_now { IfErr result (λ fault. fault ≡ StepFault.NotNow → self.old.1.pending ≢ None) }
+    {
+        if self.opened.is_some() {
+            return Err(StepFault::NotNow);
+        }
+        if self.version == MOST_CHANGES {
+            return Ok(Err(Errno::EOVERFLOW));
+        }
+        match plan(self.alloc, &mut self.look, self.next, change) {
+            Ok(plan) => Ok(Ok(plan)),
+            Err(errno) => match errno {
+                Errno::ENOMEM => Err(StepFault::NoMemory),
+                _ => Ok(Err(errno)),
+            },
+        }
+    }
+}

@@ -1,0 +1,16 @@
+use event_core::StepFault;
+
+/// The step isn't lawful as the keeper stands, and nothing was changed.
+#[derive(Clone, Copy, Debug, PartialEq, Eq)]
+pub struct NotNow;
+
+impl From<NotNow> for StepFault {
+    ghost use Rattle.std.specs.Prelude.{◌≡◌};
+    ghost use Rattle.event_core.specs.declared.event.StepFault.TheVariants as fault;
+
+    ghost from_gives = { λ _ given. given ≡ fault.NotNow };
+
+    fn from(_refusal: NotNow) -> StepFault {
+        StepFault::NotNow
+    }
+}

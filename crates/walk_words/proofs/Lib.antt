@@ -1,0 +1,3 @@
+pub mod WordsRead
+pub mod ReadingOn
+pub mod Deciding

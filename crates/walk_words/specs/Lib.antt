@@ -1,0 +1,3 @@
+pub mod Words
+pub mod Outcomes
+pub mod inner

@@ -1,0 +1,76 @@
+//! The walk of an open over words that were read, and those that it reads.
+ghost use Rattle.std.specs.Prelude.{◌≡◌, ◌++◌, ◌≤◌, true, List, None, Ok, length, IfOk, IfErr, OnErr};
+ghost use Rattle.mediation.specs.Opening.{can_be_asked, reached, reached_by_path};
+ghost use Rattle.names.specs.Paths.{path_fault};
+ghost use Rattle.row_rule.specs.declared.cell.Cell.{Cell};
+ghost use Rattle.walk_words.specs.Words.{ReadsOn};
+ghost use Rattle.walk_words.specs.Outcomes.{Decides, IsLack};
+ghost use Rattle.walk_words.specs.declared.outcome.Outcome.TheVariants as outcome;
+
+use crate::cells::RowCells;
+use crate::outcome::{Outcome, Reach};
+use crate::words::WalkWords;
+use mediation::{can_be_asked, reach_path};
+use names::{Errno, Path, Perms};
+use path_lookup::{NAME_ROOM, Scratch};
+use row_look::RowLook;
+use tree_row::KnownRow;
+
+/// What an open reaches (open(2), path_resolution(7)), as far as the words that were read and at most `most` further words of
+/// `row` decide it. Only words that the walk needs are read, none of them twice. The name of the file goes to the front of
+/// `room`. Where what is asked or the path is at fault by itself, no word is needed; where no word is read, no memory is taken.
+pub fn reach_on(
+    words: WalkWords,
+    row: &KnownRow,
+    most: usize,
+    path: &[u8],
+    ask: Perms,
+    scratch: &mut Scratch,
+    room: &mut [u8; NAME_ROOM],
+) -> Reach
+    requires { row.now.0 ≡ words.0 }
+    ensures capacity { result.words.0 ≡ words.0 }
+    ensures reads { (more : List Cell) × (result.words.1 ≡ more ++ words.1) × ReadsOn row.now.1 more words.1 × (length more ≤ most) }
+    ensures decided { IfOk result.end (Decides words.0 result.words.1 room.new (λ t. reached t path.now ask)) }
+    ensures lacks { IfErr result.end (IsLack words.0 words.1 result.words.1 most) }
+    ensures sound { OnErr result.end ((can_be_asked ask ≡ true) × (path_fault path.now ≡ None)) }
+{
+    if !can_be_asked(ask) {
+        return refused(words, Errno::EINVAL);
+    }
+    match Path::check(path) {
+        Ok(path) => walk_on(words, row, most, &path, scratch, room),
+        Err(errno) => refused(words, errno),
+    }
+}
+
+/// Refused by what the open itself says.
+fn refused(words: WalkWords, errno: Errno) -> Reach
+    ensures words { result.words ≡ words }
+    ensures end { result.end ≡ Ok (outcome.Refused errno) }
+{
+    Reach {
+        words,
+        end: Ok(Outcome::Refused(errno)),
+    }
+}
+
+/// What a path leads to, a last link followed.
+fn walk_on(
+    words: WalkWords,
+    row: &KnownRow,
+    most: usize,
+    path: &Path<'_>,
+    scratch: &mut Scratch,
+    room: &mut [u8; NAME_ROOM],
+) -> Reach
+    requires { row.now.0 ≡ words.0 }
+    ensures capacity { result.words.0 ≡ words.0 }
+    ensures reads { (more : List Cell) × (result.words.1 ≡ more ++ words.1) × ReadsOn row.now.1 more words.1 × (length more ≤ most) }
+    ensures decided { IfOk result.end (Decides words.0 result.words.1 room.new (λ t. reached_by_path t path.now)) }
+    ensures lacks { IfErr result.end (IsLack words.0 words.1 result.words.1 most) }
+{
+    let mut look = RowLook::new(RowCells::new(words, row, most));
+    let end = reach_path(&mut look, path, scratch, room);
+    look.into_cells().ended(end)
+}

@@ -1,0 +1,80 @@
+//! The words that a walk has read.
+ghost use Rattle.std.specs.Prelude.{◌≡◌, ◌≤◌, [], ◌∷◌, length, OnOk, OnErr};
+ghost use Rattle.walk_words.specs.Words.{word_in, IsUnread};
+
+use crate::reads::Reads;
+use row_rule::Cell;
+use std::alloc::{AllocError, Global};
+use std::collections::BTreeMap;
+use std::marker::Model;
+use tree_row::MOST_ENTRIES;
+
+/// The words that a walk has read of a row, none of them twice.
+///
+/// It is seen as the pair of the row's capacity and of the words with their places, the newest first.
+#[derive(Drop)]
+pub struct WalkWords {
+    capacity: usize,
+    words: BTreeMap<usize, u64>,
+    reads: Reads,
+}
+
+impl Model for WalkWords {
+    ghost use Rattle.std.specs.Prelude.{ℕ, List};
+    ghost use Rattle.row_rule.specs.declared.cell.Cell.{Cell};
+
+    ghost Value = { ℕ × List Cell };
+
+    ghost use Rattle.walk_words.specs.inner.Keeping.{AreKept};
+
+    ghost view = { λ w. (w.capacity, w.reads.list) };
+
+    ghost invariant = { λ w. AreKept w.capacity w.words.entries w.reads.list };
+}
+
+impl WalkWords {
+    /// Of a row with room for so many entries nothing was read.
+    pub fn new(alloc: Global, capacity: usize) -> WalkWords
+        requires { capacity ≤ MOST_ENTRIES }
+        ensures { result ≡ (capacity, []) }
+    {
+        WalkWords {
+            capacity,
+            words: BTreeMap::new(alloc),
+            reads: Reads::new(),
+        }
+    }
+
+    /// The most entries of the row.
+    pub fn capacity(&self) -> usize
+        ensures capacity { result ≡ self.now.0 }
+        ensures small { result ≤ MOST_ENTRIES }
+    {
+        self.capacity
+    }
+
+    /// How many words were read.
+    pub fn count(&self) -> usize
+        ensures { result ≡ length self.now.1 }
+    {
+        self.words.len()
+    }
+
+    /// The word that was read at a place, if it was.
+    pub fn word(&self, place: usize) -> Option<u64>
+        ensures { result ≡ word_in self.now.1 place }
+    {
+        self.words.get(&place).copied()
+    }
+
+    /// One word more was read, at a place where none was. Where memory is refused, nothing changes.
+    pub fn read(&mut self, cell: Cell) -> Result<(), AllocError>
+        requires { IsUnread self.old.1 cell.place }
+        ensures ok { OnOk result (self.new ≡ (self.old.0, cell ∷ self.old.1)) }
+        ensures refused { OnErr result (self.new ≡ self.old) }
+    {
+        self.words.insert(cell.place, cell.word)?;
+        self.reads = self.reads.and(&cell);
+        Ok(())
+    }
+}
