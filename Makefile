@@ -8,6 +8,7 @@
 # make calls      calls the library for C, and compares its answers with those of ./aa-trace
 # make embed      builds the examples for those who embed the library, ./embed in C and ./embed_rs in Rust, and runs them
 # make refusals   refuses each allocation of the program in turn
+# make drawn      makes 100,000 drawn changes in a row and in plain memory, which have to answer alike
 # make install    installs the program, the static library for C with its header, the manual page and completion for bash
 #                 below PREFIX, which is /usr/local if not given; DESTDIR is put before it. Builds what isn't built
 # make uninstall  takes away what make install with the same PREFIX and DESTDIR installed
@@ -23,7 +24,7 @@ LIBRARY := crates/coqetwal/out/libcoqetwal.a
 LIBRARY_CRATES := coqetwal $(shell sed -n 's/^coqetwal staticlib: *//p' crates.txt)
 LIBRARY_SOURCES := crates.txt HANDLES $(filter $(addprefix crates/,$(addsuffix /%,$(LIBRARY_CRATES))),$(SOURCES))
 
-.PHONY: all run test tour bench calls embed refusals install uninstall help need-rt
+.PHONY: all run test tour bench calls embed refusals drawn install uninstall help need-rt
 # Each recipe takes all processors, and two that prove the same crates would disturb each other.
 .NOTPARALLEL:
 
@@ -73,6 +74,9 @@ embed: aa-trace $(LIBRARY)
 
 refusals: aa-trace
 	sh tools/refuse-allocations.sh
+
+drawn: need-rt
+	tools/drawn-changes
 
 install: aa-trace $(LIBRARY)
 	@sh tools/install.sh

@@ -129,8 +129,12 @@ struct coqetwal_counts coqetwal_image_counts(const uint8_t *image, size_t image_
 /* ---- Holders of images, in C.
  *
  * A table holds a copy of an image that was accepted. It is never written to, so any number of threads may use it at the same
- * time. Where a pointer to a table is null, names have no answer and the counts are 0. A pointer to bytes may be null where
- * their length is 0. */
+ * time, each with answers of its own.
+ *
+ * Asked of the caller, for each of them: a table came from coqetwal_load and wasn't given back, or it is null; then names have
+ * no answer and the counts are 0. An image, a name or the text of names has as many bytes as the length behind it tells; where
+ * that is 0, the pointer may be null. Other pointers aren't null, but where it is said. Nobody changes during a call what it
+ * reads. */
 
 typedef struct coqetwal_table {
     size_t length;
@@ -151,9 +155,9 @@ static inline size_t coqetwal_image_length(const coqetwal_table *table) {
     return table ? table->length : 0;
 }
 
-/* Copies an image and verifies the copy. The result is 0, and *table is the table; or it is the number of the fault, *table is
- * null, and *fault, if `fault` isn't null, is the fault. It takes memory from malloc: as much as the image has, and a
- * little. */
+/* Copies an image and verifies the copy. The result is 0, and *table is the table; or it is the number of the fault, and *table
+ * is null. `fault` may be null; if it isn't, *fault is the fault, of an accepted image 0. It takes memory from malloc: as much
+ * as the image has, and a little. */
 static inline int coqetwal_load(const void *image, size_t length, coqetwal_table **table, struct coqetwal_fault *fault) {
     struct coqetwal_fault found = {COQETWAL_NO_MEMORY, 0};
     coqetwal_table *made = length > SIZE_MAX - sizeof *made ? NULL : (coqetwal_table *)malloc(sizeof *made + length);
@@ -171,19 +175,22 @@ static inline int coqetwal_load(const void *image, size_t length, coqetwal_table
     return found.number;
 }
 
-/* Gives a table's memory back. Of a null pointer nothing is done. */
+/* Gives a table's memory back, which no call may use any more. Of a null pointer nothing is done. */
 static inline void coqetwal_free(coqetwal_table *table) {
     free(table);
 }
 
-/* Judges a name: the verdict is the result, too. Takes no memory. */
+/* Judges a name. `asked` is a sum of permissions, 1 to 31; any other number has no answer. All of *answer is written, and its
+ * verdict is the result, too. Takes no memory. */
 static inline int coqetwal_judge(const coqetwal_table *table, const void *name, size_t length, uint32_t asked,
                                  struct coqetwal_answer *answer) {
     coqetwal_image_judge(coqetwal_image(table), coqetwal_image_length(table), coqetwal_bytes(name), length, asked, answer);
     return answer->verdict;
 }
 
-/* Judges `count` names, each from an offset to the next one: `offsets` has count + 1 entries. Takes no memory. */
+/* Judges `count` names, each from an offset to the next one in one text: `offsets` has count + 1 entries, and `answers` has room
+ * for `count`. Both may be null where `count` is 0; nothing is done then. Where offsets descend or leave the text, the name has
+ * no answer; `asked` is as above. Each answer is written. Takes no memory. */
 static inline void coqetwal_judge_batch(const coqetwal_table *table, const void *names, size_t length, const size_t *offsets,
                                         uint32_t asked, struct coqetwal_answer *answers, size_t count) {
     if (count)
@@ -191,6 +198,7 @@ static inline void coqetwal_judge_batch(const coqetwal_table *table, const void 
                                  count + 1, asked, answers, count);
 }
 
+/* How many states, cells and records a table has. */
 static inline uint32_t coqetwal_states(const coqetwal_table *table) {
     return coqetwal_image_counts(coqetwal_image(table), coqetwal_image_length(table)).states;
 }
