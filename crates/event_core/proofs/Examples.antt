@@ -27,7 +27,7 @@ no_profile capacity =
     let c : Machine = answered b 1 [] in
     (c, (None, a, (1, NoProfile 0) ∷ [], (refl, refl), (None, b, (1, NoProfile 0) ∷ [], (root_for to_read, refl, refl), (Some (NoProfile 0), c, [], (1, refl, ([], (refl, refl), refl)), (refl, refl), refl), refl), refl))
 
-abbrev asked : Perms → Policed
+abbrev pub asked : Perms → Policed
 asked ask = record { call = root_for ask; policy_version = 1; judge = by_rules [] }
 
 abbrev walked : WalkerView
@@ -36,7 +36,7 @@ walked = beginning newcomer 0 []
 abbrev rewalked : WalkerView
 rewalked = ending walked 0 []
 
-no_nil : (d : Deed) → d ∷ [] ≢ []
+pub no_nil : (d : Deed) → d ∷ [] ≢ []
 no_nil d e = subst (λ (l : List Deed). elim l as (λ _. Type 0) [ [] ↦ ⊥ | y ∷ ys ↦ Unit {0} ]) e tt
 
 -- with any answer that the whole call may be given, once it has read no cell
@@ -91,7 +91,7 @@ whole capacity ask end told name ends tells =
       ),
     )
 
-reads_root : (t : Tree) → reached t (47 ∷ []) to_read ≡ Ok record { name = 47 ∷ []; node = 1 }
+pub reads_root : (t : Tree) → reached t (47 ∷ []) to_read ≡ Ok record { name = 47 ∷ []; node = 1 }
 reads_root t = refl
 
 asks_nothing : (t : Tree) → reached t (47 ∷ []) nothing ≡ Err EINVAL

@@ -8,4 +8,6 @@ pub mod Once
 pub mod Told
 pub mod OneCall
 pub mod Examples
+pub mod NewDirectory
+pub mod Disturbed
 pub mod Props

@@ -4,7 +4,7 @@ use Rattle.std.specs.Prelude.{◌⊎◌, if◌then◌else◌}
 use Rattle.std.specs.List.{Contains}
 use Rattle.mediation.specs.Judge.{Judge}
 use Rattle.justification.specs.declared.answer.Answer.{Answer}
-use Rattle.event_core.specs.Machine.{Call, Event, Stage, Session, Machine, with_session}
+use Rattle.event_core.specs.Machine.{Call, Event, Session, Machine, with_session}
 use Rattle.event_core.specs.Machine.Event.{begin, read_policy, read_count, read_cell, check_count, answer, open_change, set_cell, close_change, publish}
 use Rattle.event_core.specs.Machine.Stage.{resting, begun}
 use Rattle.event_core.specs.Takes.{Moves, Takes, after_policy}

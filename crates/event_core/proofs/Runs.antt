@@ -48,3 +48,8 @@ runs_on from (e ∷ es) more_events answers more m to (told, between, later, tak
   runs_on between es more_events later more m to first_runs runs,
   ap (λ (a : List (ℕ × Answer)). a ++ more) is ∙ append_assoc (told_by e told) later more,
 )
+
+-- and it holds after each run from where it holds
+pub runs_keep : (from : Machine) (events : List Event) (answers : List (ℕ × Answer)) (to : Machine) → KeepsRule from → Runs from events answers to → KeepsRule to
+runs_keep from [] answers to rule (none, same) = subst KeepsRule (sym same) rule
+runs_keep from (e ∷ es) answers to rule (told, between, later, takes, runs, is) = runs_keep between es later to (takes_keep from between e told rule takes) runs

@@ -1,10 +1,12 @@
--- Worked runs: the calls of session 1 in the root alone, where nobody else does anything.
+-- Worked runs: the calls of session 1 in the root. Nobody else does anything, but that the keeper opens a change in some of them.
 use Rattle.std.specs.Prelude.{true, false, List, [], ◌∷◌}
 use Rattle.names.specs.declared.permissions.Perms.{Perms}
+use Rattle.directory_tree.specs.declared.change.Change.{Change}
+use Rattle.directory_tree.specs.declared.change.Change.TheVariants.{Mkdir}
 use Rattle.mediation.specs.Deeds.{published}
 use Rattle.mediation.specs.Judge.{by_rules}
 use Rattle.event_core.specs.Machine.{Call, Event}
-use Rattle.event_core.specs.Machine.Event.{begin, read_policy, read_count, check_count, answer, publish}
+use Rattle.event_core.specs.Machine.Event.{begin, read_policy, read_count, check_count, answer, open_change, publish}
 
 abbrev pub to_read : Perms
 to_read = record { read = true; write = false; link = false; lock = false; map = false }
@@ -24,3 +26,19 @@ unpublished_call = begin 1 (root_for to_read) ∷ read_policy 1 ∷ answer 1 ∷
 abbrev pub whole_call : Perms → List Event
 whole_call ask =
     publish (published (112 ∷ []) (by_rules []) ∷ []) ∷ begin 1 (root_for ask) ∷ read_policy 1 ∷ read_count 1 ∷ check_count 1 ∷ answer 1 ∷ []
+
+-- the directory `/b` is made
+abbrev pub mkdir_b : Change
+mkdir_b = Mkdir (47 ∷ 98 ∷ [])
+
+-- The same, but the keeper opens a change before the count is read: the count is odd, both times.
+abbrev pub busy_call : List Event
+busy_call =
+    publish (published (112 ∷ []) (by_rules []) ∷ []) ∷ begin 1 (root_for to_read) ∷ read_policy 1 ∷ open_change mkdir_b ∷ read_count 1
+    ∷ check_count 1 ∷ answer 1 ∷ []
+
+-- The keeper opens the change once the count was read: it is even first, and odd when it is checked.
+abbrev pub overtaken_call : List Event
+overtaken_call =
+    publish (published (112 ∷ []) (by_rules []) ∷ []) ∷ begin 1 (root_for to_read) ∷ read_policy 1 ∷ read_count 1 ∷ open_change mkdir_b
+    ∷ check_count 1 ∷ answer 1 ∷ []

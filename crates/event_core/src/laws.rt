@@ -1,5 +1,5 @@
 //! Laws of legal runs.
-ghost use Rattle.std.specs.Prelude.{◌≡◌, ℕ, List, [], ◌∷◌, ◌++◌, Some, None, Contains, length};
+ghost use Rattle.std.specs.Prelude.{◌≡◌, ◌≤◌, ℕ, List, [], ◌∷◌, ◌++◌, Option, Some, None, Contains, length};
 ghost use mathlib.Core.List.{IsPrefix};
 ghost use Rattle.justification.specs.declared.answer.Answer.{Answer};
 ghost use Rattle.row_rule.specs.Row.{target_of};
@@ -11,8 +11,8 @@ ghost use Rattle.event_core.specs.Rule.{KeepsRule};
 ghost use Rattle.event_core.specs.Right.{IsRight, IsToldIn};
 ghost use Rattle.names.specs.declared.errors.Errno.TheVariants.{EINVAL};
 ghost use Rattle.verdicts.specs.declared.verdict.Verdict.TheVariants.{NoRule};
-ghost use Rattle.justification.specs.declared.answer.Answer.TheVariants.{Judged, Failed, NoProfile};
-ghost use Rattle.event_core.specs.Examples.{to_read, nothing, unpublished_call, whole_call};
+ghost use Rattle.justification.specs.declared.answer.Answer.TheVariants.{Judged, Failed, NoProfile, Busy};
+ghost use Rattle.event_core.specs.Examples.{to_read, nothing, unpublished_call, whole_call, busy_call, overtaken_call};
 ghost use Rattle.event_core.specs.Deeds.{opened_by, closed_by, published_by};
 
 /// Every answer of a legal run is right: it is justified by the changes of the tree and of the policy made until then, at a
@@ -50,6 +50,14 @@ pub fn runs_keep_rule()
         Legal capacity events answers m → m.keeper.pending ≡ None → EncodesChanges m.capacity m.keeper.cells m.keeper.history }
 {}
 
+/// A legal step keeps the rule of the row, and so does a run of them, from wherever they begin.
+pub fn steps_keep_rule()
+    ensures step { (old : Machine) (event : Event) (told : Option Answer) (new : Machine) →
+        KeepsRule old → Takes old event told new → KeepsRule new }
+    ensures run { (from : Machine) (events : List Event) (answers : List (ℕ × Answer)) (to : Machine) →
+        KeepsRule from → Runs from events answers to → KeepsRule to }
+{}
+
 /// The changes of the tree, the open one last, are those that the events opened, and as many were made as the events closed. The
 /// policy's changes are those that the events published.
 pub fn runs_do_what_events_say()
@@ -77,10 +85,13 @@ pub fn steps_go_on_runs()
         Legal capacity events answers m → Runs m later more to → Legal capacity (events ++ later) (answers ++ more) to }
 {}
 
-/// Runs that are legal, and how they are answered: a profile that isn't published; one that is, without rules; and a call that
-/// asks for nothing.
+/// Runs that are legal, and how they are answered: a profile that isn't published; one that is, without rules; a call that asks for
+/// nothing; and, where the row has room for an entry, calls during which the keeper opens a change, before the count is read and
+/// after that.
 pub fn calls_are_answered()
     ensures no_profile { (capacity : ℕ) → (m : Machine) × Legal capacity unpublished_call ((1, NoProfile 0) ∷ []) m }
     ensures judged { (capacity : ℕ) → (m : Machine) × Legal capacity (whole_call to_read) ((1, Judged (NoRule to_read) 1 0 1) ∷ []) m }
     ensures failed { (capacity : ℕ) → (m : Machine) × Legal capacity (whole_call nothing) ((1, Failed EINVAL 0) ∷ []) m }
+    ensures busy { (capacity : ℕ) → 1 ≤ capacity → (m : Machine) × Legal capacity busy_call ((1, Busy 1 1) ∷ []) m }
+    ensures overtaken { (capacity : ℕ) → 1 ≤ capacity → (m : Machine) × Legal capacity overtaken_call ((1, Busy 0 1) ∷ []) m }
 {}

@@ -4,8 +4,12 @@ use Rattle.row_rule.specs.declared.view.WalkerView.{WalkerView}
 use Rattle.event_core.specs.Machine.{Policed}
 use Rattle.event_core.specs.Machine.Stage.{walking}
 use Rattle.open_session.specs.Steps.{ReadsCell, MayStep}
+use Rattle.open_session.specs.Turns.{IsReading}
 
 -- a walk that has come to its end reads no cell
 pub no_cell : (capacity : ℕ) (cells name : List ℕ) (p : Policed) (w : WalkerView) (next : Option ℕ) → next ≡ None
     → ¬ (MayStep (ReadsCell capacity cells) record { name = name; stage = walking p w next })
 no_cell capacity cells name p w next none may = let is : walking p w next ≡ walking may.1.0 may.1.1 (Some may.1.2) = may.1.5 in cc
+
+pub no_reading : (p : Policed) (w : WalkerView) (next : Option ℕ) → next ≡ None → ¬ (IsReading (walking p w next))
+no_reading p w next none reads = let is : walking p w next ≡ walking reads.0 reads.1 (Some reads.2) = reads.3 in cc

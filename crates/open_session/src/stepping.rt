@@ -4,6 +4,7 @@ ghost use Rattle.tree_row.specs.Rows.{row_length};
 ghost use Rattle.event_core.specs.Machine.{new_session};
 ghost use Rattle.open_session.specs.Steps.{Begins, ReadsPolicy, ReadsCount, ReadsCell, CellReads, ChecksCount, Answers, MayStep, MayTell};
 ghost use Rattle.open_session.specs.Seen.{SeesTree};
+ghost use Rattle.open_session.specs.Turns.{IsResting, IsBegun, IsPoliced, IsReading, IsWalked, IsAnswerable};
 
 use crate::call::{Call, Policed};
 use crate::session::Session;
@@ -61,6 +62,7 @@ impl Session {
         ensures err { OnErr result (self.new ≡ self.old) }
         ensures not_now { IfErr result (λ fault. fault ≡ StepFault.NotNow →
             ¬ (MayStep (Begins (record { profile = profile.now; path = path.now; ask = ask })) self.old.1)) }
+        ensures turn { IfErr result (λ fault. fault ≡ StepFault.NotNow → ¬ (IsResting self.old.1.stage)) }
     {
         let Stage::Resting = self.stage else {
             return Err(StepFault::NotNow);
@@ -80,6 +82,7 @@ impl Session {
         ensures ok { OnOk result (ReadsPolicy policy.now self.old.1 self.new.1) }
         ensures err { OnErr result (self.new ≡ self.old) }
         ensures not_now { IfErr result (λ fault. fault ≡ StepFault.NotNow → ¬ (MayStep (ReadsPolicy policy.now) self.old.1)) }
+        ensures turn { IfErr result (λ fault. fault ≡ StepFault.NotNow → ¬ (IsBegun self.old.1.stage)) }
     {
         match mem::replace(&mut self.stage, Stage::Resting) {
             Stage::Begun(call) => match call.after_policy(policy) {
@@ -111,6 +114,7 @@ impl Session {
         ensures ok { OnOk result (ReadsCount self.old.0 keeper.now.1 self.old.1 self.new.1) }
         ensures err { OnErr result (self.new ≡ self.old) }
         ensures not_now { IfErr result (λ fault. fault ≡ StepFault.NotNow → ¬ (MayStep (ReadsCount self.old.0 keeper.now.1) self.old.1)) }
+        ensures turn { IfErr result (λ fault. fault ≡ StepFault.NotNow → ¬ (IsPoliced self.old.1.stage)) }
     {
         match mem::replace(&mut self.stage, Stage::Resting) {
             Stage::Policed(policed) => {
@@ -133,6 +137,7 @@ impl Session {
         ensures ok { OnOk result (ReadsCell self.old.0 keeper.now.1.cells self.old.1 self.new.1) }
         ensures err { OnErr result (self.new ≡ self.old) }
         ensures not_now { IfErr result (λ fault. fault ≡ StepFault.NotNow → ¬ (MayStep (ReadsCell self.old.0 keeper.now.1.cells) self.old.1)) }
+        ensures turn { IfErr result (λ fault. fault ≡ StepFault.NotNow → ¬ (IsReading self.old.1.stage)) }
     {
         match self.read_cells(keeper, 1, scratch) {
             Ok(0) => Err(StepFault::NotNow),
@@ -154,6 +159,7 @@ impl Session {
         ensures capacity { self.new.0 ≡ self.old.0 }
         ensures ok { IfOk result (λ count. (count ≤ most) × CellReads self.old.0 keeper.now.1.cells count self.old.1 self.new.1) }
         ensures all { IfOk result (λ count. count < most → ¬ (MayStep (ReadsCell self.old.0 keeper.now.1.cells) self.new.1)) }
+        ensures turn { IfOk result (λ count. count < most → ¬ (IsReading self.new.1.stage)) }
         ensures err { IfErr result (λ fault. (fault ≡ StepFault.NoMemory)
             × ((count : ℕ) × (count < most) × CellReads self.old.0 keeper.now.1.cells count self.old.1 self.new.1)) }
     {
@@ -182,6 +188,7 @@ impl Session {
         ensures ok { OnOk result (ChecksCount keeper.now.1 self.old.1 self.new.1) }
         ensures err { OnErr result (self.new ≡ self.old) }
         ensures not_now { IfErr result (λ fault. fault ≡ StepFault.NotNow → ¬ (MayStep (ChecksCount keeper.now.1) self.old.1)) }
+        ensures turn { IfErr result (λ fault. fault ≡ StepFault.NotNow → ¬ (IsWalked self.old.1.stage)) }
     {
         match mem::replace(&mut self.stage, Stage::Resting) {
             Stage::Walking(walk) => match walk.next_place() {
@@ -207,7 +214,9 @@ impl Session {
     pub fn answer(&mut self) -> Result<Answer, StepFault>
         ensures capacity { self.new.0 ≡ self.old.0 }
         ensures ok { IfOk result (λ told. Answers self.old.0 told self.old.1 self.new.1) }
-        ensures err { IfErr result (λ fault. (fault ≡ StepFault.NotNow) × (self.new ≡ self.old) × ¬ (MayTell self.old.0 self.old.1)) }
+        ensures err { IfErr result (λ fault. (fault ≡ StepFault.NotNow) × (self.new ≡ self.old)) }
+        ensures not_now { OnErr result (¬ (MayTell self.old.0 self.old.1)) }
+        ensures turn { OnErr result (¬ (IsAnswerable self.old.1.stage)) }
     {
         match mem::replace(&mut self.stage, Stage::Resting) {
             Stage::Unpublished(_, policy_version) => {

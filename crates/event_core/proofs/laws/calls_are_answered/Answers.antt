@@ -1,4 +1,5 @@
 use Rattle.event_core.proofs.Examples.{no_profile, judged_root, failed_root}
+use Rattle.event_core.proofs.Disturbed.{busy_root, overtaken_root}
 use Rattle.event_core.proofs.laws.calls_are_answered.Goals as goal
 
 pub returns-clause-no_profile : goal.returns-clause-no_profile
@@ -9,3 +10,9 @@ returns-clause-judged c = judged_root
 
 pub returns-clause-failed : goal.returns-clause-failed
 returns-clause-failed c = failed_root
+
+pub returns-clause-busy : goal.returns-clause-busy
+returns-clause-busy c = busy_root
+
+pub returns-clause-overtaken : goal.returns-clause-overtaken
+returns-clause-overtaken c = overtaken_root

@@ -2,7 +2,7 @@ use Rattle.std.proofs.Common.{ℕ, ◌≡◌, ◌∙◌, List, take, sym, ap, su
 use Rattle.event_core.specs.Machine.{Session}
 use Rattle.open_session.specs.declared.stage.Stage.{Stage}
 use Rattle.open_session.specs.inner.Standing.{IsWalk, stage_of}
-use Rattle.open_session.proofs.Refusals.{no_cell}
+use Rattle.open_session.proofs.Refusals.{no_cell, no_reading}
 use Rattle.open_session.proofs.Stands.{if_ok_map, if_err_map, walk_stands, carried}
 use Rattle.open_session.proofs.session.Session.read_cells.Goals as goal
 
@@ -27,6 +27,10 @@ invariant_of-self c =
 pub returns-in-Walking-clause-all : goal.returns-in-Walking-clause-all
 returns-in-Walking-clause-all c =
     if_ok_map c.read_cells-walk.result.count c.read_cells-walk.ensures.all (λ count done few. no_cell _ _ _ _ _ _ (done few))
+
+pub returns-in-Walking-clause-turn : goal.returns-in-Walking-clause-turn
+returns-in-Walking-clause-turn c =
+    if_ok_map c.read_cells-walk.result.count c.read_cells-walk.ensures.all (λ count done few. no_reading _ _ _ (done few))
 
 pub returns-in-Walking-clause-err : goal.returns-in-Walking-clause-err
 returns-in-Walking-clause-err c =

@@ -1,0 +1,129 @@
+-- The first change of a row: four cells make the directory `/b` in the row of the root alone.
+use Rattle.std.proofs.Common.{◌≡◌, ◌≢◌, Bool, ℕ, ◌%◌, ◌/◌, ◌<◌, ◌≤◌, List, [], ◌∷◌, length, set, replicate, refl, ap, ◌∙◌, subst, arith, length-set, get_or-set_other, get_or-set_same}
+use Rattle.std.specs.Prelude.{slice_index, slice_set, Ok}
+use Rattle.std.proofs.lemmas.Bool.{lt-ltb}
+use Rattle.std.proofs.lemmas.List.{get_or-replicate}
+use Rattle.directory_tree.specs.declared.node.NodeKind.TheVariants.{Directory}
+use Rattle.directory_tree.specs.Tree.{Tree, root_alone}
+use Rattle.directory_tree.specs.Apply.{and_then, entry, with_entry, apply, tree_after}
+use Rattle.tree_row.specs.Slots.{text_at}
+use Rattle.tree_row.specs.Rows.{row_length, Encodes}
+use Rattle.tree_row.specs.OpeningRow.{opening_row}
+use Rattle.tree_row.proofs.Opening.{length-opening, opens}
+use Rattle.row_rule.specs.declared.cell.Cell.{Cell}
+use Rattle.row_rule.specs.Row.{write}
+use Rattle.row_plan.specs.Plan.{IsLean}
+use Rattle.row_plan.proofs.Drafting.{begins, grows}
+use Rattle.row_plan.proofs.Encoding.{encodes_filled}
+use Rattle.event_core.specs.Machine.{EncodesChanges}
+use Rattle.event_core.specs.Examples.{mkdir_b}
+
+-- a directory, of node 2, with a component of one byte, which is `b`; that it is in the root's slot stands there already
+abbrev pub four_cells : List Cell
+four_cells =
+    record { place = 164; word = 1 } ∷ record { place = 165; word = 2 } ∷ record { place = 167; word = 1 } ∷ record { place = 168; word = 98 } ∷ []
+
+abbrev tree_with_b : Tree
+tree_with_b = with_entry root_alone (entry 1 (98 ∷ []) 2 Directory) 3
+
+module _ (capacity : ℕ) (room : 1 ≤ capacity) where
+  abbrev row : List ℕ
+  row = opening_row capacity
+
+  abbrev first : List ℕ
+  first = slice_set row 164 1
+
+  abbrev second : List ℕ
+  second = slice_set first 165 2
+
+  abbrev third : List ℕ
+  third = slice_set second 167 1
+
+  abbrev after : List ℕ
+  after = slice_set third 168 98
+
+  long : length row ≡ row_length capacity
+  long = length-opening capacity
+
+  -- past the root's two words all is 0
+  zero_at : (k : ℕ) → 1 < k → k < 328 → slice_index row k ≡ 0
+  zero_at k past l =
+      let m = row_length capacity in
+      get_or-set_other (set (replicate m 0) 0 1) 1 k 1 0 (λ e. absurd (omega arith)) ∙ get_or-set_other (replicate m 0) 0 k 1 0 (λ e. absurd (omega arith))
+      ∙ get_or-replicate m k 0 0 (omega arith)
+
+  -- a word that is not set
+  kept_after : (k : ℕ) → k ≢ 164 → k ≢ 165 → k ≢ 167 → k ≢ 168 → slice_index after k ≡ slice_index row k
+  kept_after k a b c d =
+      get_or-set_other third 168 k 98 0 d ∙ get_or-set_other second 167 k 1 0 c ∙ get_or-set_other first 165 k 2 0 b ∙ get_or-set_other row 164 k 1 0 a
+
+  long_first : length first ≡ length row
+  long_first = length-set row 164 1
+
+  long_second : length second ≡ length row
+  long_second = length-set first 165 2 ∙ long_first
+
+  long_third : length third ≡ length row
+  long_third = length-set second 167 1 ∙ long_second
+
+  long_after : length after ≡ length row
+  long_after = length-set third 168 98 ∙ long_third
+
+  kind_is : slice_index after 164 ≡ 1
+  kind_is =
+      get_or-set_other third 168 164 98 0 (λ e. absurd (omega arith)) ∙ get_or-set_other second 167 164 1 0 (λ e. absurd (omega arith))
+      ∙ get_or-set_other first 165 164 2 0 (λ e. absurd (omega arith)) ∙ get_or-set_same row 164 1 0 (let l = long in omega arith)
+
+  node_is : slice_index after 165 ≡ 2
+  node_is =
+      get_or-set_other third 168 165 98 0 (λ e. absurd (omega arith)) ∙ get_or-set_other second 167 165 1 0 (λ e. absurd (omega arith))
+      ∙ get_or-set_same first 165 2 0 (let l = long in let m = long_first in omega arith)
+
+  parent_is : slice_index after 166 ≡ 0
+  parent_is =
+      kept_after 166 (λ e. absurd (omega arith)) (λ e. absurd (omega arith)) (λ e. absurd (omega arith)) (λ e. absurd (omega arith)) ∙ zero_at 166 (omega arith) (omega arith)
+
+  lengths_are : slice_index after 167 ≡ 1
+  lengths_are =
+      get_or-set_other third 168 167 98 0 (λ e. absurd (omega arith)) ∙ get_or-set_same second 167 1 0 (let l = long in let m = long_second in omega arith)
+
+  byte_is : slice_index after 168 ≡ 98
+  byte_is = get_or-set_same third 168 98 0 (let l = long in let m = long_third in omega arith)
+
+  -- so slot 1 has the entry, and the others stay
+  encodes : Encodes capacity after tree_with_b
+  encodes =
+      let kind = kind_is in
+      let node = node_is in
+      let parent = parent_is in
+      let component : text_at after 168 (slice_index after 167 % 65536) ≡ 98 ∷ [] =
+      ap (λ (z : ℕ). text_at after 168 (z % 65536)) lengths_are ∙ ap (λ (z : ℕ). z % 256 ∷ []) byte_is in
+      let text : text_at after 200 (slice_index after 167 / 65536) ≡ [] = ap (λ (z : ℕ). text_at after 200 (z / 65536)) lengths_are in
+      let old = opens capacity in
+      subst (λ (d : ℕ). Encodes capacity after (with_entry root_alone (entry d (98 ∷ []) 2 Directory) 3)) old.slots.root.node
+      (encodes_filled capacity row root_alone old after Directory 2 3 1 0 (98 ∷ []) refl
+      record { past_root = omega arith; within = omega arith; free = zero_at 164 (omega arith) (omega arith) }
+      record { within = old.slots.root.within; kind = old.slots.root.kind } (omega arith) (omega arith)
+      record {
+        long = long_after;
+        here = λ i. record { kind = kind i; node = node i; parent = parent i; component = component i; text = text i };
+        others = λ k out. kept_after k (λ e. grind arith) (λ e. grind arith) (λ e. grind arith) (λ e. grind arith);
+      })
+
+  -- no cell too many: each is added to those before it
+  pub lean : IsLean row four_cells
+  lean =
+      let l = long in
+      let one = grows row [] row 164 1 (omega arith) (begins row) refl (λ e. let z = zero_at 164 (omega arith) (omega arith) in absurd (omega arith)) in
+      let two = grows row _ first 165 2 (omega arith) one (get_or-set_other row 164 165 1 0 (λ e. absurd (omega arith))) (λ e. let z = zero_at 165 (omega arith) (omega arith) in absurd (omega arith)) in
+      let three = grows row _ second 167 1 (omega arith) two (get_or-set_other first 165 167 2 0 (λ e. absurd (omega arith)) ∙ get_or-set_other row 164 167 1 0 (λ e. absurd (omega arith)))
+      (λ e. let z = zero_at 167 (omega arith) (omega arith) in absurd (omega arith)) in
+      let four = grows row _ third 168 98 (omega arith) three
+      (get_or-set_other second 167 168 1 0 (λ e. absurd (omega arith)) ∙ get_or-set_other first 165 168 2 0 (λ e. absurd (omega arith)) ∙ get_or-set_other row 164 168 1 0 (λ e. absurd (omega arith)))
+      (λ e. let z = zero_at 168 (omega arith) (omega arith) in absurd (omega arith)) in
+      four.lean
+
+pub encodes_change : (capacity : ℕ) → 1 ≤ capacity → EncodesChanges capacity (write (opening_row capacity) four_cells) (mkdir_b ∷ [])
+encodes_change capacity room =
+    let made : tree_after capacity (mkdir_b ∷ []) ≡ Ok tree_with_b = ap (λ (b : Bool). and_then (apply root_alone b mkdir_b) (λ t. Ok t)) (lt-ltb 0 capacity (omega arith)) in
+    (tree_with_b, made, encodes capacity room)

@@ -1,0 +1,48 @@
+-- What comes of a list of events that a machine goes through.
+use Rattle.std.specs.Prelude.{◌≡◌, ◌⊎◌, ℕ, List, [], ◌∷◌, ◌++◌, Option, Some}
+use Rattle.justification.specs.declared.answer.Answer.{Answer}
+use Rattle.event_core.specs.Machine.{Event, Machine}
+use Rattle.event_core.specs.Machine.Event.{answer}
+use Rattle.event_core.specs.Takes.{Takes}
+use Rattle.event_core.specs.Lawful.{IsLawful}
+use Rattle.event_core.specs.Runs.{told_by, Runs, Legal}
+use Rattle.event_core.specs.Right.{IsRight}
+
+-- The events come one after the other. Each is taken, by a legal step, or it isn't lawful and is passed over. Those that were taken
+-- are told in their order, and so are the answers, each with its session.
+abbrev pub Passes : Machine → List Event → List Event → List (ℕ × Answer) → Machine → Type 0
+Passes from [] taken answers to = (taken ≡ []) × (answers ≡ []) × (to ≡ from)
+Passes from (event ∷ events) taken answers to =
+    ((told : Option Answer) × (between : Machine) × (rest : List Event) × (later : List (ℕ × Answer))
+    × Takes from event told between × Passes between events rest later to × (taken ≡ event ∷ rest) × (answers ≡ told_by event told ++ later))
+    ⊎ (¬ (IsLawful from event) × Passes from events taken answers to)
+
+-- One of these events has the session answer so, by a legal step, once those before it were taken, which gave the answers before it.
+pub record IsGiven (from : Machine) (events : List Event) (before : List (ℕ × Answer)) (s : ℕ) (told : Answer) : Type 0 where
+  pub earlier : List Event
+  pub later : List Event
+  pub parts : events ≡ earlier ++ answer s ∷ later
+  pub machine : Machine
+  pub runs : Runs from earlier before machine
+  pub next : Machine
+  pub gives : Takes machine (answer s) (Some told) next
+
+-- All of these events passed by, and were answered so. Those that were taken are a run. And each answer is right: wherever the machine
+-- had come by a legal run, of a new machine by none, an event gave it that was taken, and there it is justified by the tree's changes and
+-- the policy's, at versions that were current at events of its own call.
+pub record IsRun (old : Machine) (events : List Event) (answers : List (ℕ × Answer)) (new : Machine) : Type 0 where
+  pub taken : List Event
+  pub passed : Passes old events taken answers new
+  pub legal : Runs old taken answers new
+  pub right : (capacity : ℕ) (ago : List Event) (said : List (ℕ × Answer)) → Legal capacity ago said old
+      → (before after : List (ℕ × Answer)) (s : ℕ) (told : Answer) → answers ≡ before ++ (s, told) ∷ after
+      → (given : IsGiven old taken before s told) × IsRight capacity (ago ++ given.earlier) given.machine s told
+
+-- Only a beginning of the events passed by.
+pub record IsCutShort (old : Machine) (events : List Event) (new : Machine) : Type 0 where
+  pub passed : List Event
+  pub left : List Event
+  pub parts : events ≡ passed ++ left
+  pub taken : List Event
+  pub answers : List (ℕ × Answer)
+  pub passes : Passes old passed taken answers new

@@ -1,0 +1,20 @@
+-- What comes of one event.
+use Rattle.std.specs.Prelude.{◌≡◌, Option, None, Result, Ok, Err, IfOk, IfErr, OnErr}
+use Rattle.justification.specs.declared.answer.Answer.{Answer}
+use Rattle.event_core.specs.declared.event.StepFault.{StepFault}
+use Rattle.event_core.specs.declared.event.StepFault.TheVariants.{NotNow}
+use Rattle.event_core.specs.Machine.{Event, Machine}
+use Rattle.event_core.specs.Takes.{Takes}
+use Rattle.event_core.specs.Lawful.{IsLawful, HasTurn}
+
+-- It is taken; or nothing changed, and where it is told that it isn't lawful, it is neither that nor a session's turn.
+pub record IsStep (old : Machine) (event : Event) (result : Result (Option Answer) StepFault) (new : Machine) : Type 0 where
+  pub ok : IfOk result (λ told. Takes old event told new)
+  pub same : OnErr result (new ≡ old)
+  pub not_now : IfErr result (λ fault. fault ≡ NotNow → ¬ (IsLawful old event))
+  pub turn : IfErr result (λ fault. fault ≡ NotNow → ¬ (HasTurn old event))
+
+-- a step that is taken has no answer
+abbrev pub silent_of : {A : Type 0} → Result A StepFault → Result (Option Answer) StepFault
+silent_of (Ok taken) = Ok None
+silent_of (Err fault) = Err fault

@@ -1,0 +1,19 @@
+//! The machine over events in code: opens by any number of sessions, beside one keeper of the tree and publications of policy,
+//! one event at a time. It takes an event just where that is lawful.
+//!
+//! What [`run`] answers is right in every order of the events: that is its contract, and by it the promise on names, versions
+//! and rules holds of every interleaving of these steps.
+//!
+//! To be believed are about 60 lines of definitions in `specs/`, and those of `event_core`; those in `specs/inner/` are of
+//! private contracts and proofs.
+#![tactic(auto)]
+
+mod machine;
+mod running;
+mod stepping;
+mod taking;
+
+pub use event_core::{Event, EventMachine, StepFault};
+pub use justification::Answer;
+pub use machine::Core;
+pub use running::run;

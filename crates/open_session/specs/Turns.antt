@@ -1,0 +1,29 @@
+-- Whose turn it is: how far a call has come, by the step that it takes next.
+use Rattle.std.specs.Prelude.{◌≡◌, ◌⊎◌, ℕ, Some, None}
+use Rattle.row_rule.specs.declared.view.WalkerView.{WalkerView}
+use Rattle.event_core.specs.Machine.{Call, Policed, Stage}
+use Rattle.event_core.specs.Machine.Stage.{resting, begun, unpublished, policed, walking, checked}
+
+-- it may begin a call
+abbrev pub IsResting : Stage → Type 0
+IsResting stage = stage ≡ resting
+
+-- it reads the policy next
+abbrev pub IsBegun : Stage → Type 0
+IsBegun stage = (call : Call) × (stage ≡ begun call)
+
+-- it reads the count next
+abbrev pub IsPoliced : Stage → Type 0
+IsPoliced stage = (p : Policed) × (stage ≡ policed p)
+
+-- it reads a cell next
+abbrev pub IsReading : Stage → Type 0
+IsReading stage = (p : Policed) × (w : WalkerView) × (place : ℕ) × (stage ≡ walking p w (Some place))
+
+-- it reads the count again next
+abbrev pub IsWalked : Stage → Type 0
+IsWalked stage = (p : Policed) × (w : WalkerView) × (stage ≡ walking p w None)
+
+-- it answers next
+abbrev pub IsAnswerable : Stage → Type 0
+IsAnswerable stage = ((call : Call) × (version : ℕ) × (stage ≡ unpublished call version)) ⊎ ((p : Policed) × (w : WalkerView) × (stage ≡ checked p w))
