@@ -10,3 +10,4 @@ mod working;
 
 pub use mediation::{Answer, Bench, LinkAnswer};
 pub use plain_bench::PlainBench;
+pub use working::replacement;

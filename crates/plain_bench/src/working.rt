@@ -110,7 +110,7 @@ fn settle(
 }
 
 /// The change that publishes a profile under its own name.
-fn replacement(alloc: Global, compiled: CompiledProfile) -> Result<PolicyChange, NoMemory>
+pub fn replacement(alloc: Global, compiled: CompiledProfile) -> Result<PolicyChange, NoMemory>
     ensures { IfOk result (λ change. deed_of change ≡ published_rules (profile_value compiled.profile)) }
 {
     let Ok(name) = Vec::from_slice(alloc, compiled.profile().name()) else {

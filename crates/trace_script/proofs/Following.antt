@@ -17,15 +17,17 @@ use Rattle.trace_script.specs.declared.stop.Stop.{Stop}
 use Rattle.trace_script.specs.declared.stop.Stop.TheVariants.{NoCommand, Input, TooLong, Memory, Output}
 use Rattle.trace_script.specs.declared.section.Section.{Section as SectionHere}
 use Rattle.trace_script.specs.declared.section.Section.TheVariants.{Within}
-use Rattle.trace_script.specs.inner.Following.{Followed, followed, silent_line, printed_line, section_value, is_open_at, IsClosed, IsFollowed, IsShortOf, IsLineFollowed, IsPrinted, IsPut}
+use Rattle.trace_script.specs.Engine.{section_value, is_open_at, IsClosed, IsPut}
+use Rattle.trace_script.specs.inner.Following.{Followed, followed, silent_line, printed_line, IsFollowed, IsShortOf, IsLineFollowed, IsPrinted}
 use Rattle.trace_report.specs.Output.{line}
 use Rattle.mediation.specs.History.{History, policy_version, with_change, with_deed, after_link, tree_version}
 use Rattle.trace_script.specs.RunOutput.{Printed, printed, printed_lines, text_of_lines, drop_printed, change_printed}
 use Rattle.mediation.specs.Linking.{LinkAnswered, made, not_allowed, failed, no_profile}
 use Rattle.mediation.specs.Deeds.{published_rules, removed}
-use Rattle.trace_script.specs.Script.{Section, outside, within, Command, publish, LineKind, ignored, opens_policy, command, no_command, line_kind, words_of, is_end, line_feed, Script, script_of, script_from, first_command, stops_at, lines_of}
+use Rattle.trace_script.specs.Script.{Section, outside, within, Command, publish, LineKind, ignored, opens_policy, command, no_command, line_kind, words_of, is_end, line_feed, Script, script_of, script_from, run_grammar, lines_of}
 use Rattle.trace_report.specs.Streams.{AppendsFront}
 use Rattle.trace_report.proofs.Fronts.{Appends-more, Appends-kept}
+use Rattle.trace_script.proofs.Grammars.{script_kind, script_within, few_commands}
 
 -- what a line outside a policy comes to, by what it says
 abbrev pub followed_kind : StateLimit → History → ℕ → LineKind → Result Followed ℕ
@@ -104,29 +106,18 @@ Agrees limit history script number left (Ok f) =
     × (script.stopped ≡ (script_from f.section number left).stopped)
 Agrees limit history script number left (Err stopped) = (script.commands ≡ []) × (script.stopped ≡ Some stopped)
 
-abbrev script_kind : ℕ → List (List ℕ) → LineKind → Script
-script_kind before left s = elim s [
-  | ignored ↦ script_from outside (before + 1) left
-  | opens_policy ↦ script_from (within (before + 1) []) (before + 1) left
-  | command c ↦ first_command c (script_from outside (before + 1) left)
-  | no_command ↦ stops_at (before + 1)
-]
-
-abbrev script_within : ℕ → List ℕ → ℕ → List ℕ → List (List ℕ) → Bool → Script
-script_within start text before line left ends = cond ends (first_command (publish text) (script_from outside (before + 1) left)) (script_from (within start (text ++ line ++ line_feed ∷ [])) (before + 1) left)
-
 next_line : (limit : StateLimit) (history : History) (section : Section) (before : ℕ) (line : List ℕ) (left : List (List ℕ))
     → Agrees limit history (script_from section before (line ∷ left)) (before + 1) left (followed limit history section (before + 1) line)
 next_line limit history outside before line left = by (line_kind (words_of line))
   where
-    by : (s : LineKind) → Agrees limit history (script_kind before left s) (before + 1) left (followed_kind limit history (before + 1) s)
+    by : (s : LineKind) → Agrees limit history (script_kind run_grammar before left s) (before + 1) left (followed_kind limit history (before + 1) s)
     by ignored = (refl, refl)
     by opens_policy = (refl, refl)
     by (command c) = (refl, refl)
     by no_command = (refl, refl)
 next_line limit history (within start text) before line left = by (is_end line)
   where
-    by : (b : Bool) → Agrees limit history (script_within start text before line left b) (before + 1) left (followed_within limit history start text line b)
+    by : (b : Bool) → Agrees limit history (script_within run_grammar start text before line left b) (before + 1) left (followed_within limit history start text line b)
     by true = (refl, refl)
     by false = (refl, refl)
 
@@ -160,27 +151,6 @@ one_each : (limit : StateLimit) (history : History) (cs : List Command) → leng
 one_each limit history [] = refl
 one_each limit history (c ∷ cs) = ap suc (one_each limit (printed limit history c).history cs)
 
--- a line has one command at most
-abbrev FewLeft : ℕ → List (List ℕ) → Type 0
-FewLeft before left = (section : Section) → length (script_from section before left).commands ≤ length left
-
-few_kind : (before : ℕ) (line : List ℕ) (left : List (List ℕ)) → FewLeft (before + 1) left → (s : LineKind) → length (script_kind before left s).commands ≤ length (line ∷ left)
-few_kind before line left rest ignored = omega (arith, rest outside)
-few_kind before line left rest opens_policy = omega (arith, rest (within (before + 1) []))
-few_kind before line left rest (command c) = omega (arith, rest outside)
-few_kind before line left rest no_command = omega arith
-
-few_within : (start : ℕ) (text : List ℕ) (before : ℕ) (line : List ℕ) (left : List (List ℕ)) → FewLeft (before + 1) left → (b : Bool)
-    → length (script_within start text before line left b).commands ≤ length (line ∷ left)
-few_within start text before line left rest true = omega (arith, rest outside)
-few_within start text before line left rest false = omega (arith, rest (within start (text ++ line ++ line_feed ∷ [])))
-
-few_commands : (before : ℕ) (left : List (List ℕ)) → FewLeft before left
-few_commands before [] outside = omega arith
-few_commands before [] (within start text) = omega arith
-few_commands before (line ∷ left) outside = few_kind before line left (few_commands (before + 1) left) (line_kind (words_of line))
-few_commands before (line ∷ left) (within start text) = few_within start text before line left (few_commands (before + 1) left) (is_end line)
-
 -- of a text all commands are answered but those of the lines that are left
 pub still_few : (limit : StateLimit) (history : History) (text : List ℕ) (now : History) (section : Section) (before : ℕ) (lines left : List (List ℕ))
     → IsAhead limit history text now section before lines left → length left ≤ 1 → length (script_of text).commands ≤ length lines + 1
@@ -189,7 +159,7 @@ still_few limit history text now section before lines left ahead one =
     let joined = ap length ahead.printed in
     let sum = length-append lines (printed_lines limit now (script_from section before left).commands) in
     let more = one_each limit now (script_from section before left).commands in
-    omega (arith, all, joined, sum, more, few_commands before left section, one)
+    omega (arith, all, joined, sum, more, few_commands run_grammar before left section, one)
 
 -- the first lines stand, and no more
 pub short_of : (first after : Option (List ℕ)) (read : List ℕ) (a b : Option (List ℕ)) (all lines more : List (List ℕ)) → Consumes first after read

@@ -1,3 +1,4 @@
+pub mod Grammars
 pub mod LineWords
 pub mod Following
 pub mod LineReads

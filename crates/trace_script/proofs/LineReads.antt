@@ -12,10 +12,10 @@ use Rattle.std.proofs.lemmas.List.{append-nil}
 use Rattle.std.specs.declared.io.Error.{Error}
 use Rattle.std.specs.Prelude.{Result, Ok, Err}
 use Rattle.std.specs.Result.{IsErrAnd}
-use Rattle.trace_script.specs.declared.read_line.LineRead.{LineRead}
+use Rattle.trace_script.specs.declared.reading.LineRead.{LineRead}
 use Rattle.trace_script.specs.declared.stop.Stop.{Stop}
 use Rattle.trace_script.specs.declared.stop.Stop.TheVariants.{NoCommand, Input, TooLong, Memory, Output}
-use Rattle.trace_script.specs.inner.Following.{IsStopOfReading, IsPartRead, IsLineRead}
+use Rattle.trace_script.specs.Engine.{IsStopOfReading, IsPartRead, IsLineRead}
 use Rattle.trace_script.specs.Script.{line_feed, lines_of, onto_first_line}
 
 -- what has no line feed is taken whole

@@ -1,5 +1,5 @@
 -- What is printed of a profile that was published, and what its line comes to.
-use Rattle.std.proofs.Common.{◌≡◌, ℕ, ◌+◌, Bool, false, List, [], ◌∷◌, ◌++◌, Option, Ok, Err, sym, ap, ◌∙◌, append_assoc, length-append, codes, decimal}
+use Rattle.std.proofs.Common.{◌≡◌, ℕ, ◌+◌, Bool, false, List, [], ◌∷◌, ◌++◌, Option, Result, Ok, Err, Vec, Global, sym, ap, ◌∙◌, length-append, codes, decimal}
 use Rattle.std.proofs.lemmas.Bool.{cases_Bool}
 use mathlib.Core.Logic.{⊎_elim}
 use Rattle.glob_automaton.specs.Automata.{StateLimit, most_sets}
@@ -7,6 +7,7 @@ use Rattle.glob_automaton.specs.Sets.{AreMoreThan}
 use Rattle.rule_reader.specs.Profile.{RuleValue, ProfileValue}
 use Rattle.trace_script.specs.declared.stop.Stop.{Stop}
 use Rattle.trace_script.specs.declared.stop.Stop.TheVariants.{NoCommand, Input, TooLong, Memory, Output}
+use Rattle.trace_script.specs.Engine.{IsText}
 use Rattle.trace_script.specs.inner.Following.{IsComposed, IsPrinted}
 use Rattle.trace_report.specs.Output.{line}
 use Rattle.mediation.specs.Deeds.{published_rules}
@@ -17,10 +18,10 @@ use Rattle.trace_report.proofs.Endings.{keeps}
 is_not_over : (limit : StateLimit) (rules : List RuleValue) → ¬ (AreMoreThan most_sets rules) → limit.is_over rules ≡ false
 is_not_over limit rules few = ⊎_elim (λ over. absurd (few ((limit.right rules).0 over))) (λ h. h) (cases_Bool (limit.is_over rules))
 
--- a text of two parts as one line
-pub as_line : (text first last a n b d e : List ℕ) → text ≡ first ++ last → first ≡ a ++ n ++ b → last ≡ d ++ e → text ≡ (a ++ n ++ b ++ d) ++ e
-as_line text first last a n b d e is one two =
-    is ∙ (λ i. one i ++ two i) ∙ sym (append_assoc (a ++ n ++ b) d e)
+-- a line that was composed, or memory was refused
+pub composed : (p : Printed) (history : History) (text : List ℕ) (result : Result (Vec ℕ Global) Stop) → line text ≡ line p.text → history ≡ p.history → IsText text result → IsComposed p history result
+composed p history text (Ok bytes) same done is = (is ∙ same, done)
+composed p history text (Err stop) same done is = rw is tt
 
 -- a profile that was published
 pub published_whole : (limit : StateLimit) (history after : History) (profile : ProfileValue) (version : ℕ) (text : List ℕ) → ¬ (AreMoreThan most_sets profile.rules)

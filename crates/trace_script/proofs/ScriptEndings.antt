@@ -1,5 +1,5 @@
 -- How a script ends, by why it was followed no further.
-use Rattle.std.proofs.Common.{◌≡◌, ℕ, List, [], ◌++◌, take, drop, Option, Some, None, Err, codes, refl, sym, ap, ◌∙◌, inl, inr, take-append-drop, decimal, subst}
+use Rattle.std.proofs.Common.{◌≡◌, ℕ, List, [], take, drop, Option, Some, None, Err, refl, sym, ap, ◌∙◌, inl, inr, take-append-drop, subst}
 use Rattle.std.specs.Io.KnownBytes.{Appends}
 use Rattle.std.proofs.lemmas.List.{append-nil}
 use Rattle.glob_automaton.specs.Automata.{StateLimit}
@@ -7,29 +7,24 @@ use Rattle.trace_script.specs.declared.stop.Stop.{Stop}
 use Rattle.trace_script.specs.declared.stop.Stop.TheVariants.{NoCommand, Input, TooLong, Memory, Output}
 use Rattle.trace_report.specs.declared.status.Status.{Status}
 use Rattle.trace_report.specs.declared.status.Status.TheVariants.{Done, Refused}
-use Rattle.trace_script.specs.inner.Following.{IsFollowed, stop_text, stop_status}
+use Rattle.trace_script.specs.Engine.{stop_text, stop_status}
+use Rattle.trace_script.specs.inner.Following.{IsFollowed}
 use Rattle.trace_report.specs.Output.{Output as Written, line}
 use Rattle.mediation.specs.History.{History}
-use Rattle.trace_script.specs.RunOutput.{ScriptEnds, script_output, printed_lines, text_of_lines}
+use Rattle.trace_script.specs.RunOutput.{ScriptEnds, script_output, ended_output, printed_lines, text_of_lines}
 use Rattle.trace_script.specs.Script.{Script, script_of}
 use Rattle.trace_report.specs.Streams.{AppendsFront, IsTold, IsWritten, Streams}
 use Rattle.trace_script.proofs.Following.{text_of_lines-append}
 use Rattle.trace_report.proofs.Endings.{appends_nothing}
 
-abbrev stopped_output : List ℕ → Option ℕ → Written
-stopped_output answers stopped = elim stopped [
-  | None ↦ record { answers = answers; faults = []; status = Done }
-  | Some number ↦ record { answers = answers; faults = line (codes "line " ++ decimal number ++ codes ": not a command"); status = Refused }
-]
-
-output_is : (limit : StateLimit) (history : History) (script : Script) (stopped : Option ℕ) → script.stopped ≡ stopped → script_output limit history script ≡ stopped_output (text_of_lines (printed_lines limit history script.commands)) stopped
-output_is limit history script stopped e = ap (stopped_output (text_of_lines (printed_lines limit history script.commands))) e
+output_is : (limit : StateLimit) (history : History) (script : Script) (stopped : Option ℕ) → script.stopped ≡ stopped → script_output limit history script ≡ ended_output (printed_lines limit history script.commands) stopped
+output_is limit history script stopped e = ap (ended_output (printed_lines limit history script.commands)) e
 
 -- what is written on standard output doesn't depend on why no more is
 answers_are : (limit : StateLimit) (history : History) (script : Script) → text_of_lines (printed_lines limit history script.commands) ≡ (script_output limit history script).answers
 answers_are limit history script = by script.stopped
   where
-    by : (stopped : Option ℕ) → text_of_lines (printed_lines limit history script.commands) ≡ (stopped_output (text_of_lines (printed_lines limit history script.commands)) stopped).answers
+    by : (stopped : Option ℕ) → text_of_lines (printed_lines limit history script.commands) ≡ (ended_output (printed_lines limit history script.commands) stopped).answers
     by None = refl
     by (Some number) = refl
 
@@ -54,7 +49,7 @@ module _ (limit : StateLimit) (history : History) (text : List ℕ) (left after 
   told_so : (stop : Stop) → Follows stop → Appends f t (line (stop_text stop)) → ScriptEnds limit streams left after history text (stop_status stop)
   told_so (NoCommand number) h told =
       let wanted = output_is limit history (script_of text) (Some number) h.0 in
-      let written : IsWritten streams (stopped_output (text_of_lines (printed_lines limit history (script_of text).commands)) (Some number)) Refused = record { answers = h.1; faults = told; ends = refl } in
+      let written : IsWritten streams (ended_output (printed_lines limit history (script_of text).commands) (Some number)) Refused = record { answers = h.1; faults = told; ends = refl } in
       let P : Written → Type 0 = λ output. IsWritten streams output Refused in
       subst P (sym wanted) written
   told_so Input h told = record { count = h.0; read = h.1; answers = h.2; faults = told }
@@ -77,6 +72,6 @@ pub script_done : (limit : StateLimit) (history : History) (text : List ℕ) (a 
     → IsWritten (record { answers_before = a; answers_after = b; faults_before = f; faults_after = f }) (script_output limit history (script_of text)) Done
 script_done limit history text a b f e h =
     let streams : Streams = record { answers_before = a; answers_after = b; faults_before = f; faults_after = f } in
-    let written : IsWritten streams (stopped_output (text_of_lines (printed_lines limit history (script_of text).commands)) None) Done = record { answers = h; faults = appends_nothing f; ends = refl } in
+    let written : IsWritten streams (ended_output (printed_lines limit history (script_of text).commands) None) Done = record { answers = h; faults = appends_nothing f; ends = refl } in
     let P : Written → Type 0 = λ output. IsWritten streams output Done in
     subst P (sym (output_is limit history (script_of text) None e)) written

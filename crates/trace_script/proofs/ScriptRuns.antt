@@ -5,11 +5,12 @@ use Rattle.std.proofs.lemmas.List.{append-nil}
 use Rattle.std.specs.Io.KnownBytes.{Appends, Consumes}
 use Rattle.glob_automaton.specs.Automata.{StateLimit}
 use Rattle.trace_script.specs.declared.section.Section.{Section as SectionHere}
-use Rattle.trace_script.specs.declared.read_line.LineRead.{LineRead}
-use Rattle.trace_script.specs.declared.read_line.LineRead.TheVariants.{Whole, Last, End}
+use Rattle.trace_script.specs.declared.reading.LineRead.{LineRead}
+use Rattle.trace_script.specs.declared.reading.LineRead.TheVariants.{Whole, Last, End}
 use Rattle.trace_script.specs.declared.stop.Stop.{Stop}
 use Rattle.trace_script.specs.declared.stop.Stop.TheVariants.{NoCommand, Input, TooLong, Memory, Output}
-use Rattle.trace_script.specs.inner.Following.{followed, section_value, IsClosed, IsFollowed, IsShortOf, IsLineFollowed, IsLineRead, IsPartRead, most_lines}
+use Rattle.trace_script.specs.Engine.{section_value, IsClosed, IsLineRead, IsPartRead, most_lines}
+use Rattle.trace_script.specs.inner.Following.{followed, IsFollowed, IsShortOf, IsLineFollowed}
 use Rattle.mediation.specs.History.{History}
 use Rattle.trace_script.specs.RunOutput.{printed_lines, text_of_lines}
 use Rattle.trace_script.specs.Script.{Section, outside, line_feed, script_of, lines_of}
@@ -37,13 +38,13 @@ consumes_nothing None = tt
 consumes_nothing (Some xs) = refl
 
 -- a text that begins with what was read
-text_at : (first now : Option (List ℕ)) (read : List ℕ) → Consumes first now read → (rest : List ℕ) × IsTextOf first (read ++ rest)
+pub text_at : (first now : Option (List ℕ)) (read : List ℕ) → Consumes first now read → (rest : List ℕ) × IsTextOf first (read ++ rest)
 text_at None now read h = ([], tt)
 text_at (Some xs) None read h = absurd h
 text_at (Some xs) (Some ys) read h = (ys, sym h)
 
 -- the text that was read to its end
-text_ended : (first now : Option (List ℕ)) (read last : List ℕ) → Consumes first now read → IfSome now (λ left. left ≡ last) → IsTextOf first (read ++ last)
+pub text_ended : (first now : Option (List ℕ)) (read last : List ℕ) → Consumes first now read → IfSome now (λ left. left ≡ last) → IsTextOf first (read ++ last)
 text_ended None now read last h e = tt
 text_ended (Some xs) None read last h e = absurd h
 text_ended (Some xs) (Some ys) read last h e = sym (h ∙ ap (λ l. read ++ l) e)

@@ -1,4 +1,6 @@
 pub mod Script
+pub mod LineValues
+pub mod Engine
 pub mod AnswerText
 pub mod RunOutput
 pub mod Rows

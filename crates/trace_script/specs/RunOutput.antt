@@ -104,16 +104,14 @@ printed_lines limit history (c ∷ cs) = (printed limit history c).text ∷ prin
 abbrev pub text_of_lines : List (List ℕ) → List ℕ
 text_of_lines lines = concat (map line lines)
 
--- a script that runs to its end, or to a line that is no command
+-- a script that prints these lines, and runs to its end or to a line that is no command
+abbrev pub ended_output : List (List ℕ) → Option ℕ → Output
+ended_output lines None = record { answers = text_of_lines lines; faults = []; status = Done }
+ended_output lines (Some number) =
+    record { answers = text_of_lines lines; faults = line (codes "line " ++ decimal number ++ codes ": not a command"); status = Refused }
+
 abbrev pub script_output : StateLimit → History → Script → Output
-script_output limit history script = elim (script.stopped) [
-  | None ↦ record { answers = text_of_lines (printed_lines limit history script.commands); faults = []; status = Done }
-  | Some number ↦ record {
-    answers = text_of_lines (printed_lines limit history script.commands);
-    faults = line (codes "line " ++ decimal number ++ codes ": not a command");
-    status = Refused;
-  }
-]
+script_output limit history script = ended_output (printed_lines limit history script.commands) script.stopped
 
 abbrev pub run_output : StateLimit → ℕ → List ℕ → Output
 run_output limit capacity text = script_output limit (new_history capacity) (script_of text)

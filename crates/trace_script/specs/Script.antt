@@ -46,14 +46,17 @@ pub data Command : Type 0 where
   -- a profile, the path of a file, and that of one more entry of it
   judge_link : List ℕ → List ℕ → List ℕ → Command
 
--- what a line is, by itself
-pub data LineKind : Type 0 where
+-- what a line is, by itself, whatever a command is
+pub data LineOf (C : Type 0) : Type 0 where
   -- an empty line, or a comment
-  ignored : LineKind
+  ignored : LineOf C
   -- `policy`: the lines from the next one on are a profile's text
-  opens_policy : LineKind
-  command : Command → LineKind
-  no_command : LineKind
+  opens_policy : LineOf C
+  command : C → LineOf C
+  no_command : LineOf C
+
+abbrev pub LineKind : Type 0
+LineKind = LineOf Command
 
 abbrev pub kind_of_one : List ℕ → LineKind
 kind_of_one word = if bytes_eq (codes "policy") word then opens_policy else no_command
@@ -101,17 +104,17 @@ line_kind (word ∷ words) = if is_comment word then ignored else kind_of_words 
 
 -- The commands of a script, up to its end or to a line that is no command, whose number then stands there. Lines are
 -- counted from 1.
-pub record Script : Type 0 where
-  pub commands : List Command
+pub record ScriptOf (C : Type 0) : Type 0 where
+  pub commands : List C
   pub stopped : Option ℕ
 
-abbrev pub whole : Script
+abbrev pub whole : {C : Type 0} → ScriptOf C
 whole = record { commands = []; stopped = None }
 
-abbrev pub stops_at : ℕ → Script
+abbrev pub stops_at : {C : Type 0} → ℕ → ScriptOf C
 stops_at number = record { commands = []; stopped = Some number }
 
-abbrev pub first_command : Command → Script → Script
+abbrev pub first_command : {C : Type 0} → C → ScriptOf C → ScriptOf C
 first_command c script = record { commands = c ∷ script.commands; stopped = script.stopped }
 
 -- Where reading stands between two lines: outside a policy, or within one that began at a line, with its text so far.
@@ -123,20 +126,34 @@ pub data Section : Type 0 where
 abbrev pub is_end : List ℕ → Bool
 is_end line = bytes_eq line (codes ".")
 
+-- what the words of a line say, and the command that the text of a policy is
+pub record Grammar (C : Type 0) : Type 0 where
+  pub kind : List (List ℕ) → LineOf C
+  pub policy : List ℕ → C
+
 -- a script's lines from a place on, the lines before being so many
-abbrev pub script_from : Section → ℕ → List (List ℕ) → Script
-script_from outside before [] = whole
-script_from (within start text) before [] = stops_at start
-script_from outside before (line ∷ lines) = elim (line_kind (words_of line)) [
-  | ignored ↦ script_from outside (before + 1) lines
-  | opens_policy ↦ script_from (within (before + 1) []) (before + 1) lines
-  | command c ↦ first_command c (script_from outside (before + 1) lines)
+abbrev pub script_by : {C : Type 0} → Grammar C → Section → ℕ → List (List ℕ) → ScriptOf C
+script_by grammar outside before [] = whole
+script_by grammar (within start text) before [] = stops_at start
+script_by grammar outside before (line ∷ lines) = elim (grammar.kind (words_of line)) [
+  | ignored ↦ script_by grammar outside (before + 1) lines
+  | opens_policy ↦ script_by grammar (within (before + 1) []) (before + 1) lines
+  | command c ↦ first_command c (script_by grammar outside (before + 1) lines)
   | no_command ↦ stops_at (before + 1)
 ]
-script_from (within start text) before (line ∷ lines) =
+script_by grammar (within start text) before (line ∷ lines) =
     if is_end line
-    then first_command (publish text) (script_from outside (before + 1) lines)
-    else script_from (within start (text ++ line ++ line_feed ∷ [])) (before + 1) lines
+    then first_command (grammar.policy text) (script_by grammar outside (before + 1) lines)
+    else script_by grammar (within start (text ++ line ++ line_feed ∷ [])) (before + 1) lines
+
+abbrev pub Script : Type 0
+Script = ScriptOf Command
+
+abbrev pub run_grammar : Grammar Command
+run_grammar = record { kind = line_kind; policy = publish }
+
+abbrev pub script_from : Section → ℕ → List (List ℕ) → Script
+script_from section before lines = script_by run_grammar section before lines
 
 abbrev pub script_of : List ℕ → Script
 script_of text = script_from outside 0 (lines_of text)

@@ -1,8 +1,9 @@
 //! The commands of a script, done on a bench, and their answers.
 ghost use Rattle.std.specs.Prelude.{◌+◌, ◌<◌, ◌≤◌, ◌^◌, OnOk};
 ghost use Rattle.glob_automaton.specs.Automata.{StateLimit};
-ghost use Rattle.trace_script.specs.inner.Following.{IsPrinted, IsPut};
-ghost use Rattle.trace_script.specs.inner.Line.{command_value};
+ghost use Rattle.trace_script.specs.Engine.{IsPut};
+ghost use Rattle.trace_script.specs.inner.Following.{IsPrinted};
+ghost use Rattle.trace_script.specs.LineValues.{command_value};
 ghost use Rattle.mediation.specs.History.{MayChangePolicy, policy_version};
 ghost use Rattle.trace_script.specs.RunOutput.{printed};
 ghost use Rattle.trace_script.specs.Script.{publish};
@@ -53,7 +54,7 @@ pub(crate) fn answer_policy<B: Bench, A: Write>(
 }
 
 /// Writes a line that is composed.
-fn print_line<A: Write>(answers: &mut A, line: &[u8]) -> Result<(), Stop>
+pub fn print_line<A: Write>(answers: &mut A, line: &[u8]) -> Result<(), Stop>
     ensures { IsPut (A.contents answers.old) (A.contents answers.new) line.now result }
 {
     match write_through(answers, line) {

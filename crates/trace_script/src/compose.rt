@@ -1,12 +1,14 @@
 //! The lines that answer commands, each composed whole before it is written.
 ghost use Rattle.std.specs.Prelude.{◌+◌, ◌≡◌, ◌<◌, ◌≤◌, ◌^◌, ◌++◌, IfOk, OnOk, Ok, codes, decimal};
-ghost use Rattle.trace_script.specs.AnswerText.{versions_text};
-ghost use Rattle.trace_script.specs.inner.Following.{IsComposed, IsText};
+ghost use Rattle.mediation.specs.Answers.{answered};
+ghost use Rattle.trace_script.specs.AnswerText.{answered_text, versions_text};
+ghost use Rattle.trace_script.specs.Engine.{IsText};
+ghost use Rattle.trace_script.specs.inner.Following.{IsComposed};
 ghost use Rattle.glob_automaton.specs.Automata.{StateLimit};
 ghost use Rattle.names.specs.Errors.{errno_text};
 ghost use Rattle.rule_reader.specs.Profile.{profile_value};
 ghost use Rattle.trace_report.specs.Fault.{fault_text};
-ghost use Rattle.trace_script.specs.inner.Line.{change_words};
+ghost use Rattle.trace_script.specs.LineValues.{change_words};
 ghost use Rattle.mediation.specs.History.{MayChangePolicy, policy_version};
 ghost use Rattle.trace_script.specs.RunOutput.{printed, policy_printed, drop_printed, change_of, change_printed, open_printed, judged_printed};
 ghost use Rattle.trace_script.specs.Script.{publish, link, rename};
@@ -44,20 +46,16 @@ fn profile_line<B: Bench>(alloc: Global, bench: &mut B, profile: Profile) -> Res
     ensures line { (limit : StateLimit) → IsComposed (policy_printed limit (B.history bench.old) (Ok (profile_value profile))) (B.history bench.new) result }
     ensures few { OnOk result (policy_version (B.history bench.new) ≤ policy_version (B.history bench.old) + 1) }
 {
-    let mut line = joined(alloc, "policy ", profile.name(), " version ")?;
+    let line = joined(alloc, "policy ", profile.name(), " version ")?;
     match bench.publish(profile) {
-        Ok(version) => {
-            let end = format!(in alloc; "{version}\n")?;
-            line.extend_from_slice(end.as_bytes())?;
-            Ok(line)
-        }
+        Ok(version) => numbered_line(alloc, line, version),
         Err(MakeFault::NoMemory) => Err(Stop::Memory),
         Err(fault) => refusal_line(alloc, Fault::Compiling(fault)),
     }
 }
 
 /// Why a profile isn't published, as a line.
-fn refusal_line(alloc: Global, fault: Fault) -> Result<Vec<u8>, Stop>
+pub fn refusal_line(alloc: Global, fault: Fault) -> Result<Vec<u8>, Stop>
     ensures { IsText (codes "policy " ++ fault_text fault) result }
 {
     let line = format!(in alloc; "policy {fault}\n")?;
@@ -102,10 +100,7 @@ fn accepted_line<B: Bench>(
     ensures { IsComposed (change_printed (B.history bench.old) (Ok change.now)) (B.history bench.new) result }
 {
     match bench.change(change) {
-        Ok(version) => {
-            let line = format!(in alloc; "ok {version}\n")?;
-            Ok(line.into_bytes())
-        }
+        Ok(version) => version_line(alloc, version),
         Err(Errno::ENOMEM) => Err(Stop::Memory),
         Err(errno) => errno_line(alloc, errno),
     }
@@ -121,7 +116,15 @@ pub(crate) fn open_line<B: Bench>(
 ) -> Result<Vec<u8>, Stop>
     ensures { IsComposed (open_printed (B.history bench.old) profile.now path.now ask) (B.history bench.new) result }
 {
-    match bench.open(profile, path, ask) {
+    let answer = bench.open(profile, path, ask);
+    answer_line(alloc, &answer, bench.name())
+}
+
+/// What an open is answered, as a line. The name is the one that was judged.
+pub fn answer_line(alloc: Global, answer: &Answer, name: &[u8]) -> Result<Vec<u8>, Stop>
+    ensures { IsText (answered_text (answered name.now answer.now)) result }
+{
+    match *answer {
         Answer::Judged {
             verdict,
             node,
@@ -129,7 +132,6 @@ pub(crate) fn open_line<B: Bench>(
             policy_version,
         } => {
             let report = format!(in alloc; "{verdict}")?;
-            let name = bench.name();
             named_line(alloc, &report, name, node, tree_version, policy_version)
         }
         Answer::Failed {
@@ -180,7 +182,7 @@ pub(crate) fn link_line<B: Bench>(
 }
 
 /// A change with checked paths, or the first fault of a path, the old one's before the new one's.
-fn change_of(words: ChangeWords<'_>) -> Result<Change<'_>, Errno>
+pub fn change_of(words: ChangeWords<'_>) -> Result<Change<'_>, Errno>
     ensures { result ≡ change_of (change_words words.entry) }
 {
     match words {
@@ -248,16 +250,34 @@ fn unpublished_line(alloc: Global, policy_version: u64) -> Result<Vec<u8>, Stop>
     Ok(line.into_bytes())
 }
 
+/// Which version of the tree a change has made, as a line.
+pub fn version_line(alloc: Global, version: u64) -> Result<Vec<u8>, Stop>
+    ensures { IsText (codes "ok " ++ decimal version) result }
+{
+    let line = format!(in alloc; "ok {version}\n")?;
+    Ok(line.into_bytes())
+}
+
 /// Why a change is refused, as a line.
-fn errno_line(alloc: Global, errno: Errno) -> Result<Vec<u8>, Stop>
+pub fn errno_line(alloc: Global, errno: Errno) -> Result<Vec<u8>, Stop>
     ensures { IsText (errno_text errno) result }
 {
     let line = format!(in alloc; "{errno}\n")?;
     Ok(line.into_bytes())
 }
 
+/// A line that ends with a number, behind what it begins with.
+pub fn numbered_line(alloc: Global, start: Vec<u8>, number: u64) -> Result<Vec<u8>, Stop>
+    ensures { IsText (start.items ++ decimal number) result }
+{
+    let mut line = start;
+    let end = format!(in alloc; "{number}\n")?;
+    line.extend_from_slice(end.as_bytes())?;
+    Ok(line)
+}
+
 /// A name between two texts.
-fn joined(alloc: Global, before: &str, name: &[u8], after: &str) -> Result<Vec<u8>, AllocError>
+pub fn joined(alloc: Global, before: &str, name: &[u8], after: &str) -> Result<Vec<u8>, AllocError>
     ensures { IfOk result (λ line. line.items ≡ before.now ++ name.now ++ after.now) }
 {
     let mut line = Vec::new(alloc);

@@ -1,6 +1,9 @@
 //! Scripts: changes of a tree, profiles, and judged opens and links, answered line by line.
 //!
-//! To be believed are about 290 lines of definitions in `specs/`; those in `specs/inner/` are of private contracts and
+//! [`run_script`] is the engine of such scripts. What it is made of is public for engines of other scripts, whose lines and
+//! answers are alike.
+//!
+//! To be believed are about 400 lines of definitions in `specs/`; those in `specs/inner/` are of private contracts and
 //! proofs.
 #![tactic(auto)]
 
@@ -8,16 +11,25 @@ mod commands;
 mod compose;
 mod laws;
 mod line;
-mod read_line;
+mod reading;
 mod rows;
 mod script;
 mod section;
 mod stop;
 mod words;
 
+pub use commands::print_line;
+pub use compose::{
+    answer_line, change_of, errno_line, joined, numbered_line, refusal_line, version_line,
+};
 pub use laws::lines_are_the_text;
+pub use line::{ChangeWords, Command, LineKind, is_word, parse_line};
+pub use reading::{LineRead, read_line};
 pub use rows::{
     commands_are_answered, links_are_answered, opens_are_answered, policies_are_gathered,
     profiles_are_answered, scripts_stop,
 };
-pub use script::run_script;
+pub use script::{MOST_LINES, run_script};
+pub use section::{Section, with_line};
+pub use stop::Stop;
+pub use words::Words;

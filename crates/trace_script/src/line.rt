@@ -2,27 +2,27 @@
 ghost use Rattle.std.specs.Prelude.{◌≡◌, bytes_eq};
 ghost use Rattle.names.specs.Permissions.{perms_of};
 ghost use Rattle.trace_script.specs.Script.{words_of, line_kind, is_comment, kind_of_one, kind_of_two, kind_of_three, kind_of_four, kind_of_open};
-ghost use Rattle.trace_script.specs.inner.Line.{kind_value};
+ghost use Rattle.trace_script.specs.LineValues.{kind_value};
 
 use crate::words::Words;
 use names::Perms;
 
-/// What a line is, by itself.
+/// What a line is, by itself, whatever a command is.
 #[derive(Clone, Copy)]
-pub(crate) enum LineKind<'a> {
+pub enum LineKind<C> {
     /// An empty line, or a comment.
     Ignored,
     /// The lines from the next one on are a profile's text.
     OpensPolicy,
     /// A command that stands on one line.
-    Command(Command<'a>),
+    Command(C),
     /// Nothing that a script may say.
     NoCommand,
 }
 
 /// A command that stands on one line.
 #[derive(Clone, Copy)]
-pub(crate) enum Command<'a> {
+pub enum Command<'a> {
     /// The profile of this name goes.
     Remove(&'a [u8]),
     /// A change of the tree.
@@ -43,7 +43,7 @@ pub(crate) enum Command<'a> {
 
 /// A change of the tree, by the words of its paths. A symbolic link's text goes before its path.
 #[derive(Clone, Copy)]
-pub(crate) enum ChangeWords<'a> {
+pub enum ChangeWords<'a> {
     Mkdir(&'a [u8]),
     Create(&'a [u8]),
     Symlink(&'a [u8], &'a [u8]),
@@ -54,7 +54,7 @@ pub(crate) enum ChangeWords<'a> {
 }
 
 /// What a line says. No memory is taken.
-pub(crate) fn parse_line(line: &[u8]) -> LineKind<'_>
+pub fn parse_line(line: &[u8]) -> LineKind<Command<'_>>
     ensures { kind_value result ≡ line_kind (words_of line.now) }
 {
     let mut words = Words::of(line);
@@ -87,14 +87,14 @@ fn is_comment(word: &[u8]) -> bool
 }
 
 /// Whether a word is this text.
-fn is_word(text: &str, word: &[u8]) -> bool
+pub fn is_word(text: &str, word: &[u8]) -> bool
     ensures { result ≡ bytes_eq text.now word.now }
 {
     text.as_bytes() == word
 }
 
 /// What one word says.
-fn kind_of_one(word: &[u8]) -> LineKind<'static>
+fn kind_of_one(word: &[u8]) -> LineKind<Command<'static>>
     ensures { kind_value result ≡ kind_of_one word.now }
 {
     if is_word("policy", word) {
@@ -105,7 +105,7 @@ fn kind_of_one(word: &[u8]) -> LineKind<'static>
 }
 
 /// What two words say.
-fn kind_of_two<'a>(word: &[u8], first: &'a [u8]) -> LineKind<'a>
+fn kind_of_two<'a>(word: &[u8], first: &'a [u8]) -> LineKind<Command<'a>>
     ensures { kind_value result ≡ kind_of_two word.now first.now }
 {
     if is_word("drop", word) {
@@ -127,7 +127,7 @@ fn kind_of_two<'a>(word: &[u8], first: &'a [u8]) -> LineKind<'a>
 }
 
 /// What three words say.
-fn kind_of_three<'a>(word: &[u8], first: &'a [u8], second: &'a [u8]) -> LineKind<'a>
+fn kind_of_three<'a>(word: &[u8], first: &'a [u8], second: &'a [u8]) -> LineKind<Command<'a>>
     ensures { kind_value result ≡ kind_of_three word.now first.now second.now }
 {
     if is_word("symlink", word) {
@@ -148,7 +148,7 @@ fn kind_of_four<'a>(
     profile: &'a [u8],
     second: &'a [u8],
     third: &'a [u8],
-) -> LineKind<'a>
+) -> LineKind<Command<'a>>
     ensures { kind_value result ≡ kind_of_four word.now profile.now second.now third.now }
 {
     if is_word("open", word) {
@@ -165,7 +165,7 @@ fn kind_of_four<'a>(
 }
 
 /// What an open says, whose permissions are given by letters.
-fn kind_of_open<'a>(profile: &'a [u8], path: &'a [u8], letters: &[u8]) -> LineKind<'a>
+fn kind_of_open<'a>(profile: &'a [u8], path: &'a [u8], letters: &[u8]) -> LineKind<Command<'a>>
     ensures { kind_value result ≡ kind_of_open profile.now path.now (perms_of letters.now) }
 {
     match Perms::from_letters(letters) {

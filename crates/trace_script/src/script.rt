@@ -7,7 +7,7 @@ ghost use Rattle.trace_script.specs.RunOutput.{ScriptEnds, printed_lines};
 ghost use Rattle.trace_script.specs.Script.{script_of};
 ghost use Rattle.trace_report.specs.Streams.{IsTextOf};
 
-use crate::read_line::{LineRead, read_line};
+use crate::reading::{LineRead, read_line};
 use crate::section::{Section, follow_line};
 use crate::stop::Stop;
 use mediation::Bench;
@@ -17,7 +17,7 @@ use trace_report::{Status, fail};
 
 /// The most lines that are read. No script is so long: to read them would take centuries. The bound keeps every
 /// version that is counted far below 2^64.
-const MOST_LINES: u64 = (1 << 60) - 1;
+pub const MOST_LINES: u64 = (1 << 60) - 1;
 
 /// Answers a script line by line, up to its end or to a line that is no command.
 pub fn run_script<B: Bench, R: BufRead, A: Write, F: Write>(

@@ -1,7 +1,8 @@
 //! Where reading stands between two lines, and what the next line does.
 ghost use Rattle.std.specs.Prelude.{◌+◌, ◌≡◌, ◌<◌, ◌≤◌, ◌^◌, ◌++◌, ◌∷◌, [], IfOk, OnOk};
 ghost use Rattle.glob_automaton.specs.Automata.{StateLimit};
-ghost use Rattle.trace_script.specs.inner.Following.{section_value, followed, IsLineFollowed, IsClosed};
+ghost use Rattle.trace_script.specs.Engine.{section_value, IsClosed};
+ghost use Rattle.trace_script.specs.inner.Following.{followed, IsLineFollowed};
 ghost use Rattle.mediation.specs.History.{MayChangePolicy, policy_version};
 ghost use Rattle.trace_script.specs.Script.{outside, line_feed};
 
@@ -14,7 +15,7 @@ use std::io::Write;
 
 /// Where reading stands between two lines.
 #[derive(Drop)]
-pub(crate) enum Section {
+pub enum Section {
     /// The next line is a command, if it says anything.
     Outside,
     /// The next line is one of a policy's, or ends it. The line `start` opened the policy, whose text so far is `text`.
@@ -76,7 +77,7 @@ fn follow_command<B: Bench, A: Write>(
 }
 
 /// The text with one line more.
-fn with_line(text: Vec<u8>, line: &[u8]) -> Result<Vec<u8>, AllocError>
+pub fn with_line(text: Vec<u8>, line: &[u8]) -> Result<Vec<u8>, AllocError>
     ensures { IfOk result (λ longer. longer.items ≡ text.items ++ line.now ++ line_feed ∷ []) }
 {
     let mut longer = text;
@@ -87,7 +88,7 @@ fn with_line(text: Vec<u8>, line: &[u8]) -> Result<Vec<u8>, AllocError>
 
 impl Section {
     /// Whether a script may end here: not within a policy.
-    pub(crate) fn close(&self) -> Result<(), Stop>
+    pub fn close(&self) -> Result<(), Stop>
         ensures { IsClosed (section_value self.now) result }
     {
         match self {

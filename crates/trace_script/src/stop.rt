@@ -1,5 +1,5 @@
 ghost use Rattle.std.specs.Prelude.{◌≡◌, Some};
-ghost use Rattle.trace_script.specs.inner.Following.{stop_text, stop_status, IsStopOfReading};
+ghost use Rattle.trace_script.specs.Engine.{stop_text, stop_status, IsStopOfReading};
 
 use names::NoMemory;
 use std::alloc::{AllocError, AllocFailed};
@@ -9,7 +9,7 @@ use trace_report::Status;
 
 /// Why a script isn't followed to its end.
 #[derive(Clone, Copy)]
-pub(crate) enum Stop {
+pub enum Stop {
     /// The line of this number is no command, or a policy without its end begins there.
     NoCommand(u64),
     /// Reading failed.
@@ -24,7 +24,7 @@ pub(crate) enum Stop {
 
 impl Stop {
     /// How the run ends.
-    pub(crate) fn status(self) -> Status
+    pub fn status(self) -> Status
         ensures { result ≡ stop_status self }
     {
         match self {

@@ -9,7 +9,7 @@ use std::marker::Model;
 
 /// What stands between the blanks of a line, seen as the list of the words that are left.
 #[derive(Drop)]
-pub(crate) struct Words<'a> {
+pub struct Words<'a> {
     left: &'a [u8],
 }
 
@@ -24,10 +24,17 @@ impl<'a> Model for Words<'a> {
 
 impl<'a> Words<'a> {
     /// The words of a line. No memory is taken.
-    pub(crate) fn of(line: &'a [u8]) -> Words<'a>
+    pub fn of(line: &'a [u8]) -> Words<'a>
         ensures { result ≡ words_of line.now }
     {
         Words { left: line }
+    }
+
+    /// The rest of the line, whose words are those that are left.
+    pub fn rest(&self) -> &'a [u8]
+        ensures { words_of result.now ≡ self.now }
+    {
+        self.left
     }
 }
 

@@ -1,5 +1,5 @@
 use Rattle.std.proofs.Common.{◌≡◌, Err, refl, rules, arith}
-use Rattle.trace_script.specs.declared.read_line.LineRead.TheVariants.{Whole, Last, End}
+use Rattle.trace_script.specs.declared.reading.LineRead.TheVariants.{Whole, Last, End}
 use Rattle.trace_script.proofs.ScriptRuns.{as_read, running_start, running_next, running_over, running_unread, running_stopped, running_last_stopped, running_last, running_end}
 use Rattle.trace_script.proofs.script.follow.Goals as goal
 

@@ -1,7 +1,7 @@
 -- What was read, and what came of it. Each line made one version of the policy at most.
 use Rattle.std.proofs.Common.{◌≤◌}
 use Rattle.glob_automaton.specs.Automata.{StateLimit}
-use Rattle.trace_script.specs.inner.Following.{section_value}
+use Rattle.trace_script.specs.Engine.{section_value}
 use Rattle.mediation.specs.History.{policy_version}
 use Rattle.trace_script.proofs.ScriptRuns.{IsRunning}
 use Rattle.trace_script.proofs.script.follow.Given as goal

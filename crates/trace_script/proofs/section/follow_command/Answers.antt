@@ -4,7 +4,7 @@ use Rattle.trace_script.proofs.Following.{outside_kind, answered_whole, printed_
 use Rattle.trace_script.specs.inner.Following.{silent_line, printed_line}
 use Rattle.trace_script.specs.RunOutput.{printed}
 use Rattle.trace_script.specs.Script.{outside, within, ignored, opens_policy, command}
-use Rattle.trace_script.specs.inner.Line.{command_value}
+use Rattle.trace_script.specs.LineValues.{command_value}
 use Rattle.trace_script.proofs.section.follow_command.Goals as goal
 
 pub returns-in-Ignored-clause-line : goal.returns-in-Ignored-clause-line

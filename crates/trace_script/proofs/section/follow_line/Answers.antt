@@ -2,7 +2,8 @@ use Rattle.std.proofs.Common.{◌≡◌, ◌++◌, ◌∷◌, [], true, false, O
 use Rattle.trace_report.proofs.Endings.{appends_nothing}
 use Rattle.trace_script.proofs.Following.{within_ends, within_goes_on, answered_whole, printed_stop}
 use Rattle.trace_script.specs.declared.section.Section.{Section}
-use Rattle.trace_script.specs.inner.Following.{silent_line, printed_line, section_value, followed, IsLineFollowed}
+use Rattle.trace_script.specs.Engine.{section_value}
+use Rattle.trace_script.specs.inner.Following.{silent_line, printed_line, followed, IsLineFollowed}
 use Rattle.trace_script.specs.RunOutput.{printed}
 use Rattle.trace_script.specs.Script.{within, publish, is_end, line_feed}
 use Rattle.trace_script.proofs.section.follow_line.Goals as goal

@@ -1,12 +1,12 @@
 ghost use Rattle.std.specs.Prelude.{◌≡◌};
-ghost use Rattle.trace_script.specs.inner.Following.{IsLineRead};
+ghost use Rattle.trace_script.specs.Engine.{IsLineRead};
 
 use crate::stop::Stop;
 use std::io::BufRead;
 
 /// A line that was read, by what closed it.
 #[derive(Clone, Copy)]
-pub(crate) enum LineRead {
+pub enum LineRead {
     /// A line feed.
     Whole,
     /// The end of the input, which has no more lines.
@@ -16,7 +16,7 @@ pub(crate) enum LineRead {
 }
 
 /// Reads the next line, in place of what `line` holds, and without its line feed.
-pub(crate) fn read_line<R: BufRead>(input: &mut R, line: &mut Vec<u8>) -> Result<LineRead, Stop>
+pub fn read_line<R: BufRead>(input: &mut R, line: &mut Vec<u8>) -> Result<LineRead, Stop>
     ensures { IsLineRead (R.remaining input.old) (R.remaining input.new) line.new.items result }
 {
     line.clear();

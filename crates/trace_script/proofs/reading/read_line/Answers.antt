@@ -2,7 +2,7 @@ use Rattle.std.proofs.Common.{◌≡◌, ◌<◌, [], ◌∷◌, false, length, 
 use Rattle.std.specs.List.{ends_with}
 use Rattle.trace_script.proofs.LineReads.{last_read, part_read, stopped_reading}
 use Rattle.trace_script.specs.Script.{line_feed}
-use Rattle.trace_script.proofs.read_line.read_line.Goals as goal
+use Rattle.trace_script.proofs.reading.read_line.Goals as goal
 
 pub returns : goal.returns
 returns g c =

@@ -5,7 +5,7 @@ use Rattle.trace_script.specs.declared.line.Command.{Command as CommandHere}
 use Rattle.trace_script.specs.declared.line.Command.TheVariants.{Remove, Alter, JudgeOpen, JudgeLink}
 use Rattle.trace_script.specs.declared.line.ChangeWords.{ChangeWords as ChangeWordsHere}
 use Rattle.trace_script.specs.declared.line.ChangeWords.TheVariants.{Mkdir, Create, Symlink, Link, Unlink, Rmdir, Rename}
-use Rattle.trace_script.specs.Script.{ChangeWords, Command, LineKind, mkdir, create, symlink, link, unlink, rmdir, rename, remove, alter, judge_open, judge_link, ignored, opens_policy, command, no_command}
+use Rattle.trace_script.specs.Script.{ChangeWords, Command, LineKind, LineOf, mkdir, create, symlink, link, unlink, rmdir, rename, remove, alter, judge_open, judge_link, ignored, opens_policy, command, no_command}
 
 abbrev pub change_words : ChangeWordsHere → ChangeWords
 change_words (Mkdir path) = mkdir path.now
@@ -22,8 +22,12 @@ command_value (Alter words) = alter (change_words words)
 command_value (JudgeOpen profile path ask) = judge_open profile.now path.now ask
 command_value (JudgeLink profile old new) = judge_link profile.now old.now new.now
 
-abbrev pub kind_value : LineKindHere → LineKind
-kind_value here.Ignored = ignored
-kind_value here.OpensPolicy = opens_policy
-kind_value (here.Command c) = command (command_value c)
-kind_value here.NoCommand = no_command
+-- a line, by what its commands stand for
+abbrev pub kind_by : {H C : Type 0} → (H → C) → LineKindHere H → LineOf C
+kind_by value here.Ignored = ignored
+kind_by value here.OpensPolicy = opens_policy
+kind_by value (here.Command c) = command (value c)
+kind_by value here.NoCommand = no_command
+
+abbrev pub kind_value : LineKindHere CommandHere → LineKind
+kind_value kind = kind_by command_value kind

@@ -1,0 +1,4 @@
+pub mod StepScript
+pub mod StepLines
+pub mod StepsOutput
+pub mod inner
