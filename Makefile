@@ -64,6 +64,7 @@ bench: aa-trace
 	sh bench/match.sh
 	sh bench/judge.sh
 	sh bench/row.sh
+	sh bench/steps.sh
 	sh bench/registry.sh
 
 calls: aa-trace $(LIBRARY)

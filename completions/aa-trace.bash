@@ -52,7 +52,7 @@ _aa_trace_files() {
 _aa_trace() {
     local cur=${COMP_WORDS[COMP_CWORD]} previous=${COMP_WORDS[COMP_CWORD - 1]}
     local command='' capacity='' literal='' arguments=0
-    local commands='judge run compile check match help'
+    local commands='judge run steps compile check match help'
     COMPREPLY=()
     if [[ $previous == *[\<\>]* ]]; then
         _aa_trace_files "$cur"
@@ -60,12 +60,12 @@ _aa_trace() {
     fi
     _aa_trace_read_words
     # The number of an option is nothing to complete. A = is a word of its own.
-    [[ $command == run && ($previous == --capacity || $previous == = || $cur == =) ]] && return
+    [[ $command == @(run|steps) && ($previous == --capacity || $previous == = || $cur == =) ]] && return
     if [[ -z $literal && $cur == -* ]]; then
         local options='-h --help'
         case $command in
         '') options+=' --version' ;;
-        run) [[ -z $capacity ]] && options+=' --capacity' ;;
+        run | steps) [[ -z $capacity ]] && options+=' --capacity' ;;
         judge | compile | check | match) ;;
         *) return ;;
         esac

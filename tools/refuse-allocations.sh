@@ -43,7 +43,7 @@ ${CC:-cc} -shared -fPIC -O1 -o "$work/refuse.so" "$work/refuse.c" -ldl
 is_front() {
     size=$(wc -c <"$work/answers")
     [ "$size" -eq 0 ] && return 0
-    [ "$1" = run ] || return 1
+    [ "$1" = run ] || [ "$1" = steps ] || return 1
     [ "$(tail -c 1 "$work/answers" | wc -l)" -eq 1 ] && head -c "$size" "$work/whole-answers" | cmp -s - "$work/answers"
 }
 
@@ -147,3 +147,45 @@ rmdir /b
 open p /s w
 SCRIPT
 refuse_all "$work/links" run --capacity 9
+
+# Calls step by step beside changes that are open, walks that are disturbed, and publications.
+cat >"$work/events" <<'SCRIPT'
+policy
+profile p {
+  /a/* r,
+  deny /b/* w,
+}
+.
+mkdir /a
+create /a/f
+symlink a/f /s
+begin 1 p /s r
+policy-read 1
+count 1
+cell 1 3
+keep rename /a /b
+begin 2 p /b/f w
+policy-read 2
+set 1
+open p /s r
+policy
+profile p {
+  /b/* r,
+}
+.
+go 1
+close
+drop q
+go 2
+begin 1 p /b/f rw
+cell 1 1
+policy-read 1
+count 1
+cell 1 100
+unlink /b/f
+check 1
+go 1
+open p /b r
+keep create /b/none/x
+SCRIPT
+refuse_all "$work/events" steps --capacity 9

@@ -2,11 +2,13 @@
 use Rattle.names.specs.Errors.{no_memory_text}
 use Rattle.std.specs.Prelude.{◌≡◌, ◌⊎◌, ℕ, Bool, true, false, List, Option, Some, None, is_err, ⊤}
 use Rattle.std.specs.Io.KnownBytes.{Keeps, Appends}
+use Rattle.event_core.specs.Machine.{Machine, first}
 use Rattle.glob_automaton.specs.Automata.{StateLimit}
-use Rattle.trace_line.specs.CommandLine.{LineValue, judge, run, compile, check, match_name}
+use Rattle.trace_line.specs.CommandLine.{LineValue, judge, run, compile, check, match_name, steps}
 use Rattle.trace_commands.specs.Judge.{ask_of, judge_output}
 use Rattle.trace_report.specs.Output.{line}
 use Rattle.trace_script.specs.RunOutput.{RunEnds}
+use Rattle.trace_steps.specs.StepsOutput.{StepsEnd}
 use Rattle.trace_report.specs.Streams.{Ends, EndsInOne, Streams}
 use Rattle.trace_commands.specs.Tables.{IsCompileOutput, IsCheckOutput, IsMatchOutput}
 use Rattle.trace_report.specs.declared.status.Status.{Status}
@@ -29,6 +31,11 @@ pub record UsageEnds (streams : Streams) (status : Status) : Type 0 where
   pub answers : Keeps streams.answers_before streams.answers_after
   pub faults : TellsUsage streams.faults_before streams.faults_after status
 
+-- How a script of events ends on a machine that begins as the root alone, with room for so many entries.
+abbrev pub StepsEndFrom : StateLimit → Streams → Option (List ℕ) → Option (List ℕ) → ℕ → List ℕ → Status → Type 0
+StepsEndFrom limit streams left_before left_after capacity text status =
+    (new : Machine) × StepsEnd limit streams left_before left_after (first capacity) new text status
+
 -- How the program ends, by a test for too many states: as its command does, or for want of memory to read the words.
 -- `left_before` and `left_after` are the reader's bytes.
 abbrev pub ProgramEnds : StateLimit → Option LineValue → List ℕ → Streams → Option (List ℕ) → Option (List ℕ) → Status → Type 0
@@ -40,12 +47,14 @@ ProgramEnds limit (Some compile) text streams left_before left_after status = En
 ProgramEnds limit (Some check) text streams left_before left_after status = EndsInOne streams (IsCheckOutput text) status
 ProgramEnds limit (Some (match_name perms name)) text streams left_before left_after status =
     EndsInOne streams (IsMatchOutput perms name text) status ⊎ ((status ≡ NoMemory) × IsOutOfMemory streams)
+ProgramEnds limit (Some (steps capacity)) text streams left_before left_after status = StepsEndFrom limit streams left_before left_after capacity text status
 
 -- whether the words say that nothing is to be read
 abbrev pub reads_nothing : Option LineValue → Bool
 reads_nothing None = true
 reads_nothing (Some (judge perms name)) = is_err (ask_of perms name)
 reads_nothing (Some (run capacity)) = false
+reads_nothing (Some (steps capacity)) = false
 reads_nothing (Some compile) = false
 reads_nothing (Some check) = false
 reads_nothing (Some (match_name perms name)) = is_err (ask_of perms name)

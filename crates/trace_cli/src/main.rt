@@ -3,14 +3,17 @@
 //! `aa-trace judge PERMS NAME` judges a name by the profile on standard input: it writes `allowed`, `denied by rule K` or
 //! `no rule for LETTERS`. `aa-trace compile` writes the image of that profile. `aa-trace check` tests the image on standard
 //! input, and `aa-trace match PERMS NAME` judges a name by it. `aa-trace run --capacity N` answers the script on standard
-//! input line by line: changes of a tree, profiles, and judged opens. Faults go to standard error, and the exit status is 0
-//! for answers, 2 for a bad command line, 3 for a refused text, profile, image or stream, and 4 for want of memory.
+//! input line by line: changes of a tree, profiles, and judged opens. `aa-trace steps --capacity N` takes the events of the
+//! script on standard input one at a time: opens by several sessions, each read of a word and each store, in the script's order.
+//! Faults go to standard error, and the exit status is 0 for answers, 2 for a bad command line, 3 for a refused text, profile,
+//! image or stream, and 4 for want of memory.
 //!
 //! To be believed are about 50 lines of definitions in `specs/`.
 #![tactic(auto)]
 
 mod program;
 mod script;
+mod steps;
 
 use names::NoMemory;
 use program::run_words;

@@ -7,6 +7,7 @@ ghost use Rattle.trace_cli.specs.Program.{ProgramEnds, TellsUsage, reads_nothing
 ghost use Rattle.trace_report.specs.Streams.{IsTextOf};
 
 use crate::script::run;
+use crate::steps::steps;
 use names::NoMemory;
 use std::alloc::Global;
 use std::convert::AsStr;
@@ -40,6 +41,7 @@ pub fn run_words<S: AsStr, R: BufRead, A: Write, F: Write>(
         Ok(Line::Compile) => compile(alloc, input, answers, faults),
         Ok(Line::Check) => check(alloc, input, answers, faults),
         Ok(Line::Match { perms, name }) => match_name(alloc, perms, name, input, answers, faults),
+        Ok(Line::Steps { capacity }) => steps(alloc, capacity, input, answers, faults),
         Err(LineFault::Usage(error)) => report_usage(alloc, faults, &error),
         Err(LineFault::NoMemory) => fail(faults, NoMemory, Status::NoMemory),
     }

@@ -8,6 +8,7 @@ use trace_line::{Line, LineFault, command_line};
 use trace_report::Status;
 
 mod benches;
+mod events;
 mod images;
 mod links;
 mod scripts;

@@ -6,7 +6,7 @@ use Rattle.std.specs.Str.Parse.{digits_value, without_leading_sign}
 use Rattle.clap.specs.Lexer.{long_of}
 use Rattle.clap.specs.ValueTests.{is_signed_in}
 use Rattle.trace_line.specs.declared.line.Line.{Line}
-use Rattle.trace_line.specs.declared.line.Line.TheVariants.{Judge, Run, Compile, Check, Match}
+use Rattle.trace_line.specs.declared.line.Line.TheVariants.{Judge, Run, Compile, Check, Match, Steps}
 use Rattle.trace_line.specs.declared.line.LineFault.{LineFault}
 use Rattle.trace_line.specs.declared.line.LineFault.TheVariants.{Usage, NoMemory}
 
@@ -20,6 +20,8 @@ pub data LineValue : Type 0 where
   check : LineValue
   -- PERMS and NAME
   match_name : List ℕ → List ℕ → LineValue
+  -- how many entries the tree has room for
+  steps : ℕ → LineValue
 
 abbrev pub line_value : Line → LineValue
 line_value (Judge perms name) = judge perms.now name.now
@@ -27,6 +29,7 @@ line_value (Run capacity) = run capacity
 line_value Compile = compile
 line_value Check = check
 line_value (Match perms name) = match_name perms.now name.now
+line_value (Steps capacity) = steps capacity
 
 -- the word is an option: a hyphen with a character behind it
 abbrev pub is_option : List ℕ → Bool
@@ -128,7 +131,8 @@ commands = record { name = codes "judge"; takes = pair judge }
     ∷ record { name = codes "run"; takes = numbers (capacity ∷ []) (λ number. run (number capacity)) }
     ∷ record { name = codes "compile"; takes = numbers [] (λ number. compile) }
     ∷ record { name = codes "check"; takes = numbers [] (λ number. check) }
-    ∷ record { name = codes "match"; takes = pair match_name } ∷ []
+    ∷ record { name = codes "match"; takes = pair match_name }
+    ∷ record { name = codes "steps"; takes = numbers (capacity ∷ []) (λ number. steps (number capacity)) } ∷ []
 
 abbrev pub command_named : List CommandForm → List ℕ → Option CommandForm
 command_named commands name = find (λ command. bytes_eq command.name name) commands

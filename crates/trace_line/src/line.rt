@@ -25,6 +25,8 @@ pub enum Line<'a> {
     Check,
     /// `match PERMS NAME`
     Match { perms: &'a str, name: &'a str },
+    /// `steps --capacity N`
+    Steps { capacity: u32 },
 }
 
 /// Why a command line can't be followed.
@@ -87,7 +89,7 @@ struct NumberOption {
 /// What `--version` tells.
 const VERSION: &str = "0.1.0";
 
-/// How many entries the tree of `run` has room for.
+/// How many entries the tree of `run` and `steps` has room for.
 const CAPACITY: NumberOption = NumberOption {
     name: "capacity",
     default: "1024",
@@ -118,6 +120,9 @@ pub fn command_line<'a, S: AsStr>(alloc: Global, words: &'a [S]) -> Result<Line<
             let (perms, name) = pair_in(found);
             Ok(Line::Match { perms, name })
         }
+        "steps" => Ok(Line::Steps {
+            capacity: number_in(found, CAPACITY.name),
+        }),
         _ => unreachable!(),
     }
 }
@@ -188,11 +193,18 @@ fn program<'a>(alloc: Global) -> Result<Command<'a>, AllocError>
         "Tests the image on standard input",
         &[],
     )?;
-    with_pair(
+    let matching = with_pair(
         checking,
         alloc,
         "match",
         "Judges a name by the image on standard input",
+    )?;
+    with_numbers(
+        matching,
+        alloc,
+        "steps",
+        "Runs a script of single events on standard input",
+        &[CAPACITY],
     )
 }
 

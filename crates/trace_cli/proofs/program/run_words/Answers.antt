@@ -1,7 +1,8 @@
-use Rattle.std.proofs.Common.{◌≡◌, true, map}
+use Rattle.std.proofs.Common.{◌≡◌, true, map, Some}
 use Rattle.std.specs.Prelude.{is_some}
-use Rattle.trace_line.specs.CommandLine.{line_of}
+use Rattle.trace_line.specs.CommandLine.{line_of, steps}
 use Rattle.trace_report.proofs.Endings.{text_of}
+use Rattle.trace_cli.proofs.Capacities.{steps_number}
 use Rattle.trace_cli.proofs.Running.{memory_ends, usage_ends}
 use Rattle.trace_cli.proofs.program.run_words.Goals as goal
 
@@ -20,3 +21,13 @@ pub returns-in-Ok-Run-clause-output : goal.returns-in-Ok-Run-clause-output
 returns-in-Ok-Run-clause-output g c limit =
     let ran = c.run.ensures limit in
     (ran.0, ran.1, rw (c.in-Ok-Run.ensures.ok, c.in-Ok-Run.field-0-is) ran.2)
+
+pub steps-requires : goal.steps-requires
+steps-requires g c =
+    let is : line_of (map g.S.AsStr.text c.args.words.now) ≡ Some (steps c.in-Ok-Steps.capacity) = rw c.in-Ok-Steps.field-0-is at c.in-Ok-Steps.ensures.ok in
+    steps_number (map g.S.AsStr.text c.args.words.now) c.in-Ok-Steps.capacity is
+
+pub returns-in-Ok-Steps-clause-output : goal.returns-in-Ok-Steps-clause-output
+returns-in-Ok-Steps-clause-output g c limit =
+    let ran = c.steps.ensures limit in
+    (ran.0, ran.1, rw (c.in-Ok-Steps.ensures.ok, c.in-Ok-Steps.field-0-is) ran.2)

@@ -1,5 +1,5 @@
 use Rattle.std.proofs.Common.{◌≡◌, ap, codes, is_some, refl, ◌∷◌, []}
-use Rattle.trace_line.specs.CommandLine.{capacity, check, compile, judge, match_name, run}
+use Rattle.trace_line.specs.CommandLine.{capacity, check, compile, judge, match_name, run, steps}
 use Rattle.trace_line.proofs.CommandLine.{known_command, numbers_line, opened_line, pair_first, pair_line, pair_second}
 use Rattle.trace_line.proofs.line.command_line.Goals as goal
 
@@ -56,7 +56,20 @@ returns-in-match-clause-ok g c =
     let line = opened_line _ _ _ _ c.in_ok-matches.ensures.ok c.unwrap.ensures c.subcommand.ensures.name c.subcommand.ensures.rows in
     pair_line _ _ _ line (codes "match") match_name c.in-match.is refl c.pair_in-in-match.result.0.now c.pair_in-in-match.result.1.now c.pair_in-in-match.ensures.perms c.pair_in-in-match.ensures.name
 
+pub number_in-requires-in-steps : goal.number_in-requires-in-steps
+number_in-requires-in-steps g c =
+    let line = opened_line _ _ _ _ c.in_ok-matches.ensures.ok c.unwrap.ensures c.subcommand.ensures.name c.subcommand.ensures.rows in
+    let asked = numbers_line _ _ _ line (codes "steps") (capacity ∷ []) (λ number. steps (number capacity)) c.in-steps.is refl in
+    ap is_some (asked.1 capacity refl)
+
+pub returns-in-steps-clause-ok : goal.returns-in-steps-clause-ok
+returns-in-steps-clause-ok g c =
+    let line = opened_line _ _ _ _ c.in_ok-matches.ensures.ok c.unwrap.ensures c.subcommand.ensures.name c.subcommand.ensures.rows in
+    let asked = numbers_line _ _ _ line (codes "steps") (capacity ∷ []) (λ number. steps (number capacity)) c.in-steps.is refl in
+    let same : c.number_in-in-steps.result ≡ asked.0 capacity = cc (asked.1 capacity refl, c.number_in-in-steps.ensures) in
+    rw same asked.2
+
 pub unreachable-requires : goal.unreachable-requires
 unreachable-requires g c =
     let line = opened_line _ _ _ _ c.in_ok-matches.ensures.ok c.unwrap.ensures c.subcommand.ensures.name c.subcommand.ensures.rows in
-    known_command _ _ _ line c.in_default.not-judge c.in_default.not-run c.in_default.not-compile c.in_default.not-check c.in_default.not-match
+    known_command _ _ _ line c.in_default.not-judge c.in_default.not-run c.in_default.not-compile c.in_default.not-check c.in_default.not-match c.in_default.not-steps

@@ -17,5 +17,6 @@ returns c =
     let running = c.in_ok-running.ensures ∙ ap (λ (a : App). with_subcommand a (numbers_app (codes "run") (capacity ∷ [])).top) judging in
     let compiling = c.in_ok-compiling.ensures ∙ ap (λ (a : App). with_subcommand a (numbers_app (codes "compile") []).top) running in
     let checking = c.in_ok-checking.ensures ∙ ap (λ (a : App). with_subcommand a (numbers_app (codes "check") []).top) compiling in
-    IfOk-weaker c.with_pair-2.result _ _
-    (λ command h. h ∙ ap (λ (a : App). with_subcommand a (pair_app (codes "match")).top) checking) c.with_pair-2.ensures
+    let matching = c.in_ok-matching.ensures ∙ ap (λ (a : App). with_subcommand a (pair_app (codes "match")).top) checking in
+    IfOk-weaker c.with_numbers-4.result _ _
+    (λ command h. h ∙ ap (λ (a : App). with_subcommand a (numbers_app (codes "steps") (capacity ∷ [])).top) matching) c.with_numbers-4.ensures

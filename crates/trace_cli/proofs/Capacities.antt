@@ -1,0 +1,167 @@
+-- The capacity that words give is one that the option takes.
+use Rattle.std.proofs.Common.{◌≡◌, ◌≤◌, ◌&&◌, ◌++◌, ℕ, Bool, true, false, zero, suc, List, [], ◌∷◌, Option, Some, None, refl, subst}
+use Rattle.std.specs.Prelude.{codes, find, int_le, is_some, nat_eq, nat_le, neg_ℤ, not, option_and_then, option_map, pos, if◌then◌else◌}
+use Rattle.std.specs.Str.{bytes_eq}
+use Rattle.std.specs.Str.Parse.{digits_value, without_leading_plus, without_leading_sign}
+use Rattle.std.proofs.lemmas.Bool.{leb-true}
+use Rattle.clap.specs.ValueTests.{fits_i64, is_numeral}
+use Rattle.clap.proofs.WalkLemmas.{both}
+use Rattle.trace_line.specs.CommandLine.{CommandForm, Given, LineValue, NumberOption, arguments_of, capacity, check, compile, command_named, commands, given_by, is_number_of, is_taken, judge, line_by, line_of, match_name, name_in, number_of, numbers, one_more, pair, pair_of, run, steps, text_behind, text_given, text_in}
+
+-- ---- one option
+
+-- something of each element
+abbrev Each : {A : Type 0} → (A → Type 0) → List A → Type 0
+Each P [] = Unit {0}
+Each P (x ∷ xs) = P x × Each P xs
+
+each_with : {A : Type 0} (P : A → Type 0) (xs : List A) (x : A) → Each P xs → P x → Each P (xs ++ x ∷ [])
+each_with P [] x all last = (last, tt)
+each_with P (y ∷ ys) x all last = (all.0, each_with P ys x all.1 last)
+
+found_holds : {A : Type 0} (P : A → Type 0) (test : A → Bool) (xs : List A) (x : A) → Each P xs → find test xs ≡ Some x → P x
+found_holds P test [] x all is = absurd (cc is)
+found_holds P test (y ∷ ys) x all is = go (test y) (λ is. found_holds P test ys x all.1 is) is
+  where
+    go : (here : Bool) → (find test ys ≡ Some x → P x) → (if here then Some y else find test ys) ≡ Some x → P x
+    go true later is =
+        let it : y ≡ x = cc is in
+        subst P it all.0
+    go false later is = later is
+
+abbrev Text : Type 0
+Text = List ℕ
+
+-- no number below zero is at least one
+minus_none : (n : ℕ) → int_le (pos 1) (neg_ℤ (pos n)) ≡ true → ⊥
+minus_none zero e = cc e
+minus_none (suc n) e = cc e
+
+taken_if : (x : ℕ) (xs : Text) (minus : Bool) → nat_eq x 45 ≡ minus → is_number_of capacity (x ∷ xs) ≡ true
+    → digits_value 10 (without_leading_sign (x ∷ xs)) ≤ 16384
+taken_if x xs true e is =
+    let n : ℕ = digits_value 10 xs in
+    let tests = both (is_numeral xs) (fits_i64 (neg_ℤ (pos n)) && (int_le (pos 1) (neg_ℤ (pos n)) && int_le (neg_ℤ (pos n)) (pos 16384))) (rw e at is) in
+    let range = both (fits_i64 (neg_ℤ (pos n))) (int_le (pos 1) (neg_ℤ (pos n)) && int_le (neg_ℤ (pos n)) (pos 16384)) tests.1 in
+    absurd (minus_none n (both (int_le (pos 1) (neg_ℤ (pos n))) (int_le (neg_ℤ (pos n)) (pos 16384)) range.1).0)
+taken_if x xs false e is =
+    let ds : Text = without_leading_plus (x ∷ xs) in
+    let n : ℕ = digits_value 10 ds in
+    let tests = both (is_numeral ds) (fits_i64 (pos n) && (nat_le 1 n && nat_le n 16384)) (rw e at is) in
+    let range = both (fits_i64 (pos n)) (nat_le 1 n && nat_le n 16384) tests.1 in
+    rw e (leb-true n 16384 (both (nat_le 1 n) (nat_le n 16384) range.1).1)
+
+number_fits : (text : Text) → is_number_of capacity text ≡ true → digits_value 10 (without_leading_sign text) ≤ 16384
+number_fits [] is = absurd (cc is)
+number_fits (x ∷ xs) is = taken_if x xs (nat_eq x 45) refl is
+
+-- ---- the options that are given
+
+-- each text is a number that the option takes
+abbrev AreNumbers : Given → Type 0
+AreNumbers = Each (λ (pair : Text × Text). is_number_of capacity pair.1 ≡ true)
+
+taken_number : (given : Given) (name text : Text) → is_taken (capacity ∷ []) given name text ≡ true → is_number_of capacity text ≡ true
+taken_number given name text taken = go (bytes_eq capacity.name name) refl
+  where
+    go : (same : Bool) → bytes_eq capacity.name name ≡ same → is_number_of capacity text ≡ true
+    go true e = (both (is_number_of capacity text) (not (is_some (text_given given name))) (rw e at taken)).0
+    go false e = absurd (cc (rw e at taken))
+
+one_more_numbers : (given : Given) (name text : Option Text) (more : Given) → AreNumbers given → one_more (capacity ∷ []) given name text ≡ Some more
+    → AreNumbers more
+one_more_numbers given None text more all is = absurd (cc is)
+one_more_numbers given (Some name) None more all is = absurd (cc is)
+one_more_numbers given (Some name) (Some text) more all is = go (is_taken (capacity ∷ []) given name text) refl is
+  where
+    go : (taken : Bool) → is_taken (capacity ∷ []) given name text ≡ taken → (if taken then Some (given ++ (name, text) ∷ []) else None) ≡ Some more
+        → AreNumbers more
+    go true e same =
+        let it : given ++ (name, text) ∷ [] ≡ more = cc same in
+        subst AreNumbers it (each_with _ given (name, text) all (taken_number given name text e))
+    go false e none = absurd (cc none)
+
+-- a step that may fail, and another one
+bound : (o : Option Given) (f : Given → Option Given) (more : Given) → ((between : Given) → o ≡ Some between → f between ≡ Some more → AreNumbers more)
+    → option_and_then f o ≡ Some more → AreNumbers more
+bound None f more goes is = absurd (cc is)
+bound (Some between) f more goes is = goes between refl is
+
+given_numbers : (given : Given) (words : List Text) (more : Given) → AreNumbers given → given_by (capacity ∷ []) given words ≡ Some more → AreNumbers more
+given_numbers given [] more all is =
+    let it : given ≡ more = cc is in
+    subst AreNumbers it all
+given_numbers given (word ∷ []) more all is = go (bytes_eq word (codes "--")) is
+  where
+    go : (last : Bool) → (if last then Some given else one_more (capacity ∷ []) given (name_in word) (text_in word)) ≡ Some more → AreNumbers more
+    go true is =
+        let it : given ≡ more = cc is in
+        subst AreNumbers it all
+    go false is = one_more_numbers given (name_in word) (text_in word) more all is
+given_numbers given (word ∷ next ∷ words) more all is =
+    go (is_some (text_in word)) (λ between all. given_numbers between (next ∷ words) more all) (λ between all. given_numbers between words more all) is
+  where
+    go : (whole : Bool) → ((between : Given) → AreNumbers between → given_by (capacity ∷ []) between (next ∷ words) ≡ Some more → AreNumbers more)
+        → ((between : Given) → AreNumbers between → given_by (capacity ∷ []) between words ≡ Some more → AreNumbers more)
+        → (if whole then option_and_then (λ more. given_by (capacity ∷ []) more (next ∷ words)) (one_more (capacity ∷ []) given (name_in word) (text_in word))
+        else option_and_then (λ more. given_by (capacity ∷ []) more words) (one_more (capacity ∷ []) given (name_in word) (text_behind next))) ≡ Some more
+        → AreNumbers more
+    go true behind beyond is = bound _ _ more (λ between made. behind between (one_more_numbers given (name_in word) (text_in word) between all made)) is
+    go false behind beyond is = bound _ _ more (λ between made. beyond between (one_more_numbers given (name_in word) (text_behind next) between all made)) is
+
+-- ---- the number
+
+given_fits : (given : Given) → AreNumbers given → number_of given capacity ≤ 16384
+given_fits given all = go (find (λ (pair : Text × Text). bytes_eq pair.0 capacity.name) given) refl
+  where
+    go : (found : Option (Text × Text)) → find (λ (pair : Text × Text). bytes_eq pair.0 capacity.name) given ≡ found → number_of given capacity ≤ 16384
+    go None e = rw e (number_fits capacity.default refl)
+    go (Some it) e = rw e (number_fits it.1 (found_holds _ _ given it all e))
+
+-- the capacity of a line of `steps`
+abbrev Fits : Option LineValue → Type 0
+Fits line = (n : ℕ) → line ≡ Some (steps n) → n ≤ 16384
+
+-- of what the words give by a command, none is a line of `steps`
+other_pair : (line : Text → Text → LineValue) → ((first second : Text) (n : ℕ) → line first second ≡ steps n → ⊥) → (words : List Text) → Fits (line_by (pair line) words)
+other_pair line other words n is = go (pair_of (arguments_of words)) is
+  where
+    go : (asked : Option (Text × Text)) → option_map (λ (asked : Text × Text). line asked.0 asked.1) asked ≡ Some (steps n) → n ≤ 16384
+    go None is = absurd (cc is)
+    go (Some asked) is = absurd (other asked.0 asked.1 n (cc is))
+
+other_numbers : (options : List NumberOption) (line : (NumberOption → ℕ) → LineValue) → ((number : NumberOption → ℕ) (n : ℕ) → line number ≡ steps n → ⊥)
+    → (words : List Text) → Fits (line_by (numbers options line) words)
+other_numbers options line other words n is = go (given_by options [] words) is
+  where
+    go : (given : Option Given) → option_map (λ given. line (number_of given)) given ≡ Some (steps n) → n ≤ 16384
+    go None is = absurd (cc is)
+    go (Some given) is = absurd (other (number_of given) n (cc is))
+
+of_steps : (words : List Text) → Fits (line_by (numbers (capacity ∷ []) (λ number. steps (number capacity))) words)
+of_steps words n is = go (given_by (capacity ∷ []) [] words) refl is
+  where
+    go : (given : Option Given) → given_by (capacity ∷ []) [] words ≡ given → option_map (λ given. steps (number_of given capacity)) given ≡ Some (steps n) → n ≤ 16384
+    go None e is = absurd (cc is)
+    go (Some given) e is =
+        let it : number_of given capacity ≡ n = cc is in
+        subst (λ number. number ≤ 16384) it (given_fits given (given_numbers [] words given tt e))
+
+each_fits : (words : List Text) → Each (λ (command : CommandForm). Fits (line_by command.takes words)) commands
+each_fits words =
+    let of_match = other_pair match_name (λ first second n e. cc e) words in
+    let of_check = other_numbers [] (λ number. check) (λ number n e. cc e) words in
+    let of_compile = other_numbers [] (λ number. compile) (λ number n e. cc e) words in
+    let of_run = other_numbers (capacity ∷ []) (λ number. run (number capacity)) (λ number n e. cc e) words in
+    let of_judge = other_pair judge (λ first second n e. cc e) words in
+    (of_judge, (of_run, (of_compile, (of_check, (of_match, (of_steps words, tt))))))
+
+pub steps_number : (words : List Text) (n : ℕ) → line_of words ≡ Some (steps n) → n ≤ 16384
+steps_number [] n is = absurd (cc is)
+steps_number (program ∷ []) n is = absurd (cc is)
+steps_number (program ∷ name ∷ words) n is = go (command_named commands name) refl is
+  where
+    go : (command : Option CommandForm) → command_named commands name ≡ command → option_and_then (λ (command : CommandForm). line_by command.takes words) command ≡ Some (steps n)
+        → n ≤ 16384
+    go None e is = absurd (cc is)
+    go (Some command) e is = found_holds (λ (command : CommandForm). Fits (line_by command.takes words)) (λ (command : CommandForm). bytes_eq command.name name) commands command (each_fits words) e n is
