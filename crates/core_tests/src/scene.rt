@@ -1,0 +1,71 @@
+//! What the tests play with.
+use directory_tree::Change;
+use interleaving_core::{Core, Event, EventMachine, StepFault};
+use matcher::{AnyProfile, CompiledProfile, PolicyChange};
+use names::{Path, Perms};
+use rule_text::read;
+use std::alloc::Global;
+use std::process::Abort;
+use std::sync::Arc;
+use std::test::Fail;
+
+pub(crate) fn path(text: &[u8]) -> Result<Path<'_>, Fail> {
+    Ok(Path::check(text).ok().ok_or("a path")?)
+}
+
+pub(crate) fn rename<'a>(from: &'a [u8], to: &'a [u8]) -> Result<Change<'a>, Fail> {
+    Ok(Change::Rename(path(from)?, path(to)?))
+}
+
+/// The profile `p`, which reads what is in `/d` and `/e`.
+pub(crate) fn policy(alloc: Global) -> Result<PolicyChange, Fail> {
+    let rules = read(alloc, b"profile p {\n  /d/* r,\n  /e/* r,\n}\n")?;
+    let profile = AnyProfile::Compiled(CompiledProfile::make(alloc, rules)?);
+    let shared = Arc::new(alloc, profile).ok().ok_or("memory")?;
+    Ok(PolicyChange::Replace(Vec::from_slice(alloc, b"p")?, shared))
+}
+
+pub(crate) fn begin(session: u32, path: &[u8]) -> Result<Event<'_>, Fail> {
+    Ok(Event::Begin {
+        session,
+        profile: b"p",
+        path,
+        ask: Perms::from_letters(b"r").ok_or("letters")?,
+    })
+}
+
+/// Takes an event, which has no answer.
+pub(crate) fn take(rt: &impl Abort, core: &mut Core, event: &Event<'_>) {
+    assert_eq!(rt; core.step(event), Ok(None));
+}
+
+/// Makes a change of the tree.
+pub(crate) fn make(rt: &impl Abort, core: &mut Core, change: &Change<'_>) {
+    take(rt, core, &Event::Open(change));
+    set_all(rt, core);
+    take(rt, core, &Event::Close);
+}
+
+/// Sets all cells of the open change.
+pub(crate) fn set_all(rt: &impl Abort, core: &mut Core) {
+    for _ in 0..1000 {
+        match core.step(&Event::CellSet) {
+            Ok(told) => assert_eq!(rt; told, None),
+            Err(fault) => {
+                assert_eq!(rt; fault, StepFault::NotNow);
+                return;
+            }
+        }
+    }
+}
+
+/// The file `/d/f`, node 3 at version 2, and the profile `p`, at version 1.
+pub(crate) fn scene(rt: &impl Abort, alloc: Global) -> Result<Core, Fail> {
+    let mut core = Core::new(alloc, 4).ok().ok_or("memory")?;
+    make(rt, &mut core, &Change::Mkdir(path(b"/d")?));
+    make(rt, &mut core, &Change::Create(path(b"/d/f")?));
+    let changes = [policy(alloc)?];
+    take(rt, &mut core, &Event::Publish(&changes));
+    assert_eq!(rt; (core.tree_version(), core.policy_version()), (2, 1));
+    Ok(core)
+}
