@@ -128,8 +128,8 @@ impl Keeper {
         Ok(())
     }
 
-    /// How many cells a change would set, or by which number it is refused, that of too many changes among them. Not now while
-    /// another change is open. It changes nothing.
+    /// How many cells some plan of a change sets, with which it may be opened, or by which number it is refused, that of too many
+    /// changes among them. Not now while another change is open. It changes nothing.
     pub fn test(&mut self, change: &Change<'_>) -> Result<Result<usize, Errno>, StepFault>
         ensures same { self.new ≡ self.old }
         ensures ok { IfOk result (IsTested self.old.0 self.old.1 change.now) }
