@@ -17,7 +17,8 @@ use Rattle.row_rule.specs.Row.{count_of, FitsWalker, Agrees}
 use Rattle.row_rule.specs.Steps.{newcomer, beginning, reading, ending, opening, setting, closing}
 use Rattle.row_rule.proofs.Rule.{even_encodes}
 use Rattle.tree_row.specs.Rows.{row_length}
-use Rattle.event_core.specs.Machine.{Call, Event, Policed, Stage, Session, Machine, EncodesChanges, with_session}
+use Rattle.row_plan.specs.Changes.{EncodesChanges}
+use Rattle.event_core.specs.Machine.{Call, Event, Policed, Stage, Session, Machine, with_session}
 use Rattle.event_core.specs.Machine.Event.{begin, read_policy, read_count, read_cell, check_count, answer, open_change, set_cell, close_change, publish}
 use Rattle.event_core.specs.Machine.Stage.{resting, begun, unpublished, policed, walking, checked}
 use Rattle.event_core.specs.Walking.{IsStill}

@@ -13,7 +13,7 @@ use Rattle.event_core.specs.Machine.Stage.{begun, policed, walking, checked}
 use Rattle.event_core.specs.Runs.{Runs, Legal}
 use Rattle.event_core.specs.Examples.{to_read, root_for, mkdir_b, busy_call, overtaken_call}
 use Rattle.event_core.proofs.Examples.{asked, no_nil, reads_root}
-use Rattle.event_core.proofs.NewDirectory.{four_cells, lean, encodes_change}
+use Rattle.event_core.proofs.NewDirectory.{four_cells, is_plan, encodes_change}
 
 abbrev rules : List Deed
 rules = published (112 ∷ []) (by_rules []) ∷ []
@@ -56,7 +56,7 @@ busy_root capacity room =
         None,
         d,
         all,
-        (four_cells, refl, lean capacity room, encodes_change capacity room, refl),
+        (four_cells, refl, is_plan capacity room, encodes_change capacity room, refl),
         (
           None,
           e,
@@ -91,7 +91,7 @@ overtaken_root capacity room =
           None,
           e,
           all,
-          (four_cells, refl, lean capacity room, encodes_change capacity room, refl),
+          (four_cells, refl, is_plan capacity room, encodes_change capacity room, refl),
           (None, f, all, (p, w, refl, refl), (Some (Busy 0 1), g, [], (1, refl, ([], (inr (λ z. absurd (omega arith)), refl, refl, refl), refl)), (refl, refl), refl), refl),
           refl,
         ),

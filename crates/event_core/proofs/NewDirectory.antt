@@ -1,21 +1,29 @@
 -- The first change of a row: four cells make the directory `/b` in the row of the root alone.
-use Rattle.std.proofs.Common.{◌≡◌, ◌≢◌, Bool, ℕ, ◌%◌, ◌/◌, ◌<◌, ◌≤◌, List, [], ◌∷◌, length, set, replicate, refl, ap, ◌∙◌, subst, arith, length-set, get_or-set_other, get_or-set_same}
+use Rattle.std.proofs.Common.{◌≡◌, ◌≢◌, Bool, true, ℕ, ◌%◌, ◌/◌, ◌<◌, ◌≤◌, List, [], ◌∷◌, length, set, replicate, sym, refl, ap, ◌∙◌, subst, arith, length-set, get_or-set_other, get_or-set_same}
 use Rattle.std.specs.Prelude.{slice_index, slice_set, Ok}
 use Rattle.std.proofs.lemmas.Bool.{lt-ltb}
-use Rattle.std.proofs.lemmas.List.{get_or-replicate}
+use Rattle.std.proofs.lemmas.List.{get_or-replicate, set-get_or}
 use Rattle.directory_tree.specs.declared.node.NodeKind.TheVariants.{Directory}
 use Rattle.directory_tree.specs.Tree.{Tree, root_alone}
-use Rattle.directory_tree.specs.Apply.{and_then, entry, with_entry, apply, tree_after}
-use Rattle.tree_row.specs.Slots.{text_at}
+use Rattle.directory_tree.specs.Apply.{and_then, entry, with_entry, apply, has_room, tree_after}
+use Rattle.directory_tree.proofs.Changes.{tree_after_well}
+use Rattle.path_lookup.specs.World.{World}
+use Rattle.change_checks.specs.declared.act.Act.{Act}
+use Rattle.change_checks.specs.declared.act.Act.TheVariants as act
+use Rattle.change_checks.specs.declared.act.NewNode.TheVariants as new
+use Rattle.tree_row.specs.Slots.{slot_at, text_at}
 use Rattle.tree_row.specs.Rows.{row_length, Encodes}
+use Rattle.tree_row.specs.Worlds.{spot_at}
 use Rattle.tree_row.specs.OpeningRow.{opening_row}
 use Rattle.tree_row.proofs.Opening.{length-opening, opens}
+use Rattle.row_look.specs.declared.look.RowEntry.{RowEntry}
 use Rattle.row_rule.specs.declared.cell.Cell.{Cell}
 use Rattle.row_rule.specs.Row.{write}
-use Rattle.row_plan.specs.Plan.{IsLean}
+use Rattle.row_plan.specs.Leaves.{packed, with_slot, new_slot}
+use Rattle.row_plan.specs.Plan.{IsLean, outcome_in}
 use Rattle.row_plan.proofs.Drafting.{begins, grows}
 use Rattle.row_plan.proofs.Encoding.{encodes_filled}
-use Rattle.event_core.specs.Machine.{EncodesChanges}
+use Rattle.row_plan.specs.Changes.{EncodesChanges, IsPlan}
 use Rattle.event_core.specs.Examples.{mkdir_b}
 
 -- a directory, of node 2, with a component of one byte, which is `b`; that it is in the root's slot stands there already
@@ -25,6 +33,14 @@ four_cells =
 
 abbrev tree_with_b : Tree
 tree_with_b = with_entry root_alone (entry 1 (98 ∷ []) 2 Directory) 3
+
+letter : packed (98 ∷ []) 0 ≡ 98
+unfolding packed
+letter = refl
+
+-- the act that the change comes to: a directory is made in the root
+abbrev make_b : Act RowEntry
+make_b = act.Make record { directory = record { slot = 0 }; component = record { ref_ptr = (0, 0); now = 98 ∷ [] } } new.Directory
 
 module _ (capacity : ℕ) (room : 1 ≤ capacity) where
   abbrev row : List ℕ
@@ -111,7 +127,7 @@ module _ (capacity : ℕ) (room : 1 ≤ capacity) where
       })
 
   -- no cell too many: each is added to those before it
-  pub lean : IsLean row four_cells
+  lean : IsLean row four_cells
   lean =
       let l = long in
       let one = grows row [] row 164 1 (omega arith) (begins row) refl (λ e. let z = zero_at 164 (omega arith) (omega arith) in absurd (omega arith)) in
@@ -122,6 +138,50 @@ module _ (capacity : ℕ) (room : 1 ≤ capacity) where
       (get_or-set_other second 167 168 1 0 (λ e. absurd (omega arith)) ∙ get_or-set_other first 165 168 2 0 (λ e. absurd (omega arith)) ∙ get_or-set_other row 164 168 1 0 (λ e. absurd (omega arith)))
       (λ e. let z = zero_at 168 (omega arith) (omega arith) in absurd (omega arith)) in
       four.lean
+
+  -- the slot of the directory is the word that stands there
+  parent_stays : slice_set second 166 0 ≡ second
+  parent_stays =
+      let z : slice_index second 166 ≡ 0 =
+      get_or-set_other first 165 166 2 0 (λ e. absurd (omega arith)) ∙ get_or-set_other row 164 166 1 0 (λ e. absurd (omega arith)) ∙ zero_at 166 (omega arith) (omega arith) in
+      ap (set second 166) (sym z) ∙ set-get_or second 166 0
+
+  leaves : write row four_cells ≡ with_slot row 1 (new_slot Directory 2 0 (98 ∷ []))
+  leaves =
+      ap (λ (cells : List ℕ). slice_set (slice_set cells 167 1) 168 98) (sym parent_stays)
+      ∙ ap (slice_set (slice_set (slice_set second 166 0) 167 1) 168) (sym letter)
+
+  abbrev world : World
+  world = record { tree = root_alone; named = spot_at (slot_at row); sound = tree_after_well capacity [] root_alone refl }
+
+  has_place : has_room capacity root_alone ≡ true
+  has_place = lt-ltb 0 capacity (omega arith)
+
+  makes : outcome_in capacity world mkdir_b ≡ Ok tree_with_b
+  makes = ap (λ (b : Bool). apply root_alone b mkdir_b) has_place
+
+  pub is_plan : IsPlan capacity row [] mkdir_b four_cells
+  is_plan =
+      let old = opens capacity in
+      let kind = old.slots.root.kind in (
+        world,
+        refl,
+        record { tree = old; named = λ s. refl },
+        record {
+          after = tree_with_b;
+          made = makes;
+          next = refl;
+          encodes = encodes;
+          lean = lean;
+          act = make_b;
+          comes = record {
+            does = makes;
+            tested = record { free = refl; directory = refl; room = has_place };
+            holds = record { within = old.slots.root.within; filled = λ e. absurd (omega arith) };
+          };
+          leaves = (1, record { free = record { past_root = omega arith; within = omega arith; free = zero_at 164 (omega arith) (omega arith) }; first = λ r free. let past = free.past_root in omega arith }, leaves);
+        },
+      )
 
 pub encodes_change : (capacity : ℕ) → 1 ≤ capacity → EncodesChanges capacity (write (opening_row capacity) four_cells) (mkdir_b ∷ [])
 encodes_change capacity room =

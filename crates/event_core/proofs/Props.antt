@@ -8,7 +8,7 @@ use Rattle.directory_tree.specs.Tree.{Tree, Entry, Has}
 use Rattle.directory_tree.proofs.Basics.{ok_inj}
 use Rattle.tree_row.specs.Slots.{Slot, entry_at, slot_at, IsUsed, IsRootSlot, IsDirectorySlot, IsInRange}
 use Rattle.tree_row.specs.Rows.{EncodesSlots, Encodes, row_length}
-use Rattle.event_core.specs.Machine.{EncodesChanges}
+use Rattle.row_plan.specs.Changes.{EncodesChanges}
 
 used_prop : (n : ℕ) (f : ℕ → Slot) (s : ℕ) → IsProp (IsUsed n f s)
 used_prop n f s = hlevel codes

@@ -18,7 +18,8 @@ use Rattle.tree_row.specs.OpeningRow.{opening_row}
 use Rattle.tree_row.proofs.Opening as opening_row_is
 use Rattle.justification.specs.declared.answer.Answer.{Answer}
 use Rattle.mediation.specs.Judge.{Judge}
-use Rattle.event_core.specs.Machine.{Call, Event, Stage, Session, Machine, EncodesChanges, with_session, first}
+use Rattle.row_plan.specs.Changes.{EncodesChanges}
+use Rattle.event_core.specs.Machine.{Call, Event, Stage, Session, Machine, with_session, first}
 use Rattle.event_core.specs.Machine.Event.{begin, read_policy, read_count, read_cell, check_count, answer, open_change, set_cell, close_change, publish}
 use Rattle.event_core.specs.Machine.Stage.{resting, begun, walking, checked}
 use Rattle.event_core.specs.Takes.{Moves, Takes, after_policy}

@@ -4,14 +4,12 @@ use Rattle.names.specs.declared.errors.Errno.{Errno}
 use Rattle.directory_tree.specs.declared.change.Change.{Change}
 use Rattle.directory_tree.specs.Apply.{tree_after}
 use Rattle.justification.specs.declared.answer.Answer.{Answer}
-use Rattle.row_rule.specs.declared.cell.Cell.{Cell}
-use Rattle.row_rule.specs.Row.{write}
-use Rattle.row_plan.specs.Plan.{IsLean}
+use Rattle.row_rule.specs.Row.{left_of}
 use Rattle.row_rule.specs.declared.view.WalkerView.{WalkerView}
-use Rattle.event_core.specs.Machine.{Call, Event, Policed, Machine, EncodesChanges}
+use Rattle.event_core.specs.Machine.{Call, Event, Policed, Machine}
 use Rattle.event_core.specs.Machine.Event.{begin, read_policy, read_count, read_cell, check_count, answer, open_change, set_cell, close_change, publish}
 use Rattle.event_core.specs.Machine.Stage.{resting, begun, unpublished, policed, walking, checked}
-use Rattle.event_core.specs.Takes.{Takes}
+use Rattle.event_core.specs.Takes.{Moves, Takes}
 
 -- some legal step takes the event
 abbrev pub IsLawful : Machine → Event → Type 0
@@ -37,9 +35,8 @@ abbrev pub cell_reads : ℕ → ℕ → List Event
 cell_reads s zero = []
 cell_reads s (suc count) = read_cell s ∷ cell_reads s count
 
--- Of a change, while none is open: it may be opened with a plan of so many cells; or the definition refuses it by this number, that
--- of too many changes among them.
+-- Of a change, while none is open: it may be opened, and so many cells are to be set until it may be closed; or the definition
+-- refuses it by this number, that of too many changes among them.
 abbrev pub IsTested : Machine → Change → Result ℕ Errno → Type 0
-IsTested m change (Ok count) = (plan : List Cell) × (m.keeper.pending ≡ None) × IsLean m.keeper.cells plan
-    × EncodesChanges m.capacity (write m.keeper.cells plan) (m.keeper.history ++ change ∷ []) × (length plan ≡ count)
+IsTested m change (Ok count) = IsLawful m (open_change change) × ((new : Machine) → Moves m (open_change change) new → length (left_of new.keeper.pending) ≡ count)
 IsTested m change (Err errno) = (m.keeper.pending ≡ None) × (tree_after m.capacity (m.keeper.history ++ change ∷ []) ≡ Err errno)

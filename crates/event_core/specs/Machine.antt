@@ -1,17 +1,14 @@
 -- A machine over events: opens by any number of sessions, one keeper of the tree, and publications of policy, one event at a
 -- time. Each event is one load or one store of one word of the row that holds the tree, one entry of a session into the
 -- published policy, or one publication; beginning a call and answering it touch the session alone.
-use Rattle.std.specs.Prelude.{◌≡◌, ℕ, ◌==◌, List, [], Option, Ok, if◌then◌else◌}
+use Rattle.std.specs.Prelude.{ℕ, ◌==◌, List, [], Option, if◌then◌else◌}
 use Rattle.names.specs.declared.permissions.Perms.{Perms}
 use Rattle.directory_tree.specs.declared.change.Change.{Change}
-use Rattle.directory_tree.specs.Tree.{Tree}
-use Rattle.directory_tree.specs.Apply.{tree_after}
 use Rattle.mediation.specs.Deeds.{Deed}
 use Rattle.mediation.specs.Judge.{Judge}
 use Rattle.row_rule.specs.declared.view.KeeperView.{KeeperView}
 use Rattle.row_rule.specs.declared.view.WalkerView.{WalkerView}
 use Rattle.row_rule.specs.Steps.{at_rest}
-use Rattle.tree_row.specs.Rows.{Encodes}
 use Rattle.tree_row.specs.OpeningRow.{opening_row}
 
 -- what a call asks: may this profile open this path for this?
@@ -84,7 +81,3 @@ new_session = record { name = []; stage = resting }
 
 abbrev pub first : ℕ → Machine
 first capacity = record { capacity = capacity; keeper = at_rest [] (opening_row capacity); deeds = []; sessions = λ s. new_session }
-
--- the cells of a row encode what these changes make of the root alone
-abbrev pub EncodesChanges : ℕ → List ℕ → List Change → Type 0
-EncodesChanges capacity cells changes = (t : Tree) × (tree_after capacity changes ≡ Ok t) × Encodes capacity cells t

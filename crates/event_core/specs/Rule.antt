@@ -5,7 +5,8 @@ use Rattle.row_rule.specs.declared.view.View.TheVariants.{Keeps, Walks}
 use Rattle.row_rule.specs.Row.{KeptBy, count_of}
 use Rattle.row_rule.specs.Steps.{newcomer}
 use Rattle.tree_row.specs.Rows.{row_length}
-use Rattle.event_core.specs.Machine.{Stage, Machine, EncodesChanges}
+use Rattle.row_plan.specs.Changes.{EncodesChanges}
+use Rattle.event_core.specs.Machine.{Stage, Machine}
 use Rattle.event_core.specs.Machine.Stage.{resting, begun, unpublished, policed, walking, checked}
 
 -- what a session's walk knows; outside of one, nothing

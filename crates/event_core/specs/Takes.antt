@@ -8,8 +8,8 @@ use Rattle.row_rule.specs.declared.cell.Cell.{Cell}
 use Rattle.row_rule.specs.declared.view.WalkerView.{WalkerView}
 use Rattle.row_rule.specs.Row.{write, count_of}
 use Rattle.row_rule.specs.Steps.{newcomer, beginning, reading, ending, opening, setting, closing}
-use Rattle.row_plan.specs.Plan.{IsLean}
-use Rattle.event_core.specs.Machine.{Call, Event, Policed, Stage, Machine, moved_on, answered, with_keeper, with_deeds, EncodesChanges}
+use Rattle.row_plan.specs.Changes.{EncodesChanges, IsPlan}
+use Rattle.event_core.specs.Machine.{Call, Event, Policed, Stage, Machine, moved_on, answered, with_keeper, with_deeds}
 use Rattle.event_core.specs.Machine.Event.{begin, read_policy, read_count, read_cell, check_count, answer, open_change, set_cell, close_change, publish}
 use Rattle.event_core.specs.Machine.Stage.{resting, begun, unpublished, policed, walking, checked}
 use Rattle.event_core.specs.Walking.{MayDo, MayAnswer}
@@ -39,9 +39,9 @@ Moves old (read_cell s) new = (p : Policed) × (w : WalkerView) × (place word :
 Moves old (check_count s) new = (p : Policed) × (w : WalkerView) × ((old.sessions s).stage ≡ walking p w None)
     × (new ≡ moved_on old s (checked p (ending w (count_of old.keeper) old.keeper.history)))
 Moves old (answer s) new = ⊥
--- The keeper, at rest, opens an accepted change, with a plan of the cells after which the row encodes the tree with it, and none
--- too many.
-Moves old (open_change change) new = (plan : List Cell) × (old.keeper.pending ≡ None) × IsLean old.keeper.cells plan
+-- The keeper, at rest, opens an accepted change, with its plan, after which the row encodes the changes with this one.
+Moves old (open_change change) new = (plan : List Cell) × (old.keeper.pending ≡ None)
+    × IsPlan old.capacity old.keeper.cells old.keeper.history change plan
     × EncodesChanges old.capacity (write old.keeper.cells plan) (old.keeper.history ++ change ∷ [])
     × (new ≡ with_keeper old (opening old.keeper change plan))
 -- It sets the next cell of the plan.

@@ -3,7 +3,8 @@ ghost use Rattle.std.specs.Prelude.{◌≡◌, ◌≤◌, ℕ, List, [], ◌∷�
 ghost use mathlib.Core.List.{IsPrefix};
 ghost use Rattle.justification.specs.declared.answer.Answer.{Answer};
 ghost use Rattle.row_rule.specs.Row.{target_of};
-ghost use Rattle.event_core.specs.Machine.{Call, Event, Machine, EncodesChanges};
+ghost use Rattle.row_plan.specs.Changes.{EncodesChanges};
+ghost use Rattle.event_core.specs.Machine.{Call, Event, Machine};
 ghost use Rattle.event_core.specs.Machine.Event.{begin, answer};
 ghost use Rattle.event_core.specs.Takes.{Answers, Takes};
 ghost use Rattle.event_core.specs.Runs.{Runs, Legal};

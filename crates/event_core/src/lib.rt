@@ -5,12 +5,10 @@
 //! To be believed are about 400 lines of definitions in `specs/`.
 #![tactic(auto)]
 
-mod encoding;
 mod event;
 mod laws;
 mod taking;
 
-pub use encoding::TreeRow;
 pub use event::{Event, StepFault};
 pub use laws::{
     answers_are_right, answers_are_the_only_ones, calls_are_answered, listed_answers_are_right,

@@ -33,8 +33,8 @@ pub trait EventMachine {
         ensures turn { IfOk result (λ count. count < most → ¬ (HasTurn (machine self.new) (read_cell session))) }
         ensures err { IfErr result (λ fault. (fault ≡ StepFault.NoMemory) × ((count : ℕ) × (count < most) × Runs (machine self.old) (cell_reads session count) [] (machine self.new))) };
 
-    /// How many cells some plan of a change sets, with which it may be opened, or by which number it is refused. Not now while
-    /// another one is open. It changes nothing.
+    /// How many cells a change would set: so many events [`Event::CellSet`] there are from its [`Event::Open`] to its
+    /// [`Event::Close`]. Or by which number it is refused. Not now while another one is open. It changes nothing.
     fn test(&mut self, change: &Change<'_>) -> Result<Result<usize, Errno>, StepFault>
         ensures same { machine self.new ≡ machine self.old }
         ensures ok { IfOk result (IsTested (machine self.old) change.now) }

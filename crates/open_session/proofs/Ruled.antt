@@ -7,7 +7,8 @@ use Rattle.row_rule.specs.Row.{count_of, FitsWalker}
 use Rattle.row_rule.specs.Steps.{ending}
 use Rattle.row_rule.proofs.Rule.{even_encodes}
 use Rattle.tree_row.specs.Rows.{row_length}
-use Rattle.event_core.specs.Machine.{Stage, Machine, EncodesChanges}
+use Rattle.row_plan.specs.Changes.{EncodesChanges}
+use Rattle.event_core.specs.Machine.{Stage, Machine}
 use Rattle.event_core.specs.Machine.Stage.{resting, begun, unpublished, policed, walking, checked}
 use Rattle.event_core.specs.Rule.{view_of, KeepsRule}
 use Rattle.event_core.proofs.Ruled.{fits_at}

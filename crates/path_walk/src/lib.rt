@@ -22,7 +22,7 @@ pub use row_look::{
     name_place_and_read, name_place_known, reach, torn_rows_encode_no_tree, walk_and_read,
     walk_known,
 };
-pub use row_plan::{change_row, next_after, plan, set_cells};
+pub use row_plan::{TreeRow, change_has_one_plan, change_row, next_after, plan, set_cells};
 pub use row_rule::{
     Busy, Cell, Encoding, KeeperView, Pending, View, WalkerView, agreement_is_of_each_read,
     beginning_keeps_rule, closing_keeps_rule, ending_keeps_rule, entering_keeps_rule,

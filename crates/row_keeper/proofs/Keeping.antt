@@ -13,7 +13,7 @@ use Rattle.directory_tree.specs.declared.change.Change.{Change}
 use Rattle.directory_tree.specs.declared.change.Change.TheVariants as change
 use Rattle.directory_tree.specs.Tree.{Tree, root_alone}
 use Rattle.directory_tree.specs.Apply.{apply, apply_counted, has_room, max_changes, tree_after}
-use Rattle.directory_tree.proofs.Basics.{err_is_ok, none_is_some, true_is_false}
+use Rattle.directory_tree.proofs.Basics.{ok_inj, err_is_ok, none_is_some, true_is_false}
 use Rattle.directory_tree.proofs.Changes.{tree_after_well}
 use Rattle.path_lookup.specs.World.{World}
 use Rattle.plain_tree.proofs.Held.{after_more}
@@ -30,7 +30,7 @@ use Rattle.row_plan.specs.Plan.{Plannable, Plans, Refuses, next_after}
 use Rattle.row_plan.proofs.Numbering.{numbered}
 use Rattle.row_keeper.specs.declared.history.History.{History}
 use Rattle.row_keeper.specs.declared.open_change.OpenChange.{OpenChange}
-use Rattle.row_keeper.specs.Keeping.{MayPlan, IsOpened, IsSet, IsClosed, MayClose}
+use Rattle.row_keeper.specs.Keeping.{MayPlan, IsOpened, IsSet, IsClosed, MayClose, IsTested}
 use Rattle.row_keeper.specs.inner.Kept.{last_from, last_of, pending_of, view_with, IsKept}
 use Rattle.row_keeper.specs.inner.Planned.{IsPlanned}
 
@@ -119,7 +119,7 @@ module _ (capacity : ℕ) (cells : List ℕ) (next version : ℕ) (history : Lis
   rest_planned plan not_last plans =
       let p = plans cells world refl stands (sym k.next_is) in
       let few : length history < max_changes = omega (arith, k.few, k.version_is, not_last) in
-      (refl, p.lean, (p.after, counted capacity history k.tree k.made change few ∙ p.made, p.encodes))
+      (refl, (world, k.made, stands, p), (p.after, counted capacity history k.tree k.made change few ∙ p.made, p.encodes))
 
   rest_refused : (errno : Errno) → version ≢ max_changes → errno ≢ ENOMEM
       → ((row : List ℕ) (w : World) → row ≡ cells → EncodesWorld capacity row w → Refuses capacity w change errno)
@@ -136,7 +136,7 @@ module _ (capacity : ℕ) (cells : List ℕ) (next version : ℕ) (history : Lis
 
   rest_opened : (plan : Vec Cell Global) (target : History) → MayPlan capacity (view_with cells history None set) change plan.items → target.events ≡ history ++ change ∷ []
       → IsKept capacity cells (next_after next change) version history (Some record { plan = plan; target = target }) 0
-  rest_opened plan target (shut, lean, (u, made, encodes)) is =
+  rest_opened plan target (shut, (w, stood, named, plans), (u, made, encodes)) is =
       let (few, applied) = accepted capacity history k.tree k.made change u made in
       let last : last_of target.events ≡ change = ap last_of is ∙ last_more history change in
       record {
@@ -147,7 +147,7 @@ module _ (capacity : ℕ) (cells : List ℕ) (next version : ℕ) (history : Lis
         next_low = low_after next version change k.next_low;
         version_is = k.version_is;
         few = omega (arith, k.version_is, few);
-        is_open = (is ∙ ap (λ (c : Change). history ++ c ∷ []) (sym last), omega arith, subst (λ (n : ℕ). All (λ (cell : Cell). cell.place < n) plan.items) k.encodes.long lean.within);
+        is_open = (is ∙ ap (λ (c : Change). history ++ c ∷ []) (sym last), omega arith, subst (λ (n : ℕ). All (λ (cell : Cell). cell.place < n) plan.items) k.encodes.long plans.lean.within);
       }
 
 -- the same, where a keeper's parts are worth a value
@@ -198,6 +198,17 @@ module _ (capacity : ℕ) (cells : List ℕ) (next version : ℕ) (history : Lis
     ) where
       view_of : Change → KeeperView
       view_of c = record { history = history; cells = cells; pending = Some record { change = c; left = plan.items }; met = [] }
+
+-- All plans of a change are equally long.
+pub tested : (law : (capacity : ℕ) (row : List ℕ) (w v : World) (change : Change) (plan other : List Cell) → EncodesWorld capacity row w → EncodesWorld capacity row v → w.tree ≡ v.tree
+    → Plans capacity row w change plan → Plans capacity row v change other → length plan ≡ length other)
+    → (capacity : ℕ) (old : KeeperView) (change : Change) (plan : List Cell) → MayPlan capacity old change plan → IsTested capacity old change (Ok (length plan))
+tested law capacity old change plan may =
+    let (shut, (w, made, stands, plans), encodes) = may in (
+      (opening old change plan, (plan, may, refl)),
+      λ new (other, (shut', (v, made', stands', plans'), encodes'), is).
+          ap (λ (k : KeeperView). length (left_of k.pending)) is ∙ law capacity old.cells v w change other plan stands' stands (ok_inj v.tree w.tree (sym made' ∙ made)) plans' plans,
+    )
 
 -- a cell is set
 pub view_set : (cells : List ℕ) (history : List Change) (opened : Option OpenChange) (o : OpenChange) (set : ℕ) (cell : Cell) (k : KeeperView) → opened ≡ Some o → set < length o.plan.items → cell ≡ get_or o.plan.items set cell → view_with cells history opened set ≡ k

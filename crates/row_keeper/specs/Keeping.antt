@@ -5,15 +5,14 @@ use Rattle.directory_tree.specs.declared.change.Change.{Change}
 use Rattle.directory_tree.specs.Apply.{tree_after}
 use Rattle.row_rule.specs.declared.cell.Cell.{Cell}
 use Rattle.row_rule.specs.declared.view.KeeperView.{KeeperView}
-use Rattle.row_rule.specs.Row.{write}
+use Rattle.row_rule.specs.Row.{left_of, write}
 use Rattle.row_rule.specs.Steps.{opening, setting, closing}
-use Rattle.row_plan.specs.Plan.{IsLean}
-use Rattle.event_core.specs.Machine.{EncodesChanges}
+use Rattle.row_plan.specs.Changes.{EncodesChanges, IsPlan}
 
--- At rest, a change may be opened with these cells: with them the row encodes the tree with the change made, and none is too many.
+-- At rest, a change may be opened with these cells: they are its plan, and with them the row encodes the changes with this one.
 abbrev pub MayPlan : ℕ → KeeperView → Change → List Cell → Type 0
 MayPlan capacity old change plan =
-    (old.pending ≡ None) × IsLean old.cells plan × EncodesChanges capacity (write old.cells plan) (old.history ++ change ∷ [])
+    (old.pending ≡ None) × IsPlan capacity old.cells old.history change plan × EncodesChanges capacity (write old.cells plan) (old.history ++ change ∷ [])
 
 -- the change was opened with such cells
 abbrev pub IsOpened : ℕ → KeeperView → Change → KeeperView → Type 0
@@ -37,8 +36,8 @@ IsClosed old new = (change : Change) × (old.pending ≡ Some record { change = 
 abbrev pub MayClose : KeeperView → Type 0
 MayClose old = (new : KeeperView) × IsClosed old new
 
--- At rest, a change may be opened with so many cells, or the definition refuses it by this number, that of too many changes among
--- them.
+-- At rest, a change may be opened, and has so many cells to set then; or the definition refuses it by this number, that of too many
+-- changes among them.
 abbrev pub IsTested : ℕ → KeeperView → Change → Result ℕ Errno → Type 0
-IsTested capacity old change (Ok count) = (plan : List Cell) × MayPlan capacity old change plan × (length plan ≡ count)
+IsTested capacity old change (Ok count) = MayOpen capacity old change × ((new : KeeperView) → IsOpened capacity old change new → length (left_of new.pending) ≡ count)
 IsTested capacity old change (Err errno) = (old.pending ≡ None) × (tree_after capacity (old.history ++ change ∷ []) ≡ Err errno)

@@ -14,7 +14,7 @@ use directory_tree::Change;
 use event_core::StepFault;
 use names::{Errno, NoMemory};
 use row_look::RowLook;
-use row_plan::{next_after, plan};
+use row_plan::{change_has_one_plan, next_after, plan};
 use row_rule::Cell;
 use std::alloc::Global;
 use std::marker::Model;
@@ -128,13 +128,14 @@ impl Keeper {
         Ok(())
     }
 
-    /// How many cells some plan of a change sets, with which it may be opened, or by which number it is refused, that of too many
-    /// changes among them. Not now while another change is open. It changes nothing.
+    /// How many cells a change has to set once it is opened, or by which number it is refused, that of too many changes among
+    /// them. Not now while another change is open. It changes nothing.
     pub fn test(&mut self, change: &Change<'_>) -> Result<Result<usize, Errno>, StepFault>
         ensures same { self.new ≡ self.old }
         ensures ok { IfOk result (IsTested self.old.0 self.old.1 change.now) }
         ensures not_now { IfErr result (λ fault. fault ≡ StepFault.NotNow → self.old.1.pending ≢ None) }
     {
+        change_has_one_plan();
         match self.planned(change)? {
             Ok(plan) => Ok(Ok(plan.len())),
             Err(errno) => Ok(Err(errno)),

@@ -60,7 +60,7 @@ empty_seen capacity after may may' d stop same end fewer known none w (row, h, e
 pub room_seen : (capacity after : ℕ) (may : List ℕ → Type 0) (s : ℕ) → after ≡ capacity → TellsFree capacity may (Some s) → (w : World) → SeesBy after may w → has_room after w.tree ≡ true
 room_seen capacity after may s same tells w (row, h, enc) =
     let e = subst (λ (z : ℕ). EncodesWorld z row w) same enc in
-    ap (λ (z : ℕ). has_room z w.tree) same ∙ lt-ltb _ _ (room_free (capacity + 1) (slot_at row) w.tree e.tree.slots capacity s refl w.sound.distinct (tells row h))
+    ap (λ (z : ℕ). has_room z w.tree) same ∙ lt-ltb _ _ (room_free (capacity + 1) (slot_at row) w.tree e.tree.slots capacity s refl w.sound.distinct (tells row h).free)
 
 pub no_room_seen : (capacity after : ℕ) (may : List ℕ → Type 0) → after ≡ capacity → TellsFree capacity may None → (w : World) → SeesBy after may w → has_room after w.tree ≡ false
 no_room_seen capacity after may same tells w (row, h, enc) =

@@ -24,7 +24,7 @@ after_all row (x ∷ xs) k others =
     after_all (slice_set row x.place x.word) xs k (λ i d l. others (suc i) d (omega arith)) ∙ get_or-set_other row x.place k x.word 0 (λ e. others 0 x (omega arith) (sym e))
 
 -- what a cell sets stands there afterwards
-set_by : (row : List ℕ) (plan : List Cell) → All (λ (cell : Cell). cell.place < length row) plan → AllPairs (λ (cell later : Cell). cell.place ≢ later.place) plan
+pub set_by : (row : List ℕ) (plan : List Cell) → All (λ (cell : Cell). cell.place < length row) plan → AllPairs (λ (cell later : Cell). cell.place ≢ later.place) plan
     → (i : ℕ) (d : Cell) → i < length plan → slice_index (write row plan) (slice_index_or plan i d).place ≡ (slice_index_or plan i d).word
 set_by row [] within once i d l = absurd (omega arith)
 set_by row (x ∷ xs) within once zero d l =

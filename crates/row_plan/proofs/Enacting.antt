@@ -23,7 +23,8 @@ use Rattle.change_checks.specs.Act.{kind_of_new, FitsNode}
 use Rattle.row_look.specs.declared.look.RowEntry.{RowEntry}
 use Rattle.row_rule.specs.declared.cell.Cell.{Cell}
 use Rattle.row_rule.specs.Row.{write}
-use Rattle.row_plan.specs.inner.Rows.{SetsSlot, FreesSlot, MovesSlot, moved_slot, text_in, new_slot}
+use Rattle.row_plan.specs.Leaves.{text_in, new_slot}
+use Rattle.row_plan.specs.inner.Rows.{SetsSlot, FreesSlot, MovesSlot, moved_slot}
 use Rattle.row_plan.proofs.Settling.{other_stays}
 use Rattle.row_plan.proofs.Making.{same_entry}
 use Rattle.row_plan.proofs.Encoding.{in_range_all, encodes_filled, encodes_freed, encodes_moved}
@@ -63,20 +64,20 @@ module _ (capacity : ℕ) (row : List ℕ) (w : World) (enc : EncodesWorld capac
   pub node_is : (d : ℕ) → node_at (w.named d) ≡ (f d).node
   node_is d = ap node_at (enc.named d) ∙ node_of slots f t enc.tree.slots d
 
-  directory_slot : (d : ℕ) → d < slots → shape_of (kind_at (w.named d)) ≡ kind.Directory → IsDirectorySlot slots f d
+  pub directory_slot : (d : ℕ) → d < slots → shape_of (kind_at (w.named d)) ≡ kind.Directory → IsDirectorySlot slots f d
   directory_slot d within h = spot_directory slots f t d enc.tree.slots within (ap (λ (s : Spot). shape_of (kind_at s)) (sym (enc.named d)) ∙ h)
 
   -- an entry that stands somewhere is not the root
   child_past : (d r : ℕ) (c : List ℕ) → child_of t (w.named d) c ≡ Some (w.named r) → r ≢ 0
   child_past d r c is e = not_root (find t.entries (node_at (w.named d)) c) (is ∙ ap (λ (z : ℕ). Some (w.named z)) e ∙ ap Some (enc.named 0))
 
-  child_used : (d r : ℕ) (c : List ℕ) → r < slots → (f r).kind ≢ 0 → child_of t (w.named d) c ≡ Some (w.named r) → IsUsed slots f r
+  pub child_used : (d r : ℕ) (c : List ℕ) → r < slots → (f r).kind ≢ 0 → child_of t (w.named d) c ≡ Some (w.named r) → IsUsed slots f r
   child_used d r c within filled is = let past = child_past d r c is in record { past_root = omega arith; within = within; used = filled }
 
-  held : (r : ℕ) → IsUsed slots f r → w.named r ≡ Held (entry_at f r)
+  pub held : (r : ℕ) → IsUsed slots f r → w.named r ≡ Held (entry_at f r)
   held r used = enc.named r ∙ held_spot f r used.past_root
 
-  child_found : (d r : ℕ) (c : List ℕ) → IsUsed slots f r → child_of t (w.named d) c ≡ Some (w.named r) → find t.entries (node_at (w.named d)) c ≡ Some (entry_at f r)
+  pub child_found : (d r : ℕ) (c : List ℕ) → IsUsed slots f r → child_of t (w.named d) c ≡ Some (w.named r) → find t.entries (node_at (w.named d)) c ≡ Some (entry_at f r)
   child_found d r c used is = some_held (find t.entries (node_at (w.named d)) c) (entry_at f r) (is ∙ ap Some (held r used))
 
   -- a directory that has no entry is no slot's

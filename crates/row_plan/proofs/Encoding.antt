@@ -8,7 +8,8 @@ use Rattle.directory_tree.specs.Tree.{Tree, find}
 use Rattle.directory_tree.specs.Apply.{entry, with_entry, dropped, placed, max_text}
 use Rattle.tree_row.specs.Slots.{Slot, slot_at, entry_at, IsUsed, IsFree, IsDirectorySlot}
 use Rattle.tree_row.specs.Rows.{EncodesSlots, Encodes}
-use Rattle.row_plan.specs.inner.Rows.{KeepsOthers, SetsSlot, FreesSlot, moved_slot, text_in, new_slot}
+use Rattle.row_plan.specs.Leaves.{text_in, new_slot}
+use Rattle.row_plan.specs.inner.Rows.{KeepsOthers, SetsSlot, FreesSlot, moved_slot}
 use Rattle.row_plan.proofs.Settling.{other_stays, other_kind}
 use Rattle.row_plan.proofs.Making.{made}
 use Rattle.row_plan.proofs.Removing.{removed}

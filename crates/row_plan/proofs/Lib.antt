@@ -9,3 +9,6 @@ pub mod Encoding
 pub mod Enacting
 pub mod Numbering
 pub mod Outcomes
+pub mod Lengths
+pub mod Losing
+pub mod OneAct

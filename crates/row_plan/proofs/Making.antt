@@ -12,7 +12,7 @@ use Rattle.directory_tree.proofs.Basics.{some_inj, none_is_some}
 use Rattle.directory_tree.proofs.Found.{find-append_old, find-append_new, is_at-same}
 use Rattle.tree_row.specs.Slots.{Slot, kind_from, entry_in, entry_at, IsUsed, IsDirectorySlot, IsInRange, IsRootSlot}
 use Rattle.tree_row.specs.Rows.{EncodesSlots}
-use Rattle.row_plan.specs.inner.Rows.{code_of, text_in, new_slot}
+use Rattle.row_plan.specs.Leaves.{code_of, text_in, new_slot}
 
 kind_back : (k : NodeKind) → kind_from (code_of k) (text_in k) ≡ k
 kind_back Directory = refl

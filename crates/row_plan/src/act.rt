@@ -6,9 +6,10 @@ ghost use Rattle.directory_tree.specs.Apply.{has_room};
 ghost use Rattle.path_lookup.specs.World.{World};
 ghost use Rattle.change_checks.specs.Act.{kind_of_new, Fits, FitsNode};
 ghost use Rattle.change_checks.specs.declared.act.Act.TheVariants as act;
-ghost use Rattle.tree_row.specs.Slots.{slot_at, IsFree};
+ghost use Rattle.tree_row.specs.Slots.{slot_at};
+ghost use Rattle.tree_row.specs.Questions.{IsFirstFree};
 ghost use Rattle.tree_row.specs.Worlds.{EncodesWorld};
-ghost use Rattle.row_plan.specs.inner.Rows.{code_of, text_in};
+ghost use Rattle.row_plan.specs.Leaves.{code_of, text_in};
 ghost use Rattle.row_plan.specs.inner.Acts.{IsTreeRead, NamesSlots, PassedTests, PlansAct};
 
 use crate::slot::{NewEntry, clear_slot, fill_slot, move_slot};
@@ -66,11 +67,11 @@ fn link_text<'a>(node: &NewNode<'a>) -> &'a [u8]
     }
 }
 
-// A free slot, where the tree has room for one more entry.
+// The first free slot, where the tree has room for one more entry.
 fn vacant_slot<C: Cells>(cells: &mut C) -> usize
     requires { (row : List ℕ) × (w : World) × C.whole (C.kept cells.old) row × EncodesWorld (C.capacity_of (C.kept cells.old)) row w × (has_room (C.capacity_of (C.kept cells.old)) w.tree ≡ true) }
     ensures kept { C.kept cells.new ≡ C.kept cells.old }
-    ensures free { (row : List ℕ) → C.whole (C.kept cells.old) row → IsFree (C.capacity_of (C.kept cells.old) + 1) (slot_at row) result }
+    ensures free { (row : List ℕ) → C.whole (C.kept cells.old) row → IsFirstFree (C.capacity_of (C.kept cells.old) + 1) (slot_at row) result }
 {
     slots_are_counted();
     let Ok(found) = free_slot(cells) else {

@@ -1,7 +1,8 @@
 //! A plan as it is made: the cells that are to be set, without those whose word stands there already.
 ghost use Rattle.std.specs.Prelude.{◌≡◌, ◌<◌, ◌≤◌, ◌+◌, ◌/◌, ℕ, List, OnOk, length, slice_index, slice_set};
 ghost use Rattle.tree_row.specs.Rows.{row_length};
-ghost use Rattle.row_plan.specs.inner.Rows.{Drafts, SameFrom, IsRead, with_words, with_text, IsPacked};
+ghost use Rattle.row_plan.specs.Leaves.{with_words, with_text};
+ghost use Rattle.row_plan.specs.inner.Rows.{Drafts, SameFrom, IsRead, IsPacked};
 
 use crate::pack::packed_word;
 use names::NoMemory;

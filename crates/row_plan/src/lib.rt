@@ -1,15 +1,21 @@
 //! What a change of the directory tree sets in a row of words: the cells after which the row encodes the tree with the
 //! change made.
 //!
-//! To be believed are about 60 lines of definitions in `specs/`; those in `specs/inner/` are of private contracts and proofs.
+//! To be believed are about 85 lines of definitions in `specs/Plan.antt` and `specs/Changes.antt`. Those in `specs/Leaves.antt` say
+//! word for word which row a change leaves; what they are for is the law `change_has_one_plan`. Those in `specs/inner/` are of
+//! private contracts and proofs.
 #![tactic(auto)]
 
 mod act;
 mod draft;
+mod laws;
 mod memory;
 mod pack;
 mod planning;
 mod slot;
+mod tree_rows;
 
+pub use laws::change_has_one_plan;
 pub use memory::{change_row, set_cells};
 pub use planning::{next_after, plan};
+pub use tree_rows::TreeRow;

@@ -4,7 +4,7 @@ use Rattle.directory_tree.specs.declared.change.Change.{Change}
 use Rattle.justification.specs.declared.answer.Answer.{Answer}
 use Rattle.row_rule.specs.declared.cell.Cell.{Cell}
 use Rattle.row_rule.specs.declared.view.Pending.{Pending}
-use Rattle.row_rule.specs.Steps.{one_fewer, opening, setting, closing}
+use Rattle.row_rule.specs.Steps.{one_fewer, setting, closing}
 use Rattle.event_core.specs.Machine.{Event, Machine, with_keeper}
 use Rattle.event_core.specs.Machine.Event.{read_cell, open_change, set_cell, close_change}
 use Rattle.event_core.specs.Takes.{Takes}
@@ -60,7 +60,12 @@ may_close m opened none = by m.keeper.pending refl opened
 
 -- a change that was tested may be opened, and is open then
 pub may_open : (m : Machine) (change : Change) (count : ℕ) → IsTested m change (Ok count) → IsLawful m (open_change change)
-may_open m change count (plan, rests, lean, encodes, long) = (None, with_keeper m (opening m.keeper change plan), (plan, rests, lean, encodes, refl))
+may_open m change count (lawful, long) = lawful
+
+-- no answer comes of it
+pub opens_silently : (old mid new : Machine) (change : Change) (told : Option Answer) → mid ≡ old → Takes mid (open_change change) told new → Takes old (open_change change) None new
+opens_silently old mid new change None same takes = subst (λ (m : Machine). Takes m (open_change change) None new) same takes
+opens_silently old mid new change (Some answer) same (s, which, answers) = absurd (cc which)
 
 pub is_open : (m n : Machine) (change : Change) → Takes m (open_change change) None n → is_some n.keeper.pending ≡ true
 is_open m n change (plan, rests, lean, encodes, is) = ap (λ (z : Machine). is_some z.keeper.pending) is

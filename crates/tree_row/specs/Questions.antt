@@ -1,5 +1,5 @@
 -- What the answers to questions about single slots tell, in each row that may be the one that is read.
-use Rattle.std.specs.Prelude.{◌≡◌, ℕ, ◌+◌, Bool, true, false, List, Option, Some, None}
+use Rattle.std.specs.Prelude.{◌≡◌, ℕ, ◌+◌, ◌≤◌, Bool, true, false, List, Option, Some, None}
 use Rattle.path_lookup.specs.World.{World}
 use Rattle.tree_row.specs.Slots.{Slot, slot_at, IsUsed, IsFree, IsChildSlot}
 use Rattle.tree_row.specs.Worlds.{EncodesWorld}
@@ -22,10 +22,15 @@ abbrev pub TellsChild : ℕ → (List ℕ → Type 0) → ℕ → List ℕ → �
 TellsChild capacity may directory component s is =
     (row : List ℕ) (w : World) → may row → EncodesWorld capacity row w → Tells is (IsChildSlot (capacity + 1) (slot_at row) directory component s)
 
--- a free slot, or that none is
+-- the first of the free slots
+pub record IsFirstFree (n : ℕ) (f : ℕ → Slot) (s : ℕ) : Type 0 where
+  pub free : IsFree n f s
+  pub first : (r : ℕ) → IsFree n f r → s ≤ r
+
+-- the first free slot, or that none is
 abbrev pub FreeIn : ℕ → (ℕ → Slot) → Option ℕ → Type 0
 FreeIn n f None = (s : ℕ) → ¬ (IsFree n f s)
-FreeIn n f (Some s) = IsFree n f s
+FreeIn n f (Some s) = IsFirstFree n f s
 
 abbrev pub TellsFree : ℕ → (List ℕ → Type 0) → Option ℕ → Type 0
 TellsFree capacity may found = (row : List ℕ) → may row → FreeIn (capacity + 1) (slot_at row) found

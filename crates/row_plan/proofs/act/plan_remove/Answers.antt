@@ -1,6 +1,7 @@
-use Rattle.std.proofs.Common.{ℕ, subst}
+use Rattle.std.proofs.Common.{◌∙◌, ℕ, ap, subst}
 use Rattle.std.proofs.lemmas.Result.{IfOk-weaker}
 use Rattle.row_rule.specs.Row.{write}
+use Rattle.row_plan.specs.Leaves.{without_slot}
 use Rattle.row_plan.specs.inner.Rows.{FreesSlot}
 use Rattle.row_plan.proofs.Enacting.{enacts_removal}
 use Rattle.row_plan.proofs.act.plan_remove.Goals as goal
@@ -13,5 +14,5 @@ returns-clause-ok g c = IfOk-weaker c.clear_slot.result _ _ (λ plan clears next
     let known = c.requires.slots.1 in
     let cleared = clears row whole enc.tree.long in
     let frees : FreesSlot row r (write row plan.items) = subst (λ (z : ℕ). FreesSlot row z (write row plan.items)) c.slot.ensures cleared.1 in
-    (cleared.0, enacts_removal capacity row w enc c.args.place.now.directory.slot r c.args.place.now.component.now (write row plan.items) known.within (known.filled row w whole enc) tested.there tested.empty frees)
+    (cleared.0, enacts_removal capacity row w enc c.args.place.now.directory.slot r c.args.place.now.component.now (write row plan.items) known.within (known.filled row w whole enc) tested.there tested.empty frees, cleared.2 ∙ ap (without_slot row) c.slot.ensures)
     ) c.clear_slot.ensures.ok

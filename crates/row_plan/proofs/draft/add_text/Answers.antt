@@ -1,7 +1,8 @@
 use Rattle.std.proofs.Common.{◌≡◌, ℕ, ◌+◌, ◌/◌, ◌<◌, ◌∙◌, length, sym, subst, arith}
 use mathlib.Core.Logic.{inr}
 use Rattle.std.specs.Prelude.{slice_set}
-use Rattle.row_plan.specs.inner.Rows.{Drafts, packed, with_words}
+use Rattle.row_plan.specs.Leaves.{packed, with_words}
+use Rattle.row_plan.specs.inner.Rows.{Drafts}
 use Rattle.row_plan.proofs.Packing.{packs}
 use Rattle.row_plan.proofs.Filling.{outside, drafts_more}
 use Rattle.row_plan.proofs.draft.add_text.Goals as goal

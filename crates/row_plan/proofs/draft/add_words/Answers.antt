@@ -1,7 +1,8 @@
 use Rattle.std.proofs.Common.{◌≡◌, ℕ, ◌+◌, ◌<◌, ◌∙◌, length, sym, subst, arith}
 use mathlib.Core.Logic.{inr}
 use Rattle.std.specs.Prelude.{slice_index}
-use Rattle.row_plan.specs.inner.Rows.{Drafts, with_words}
+use Rattle.row_plan.specs.Leaves.{with_words}
+use Rattle.row_plan.specs.inner.Rows.{Drafts}
 use Rattle.row_plan.proofs.Filling.{outside, drafts_more}
 use Rattle.row_plan.proofs.draft.add_words.Goals as goal
 

@@ -1,0 +1,70 @@
+-- The row that an act leaves, word for word. What it means is what the row then encodes; that nothing of it is free makes a
+-- change have one plan.
+use Rattle.std.specs.Prelude.{◌≡◌, ℕ, zero, suc, ◌+◌, ◌*◌, ◌/◌, List, [], ◌∷◌, length, slice_index, slice_set, Option, Some, None}
+use Rattle.std.specs.Option.{option_map}
+use Rattle.std.specs.Int.{from_le_bytes, w64}
+use Rattle.directory_tree.specs.declared.node.NodeKind.{NodeKind}
+use Rattle.directory_tree.specs.declared.node.NodeKind.TheVariants.{Directory, File, Link}
+use Rattle.change_checks.specs.declared.act.Act.{Act}
+use Rattle.change_checks.specs.declared.act.Act.TheVariants as act
+use Rattle.change_checks.specs.Act.{kind_of_new}
+use Rattle.tree_row.specs.Slots.{Slot, slot_at}
+use Rattle.tree_row.specs.Questions.{IsFirstFree}
+use Rattle.row_look.specs.declared.look.RowEntry.{RowEntry}
+
+-- the row with so many words set from a place on
+abbrev pub with_words : List ℕ → ℕ → (ℕ → ℕ) → ℕ → List ℕ
+with_words row base word zero = row
+with_words row base word (suc n) = slice_set (with_words row base word n) (base + n) (word n)
+
+-- eight bytes of a text as a word, and zeros past its end
+unfoldable pub packed : List ℕ → ℕ → ℕ
+packed text k = from_le_bytes w64 (slice_index text (8 * k) ∷ slice_index text (8 * k + 1) ∷ slice_index text (8 * k + 2) ∷ slice_index text (8 * k + 3)
+    ∷ slice_index text (8 * k + 4) ∷ slice_index text (8 * k + 5) ∷ slice_index text (8 * k + 6) ∷ slice_index text (8 * k + 7) ∷ [])
+
+abbrev pub with_text : List ℕ → ℕ → List ℕ → List ℕ
+with_text row base text = with_words row base (packed text) ((length text + 7) / 8)
+
+-- the row with a slot's cells set: the numbers, the component and the text
+abbrev pub with_slot : List ℕ → ℕ → Slot → List ℕ
+with_slot row s own =
+    with_text (with_text (with_words row (164 * s) (slice_index (own.kind ∷ own.node ∷ own.parent ∷ (length own.component + 65536 * length own.text) ∷ [])) 4) (164 * s + 4) own.component) (164 * s + 36) own.text
+
+-- with a slot, or any that is given, freed
+abbrev pub without_slot : List ℕ → ℕ → List ℕ
+without_slot row s = with_words row (164 * s) (slice_index (0 ∷ [])) 1
+
+abbrev pub without_any : List ℕ → Option ℕ → List ℕ
+without_any row None = row
+without_any row (Some s) = without_slot row s
+
+-- with the entry of a slot at another place: the slot of its directory, the length of its component, and that
+abbrev pub with_place : List ℕ → ℕ → ℕ → List ℕ → List ℕ
+with_place row s parent name =
+    with_text (with_words row (164 * s + 2) (slice_index (parent ∷ (length name + 65536 * (slice_index row (164 * s + 3) / 65536)) ∷ [])) 2) (164 * s + 4) name
+
+-- the number by which a slot tells its kind, and the text that it has
+abbrev pub code_of : NodeKind → ℕ
+code_of Directory = 1
+code_of File = 2
+code_of (Link text) = 3
+
+abbrev pub text_in : NodeKind → List ℕ
+text_in Directory = []
+text_in File = []
+text_in (Link text) = text
+
+abbrev pub new_slot : NodeKind → ℕ → ℕ → List ℕ → Slot
+new_slot kind node parent component = record { kind = code_of kind; node = node; parent = parent; component = component; text = text_in kind }
+
+-- A new entry comes to the first free slot; one that goes frees its slot; and one that moves keeps its slot, once that of the entry
+-- which it replaces is free.
+abbrev pub Leaves : ℕ → List ℕ → ℕ → Act RowEntry → List ℕ → Type 0
+Leaves capacity row next (act.Make place node) after = (s : ℕ) × IsFirstFree (capacity + 1) (slot_at row) s
+    × (after ≡ with_slot row s (new_slot (kind_of_new node) next place.directory.slot place.component.now))
+Leaves capacity row next (act.Link file place) after = (s : ℕ) × IsFirstFree (capacity + 1) (slot_at row) s
+    × (after ≡ with_slot row s (new_slot File (slot_at row file.slot).node place.directory.slot place.component.now))
+Leaves capacity row next (act.Remove place e) after = after ≡ without_slot row e.slot
+Leaves capacity row next (act.Move m) after =
+    after ≡ with_place (without_any row (option_map (λ (e : RowEntry). e.slot) m.replaced)) m.entry.slot m.to.directory.slot m.to.component.now
+Leaves capacity row next act.Nothing after = after ≡ row
