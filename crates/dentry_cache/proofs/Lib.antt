@@ -1,2 +1,4 @@
 pub mod RowSteps
 pub mod Setting
+pub mod Keeping
+pub mod First

@@ -1,5 +1,5 @@
 -- What contracts see of a keeper, a walker and an attempt, and what a keeper's calls come to.
-use Rattle.std.specs.Prelude.{◌≡◌, ◌⊎◌, ℕ, ◌*◌, List, [], ◌∷◌, ◌++◌, length, Ok, Err, IsOk}
+use Rattle.std.specs.Prelude.{◌≡◌, ◌⊎◌, ℕ, ◌*◌, ◌≤◌, List, [], ◌∷◌, ◌++◌, length, drop, Some, Ok, Err, IsOk}
 use Rattle.atomic_table.specs.Seated.{TableId}
 use Rattle.names.specs.declared.errors.Errno.{Errno}
 use Rattle.names.specs.declared.errors.Errno.TheVariants.{ENOMEM}
@@ -9,6 +9,8 @@ use Rattle.directory_tree.specs.Apply.{tree_after}
 use Rattle.path_lookup.specs.World.{World}
 use Rattle.tree_row.specs.Worlds.{SeesBy}
 use Rattle.row_rule.specs.declared.cell.Cell.{Cell}
+use Rattle.row_rule.specs.declared.view.KeeperView.{KeeperView}
+use Rattle.row_rule.specs.declared.view.Pending.{Pending}
 use Rattle.row_rule.specs.declared.view.WalkerView.{WalkerView}
 use Rattle.row_rule.specs.Row.{write}
 use Rattle.row_plan.specs.Changes.{EncodesChanges, IsPlan}
@@ -44,6 +46,22 @@ pub record Makes (old : Held) (change : Change) (new : Held) : Type 0 where
   pub planned : IsPlan old.capacity old.cells old.history change plan
   pub cells : new.cells ≡ write old.cells plan
   pub encodes : EncodesChanges old.capacity new.cells new.history
+
+-- a keeper that stopped in the middle of a change
+pub record Stopped : Type 0 where
+  pub table : TableId
+  pub capacity : ℕ
+  pub view : KeeperView
+
+-- The change is open. The first cells of its plan are set, so many or all, and the rest is left.
+pub record IsStopped (old : Held) (change : Change) (set : ℕ) (new : Stopped) : Type 0 where
+  pub table : new.table ≡ old.table
+  pub capacity : new.capacity ≡ old.capacity
+  pub history : new.view.history ≡ old.history
+  pub plan : List Cell
+  pub planned : IsPlan old.capacity old.cells old.history change plan
+  pub opened : new.view.pending ≡ Some record { change = change; left = drop set plan }
+  pub cells : write new.view.cells (drop set plan) ≡ write old.cells plan
 
 -- what the definition makes of the change behind the history
 abbrev pub Accepts : Held → Change → Type 0

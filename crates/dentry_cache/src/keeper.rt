@@ -1,49 +1,43 @@
 //! The one who changes the row.
-ghost use Rattle.std.specs.Prelude.{◌≡◌, ◌<◌, ◌≤◌, [], length, slice_index, IfOk};
+ghost use Rattle.std.specs.Prelude.{◌≡◌, ◌≤◌, [], length, IfOk, OnOk, IfErr};
 ghost use mathlib.Core.List.{IsPrefix};
-ghost use Rattle.tree_row.specs.Rows.{row_length};
 ghost use Rattle.tree_row.specs.OpeningRow.{opening_row};
 ghost use Rattle.row_rule.specs.Steps.{newcomer};
-ghost use Rattle.dentry_cache.specs.Models.{met_at};
+ghost use Rattle.dentry_cache.specs.Models.{Makes, IsStopped, Accepts, Refuses, Hinders, SeesHistory, met_at};
+ghost use Rattle.dentry_cache.specs.inner.Knowing.{IsPlanned};
 
-use crate::rule::{RowSeat, RowTable};
-use crate::steps;
+use crate::kept_row::KeptRow;
+use crate::refusal::NoSeat;
+use crate::stopped::StoppedKeeper;
 use crate::walker::Walker;
-use atomic_table::Table;
-use names::NoMemory;
+use change_checks::check_change;
+use directory_tree::Change;
+use names::{Errno, NoMemory};
+use path_lookup::WalkFault;
+use row_look::RowLook;
+use row_plan::plan;
+use row_rule::Cell;
 use std::alloc::Global;
 use std::marker::Model;
-use std::sync::Arc;
-use tree_row::{MOST_ENTRIES, SLOT_LENGTH};
+use tree_row::{Cells, MOST_ENTRIES};
+
+/// What the row tells of the tree, by the keeper's own reads.
+pub type KeeperLook = RowLook<KeptRow>;
 
 /// It alone may change the row. It is seen as its table, the row's capacity, the changes that were made, and the cells.
 #[derive(Drop)]
 pub struct Keeper {
-    pub(crate) alloc: Global,
-    pub(crate) table: Arc<RowTable>,
-    pub(crate) seat: RowSeat,
-    pub(crate) capacity: usize,
-    // The number of the next node.
-    pub(crate) next: u64,
-    // How many changes were made.
-    pub(crate) version: u64,
+    alloc: Global,
+    look: KeeperLook,
 }
 
 impl Model for Keeper {
-    ghost use Rattle.std.specs.Arc.{arc_value};
     ghost use Rattle.dentry_cache.specs.Models.{Held};
-    ghost use Rattle.dentry_cache.specs.inner.Knowing.{held, KeeperKnows};
 
     ghost Value = { Held };
 
-    ghost view = { λ k. held k.seat k.capacity };
-
-    ghost invariant = { λ k. KeeperKnows (arc_value k.table).shared.table_id (arc_value k.table).shared.key k.seat k.capacity k.next k.version };
+    ghost view = { λ k. k.look.cells };
 }
-
-/// No more walkers can share the row.
-#[derive(Clone, Copy, Debug, PartialEq, Eq)]
-pub struct NoSeat;
 
 impl Keeper {
     /// The row of the root alone, with room for so many entries. All memory of the row is taken here.
@@ -51,24 +45,9 @@ impl Keeper {
         requires { capacity ≤ MOST_ENTRIES }
         ensures { IfOk result (λ keeper. (keeper.capacity ≡ capacity) × (keeper.history ≡ []) × (keeper.cells ≡ opening_row capacity)) }
     {
-        let Ok(mut words) = vec![in alloc; 0u64; SLOT_LENGTH * (capacity + 1) + 1] else {
-            return Err(NoMemory);
-        };
-        words[1] = 1;
-        words[2] = 1;
-        let Ok((table, seat)) = Table::of_words(alloc, words.as_slice(), &(capacity as u64)) else {
-            return Err(NoMemory);
-        };
-        let Ok(table) = Arc::new(alloc, table) else {
-            return Err(NoMemory);
-        };
         Ok(Keeper {
             alloc,
-            table,
-            seat,
-            capacity,
-            next: 2,
-            version: 0,
+            look: RowLook::new(KeptRow::new(alloc, capacity)?),
         })
     }
 
@@ -76,7 +55,7 @@ impl Keeper {
     pub fn version(&self) -> u64
         ensures { result ≡ length self.now.history }
     {
-        self.version
+        self.look.cells.version()
     }
 
     /// The most entries, besides the root.
@@ -84,7 +63,58 @@ impl Keeper {
         ensures capacity { result ≡ self.now.capacity }
         ensures small { result ≤ MOST_ENTRIES }
     {
-        self.capacity
+        self.look.cells.capacity()
+    }
+
+    /// Makes a change, and answers how many were made then. Or by which number it is refused, and nothing was changed;
+    /// `ENOMEM` comes after all other refusals.
+    pub fn apply(&mut self, change: &Change<'_>) -> Result<u64, Errno>
+        ensures ok { IfOk result (λ version. Makes self.old change.now self.new × (version ≡ length self.new.history)) }
+        ensures same { IfErr result (λ _. self.new ≡ self.old) }
+        ensures err { IfErr result (Hinders self.old change.now) }
+    {
+        let plan = self.planned(change)?;
+        Ok(self.look.cells.make(change, &plan))
+    }
+
+    /// Opens a change, sets the first cells of its plan, so many or all, and stops there for good, as a keeper does whose thread
+    /// ends in the middle of a change. Whoever walks over the row from then on is beside that change.
+    pub fn stop_amid(mut self, change: &Change<'_>, cells: usize) -> Result<StoppedKeeper, Errno>
+        ensures ok { IfOk result (IsStopped self change.now cells) }
+        ensures err { IfErr result (Hinders self change.now) }
+    {
+        let plan = self.planned(change)?;
+        Ok(self.look.into_cells().stop_amid(change, &plan, cells))
+    }
+
+    /// Whether a change would be made now, or by which number it would be refused. It changes nothing, and takes no memory.
+    pub fn test(&mut self, change: &Change<'_>) -> Result<(), Errno>
+        ensures same { self.new ≡ self.old }
+        ensures ok { OnOk result (Accepts self.old change.now) }
+        ensures err { IfErr result (Refuses self.old change.now) }
+    {
+        self.look.cells.next()?;
+        match check_change(&mut self.look, change) {
+            Ok(_) => Ok(()),
+            Err(fault) => match fault {
+                WalkFault::Refused(errno) => Err(errno),
+                // The keeper's own row always encodes a tree, and all of it is known.
+                WalkFault::Torn => unreachable!(),
+            },
+        }
+    }
+
+    // The cells of a change, or by which number it is refused.
+    fn planned(&mut self, change: &Change<'_>) -> Result<Vec<Cell>, Errno>
+        ensures same { self.new ≡ self.old }
+        ensures ok { IfOk result (λ plan. IsPlanned self.old change.now plan.items) }
+        ensures err { IfErr result (Hinders self.old change.now) }
+    {
+        let next = self.look.cells.next()?;
+        match plan(self.alloc, &mut self.look, next, change) {
+            Ok(plan) => Ok(plan),
+            Err(errno) => Err(errno),
+        }
     }
 
     /// A new walker, which has seen nothing and may go to another thread.
@@ -92,13 +122,7 @@ impl Keeper {
         ensures same { self.new ≡ self.old }
         ensures walker { IfOk result (λ walker. (walker.table ≡ self.old.table) × (walker.capacity ≡ self.old.capacity) × (walker.view ≡ newcomer)) }
     {
-        match Arc::try_clone(&self.table) {
-            Ok(table) => {
-                let seat = steps::enter(&table);
-                Ok(Walker::of(table, seat, self.capacity))
-            }
-            Err(_) => Err(NoSeat),
-        }
+        self.look.cells.walker()
     }
 
     /// A walker of this row meets the keeper: the changes that it had seen were the first ones of the history, and now it has
@@ -109,18 +133,16 @@ impl Keeper {
         ensures began { IsPrefix walker.old.view.seen self.old.history }
         ensures seen { walker.new.view ≡ met_at self.old.history }
     {
-        let lent = steps::lend(&self.table, &mut self.seat);
-        let own = walker.replace_seat(lent);
-        steps::take_in(&self.table, &mut self.seat, own);
-        steps::learn(&self.table, &mut self.seat);
+        self.look.cells.meet(walker);
     }
 
-    // The word at a place of the row.
-    pub(crate) fn word(&mut self, place: usize) -> u64
-        requires { place < row_length self.old.capacity }
-        ensures same { self.new ≡ self.old }
-        ensures word { result ≡ slice_index self.old.cells place }
+    /// A look at the row as it stands, which sees the tree that the history comes to, and no other. Once it ends, the keeper is
+    /// what the look left: as it was before, where it was only looked at.
+    pub fn look(&mut self) -> &mut KeeperLook
+        ensures cells { result.now.cells ≡ self.old }
+        ensures sees { SeesHistory self.old }
     {
-        steps::look_at(&self.table, &mut self.seat, place + 1)
+        self.look.cells.encodes_history();
+        &mut self.look
     }
 }

@@ -8,12 +8,16 @@
 
 mod changing;
 mod keeper;
-mod keeper_cells;
+mod kept_row;
+mod refusal;
 mod rule;
 mod steps;
+mod stopped;
 mod walker;
 
-pub use keeper::{Keeper, NoSeat};
-pub use keeper_cells::{KeeperCells, KeeperLook};
+pub use keeper::{Keeper, KeeperLook};
+pub use kept_row::KeptRow;
+pub use refusal::NoSeat;
 pub use row_rule::Busy;
+pub use stopped::StoppedKeeper;
 pub use walker::{Attempt, Walker};

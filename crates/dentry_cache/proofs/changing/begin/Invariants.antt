@@ -1,7 +1,7 @@
 use Rattle.std.proofs.Common.{◌≡◌, drop, Some}
 use Rattle.row_rule.specs.Row.{write}
 use Rattle.dentry_cache.specs.Seats.{keeper_of, IsKeeping}
-use Rattle.dentry_cache.proofs.changing.perform.Given as goal
+use Rattle.dentry_cache.proofs.changing.begin.Given as goal
 
 abbrev pub ghosts-open : goal.ghosts-open
 ghosts-open a = record { change = a.change.now; plan = a.plan.now }
