@@ -1,5 +1,5 @@
 -- The first words of a row, and what its keeper knows then.
-use Rattle.std.proofs.Common.{◌≡◌, ℕ, suc, ◌+◌, ◌*◌, ◌≤◌, List, [], ◌∷◌, length, set, replicate, sym, refl, ap, ◌∙◌, subst, arith}
+use Rattle.std.proofs.Common.{◌≡◌, ℕ, suc, ◌+◌, ◌≤◌, List, [], ◌∷◌, length, set, replicate, sym, refl, ap, ◌∙◌, subst, arith}
 use Rattle.atomic_table.specs.Seated.{TableId}
 use Rattle.directory_tree.specs.Tree.{root_alone}
 use Rattle.tree_row.specs.Rows.{row_length}
@@ -11,7 +11,7 @@ use Rattle.row_rule.proofs.Rule.{opening_kept}
 use Rattle.row_plan.specs.Changes.{EncodesChanges}
 use Rattle.dentry_cache.specs.Seats.{Mine, keeper_of, IsKeeping}
 use Rattle.dentry_cache.specs.Told.{first_view}
-use Rattle.dentry_cache.specs.inner.Knowing.{RowSeat, held, IsKept, KeeperKnows}
+use Rattle.dentry_cache.specs.inner.Knowing.{RowSeat, held, KeeperKnows}
 use Rattle.dentry_cache.proofs.Keeping.{kept_first}
 
 -- the count, which is 0, and the cells of the root alone

@@ -1,5 +1,5 @@
 -- What the parts of a keeper have in common, before and after a change.
-use Rattle.std.proofs.Common.{None, ◌≡◌, ◌≢◌, ℕ, ◌+◌, ◌*◌, ◌<◌, ◌≤◌, Bool, true, false, List, [], ◌∷◌, ◌++◌, length, sym, refl, ap, ◌∙◌, subst, arith, length-append}
+use Rattle.std.proofs.Common.{None, ◌≡◌, ◌≢◌, ℕ, ◌+◌, ◌<◌, ◌≤◌, Bool, true, false, List, [], ◌∷◌, ◌++◌, length, sym, refl, ap, ◌∙◌, subst, arith, length-append}
 use Rattle.std.proofs.lemmas.Bool.{lt-ltb, ltb-true}
 use Rattle.std.specs.List.{All}
 use Rattle.std.specs.Prelude.{Ok, Err, nat_lt, if◌then◌else◌, IsOk}
@@ -25,7 +25,7 @@ use Rattle.row_rule.specs.declared.cell.Cell.{Cell}
 use Rattle.row_rule.specs.Row.{write}
 use Rattle.row_plan.specs.Plan.{Plannable, Plans, next_after, outcome_in}
 use Rattle.row_plan.specs.Plan as plan_of
-use Rattle.row_plan.specs.Changes.{EncodesChanges, IsPlan}
+use Rattle.row_plan.specs.Changes.{IsPlan}
 use Rattle.dentry_cache.specs.Seats.{keeper_of, IsKeeping}
 use Rattle.dentry_cache.specs.Models.{Held, Accepts, Refuses, Hinders, SeesHistory}
 use Rattle.dentry_cache.specs.inner.Knowing.{RowSeat, held, IsKept, KeeperKnows, Countable, IsPlanned}

@@ -1,20 +1,18 @@
 -- Each kind of step is allowed at the table: the rule's laws, said of the table's states.
-use Rattle.std.proofs.Common.{◌≡◌, ◌≢◌, ℕ, ◌+◌, ◌*◌, ◌%◌, ◌<◌, List, [], ◌∷◌, ◌++◌, get_or, set, Some, None, sym, refl, ap, ◌∙◌, subst, arith}
+use Rattle.std.proofs.Common.{◌≡◌, ℕ, ◌+◌, ◌%◌, ◌<◌, List, [], ◌∷◌, ◌++◌, get_or, set, Some, None, sym, refl, ap, ◌∙◌, subst, arith}
 use lib.Seq.{set-get_or}
-use mathlib.Core.Option.{none, some}
-use mathlib.Core.List.{IsPrefix}
+use mathlib.Core.Option.{some}
 use lib.ListN.{get_elem?}
-use Rattle.atomic_table.specs.Table.{State, step, keeps, stepped, Allows, Enters, Splits, Joins}
+use Rattle.atomic_table.specs.Table.{State, keeps, Allows, Enters, Splits, Joins}
 use Rattle.directory_tree.specs.declared.change.Change.{Change}
 use Rattle.tree_row.specs.Rows.{row_length}
 use Rattle.row_rule.specs.declared.cell.Cell.{Cell}
-use Rattle.row_rule.specs.declared.view.Pending.{Pending}
 use Rattle.row_rule.specs.declared.view.KeeperView.{KeeperView}
 use Rattle.row_rule.specs.declared.view.WalkerView.{WalkerView}
 use Rattle.row_rule.specs.declared.view.View.{View}
 use Rattle.row_rule.specs.declared.view.View.TheVariants.{Keeps, Walks}
 use Rattle.row_rule.specs.Row.{write, count_of, KeptBy, Holds}
-use Rattle.row_rule.specs.Steps.{newcomer, beginning, reading, ending, opening, setting, closing, meeting, lent_by}
+use Rattle.row_rule.specs.Steps.{newcomer, beginning, reading, ending, opening, setting, closing, meeting}
 use Rattle.row_rule.proofs.Lists.{set_else, set_again}
 use Rattle.row_rule.proofs.Rule.{loaded}
 use Rattle.row_rule.proofs.WalkerSteps as walker

@@ -1,5 +1,5 @@
 -- What contracts see of a keeper, a walker and an attempt, and what a keeper's calls come to.
-use Rattle.std.specs.Prelude.{◌≡◌, ◌⊎◌, ℕ, ◌*◌, ◌≤◌, List, [], ◌∷◌, ◌++◌, length, drop, Some, Ok, Err, IsOk}
+use Rattle.std.specs.Prelude.{◌≡◌, ◌⊎◌, ℕ, ◌*◌, List, [], ◌∷◌, ◌++◌, length, drop, Some, Ok, Err, IsOk}
 use Rattle.atomic_table.specs.Seated.{TableId}
 use Rattle.names.specs.declared.errors.Errno.{Errno}
 use Rattle.names.specs.declared.errors.Errno.TheVariants.{ENOMEM}
@@ -10,7 +10,6 @@ use Rattle.path_lookup.specs.World.{World}
 use Rattle.tree_row.specs.Worlds.{SeesBy}
 use Rattle.row_rule.specs.declared.cell.Cell.{Cell}
 use Rattle.row_rule.specs.declared.view.KeeperView.{KeeperView}
-use Rattle.row_rule.specs.declared.view.Pending.{Pending}
 use Rattle.row_rule.specs.declared.view.WalkerView.{WalkerView}
 use Rattle.row_rule.specs.Row.{write}
 use Rattle.row_plan.specs.Changes.{EncodesChanges, IsPlan}

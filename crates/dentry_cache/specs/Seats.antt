@@ -1,5 +1,5 @@
 -- What a seat at the table of words knows: a view of the rule. No seat holds a slot.
-use Rattle.std.specs.Prelude.{◌≡◌, List, []}
+use Rattle.std.specs.Prelude.{◌≡◌, []}
 use Rattle.atomic_table.specs.Table.{Me}
 use Rattle.row_rule.specs.declared.view.KeeperView.{KeeperView}
 use Rattle.row_rule.specs.declared.view.WalkerView.{WalkerView}

@@ -6,8 +6,6 @@ use Rattle.directory_tree.specs.declared.change.Change.{Change}
 use Rattle.tree_row.specs.Rows.{row_length}
 use Rattle.tree_row.specs.OpeningRow.{opening_row}
 use Rattle.row_rule.specs.declared.cell.Cell.{Cell}
-use Rattle.row_rule.specs.declared.view.KeeperView.{KeeperView}
-use Rattle.row_rule.specs.declared.view.WalkerView.{WalkerView}
 use Rattle.row_rule.specs.declared.view.View.{View}
 use Rattle.row_rule.specs.declared.view.View.TheVariants.{Keeps, Walks}
 use Rattle.row_rule.specs.Row.{Holds, Agrees, count_of}

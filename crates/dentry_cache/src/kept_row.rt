@@ -108,25 +108,25 @@ impl KeptRow {
     }
 
     /// Begins a change, and stops there for good.
-    pub(crate) fn stop_amid(
-        mut self,
-        change: &Change<'_>,
-        plan: &[Cell],
-        cells: usize,
-    ) -> StoppedKeeper
+    pub(crate) fn stop_amid(self, change: &Change<'_>, plan: &[Cell], cells: usize) -> StoppedKeeper
         requires { IsPlanned self change.now plan.now }
         ensures { IsStopped self change.now cells result }
     {
-        let count = 2 * self.version;
-        let set = cells.min(plan.len());
-        begin(&self.table, &mut self.seat, count, change, plan, set);
         let KeptRow {
             table,
-            seat,
+            mut seat,
             capacity,
             next: _,
-            version: _,
+            version,
         } = self;
+        begin(
+            &table,
+            &mut seat,
+            2 * version,
+            change,
+            plan,
+            cells.min(plan.len()),
+        );
         StoppedKeeper::of(table, seat, capacity)
     }
 

@@ -1,4 +1,4 @@
-use Rattle.std.proofs.Common.{◌+◌, drop, Some, ap, ◌∙◌}
+use Rattle.std.proofs.Common.{◌+◌, drop, Some, ap, ◌∙◌, arith}
 use Rattle.row_rule.specs.declared.view.Pending.{Pending}
 use Rattle.dentry_cache.proofs.Setting.{pending_next}
 use Rattle.dentry_cache.proofs.changing.begin.Goals as goal
@@ -7,4 +7,4 @@ pub set_cell-requires-clause-next : goal.set_cell-requires-clause-next
 set_cell-requires-clause-next c =
     let plan = c.args.plan.now in
     let i = c.loop-i.i in
-    (c.args.change.now, drop (i + 1) plan, c.loop-i.invariant.pending ∙ ap (λ (p : Pending). Some p) (pending_next c.args.change.now plan i record { place = 0; word = 0 } c.loop-i-test.true))
+    (c.args.change.now, drop (i + 1) plan, c.loop-i.invariant.pending ∙ ap (λ (p : Pending). Some p) (pending_next c.args.change.now plan i record { place = 0; word = 0 } (omega (arith, c.loop-i-test.true, c.requires.fewer))))
