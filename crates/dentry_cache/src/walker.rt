@@ -142,11 +142,11 @@ impl Attempt {
     {
         let Attempt {
             table,
-            seat,
+            seat: left,
             capacity,
             began: _,
         } = self;
-        Walker::of(table, seat, capacity)
+        Walker::of(table, left, capacity)
     }
 }
 
