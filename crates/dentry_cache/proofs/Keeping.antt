@@ -1,5 +1,5 @@
 -- What the parts of a keeper have in common, before and after a change.
-use Rattle.std.proofs.Common.{None, ◌≡◌, ◌≢◌, ℕ, ◌+◌, ◌<◌, ◌≤◌, Bool, true, false, List, [], ◌∷◌, ◌++◌, length, sym, refl, ap, ◌∙◌, subst, arith, length-append}
+use Rattle.std.proofs.Common.{None, ◌≡◌, ◌≢◌, ℕ, ◌+◌, ◌<◌, ◌≤◌, Bool, true, false, List, [], ◌∷◌, ◌++◌, length, sym, refl, ap, ◌∙◌, subst, arith, length-append, ◌*◌}
 use Rattle.std.proofs.lemmas.Bool.{lt-ltb, ltb-true}
 use Rattle.std.specs.List.{All}
 use Rattle.std.specs.Prelude.{Ok, Err, nat_lt, if◌then◌else◌, IsOk}
@@ -22,7 +22,8 @@ use Rattle.tree_row.specs.OpeningRow.{opening_row}
 use Rattle.tree_row.proofs.Opening as opening_row_is
 use Rattle.tree_row.proofs.OneTree.{same_tree}
 use Rattle.row_rule.specs.declared.cell.Cell.{Cell}
-use Rattle.row_rule.specs.Row.{write}
+use Rattle.row_rule.specs.declared.view.KeeperView.{KeeperView}
+use Rattle.row_rule.specs.Row.{write, count_of, pending_count}
 use Rattle.row_plan.specs.Plan.{Plannable, Plans, next_after, outcome_in}
 use Rattle.row_plan.specs.Plan as plan_of
 use Rattle.row_plan.specs.Changes.{IsPlan}
@@ -86,12 +87,10 @@ full h next version k last change = too_many h.capacity h.history k.tree k.made 
 -- the tree is seen, and no other
 pub sees_history : (h : Held) (next version : ℕ) → IsKept h next version → SeesHistory h
 sees_history h next version k = record {
-  tree = λ t is. (
-    record { tree = t; named = spot_at (slot_at h.cells); sound = tree_after_well h.capacity h.history t is },
-    refl,
-    (h.cells, refl, record { tree = subst (Encodes h.capacity h.cells) (ok_inj k.tree t (sym k.made ∙ is)) k.encodes; named = λ s. refl }),
-  );
-  only = λ w (row, is, encodes). (k.tree, k.made, same_tree h.capacity h.cells k.tree w.tree k.encodes (subst (λ (r : List ℕ). Encodes h.capacity r w.tree) is encodes.tree));
+  world = record { tree = k.tree; named = spot_at (slot_at h.cells); sound = tree_after_well h.capacity h.history k.tree k.made };
+  made = k.made;
+  seen = (h.cells, refl, record { tree = k.encodes; named = λ s. refl });
+  only = λ w (row, is, encodes). same_tree h.capacity h.cells k.tree w.tree k.encodes (subst (λ (r : List ℕ). Encodes h.capacity r w.tree) is encodes.tree);
 }
 
 -- what was told of the tree that the cells encode, while changes are counted
@@ -164,3 +163,18 @@ knows_next table key seat capacity next version h change plan seat' next' knows 
       (kept_next h next version change plan (held seat' capacity) (kept_of table key seat capacity next version h knows is) planned
       (ap (λ (x : Held). x.capacity) is) (history ∙ ap (λ (x : Held). x.history ++ change ∷ []) is) (cells ∙ ap (λ (x : Held). write x.cells plan) is));
 }
+
+-- the count of a keeper at rest
+at_rest_count : (k : KeeperView) → k.pending ≡ None → count_of k ≡ 2 * length k.history
+at_rest_count k shut = let none = ap pending_count shut in omega (arith, none)
+
+pub count_of_version : (table : TableId) (key : ℕ) (seat : RowSeat) (capacity next version : ℕ) (h : Held) → KeeperKnows table key seat capacity next version → held seat capacity ≡ h → h.count ≡ 2 * version
+count_of_version table key seat capacity next version h knows is =
+    ap (λ (x : Held). x.count) (sym is) ∙ (at_rest_count (keeper_of seat.me.0) knows.shut ∙ ap (λ (n : ℕ). 2 * n) (sym knows.kept.version_is))
+
+pub count_next : (k k' : KeeperView) (change : Change) → k.pending ≡ None → k'.pending ≡ None → k'.history ≡ k.history ++ change ∷ [] → count_of k' ≡ count_of k + 2
+count_next k k' change shut shut' more =
+    let a = at_rest_count k shut in
+    let b = at_rest_count k' shut' in
+    let c = ap length more ∙ length-append k.history (change ∷ []) in
+    omega (arith, a, b, c)

@@ -19,6 +19,7 @@ use Rattle.row_rule.proofs.WalkerSteps as walker
 use Rattle.row_rule.proofs.KeeperSteps as keeper
 use Rattle.row_rule.proofs.Meetings as meeting_of
 use Rattle.row_plan.specs.Changes.{EncodesChanges}
+use Rattle.dentry_cache.proofs.Seeing.{sees_after}
 use Rattle.dentry_cache.specs.Seats.{Mine, walker_of, keeper_of, walking, keeping, IsWalking, IsKeeping}
 use Rattle.dentry_cache.specs.Told.{KeepsRule, HasEntered, HasBegun, HasRead, HasEnded, HasLooked, HasOpened, HasSet, HasClosed, lent_view, met_view, IsTold}
 
@@ -82,7 +83,7 @@ module _ (capacity : ℕ) where
           walker.sees_count Enc size k old id s.words s.views r here,
           λ found even.
               let t = walker.was_whole Enc size k old id s.words s.views r here found (ap (λ (z : ℕ). z % 2) (sym found) ∙ even) in
-              (t.0, (k.cells, t.1, t.2)),
+              (t.0, sees_after capacity old.reads k.history k.cells t.1 t.2),
         ),
       )
 

@@ -1,5 +1,5 @@
 -- What contracts see of a keeper, a walker and an attempt, and what a keeper's calls come to.
-use Rattle.std.specs.Prelude.{◌≡◌, ◌⊎◌, ℕ, ◌*◌, List, [], ◌∷◌, ◌++◌, length, drop, Some, Ok, Err, IsOk}
+use Rattle.std.specs.Prelude.{◌≡◌, ◌⊎◌, ℕ, ◌*◌, List, [], ◌∷◌, ◌++◌, length, drop, Some, Ok, Err, IsOk, ◌+◌, take}
 use Rattle.atomic_table.specs.Seated.{TableId}
 use Rattle.names.specs.declared.errors.Errno.{Errno}
 use Rattle.names.specs.declared.errors.Errno.TheVariants.{ENOMEM}
@@ -14,10 +14,11 @@ use Rattle.row_rule.specs.declared.view.WalkerView.{WalkerView}
 use Rattle.row_rule.specs.Row.{write}
 use Rattle.row_plan.specs.Changes.{EncodesChanges, IsPlan}
 
--- a keeper: which table it keeps, the changes that it has made, oldest first, and the cells as they stand
+-- a keeper: which table it keeps, the count, the changes that it has made, oldest first, and the cells as they stand
 pub record Held : Type 0 where
   pub table : TableId
   pub capacity : ℕ
+  pub count : ℕ
   pub history : List Change
   pub cells : List ℕ
 
@@ -36,10 +37,12 @@ unread a =
       view = record { seen = a.view.seen; count_reads = a.view.count_reads; noted = a.view.noted; last = a.view.last; reads = [] };
     }
 
--- the history is one change longer, and just the cells of a plan of the change are set; none of them stood so before
+-- the history is one change longer, the count two higher, and just the cells of a plan of the change are set, none of which stood
+-- so before
 pub record Makes (old : Held) (change : Change) (new : Held) : Type 0 where
   pub table : new.table ≡ old.table
   pub capacity : new.capacity ≡ old.capacity
+  pub count : new.count ≡ old.count + 2
   pub history : new.history ≡ old.history ++ change ∷ []
   pub plan : List Cell
   pub planned : IsPlan old.capacity old.cells old.history change plan
@@ -60,7 +63,8 @@ pub record IsStopped (old : Held) (change : Change) (set : ℕ) (new : Stopped) 
   pub plan : List Cell
   pub planned : IsPlan old.capacity old.cells old.history change plan
   pub opened : new.view.pending ≡ Some record { change = change; left = drop set plan }
-  pub cells : write new.view.cells (drop set plan) ≡ write old.cells plan
+  pub cells : new.view.cells ≡ write old.cells (take set plan)
+  pub encodes : EncodesChanges old.capacity (write old.cells plan) (old.history ++ change ∷ [])
 
 -- what the definition makes of the change behind the history
 abbrev pub Accepts : Held → Change → Type 0
@@ -76,10 +80,12 @@ Hinders h change errno = Refuses h change errno ⊎ ((errno ≡ ENOMEM) × Accep
 abbrev pub SameEntries : Tree → Tree → Type 0
 SameEntries t u = (d : ℕ) (c : List ℕ) → find t.entries d c ≡ find u.entries d c
 
--- a look at these cells sees the tree of the history, and none with other entries
+-- a look at these cells sees the tree that the history comes to, and none with other entries
 pub record SeesHistory (h : Held) : Type 0 where
-  pub tree : (t : Tree) → tree_after h.capacity h.history ≡ Ok t → (w : World) × (w.tree ≡ t) × SeesBy h.capacity (λ row. row ≡ h.cells) w
-  pub only : (w : World) → SeesBy h.capacity (λ row. row ≡ h.cells) w → (t : Tree) × (tree_after h.capacity h.history ≡ Ok t) × SameEntries t w.tree
+  pub world : World
+  pub made : tree_after h.capacity h.history ≡ Ok world.tree
+  pub seen : SeesBy h.capacity (λ row. row ≡ h.cells) world
+  pub only : (w : World) → SeesBy h.capacity (λ row. row ≡ h.cells) w → SameEntries world.tree w.tree
 
 -- a walker that has just met the keeper of this history
 abbrev pub met_at : List Change → WalkerView

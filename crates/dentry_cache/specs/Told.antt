@@ -1,9 +1,12 @@
 -- The rule of the table, and what each kind of step tells the seat that takes it.
-use Rattle.std.specs.Prelude.{◌≡◌, ℕ, ◌+◌, ◌%◌, List, [], ◌∷◌, slice_index}
+use Rattle.std.specs.Prelude.{◌≡◌, ℕ, ◌+◌, ◌%◌, List, [], ◌∷◌, slice_index, Ok}
 use mathlib.Core.List.{IsPrefix}
 use Rattle.atomic_table.specs.Table.{State}
 use Rattle.directory_tree.specs.declared.change.Change.{Change}
+use Rattle.directory_tree.specs.Apply.{tree_after}
+use Rattle.path_lookup.specs.World.{World}
 use Rattle.tree_row.specs.Rows.{row_length}
+use Rattle.tree_row.specs.Worlds.{SeesBy}
 use Rattle.tree_row.specs.OpeningRow.{opening_row}
 use Rattle.row_rule.specs.declared.cell.Cell.{Cell}
 use Rattle.row_rule.specs.declared.view.View.{View}
@@ -21,8 +24,10 @@ abbrev pub first_view : ℕ → View
 first_view capacity = Keeps (at_rest [] (opening_row capacity))
 
 -- some row that encodes what these changes come to agrees with all that was read
-abbrev pub Shows : ℕ → List Cell → List Change → Type 0
-Shows capacity reads seen = (cells : List ℕ) × EncodesChanges capacity cells seen × Agrees reads cells
+pub record SeesAfter (capacity : ℕ) (reads : List Cell) (changes : List Change) : Type 0 where
+  pub world : World
+  pub made : tree_after capacity changes ≡ Ok world.tree
+  pub seen : SeesBy capacity (Agrees reads) world
 
 -- a walker enters, reads the count, reads a cell, and reads the count again
 abbrev pub HasEntered : Mine → Type 0
@@ -40,7 +45,7 @@ HasRead word before found after =
 abbrev pub HasEnded : ℕ → Mine → ℕ → Mine → Type 0
 HasEnded capacity before count after =
     (seen : List Change) × (after ≡ walking (ending (walker_of before.0) count seen)) × Sees (walker_of before.0) count seen
-    × (count ≡ (walker_of before.0).noted → count % 2 ≡ 0 → ((walker_of before.0).seen ≡ seen) × Shows capacity (walker_of before.0).reads seen)
+    × (count ≡ (walker_of before.0).noted → count % 2 ≡ 0 → ((walker_of before.0).seen ≡ seen) × SeesAfter capacity (walker_of before.0).reads seen)
 
 -- the keeper reads a word, opens a change, sets a cell, and closes the change
 abbrev pub HasLooked : ℕ → Mine → ℕ → Mine → Type 0

@@ -1,5 +1,5 @@
 //! A change of the row by its keeper, step by step.
-ghost use Rattle.std.specs.Prelude.{◌≡◌, ◌+◌, ◌^◌, ◌<◌, ◌≤◌, [], ◌∷◌, ◌++◌, length, drop, Some, None};
+ghost use Rattle.std.specs.Prelude.{◌≡◌, ◌+◌, ◌^◌, ◌<◌, ◌≤◌, [], ◌∷◌, ◌++◌, length, drop, Some, None, take};
 ghost use Rattle.std.specs.List.{All};
 ghost use Rattle.tree_row.specs.Rows.{row_length};
 ghost use Rattle.row_rule.specs.Row.{write, count_of};
@@ -44,7 +44,7 @@ pub(crate) fn begin(
     count: u64,
     change: &Change<'_>,
     plan: &[Cell],
-    cells: usize,
+    set: usize,
 )
     requires own { seat.old.table_id ≡ table.now.shared.table_id }
     requires words { (table.now.shared.table_id.words ≡ row_length table.now.shared.key + 1) × (table.now.shared.key < 2 ^ 16) }
@@ -53,15 +53,15 @@ pub(crate) fn begin(
     requires count { (count ≡ count_of (keeper_of seat.old.me.0)) × (count + 2 < 2 ^ 64) }
     requires planned { EncodesChanges table.now.shared.key (write (keeper_of seat.old.me.0).cells plan.now) ((keeper_of seat.old.me.0).history ++ change.now ∷ []) }
     requires within { All (λ cell. cell.place < row_length table.now.shared.key) plan.now }
-    requires fewer { cells ≤ length plan.now }
+    requires fewer { set ≤ length plan.now }
     ensures own { seat.new.table_id ≡ seat.old.table_id }
     ensures role { IsKeeping seat.new.me }
     ensures history { (keeper_of seat.new.me.0).history ≡ (keeper_of seat.old.me.0).history }
-    ensures pending { (keeper_of seat.new.me.0).pending ≡ Some record { change = change.now; left = drop cells plan.now } }
-    ensures cells { write (keeper_of seat.new.me.0).cells (drop cells plan.now) ≡ write (keeper_of seat.old.me.0).cells plan.now }
+    ensures pending { (keeper_of seat.new.me.0).pending ≡ Some record { change = change.now; left = drop set plan.now } }
+    ensures cells { (keeper_of seat.new.me.0).cells ≡ write (keeper_of seat.old.me.0).cells (take set plan.now) }
 {
     steps::open::<Brand>(table, seat, count, change, plan);
-    for i in 0..cells {
+    for i in 0..set {
         steps::set_cell(table, seat, plan[i]);
     }
 }

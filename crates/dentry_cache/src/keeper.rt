@@ -1,9 +1,9 @@
 //! The one who changes the row.
-ghost use Rattle.std.specs.Prelude.{◌≡◌, ◌≤◌, [], length, IfOk, OnOk, IfErr};
+ghost use Rattle.std.specs.Prelude.{◌≡◌, ◌≤◌, [], length, IfOk, OnOk, IfErr, ◌*◌};
 ghost use mathlib.Core.List.{IsPrefix};
 ghost use Rattle.tree_row.specs.OpeningRow.{opening_row};
 ghost use Rattle.row_rule.specs.Steps.{newcomer};
-ghost use Rattle.dentry_cache.specs.Models.{Makes, IsStopped, Accepts, Refuses, Hinders, SeesHistory, met_at};
+ghost use Rattle.dentry_cache.specs.Models.{Makes, IsStopped, Accepts, Refuses, Hinders, met_at};
 ghost use Rattle.dentry_cache.specs.inner.Knowing.{IsPlanned};
 
 use crate::kept_row::KeptRow;
@@ -28,7 +28,7 @@ pub type KeeperLook = RowLook<KeptRow>;
 #[derive(Drop)]
 pub struct Keeper {
     alloc: Global,
-    look: KeeperLook,
+    pub(crate) look: KeeperLook,
 }
 
 impl Model for Keeper {
@@ -53,7 +53,8 @@ impl Keeper {
 
     /// How many changes were made.
     pub fn version(&self) -> u64
-        ensures { result ≡ length self.now.history }
+        ensures version { result ≡ length self.now.history }
+        ensures count { self.now.count ≡ 2 * result }
     {
         self.look.cells.version()
     }
@@ -66,7 +67,7 @@ impl Keeper {
         self.look.cells.capacity()
     }
 
-    /// Makes a change, and answers how many were made then. Or by which number it is refused, and nothing was changed;
+    /// Makes a change, and answers how many were made then. Where it is refused, the number says why, and nothing was changed;
     /// `ENOMEM` comes after all other refusals.
     pub fn apply(&mut self, change: &Change<'_>) -> Result<u64, Errno>
         ensures ok { IfOk result (λ version. Makes self.old change.now self.new × (version ≡ length self.new.history)) }
@@ -78,13 +79,20 @@ impl Keeper {
     }
 
     /// Opens a change, sets the first cells of its plan, so many or all, and stops there for good, as a keeper does whose thread
-    /// ends in the middle of a change. Whoever walks over the row from then on is beside that change.
-    pub fn stop_amid(mut self, change: &Change<'_>, cells: usize) -> Result<StoppedKeeper, Errno>
-        ensures ok { IfOk result (IsStopped self change.now cells) }
-        ensures err { IfErr result (Hinders self change.now) }
+    /// ends in the middle of a change. Where the change is refused, the keeper comes back as it was. A walk that reads the count
+    /// after this is busy, as the tests show; its walker has to be made before.
+    pub fn stop_amid(
+        mut self,
+        change: &Change<'_>,
+        set: usize,
+    ) -> Result<StoppedKeeper, (Keeper, Errno)>
+        ensures ok { IfOk result (IsStopped self change.now set) }
+        ensures err { IfErr result (λ refused. (refused.0 ≡ self) × Hinders self change.now refused.1) }
     {
-        let plan = self.planned(change)?;
-        Ok(self.look.into_cells().stop_amid(change, &plan, cells))
+        match self.planned(change) {
+            Ok(plan) => Ok(self.look.into_cells().stop_amid(change, &plan, set)),
+            Err(errno) => Err((self, errno)),
+        }
     }
 
     /// Whether a change would be made now, or by which number it would be refused. It changes nothing, and takes no memory.
@@ -134,15 +142,5 @@ impl Keeper {
         ensures seen { walker.new.view ≡ met_at self.old.history }
     {
         self.look.cells.meet(walker);
-    }
-
-    /// A look at the row as it stands, which sees the tree that the history comes to, and no other. Once it ends, the keeper is
-    /// what the look left: as it was before, where it was only looked at.
-    pub fn look(&mut self) -> &mut KeeperLook
-        ensures cells { result.now.cells ≡ self.old }
-        ensures sees { SeesHistory self.old }
-    {
-        self.look.cells.encodes_history();
-        &mut self.look
     }
 }

@@ -1,5 +1,5 @@
 //! The row as its keeper has it.
-ghost use Rattle.std.specs.Prelude.{◌≡◌, ◌≤◌, ◌<◌, [], length, slice_index, IfOk, IfErr};
+ghost use Rattle.std.specs.Prelude.{◌≡◌, ◌≤◌, ◌<◌, [], length, slice_index, IfOk, IfErr, ◌*◌};
 ghost use mathlib.Core.List.{IsPrefix};
 ghost use Rattle.directory_tree.specs.declared.change.Change.{Change};
 ghost use Rattle.tree_row.specs.Rows.{row_length};
@@ -78,7 +78,8 @@ impl KeptRow {
     }
 
     pub(crate) fn version(&self) -> u64
-        ensures { result ≡ length self.now.history }
+        ensures version { result ≡ length self.now.history }
+        ensures count { self.now.count ≡ 2 * result }
     {
         self.version
     }
@@ -108,9 +109,9 @@ impl KeptRow {
     }
 
     /// Begins a change, and stops there for good.
-    pub(crate) fn stop_amid(self, change: &Change<'_>, plan: &[Cell], cells: usize) -> StoppedKeeper
+    pub(crate) fn stop_amid(self, change: &Change<'_>, plan: &[Cell], set: usize) -> StoppedKeeper
         requires { IsPlanned self change.now plan.now }
-        ensures { IsStopped self change.now cells result }
+        ensures { IsStopped self change.now set result }
     {
         let KeptRow {
             table,
@@ -125,7 +126,7 @@ impl KeptRow {
             2 * version,
             change,
             plan,
-            cells.min(plan.len()),
+            set.min(plan.len()),
         );
         StoppedKeeper::of(table, seat, capacity)
     }

@@ -6,8 +6,8 @@ use crate::rule::{RowSeat, RowTable};
 use std::marker::Model;
 use std::sync::Arc;
 
-/// The row's one right to change it, after its keeper opened a change and set some of its cells, and nothing more. The change is
-/// never closed, so that every walk beside it is busy: readers don't wait for a writer that will not come.
+/// The row's one right to change it, after its keeper opened a change and set some of its cells, and nothing more. Nobody can go
+/// on with that change or close it.
 #[derive(Drop)]
 pub struct StoppedKeeper {
     table: Arc<RowTable>,

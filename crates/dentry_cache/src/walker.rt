@@ -4,7 +4,7 @@ ghost use Rattle.std.specs.Arc.{arc_value};
 ghost use Rattle.tree_row.specs.Rows.{row_length};
 ghost use Rattle.row_rule.specs.Steps.{beginning, reading, ending, Sees};
 ghost use Rattle.dentry_cache.specs.Seats.{walker_of, IsWalking};
-ghost use Rattle.dentry_cache.specs.Told.{Shows};
+ghost use Rattle.dentry_cache.specs.Told.{SeesAfter};
 ghost use Rattle.dentry_cache.specs.inner.Knowing.{walk, WalkerKnows};
 
 use crate::rule::{RowSeat, RowTable};
@@ -102,6 +102,13 @@ impl Walker {
 }
 
 impl Attempt {
+    /// The count that the walk began with. Where it is odd, a change is being made, and the walk will end busy.
+    pub fn began(&self) -> u64
+        ensures { result ≡ self.now.view.noted }
+    {
+        self.began
+    }
+
     /// The word at a place of the row.
     fn read(&mut self, place: usize) -> u64
         requires { place < row_length self.old.capacity }
@@ -111,15 +118,16 @@ impl Attempt {
         steps::read_cell(&self.table, &mut self.seat, place)
     }
 
-    /// Ends the walk: reads the count again. Where it is the even one that the walk began with, the walk has seen that many
-    /// changes, and some row that encodes what they come to agrees with all that was read. Else the walk was beside a change.
+    /// Ends the walk: reads the count again. Where it is the even one that the walk began with, half as many changes were made,
+    /// all of which the walk has seen, and some row that encodes what they come to agrees with all that was read: their number
+    /// is the version answered. Else the walk was beside a change.
     pub fn end(self) -> (Walker, Result<u64, Busy>)
         ensures same { (result.0.table ≡ self.table) × (result.0.capacity ≡ self.capacity) }
         ensures seen { Sees self.view result.0.view.last result.0.view.seen }
         ensures ended { result.0.view ≡ ending self.view result.0.view.last result.0.view.seen }
         ensures ok { IfOk result.1 (λ version. (result.0.view.last ≡ self.view.noted) × (self.view.noted ≡ version + version)
             × (version ≡ length result.0.view.seen) × (self.view.seen ≡ result.0.view.seen)
-            × Shows self.capacity self.view.reads result.0.view.seen) }
+            × SeesAfter self.capacity self.view.reads result.0.view.seen) }
         ensures busy { IfErr result.1 (λ busy. (busy.began ≡ self.view.noted) × (busy.ended ≡ result.0.view.last)
             × ((busy.began % 2 ≡ 1) ⊎ (busy.ended ≢ busy.began))) }
     {

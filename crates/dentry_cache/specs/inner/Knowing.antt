@@ -10,7 +10,7 @@ use Rattle.tree_row.specs.Rows.{Encodes, row_length}
 use Rattle.tree_row.specs.Worlds.{EncodesWorld}
 use Rattle.row_rule.specs.declared.cell.Cell.{Cell}
 use Rattle.row_rule.specs.declared.view.View.{View}
-use Rattle.row_rule.specs.Row.{write}
+use Rattle.row_rule.specs.Row.{write, count_of}
 use Rattle.row_plan.specs.Changes.{EncodesChanges, IsPlan}
 use Rattle.dentry_cache.specs.Seats.{keeper_of, walker_of, IsKeeping, IsWalking}
 use Rattle.dentry_cache.specs.Models.{Held, Stopped, Walk}
@@ -19,7 +19,7 @@ abbrev pub RowSeat : Type 0
 RowSeat = Seat (Unit {0}) View
 
 abbrev pub held : RowSeat → ℕ → Held
-held seat capacity = record { table = seat.table_id; capacity = capacity; history = (keeper_of seat.me.0).history; cells = (keeper_of seat.me.0).cells }
+held seat capacity = record { table = seat.table_id; capacity = capacity; count = count_of (keeper_of seat.me.0); history = (keeper_of seat.me.0).history; cells = (keeper_of seat.me.0).cells }
 
 abbrev pub walk : RowSeat → ℕ → Walk
 walk seat capacity = record { table = seat.table_id; capacity = capacity; view = walker_of seat.me.0 }

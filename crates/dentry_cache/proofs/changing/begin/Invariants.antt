@@ -1,4 +1,4 @@
-use Rattle.std.proofs.Common.{◌≡◌, drop, Some}
+use Rattle.std.proofs.Common.{◌≡◌, drop, Some, take}
 use Rattle.row_rule.specs.Row.{write}
 use Rattle.dentry_cache.specs.Seats.{keeper_of, IsKeeping}
 use Rattle.dentry_cache.proofs.changing.begin.Given as goal
@@ -6,12 +6,12 @@ use Rattle.dentry_cache.proofs.changing.begin.Given as goal
 abbrev pub ghosts-open : goal.ghosts-open
 ghosts-open a = record { change = a.change.now; plan = a.plan.now }
 
--- the cells that are left would bring the row to what was planned
+-- the first cells of the plan are set, and the others are left
 abbrev pub invariant-loop-i : goal.invariant-loop-i
 invariant-loop-i l = record {
   own : l.seat.table_id ≡ l.initial.seat.table_id;
   role : IsKeeping l.seat.me;
   history : (keeper_of l.seat.me.0).history ≡ (keeper_of l.initial.seat.me.0).history;
   pending : (keeper_of l.seat.me.0).pending ≡ Some record { change = l.fn.change; left = drop l.i l.plan };
-  cells : write (keeper_of l.seat.me.0).cells (drop l.i l.plan) ≡ write (keeper_of l.initial.seat.me.0).cells l.plan;
+  cells : (keeper_of l.seat.me.0).cells ≡ write (keeper_of l.initial.seat.me.0).cells (take l.i l.plan);
 }
