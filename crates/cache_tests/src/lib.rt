@@ -2,4 +2,16 @@
 #![tactic(auto)]
 
 #[cfg(test)]
+mod changes;
+#[cfg(test)]
+mod lines;
+#[cfg(test)]
+mod looks;
+#[cfg(test)]
+mod stopped;
+#[cfg(test)]
+mod testing;
+#[cfg(test)]
+mod threads;
+#[cfg(test)]
 mod walks;

@@ -1,26 +1,19 @@
 //! A keeper's changes, and walks beside it.
-use dentry_cache::{Attempt, Busy, Keeper, Walker};
+ghost use Rattle.std.specs.Prelude.{◌≡◌};
+
+use crate::lines::path;
+use crate::testing::{keeper, walker};
+use dentry_cache::{Attempt, Busy, Walker};
 use directory_tree::Change;
-use names::{Errno, Path};
+use names::Errno;
 use path_lookup::Look;
 use row_look::RowLook;
-use std::alloc::Global;
 use std::test::Fail;
 
-fn path(bytes: &[u8]) -> Result<Path<'_>, Fail> {
-    Ok(Path::check(bytes).ok().ok_or("a path")?)
-}
-
-fn keeper(alloc: Global) -> Result<Keeper, Fail> {
-    Ok(Keeper::new(alloc, 2).ok().ok_or("memory")?)
-}
-
-fn walker(keeper: &mut Keeper) -> Result<Walker, Fail> {
-    Ok(keeper.walker().ok().ok_or("a seat")?)
-}
-
-// Whether the root has this entry, and the walk's end.
-fn look(walker: Walker, component: &[u8]) -> (Walker, Option<bool>, Result<u64, Busy>) {
+/// Whether the root has this entry, and the walk's end.
+pub(crate) fn look(walker: Walker, component: &[u8]) -> (Walker, Option<bool>, Result<u64, Busy>)
+    ensures { result.0.table ≡ walker.table }
+{
     let mut look: RowLook<Attempt> = RowLook::new(walker.begin());
     let root = look.root();
     let found = look.child(root, component).ok().map(|slot| slot.is_some());
@@ -30,18 +23,30 @@ fn look(walker: Walker, component: &[u8]) -> (Walker, Option<bool>, Result<u64, 
 
 #[test]
 fn changes_are_seen(rt: HostRuntime) -> Result<(), Fail> {
-    let mut keeper = keeper(rt.alloc())?;
+    let mut keeper = keeper(rt.alloc(), 2)?;
     assert_eq!(rt; keeper.test(&Change::Mkdir(path(b"/a")?)), Ok(()));
     assert_eq!(rt; keeper.version(), 0);
     assert_eq!(rt; keeper.apply(&Change::Mkdir(path(b"/a")?)), Ok(1));
-    assert_eq!(rt; keeper.test(&Change::Mkdir(path(b"/a")?)), Err(Errno::EEXIST));
-    assert_eq!(rt; keeper.apply(&Change::Mkdir(path(b"/a")?)), Err(Errno::EEXIST));
+    assert_eq!(rt;
+        keeper.test(&Change::Mkdir(path(b"/a")?)),
+        Err(Errno::EEXIST)
+    );
+    assert_eq!(rt;
+        keeper.apply(&Change::Mkdir(path(b"/a")?)),
+        Err(Errno::EEXIST)
+    );
     let walker = walker(&mut keeper)?;
     let (walker, found, ended) = look(walker, b"a");
     assert_eq!(rt; (found, ended), (Some(true), Ok(1)));
     assert_eq!(rt; keeper.apply(&Change::Create(path(b"/a/b")?)), Ok(2));
-    assert_eq!(rt; keeper.apply(&Change::Mkdir(path(b"/c")?)), Err(Errno::ENOSPC));
-    assert_eq!(rt; keeper.apply(&Change::Rename(path(b"/a")?, path(b"/d")?)), Ok(3));
+    assert_eq!(rt;
+        keeper.apply(&Change::Mkdir(path(b"/c")?)),
+        Err(Errno::ENOSPC)
+    );
+    assert_eq!(rt;
+        keeper.apply(&Change::Rename(path(b"/a")?, path(b"/d")?)),
+        Ok(3)
+    );
     let (mut walker, found, ended) = look(walker, b"a");
     assert_eq!(rt; (found, ended), (Some(false), Ok(3)));
     keeper.meet(&mut walker);
@@ -54,7 +59,7 @@ fn changes_are_seen(rt: HostRuntime) -> Result<(), Fail> {
 
 #[test]
 fn a_walk_beside_a_change_is_busy(rt: HostRuntime) -> Result<(), Fail> {
-    let mut keeper = keeper(rt.alloc())?;
+    let mut keeper = keeper(rt.alloc(), 2)?;
     let attempt = walker(&mut keeper)?.begin();
     assert_eq!(rt; keeper.apply(&Change::Mkdir(path(b"/a")?)), Ok(1));
     let (_, ended) = attempt.end();
