@@ -47,13 +47,24 @@ fn changes_are_seen(rt: HostRuntime) -> Result<(), Fail> {
         keeper.apply(&Change::Rename(path(b"/a")?, path(b"/d")?)),
         Ok(3)
     );
-    let (mut walker, found, ended) = look(walker, b"a");
+    let (walker, found, ended) = look(walker, b"a");
     assert_eq!(rt; (found, ended), (Some(false), Ok(3)));
-    keeper.meet(&mut walker);
     let walker = walker.begin().stop();
     let (_, found, ended) = look(walker, b"d");
     assert_eq!(rt; (found, ended), (Some(true), Ok(3)));
     assert_eq!(rt; (keeper.version(), keeper.capacity()), (3, 2));
+    Ok(())
+}
+
+#[test]
+fn a_walker_meets_its_keeper(rt: HostRuntime) -> Result<(), Fail> {
+    let mut keeper = keeper(rt.alloc(), 2)?;
+    let mut walker = walker(&mut keeper)?;
+    keeper.meet(&mut walker);
+    let attempt = walker.begin();
+    assert_eq!(rt; attempt.began(), 0);
+    let (_, found, ended) = look(attempt.stop(), b"a");
+    assert_eq!(rt; (found, ended), (Some(false), Ok(0)));
     Ok(())
 }
 
