@@ -2,7 +2,11 @@
 #![tactic(auto)]
 
 #[cfg(test)]
+mod circles;
+#[cfg(test)]
 mod known;
+#[cfg(test)]
+mod lengths;
 #[cfg(test)]
 mod lying;
 #[cfg(test)]

@@ -9,13 +9,13 @@ use std::alloc::Global;
 use std::test::Fail;
 use tree_row::{Cells, KnownRow};
 
-// The cells of a row, of which one tells another word, once it was asked for so often.
+/// The cells of a row, of which one tells another word, once it was asked for so often.
 #[derive(Drop)]
-struct LyingCells {
-    row: KnownRow,
-    place: usize,
-    word: u64,
-    honest_reads: u64,
+pub(crate) struct LyingCells {
+    pub row: KnownRow,
+    pub place: usize,
+    pub word: u64,
+    pub honest_reads: u64,
 }
 
 impl Cells for LyingCells {
@@ -51,8 +51,8 @@ impl Cells for LyingCells {
     }
 }
 
-// Where the path leads, and the look's row.
-fn reach_lying(
+/// Where the path leads, and the look's row.
+pub(crate) fn reach_lying(
     cells: LyingCells,
     text: &[u8],
 ) -> Result<(KnownRow, Result<Reached<RowEntry>, WalkFault>), Fail> {

@@ -61,7 +61,8 @@ fn ends(row: KnownRow) -> Result<(KnownRow, bool), Fail> {
     Ok((look.into_cells(), fine))
 }
 
-fn set(row: &mut KnownRow, place: usize, word: u64) {
+/// Sets a word, if the row has the place.
+pub(crate) fn set(row: &mut KnownRow, place: usize, word: u64) {
     if place < row.length() {
         row.set(place, word);
     }

@@ -1,0 +1,175 @@
+//! Keepers that stop in the middle of a change: each walk is beside it from then on, and none waits for its end.
+use crate::lines::{change, path};
+use crate::testing::{keeper_after, walk, walk_on, walker};
+use dentry_cache::{Attempt, Busy, Walker};
+use directory_tree::{Change, LinkBytes};
+use names::Errno;
+use path_lookup::{NAME_ROOM, WalkFault};
+use std::alloc::Global;
+use std::process::Abort;
+use std::test::Fail;
+
+const FIRST: [&str; 4] = [
+    "mkdir /a",
+    "mkdir /a/directory",
+    "create /a/directory/f",
+    "mkdir /b",
+];
+
+// Whose row's keeper has stopped.
+#[derive(Drop)]
+struct Left {
+    // A walk that had begun before.
+    attempt: Attempt,
+    walker: Walker,
+}
+
+// A keeper makes the first changes, and then sets so many cells of one more. It is gone thereafter.
+fn stop(alloc: Global, made: &Change<'_>, cells: usize) -> Result<Result<Left, Errno>, Fail> {
+    let mut keeper = keeper_after(alloc, 5, &FIRST)?;
+    let attempt = walker(&mut keeper)?.begin();
+    let walker = walker(&mut keeper)?;
+    match keeper.stop_amid(made, cells) {
+        Ok(_) => Ok(Ok(Left { attempt, walker })),
+        Err((_, errno)) => Ok(Err(errno)),
+    }
+}
+
+// Where memory is refused once, another keeper is asked.
+fn stopped(alloc: Global, made: &Change<'_>, cells: usize) -> Result<Left, Fail> {
+    match stop(alloc, made, cells)? {
+        Ok(left) => Ok(left),
+        Err(_) => Ok(
+            stop(alloc, made, cells)?
+                .ok()
+                .ok_or("a change that is refused")?,
+        ),
+    }
+}
+
+// What is walked: paths that lead to what was moved and made, and others.
+const PATHS: [&str; 7] = [
+    "/a/directory/f",
+    "/b/moved.directory/f",
+    "/l",
+    "/l/../a/directory",
+    "/b/../a/.",
+    "/x",
+    "/",
+];
+
+// No walk ends well. Whatever its words told, it comes to an end.
+fn expect_busy(
+    rt: &impl Abort,
+    alloc: Global,
+    made: &Change<'_>,
+    cells: usize,
+) -> Result<(), Fail> {
+    let left = stopped(alloc, made, cells)?;
+    let mut room = [0; NAME_ROOM];
+    let walked = walk_on(left.attempt, b"/a/directory/f", &mut room)?;
+    assert_eq!(rt; walked.end, Err(Busy { began: 8, ended: 9 }), "{cells}");
+    let mut walker = left.walker;
+    for text in PATHS {
+        let walked = walk(walker, text.as_bytes(), &mut room)?;
+        assert_eq!(rt;
+            walked.end,
+            Err(Busy { began: 9, ended: 9 }),
+            "{text} {cells}"
+        );
+        walker = walked.walker;
+    }
+    Ok(())
+}
+
+// A rename that sets four cells: the parent, the lengths, and two of the component.
+fn rename<'a>() -> Result<Change<'a>, Fail> {
+    change("rename /a/directory /b/moved.directory")
+}
+
+#[test]
+fn a_rename_stops(rt: HostRuntime) -> Result<(), Fail> {
+    for cells in 0..6 {
+        expect_busy(&rt, rt.alloc(), &rename()?, cells)?;
+    }
+    Ok(())
+}
+
+// 1,023 bytes: 341 components, each of which leads nowhere but up.
+fn long_text() -> [u8; 1023] {
+    let mut text = [b'.'; 1023];
+    for i in 0..341 {
+        text[3 * i] = b'/';
+    }
+    text
+}
+
+// The kind, the node, the lengths, the component, and 128 cells of the text.
+#[test]
+fn a_symlink_stops(rt: HostRuntime) -> Result<(), Fail> {
+    let text = long_text();
+    let made = Change::Symlink(LinkBytes::new(&text), path(b"/l")?);
+    for cells in 0..134 {
+        expect_busy(&rt, rt.alloc(), &made, cells)?;
+    }
+    Ok(())
+}
+
+// How much of a change is seen by walks that are beside it, once so many cells are set.
+fn expect_seen(
+    rt: &impl Abort,
+    alloc: Global,
+    cells: usize,
+    rows: &[(&str, Result<usize, WalkFault>)],
+) -> Result<(), Fail> {
+    let mut walker = stopped(alloc, &rename()?, cells)?.walker;
+    for (text, length) in rows {
+        let walked = walk(walker, text.as_bytes(), &mut [0; NAME_ROOM])?;
+        assert_eq!(rt; walked.length, *length, "{text} {cells}");
+        walker = walked.walker;
+    }
+    Ok(())
+}
+
+#[test]
+fn so_many_cells_are_set(rt: HostRuntime) -> Result<(), Fail> {
+    let absent = Err(WalkFault::Refused(Errno::ENOENT));
+    let (old, new) = ("/a/directory/f", "/b/moved.directory/f");
+    expect_seen(&rt, rt.alloc(), 0, &[(old, Ok(14)), (new, absent)])?;
+    // It has moved, and not its name.
+    let half = "/b/directory/f";
+    expect_seen(
+        &rt,
+        rt.alloc(),
+        1,
+        &[(old, absent), (half, Ok(14)), (new, absent)],
+    )?;
+    expect_seen(
+        &rt,
+        rt.alloc(),
+        3,
+        &[(old, absent), (half, absent), (new, absent)],
+    )?;
+    expect_seen(
+        &rt,
+        rt.alloc(),
+        4,
+        &[(old, absent), (half, absent), (new, Ok(20))],
+    )?;
+    expect_seen(&rt, rt.alloc(), usize::MAX, &[(old, absent), (new, Ok(20))])
+}
+
+// A change that is refused isn't opened, and the keeper comes back.
+#[test]
+fn a_refused_change_does_not_stop(rt: HostRuntime) -> Result<(), Fail> {
+    let mut keeper = keeper_after(rt.alloc(), 5, &FIRST)?;
+    let walker = walker(&mut keeper)?;
+    let Err((keeper, refusal)) = keeper.stop_amid(&change("mkdir /a")?, 1) else {
+        return Err("a keeper that stopped")?;
+    };
+    assert_eq!(rt; refusal, Errno::EEXIST);
+    assert_eq!(rt; keeper.version(), 4);
+    let walked = walk(walker, b"/b", &mut [0; NAME_ROOM])?;
+    assert_eq!(rt; (walked.length, walked.end), (Ok(3), Ok(4)));
+    Ok(())
+}

@@ -1,0 +1,5 @@
+pub mod Seats
+pub mod Told
+pub mod Models
+pub mod Lending
+pub mod inner

@@ -1,0 +1,26 @@
+//! A directory tree as a row of words that threads share: one keeper changes it, and walkers read it beside the keeper, without
+//! a lock. The first word is the count: two for each change that was made, and one more while a change is open. The cells of the
+//! row follow.
+//!
+//! To be believed are about 100 lines of definitions in `specs/Models.antt`, `specs/Told.antt` and `specs/Seats.antt`, and those of the crates below;
+//! the others are of private contracts and proofs.
+#![tactic(auto)]
+
+mod changing;
+mod keeper;
+mod kept_row;
+mod laws;
+mod looking;
+mod refusal;
+mod rule;
+mod steps;
+mod stopped;
+mod walker;
+
+pub use keeper::{Keeper, KeeperLook};
+pub use kept_row::KeptRow;
+pub use laws::walkers_write_nothing;
+pub use refusal::NoSeat;
+pub use row_rule::Busy;
+pub use stopped::StoppedKeeper;
+pub use walker::{Attempt, Walker};
