@@ -1,0 +1,112 @@
+//! Paths and changes that are drawn at random.
+ghost use Rattle.std.specs.Prelude.{◌≡◌, ◌≤◌, ◌<◌};
+
+use crate::paths::NumberedPath;
+use directory_tree::{Change, LinkBytes};
+use names::Path;
+
+// The texts of new links.
+const TEXTS: [&str; 10] = [
+    "a", "b/c", "/c", "/d/e", "..", "../b", "../../a/", "./c/../d", "/", "e",
+];
+
+/// Which change it is.
+#[derive(Clone, Copy)]
+enum Kind {
+    Mkdir,
+    Create,
+    Symlink,
+    Link,
+    Unlink,
+    Rmdir,
+    Rename,
+}
+
+/// A change as plain data, which can be made of two trees.
+#[derive(Clone, Copy)]
+pub(crate) struct DrawnChange {
+    kind: Kind,
+    path: NumberedPath,
+    // The second path, of a link or a rename.
+    other: NumberedPath,
+    // Which of the texts a symbolic link has.
+    text: usize,
+}
+
+impl DrawnChange {
+    /// The change, if its paths are paths.
+    pub(crate) fn change(&self) -> Option<Change<'_>> {
+        let path = Path::check(self.path.as_bytes()).ok()?;
+        let change = match self.kind {
+            Kind::Mkdir => Change::Mkdir(path),
+            Kind::Create => Change::Create(path),
+            Kind::Symlink => Change::Symlink(self.text(), path),
+            Kind::Link => Change::Link(path, self.other()?),
+            Kind::Unlink => Change::Unlink(path),
+            Kind::Rmdir => Change::Rmdir(path),
+            Kind::Rename => Change::Rename(path, self.other()?),
+        };
+        Some(change)
+    }
+
+    fn other(&self) -> Option<Path<'_>> {
+        Path::check(self.other.as_bytes()).ok()
+    }
+
+    fn text(&self) -> LinkBytes<'static> {
+        LinkBytes::new(TEXTS[self.text % TEXTS.len()].as_bytes())
+    }
+}
+
+/// Numbers that look random, and are the same in each run.
+#[derive(Drop)]
+pub(crate) struct Random {
+    state: u64,
+}
+
+impl Random {
+    pub(crate) fn new(seed: u64) -> Random {
+        Random { state: seed }
+    }
+
+    /// A number below this one (Knuth's constants of a linear congruential generator).
+    fn below(&mut self, n: usize) -> usize
+        requires { 0 < n }
+        ensures { result < n }
+    {
+        self.state = self
+            .state
+            .wrapping_mul(6364136223846793005)
+            .wrapping_add(1442695040888963407);
+        (self.state >> 33) as usize % n
+    }
+
+    /// The number of a path. Short ones come more often, since longer ones mostly lead nowhere.
+    pub(crate) fn path(&mut self) -> usize {
+        // The paths of one component begin at 1, those of two at 6, of three at 31 and of four at 156.
+        match self.below(12) {
+            0..5 => 1 + self.below(5),
+            5..9 => 6 + self.below(25),
+            9..11 => 31 + self.below(125),
+            _ => 156 + self.below(625),
+        }
+    }
+
+    pub(crate) fn change(&mut self) -> DrawnChange {
+        let kind = match self.below(24) {
+            0..3 => Kind::Mkdir,
+            3..5 => Kind::Create,
+            5..7 => Kind::Symlink,
+            7..10 => Kind::Link,
+            10..15 => Kind::Unlink,
+            15..20 => Kind::Rmdir,
+            _ => Kind::Rename,
+        };
+        DrawnChange {
+            kind,
+            path: NumberedPath::new(self.path()),
+            other: NumberedPath::new(self.path()),
+            text: self.below(TEXTS.len()),
+        }
+    }
+}

@@ -1,0 +1,64 @@
+//! The tree of each version, made again in plain memory, and what was found beside it.
+use crate::answers::{Answer, Found};
+use crate::drawing::DrawnChange;
+use crate::paths::NumberedPath;
+use crate::telling::{Rooms, tell};
+use names::{NoMemory, Path};
+use path_lookup::WalkFault;
+use plain_tree::PlainTree;
+use std::alloc::{AllocError, Global};
+
+/// How many of a walker's answers differ from what the plain tree of their version has. Where versions fall, or changes can't be
+/// made again, they differ, too.
+pub(crate) fn differing(
+    alloc: Global,
+    capacity: usize,
+    log: &[DrawnChange],
+    answers: &[Answer],
+) -> Result<u64, AllocError> {
+    let Ok(mut tree) = PlainTree::new(alloc, capacity) else {
+        return Err(AllocError);
+    };
+    let mut rooms = Rooms::new();
+    let mut differing: u64 = 0;
+    for answer in answers {
+        if !advances(&mut tree, log, answer.version) || !is_right(&mut tree, answer, &mut rooms) {
+            differing = differing.saturating_add(1);
+        }
+    }
+    Ok(differing)
+}
+
+// Makes the changes up to a version. Says whether each could be made.
+fn advances(tree: &mut PlainTree, log: &[DrawnChange], version: u64) -> bool {
+    let Some(changes) = log.get(tree.version() as usize..version as usize) else {
+        return false;
+    };
+    for change in changes {
+        if !applies(tree, change) {
+            return false;
+        }
+    }
+    tree.version() == version
+}
+
+fn applies(tree: &mut PlainTree, drawn: &DrawnChange) -> bool {
+    match drawn.change() {
+        Some(change) => tree.apply(&change).is_ok(),
+        None => false,
+    }
+}
+
+fn is_right(tree: &mut PlainTree, answer: &Answer, rooms: &mut Rooms) -> bool {
+    let path = NumberedPath::new(answer.path);
+    let Ok(path) = Path::check(path.as_bytes()) else {
+        return false;
+    };
+    match (tell(tree, &path, rooms), &answer.found) {
+        (Ok(told), Ok(found)) => {
+            told.node == found.node && &rooms.name[..told.length] == found.name.as_slice()
+        }
+        (Err(WalkFault::Refused(errno)), Err(fault)) => *fault == WalkFault::Refused(errno),
+        _ => false,
+    }
+}

@@ -1,0 +1,114 @@
+//! The work of a walker.
+ghost use Rattle.std.specs.Prelude.{◌≤◌, IfOk};
+
+use crate::answers::{Answer, Answers, Found};
+use crate::drawing::Random;
+use crate::ours::{Row, RowWalker};
+use crate::paths::NumberedPath;
+use crate::rounds::{ROUNDS, Rounds, share};
+use crate::telling::{Rooms, Told};
+use names::{LONGEST_PATH, Path};
+use path_lookup::WalkFault;
+use std::alloc::{AllocError, Global};
+use std::sync::Arc;
+
+/// What a walker is given.
+#[derive(Drop)]
+pub(crate) struct Work<J: Row> {
+    pub walker: RowWalker<J>,
+    pub random: Random,
+    pub attempts: usize,
+    pub rounds: Arc<Rounds>,
+}
+
+/// What it brings back.
+#[derive(Drop)]
+pub(crate) struct Walked<J: Row> {
+    pub walker: RowWalker<J>,
+    pub answers: Answers,
+}
+
+/// Makes all attempts.
+pub(crate) fn walk_all<J: Row>(alloc: Global, work: Work<J>) -> Result<Walked<J>, AllocError> {
+    let Work {
+        mut walker,
+        mut random,
+        attempts,
+        rounds,
+    } = work;
+    let mut rooms = Rooms::new();
+    let mut answers = Answers {
+        ok: Vec::new(alloc),
+        busy: 0,
+    };
+    for round in 0..ROUNDS {
+        rounds.begin(round);
+        match walk_round(
+            alloc,
+            walker,
+            &mut random,
+            share(attempts, round),
+            &mut rooms,
+            &mut answers,
+        ) {
+            Ok(back) => walker = back,
+            Err(refused) => {
+                rounds.give_up();
+                return Err(refused);
+            }
+        }
+    }
+    Ok(Walked { walker, answers })
+}
+
+fn walk_round<J: Row>(
+    alloc: Global,
+    walker: RowWalker<J>,
+    random: &mut Random,
+    attempts: usize,
+    rooms: &mut Rooms,
+    answers: &mut Answers,
+) -> Result<RowWalker<J>, AllocError> {
+    let mut walker = walker;
+    for _ in 0..attempts {
+        let number = random.path();
+        let path = NumberedPath::new(number);
+        let Ok(path) = Path::check(path.as_bytes()) else {
+            continue;
+        };
+        let attempted = walker.attempt(&path, rooms);
+        walker = attempted.walker;
+        match attempted.end {
+            Ok(version) => {
+                let found = found(alloc, attempted.told, rooms)?;
+                answers.ok.push(Answer {
+                    version,
+                    path: number,
+                    found,
+                })?;
+            }
+            Err(_) => answers.busy = answers.busy.saturating_add(1),
+        }
+    }
+    Ok(walker)
+}
+
+// What was found, with the name that stands in the rooms.
+fn found(
+    alloc: Global,
+    told: Result<Told, WalkFault>,
+    rooms: &Rooms,
+) -> Result<Result<Found, WalkFault>, AllocError>
+    requires { IfOk told (λ told. told.length ≤ LONGEST_PATH) }
+{
+    match told {
+        Ok(told) => {
+            let name = Vec::from_slice(alloc, &rooms.name[..told.length])?;
+            Ok(Ok(Found {
+                node: told.node,
+                name,
+            }))
+        }
+        Err(fault) => Ok(Err(fault)),
+    }
+}
