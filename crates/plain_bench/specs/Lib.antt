@@ -1,2 +1,2 @@
-pub mod PlainHistory
+pub mod BenchHistory
 pub mod inner

@@ -1,13 +1,17 @@
-//! Judged opens and links: a tree in plain memory and the published profiles, in one thread.
+//! Judged opens and links: a tree and the published profiles, in one thread.
 //!
-//! [`PlainBench`] is the first implementation of [`Bench`], which is what a script works on.
+//! [`TreeBench`] is a [`Bench`], which is what a script works on, over any tree that can be changed, tested and looked at;
+//! [`PlainBench`] is the one over a tree in plain memory.
 //!
 //! To be believed are the 5 lines of definitions in `specs/`; those in `specs/inner/` are of private contracts and proofs.
 #![tactic(auto)]
 
-mod plain_bench;
+mod bench;
+mod plain;
+mod tree;
 mod working;
 
+pub use bench::{PlainBench, TreeBench};
 pub use mediation::{Answer, Bench, LinkAnswer};
-pub use plain_bench::PlainBench;
+pub use tree::BenchTree;
 pub use working::replacement;

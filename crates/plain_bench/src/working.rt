@@ -1,4 +1,4 @@
-//! What is done on a bench in plain memory.
+//! What is done on a bench.
 ghost use Rattle.std.specs.Prelude.{◌≡◌, ◌≤◌, ℕ, List, IfOk, IfErr, OnOk, OnErr, IsOk, Ok, Err, length, take};
 ghost use Rattle.mediation.specs.Answers.{link_answered};
 ghost use Rattle.mediation.specs.Deeds.{published_rules};
@@ -9,31 +9,32 @@ ghost use Rattle.mediation.specs.PolicyChanges.{deed_of};
 ghost use Rattle.mediation.specs.Profiles.{judge_of};
 ghost use Rattle.directory_tree.specs.declared.change.Change.TheVariants.{Link};
 ghost use Rattle.directory_tree.specs.Plain.{outcome};
-ghost use Rattle.plain_bench.specs.PlainHistory.{history_of};
+ghost use Rattle.plain_bench.specs.BenchHistory.{history_of};
 ghost use Rattle.plain_bench.specs.inner.Settling.{settled};
 ghost use Rattle.rule_reader.specs.Profile.{profile_value};
 
-use crate::plain_bench::PlainBench;
+use crate::bench::TreeBench;
+use crate::tree::BenchTree;
 use directory_tree::{Change, links_are_found, plain_trees_are_well_formed};
 use matcher::{AnyProfile, CompiledProfile, MakeFault, PolicyChange};
-use mediation::{Answer, Bench, JudgedLink, LinkAnswer, judge_file, judge_names};
+use mediation::{Answer, Bench, JudgedLink, LinkAnswer};
 use names::{Errno, NoMemory, Path, Perms};
-use path_lookup::{NAME_ROOM, Scratch, WalkFault};
-use plain_tree::PlainTree;
+use path_lookup::{NAME_ROOM, Scratch};
 use policy_map::Policy;
 use rule_judge::LinkVerdict;
 use rule_reader::Profile;
 use std::alloc::Global;
 use std::sync::Arc;
 
-impl PlainBench {
+impl<T: BenchTree> TreeBench<T> {
     /// The root alone, with room for so many entries, and no profile.
-    pub fn new(alloc: Global, capacity: usize) -> Result<PlainBench, NoMemory>
-        ensures { IfOk result (λ bench. history_of bench ≡ new_history capacity) }
+    pub fn new(alloc: Global, capacity: usize) -> Result<TreeBench<T>, NoMemory>
+        requires { T.may_hold capacity }
+        ensures { IfOk result (λ bench. history_of (T.plain bench.tree) bench.policy ≡ new_history capacity) }
     {
-        Ok(PlainBench {
+        Ok(TreeBench {
             alloc,
-            tree: PlainTree::new(alloc, capacity)?,
+            tree: T::new(alloc, capacity)?,
             policy: Policy::new(alloc),
             scratch: Scratch::new(),
             name: [0; NAME_ROOM],
@@ -44,19 +45,19 @@ impl PlainBench {
 
 /// Judges a link that the tree would take, or tells why it fails. Nothing is changed. The name of the new entry goes to the
 /// front of `room`.
-fn judge_tested<'a>(
-    tree: &mut PlainTree,
+fn judge_tested<'a, T: BenchTree>(
+    tree: &mut T,
     profile: &AnyProfile,
     old: &'a [u8],
     new: &'a [u8],
     scratch: &mut Scratch,
     room: &mut [u8; NAME_ROOM],
 ) -> Result<(Change<'a>, JudgedLink), Errno>
-    ensures same { tree.new ≡ tree.old }
+    ensures same { T.plain tree.new ≡ T.plain tree.old }
     ensures fits { IfOk result (λ tested. tested.1.name_length ≤ 4095) }
-    ensures change { IfOk result (λ tested. (tested.0 ≡ Link old.now new.now) × IsOk (outcome tree.old tested.0)) }
-    ensures answer { IfOk result (λ tested. link_judged tree.old (judge_of profile.now) old.now new.now ≡ Ok (link_of room.new tested.1)) }
-    ensures fault { IfErr result (λ errno. link_judged tree.old (judge_of profile.now) old.now new.now ≡ Err errno) }
+    ensures change { IfOk result (λ tested. (tested.0 ≡ Link old.now new.now) × IsOk (outcome (T.plain tree.old) tested.0)) }
+    ensures answer { IfOk result (λ tested. link_judged (T.plain tree.old) (judge_of profile.now) old.now new.now ≡ Ok (link_of room.new tested.1)) }
+    ensures fault { IfErr result (λ errno. link_judged (T.plain tree.old) (judge_of profile.now) old.now new.now ≡ Err errno) }
 {
     plain_trees_are_well_formed();
     links_are_found();
@@ -67,28 +68,22 @@ fn judge_tested<'a>(
     let Change::Link(old, new) = &change else {
         unreachable!();
     };
-    match judge_names(tree, profile, old, new, scratch, room) {
-        Ok(judged) => Ok((change, judged)),
-        Err(fault) => match fault {
-            WalkFault::Refused(errno) => Err(errno),
-            // A plain tree always sees its tree, and knows all of it.
-            WalkFault::Torn => unreachable!(),
-        },
-    }
+    let judged = tree.judge_names(profile, old, new, scratch, room)?;
+    Ok((change, judged))
 }
 
 /// Makes a link that the tree would take, if its verdict is fine, and answers it.
-fn settle(
-    tree: &mut PlainTree,
+fn settle<T: BenchTree>(
+    tree: &mut T,
     change: &Change<'_>,
     judged: &JudgedLink,
     policy_version: u64,
 ) -> Result<LinkAnswer, NoMemory>
-    requires { IsOk (outcome tree.old change.now) }
-    ensures tree { OnOk result (tree.new ≡ settled tree.old change.now judged.now.verdict) }
+    requires { IsOk (outcome (T.plain tree.old) change.now) }
+    ensures tree { OnOk result (T.plain tree.new ≡ settled (T.plain tree.old) change.now judged.now.verdict) }
     ensures answer { IfOk result (λ answer. (room : List ℕ) → link_answered (take judged.now.name_length room) answer
-        ≡ answer_by_verdict (link_of room judged.now) (length tree.old.history) policy_version judged.now.verdict) }
-    ensures err { OnErr result ((tree.new ≡ tree.old) × (judged.now.verdict ≡ LinkVerdict.Fine)) }
+        ≡ answer_by_verdict (link_of room judged.now) (length (T.plain tree.old).history) policy_version judged.now.verdict) }
+    ensures err { OnErr result ((T.plain tree.new ≡ T.plain tree.old) × (judged.now.verdict ≡ LinkVerdict.Fine)) }
 {
     match judged.verdict {
         LinkVerdict::Fine => match tree.apply(change) {
@@ -122,8 +117,8 @@ pub fn replacement(alloc: Global, compiled: CompiledProfile) -> Result<PolicyCha
     }
 }
 
-impl Bench for PlainBench {
-    ghost history = { history_of };
+impl<T: BenchTree> Bench for TreeBench<T> {
+    ghost history = { λ b. history_of (T.plain b.tree) b.policy };
 
     ghost judged_name = { λ b. take b.name_length b.name };
 
@@ -132,21 +127,15 @@ impl Bench for PlainBench {
     }
 
     fn open(&mut self, profile: &[u8], path: &[u8], ask: Perms) -> Answer {
-        plain_trees_are_well_formed();
         self.name_length = 0;
         let policy_version = self.policy.version();
         let tree_version = self.tree.version();
         let Some(published) = self.policy.get(profile) else {
             return Answer::NoProfile { policy_version };
         };
-        let judged = judge_file(
-            &mut self.tree,
-            published,
-            path,
-            ask,
-            &mut self.scratch,
-            &mut self.name,
-        );
+        let judged =
+            self.tree
+                .judge_file(published, path, ask, &mut self.scratch, &mut self.name);
         match judged {
             Ok(judged) => {
                 self.name_length = judged.name_length;
@@ -157,13 +146,9 @@ impl Bench for PlainBench {
                     policy_version,
                 }
             }
-            Err(fault) => match fault {
-                WalkFault::Refused(errno) => Answer::Failed {
-                    errno,
-                    tree_version,
-                },
-                // A plain tree always sees its tree, and knows all of it.
-                WalkFault::Torn => unreachable!(),
+            Err(errno) => Answer::Failed {
+                errno,
+                tree_version,
             },
         }
     }

@@ -11,6 +11,7 @@ mod work;
 
 use crate::tree::Tree;
 use crate::work::{Work, work_of};
+use bench_trees::grow;
 use std::alloc::{AllocError, Global};
 use std::time::Instant;
 use std::{env, io};
@@ -27,7 +28,7 @@ fn main(rt: HostRuntime) -> io::Result<()> {
         (Some(work), Some(capacity), Some(count)) if 64 <= capacity && capacity <= MOST_ENTRIES => {
             let mut tree = half_full(rt.alloc(), capacity);
             let start = Instant::now(&rt)?;
-            let done = done(rt.alloc(), &mut tree, work.as_bytes(), count);
+            let done = done(&mut tree, work.as_bytes(), count);
             let nanoseconds = start.elapsed(&rt)?.as_nanos();
             report(rt.alloc(), &work, done, is_timed.then_some(nanoseconds))?
         }
@@ -51,7 +52,7 @@ fn half_full(alloc: Global, capacity: usize) -> Option<Tree>
     requires { capacity ≤ MOST_ENTRIES }
 {
     let mut tree = Tree::new(alloc, capacity)?;
-    if tree.grow(alloc, capacity / 2) {
+    if grow(&mut tree, capacity / 2) {
         Some(tree)
     } else {
         None
@@ -59,12 +60,12 @@ fn half_full(alloc: Global, capacity: usize) -> Option<Tree>
 }
 
 // How much was done in all; none where there is no such work, or it can't be done.
-fn done(alloc: Global, tree: &mut Option<Tree>, word: &[u8], count: usize) -> Option<u64> {
+fn done(tree: &mut Option<Tree>, word: &[u8], count: usize) -> Option<u64> {
     let Some(tree) = tree else {
         return None;
     };
     match work_of(word)? {
-        Work::Change(change) => tree.plan_often(alloc, &change, count),
+        Work::Change(change) => tree.plan_often(&change, count),
         Work::Walk(path) => tree.reach_often(&path, count),
     }
 }

@@ -7,10 +7,9 @@ use std::test::Fail;
 use trace_line::{Line, LineFault, command_line};
 use trace_report::Status;
 
-mod benches;
 mod events;
 mod images;
-mod links;
+mod runs;
 mod scripts;
 
 const PASSWD: &str = "profile passwd {\n  /etc/passwd r,\n}\n";

@@ -1,4 +1,4 @@
-//! A bench in plain memory.
+//! A bench over a tree in one hand.
 ghost use Rattle.std.specs.Prelude.{◌≤◌};
 
 use path_lookup::{NAME_ROOM, Scratch};
@@ -8,9 +8,9 @@ use std::alloc::Global;
 
 /// A tree and the published profiles, with the room that walks and names need.
 #[derive(Drop)]
-pub struct PlainBench {
+pub struct TreeBench<T> {
     pub(crate) alloc: Global,
-    pub(crate) tree: PlainTree,
+    pub(crate) tree: T,
     pub(crate) policy: Policy,
     pub(crate) scratch: Scratch,
     // The name that was judged last stands at the front.
@@ -18,3 +18,6 @@ pub struct PlainBench {
     pub(crate) name_length: usize,
     ghost fits: { name_length ≤ 4095 },
 }
+
+/// A bench over a tree in plain memory.
+pub type PlainBench = TreeBench<PlainTree>;

@@ -1,6 +1,5 @@
-//! Scripts with links and with every change, over a tree in plain memory.
-use crate::tests::benches::{Script, expanded, expect_answers, expect_scripts};
-use crate::tests::run;
+//! Scripts with links and with every change.
+use crate::testing::{Script, expanded, expect_answers, expect_ending, expect_scripts};
 use std::alloc::Global;
 use std::process::Abort;
 use std::test::Fail;
@@ -9,7 +8,7 @@ use trace_report::Status;
 /// Runs scripts behind these rules of the profile p, each in a new tree, and asserts what they print.
 fn expect_behind(rt: &impl Abort, alloc: Global, rules: &str, rows: &[Script]) -> Result<(), Fail> {
     let policy = ["policy\nprofile p { ", rules, " }\n.\n"].concat(alloc)?;
-    expect_scripts(rt, alloc, "9", (&policy, "policy p version 1\n"), rows)
+    expect_scripts(rt, alloc, 9, (&policy, "policy p version 1\n"), rows)
 }
 
 /// Links /l1 to /l39, each to the next one, then one to a file, one more on the way, and one to itself.
@@ -45,7 +44,7 @@ fn expect_forty_links(rt: &impl Abort, alloc: Global, slash: &str) -> Result<(),
     expect_scripts(
         rt,
         alloc,
-        "1024",
+        1024,
         (before, "policy p version 1\n"),
         &[(&script, &printed)],
     )
@@ -110,19 +109,18 @@ fn worked_scripts(rt: HostRuntime) -> Result<(), Fail> {
         "create /a\ncreate /b\ncreate /c\nrename /a /d\nunlink /b\ncreate /c\n",
         "ok 1\nok 2\nENOSPC 28\nok 3\nok 4\nok 5\n",
     );
-    expect_answers(&rt, rt.alloc(), "2", full);
-    Ok(())
+    expect_answers(&rt, rt.alloc(), 2, full)
 }
 
 #[test]
-fn all_changes(rt: HostRuntime) {
+fn all_changes(rt: HostRuntime) -> Result<(), Fail> {
     let script = "mkdir /a\nmkdir /b\ncreate /b/f\nrename /a /b\nrename /a /b/f\nrename /b/f /a\n\
         rmdir /b\nrename /b/f /a/f\nrename /a /b\nrmdir /a\nunlink /b\nsymlink f /b/l\n\
         link /b/l /x\nlink /b /x\nrename /b /b\nrmdir /b/.\nrmdir /\ncreate /c/\nmkdir /c/\n";
     let printed = "ok 1\nok 2\nok 3\nENOTEMPTY 39\nENOTDIR 20\nEISDIR 21\n\
         ENOTEMPTY 39\nok 4\nok 5\nENOENT 2\nEISDIR 21\nok 6\n\
         EPERM 1\nEPERM 1\nok 7\nEINVAL 22\nEBUSY 16\nEINVAL 22\nok 8\n";
-    expect_answers(&rt, rt.alloc(), "1024", (script, printed));
+    expect_answers(&rt, rt.alloc(), 1024, (script, printed))
 }
 
 /// The policy of the scripts with long names.
@@ -151,7 +149,7 @@ fn names_of_4095_bytes(rt: HostRuntime) -> Result<(), Fail> {
         "create /d5/%\nopen p /d5/% r\nopen p ~/% r\n",
         "ok 21\nallowed ~/% node 22 tree 21 policy 1\nallowed ~/% node 22 tree 21 policy 1\n",
     );
-    expect_scripts(&rt, rt.alloc(), "1024", DEEP, &[row])
+    expect_scripts(&rt, rt.alloc(), 1024, DEEP, &[row])
 }
 
 #[test]
@@ -167,7 +165,7 @@ fn names_of_4096_bytes(rt: HostRuntime) -> Result<(), Fail> {
             "ok 21\nENAMETOOLONG 36 tree 21\nENAMETOOLONG 36 tree 21\n",
         ),
     ];
-    expect_scripts(&rt, rt.alloc(), "1024", DEEP, &rows)
+    expect_scripts(&rt, rt.alloc(), 1024, DEEP, &rows)
 }
 
 /// The same of scripts in the deep tree that start with these lines.
@@ -180,7 +178,7 @@ fn expect_in_deep_tree(
     let (tree, made) = DEEP;
     let before = [tree, lines].concat(alloc)?;
     let printed_before = [made, answers].concat(alloc)?;
-    expect_scripts(rt, alloc, "1024", (&before, &printed_before), rows)
+    expect_scripts(rt, alloc, 1024, (&before, &printed_before), rows)
 }
 
 /// What the change is refused for goes before a name that is too long, and that before the verdict.
@@ -215,7 +213,7 @@ fn judged_links_to_the_longest_name(rt: HostRuntime) -> Result<(), Fail> {
         policy\nprofile p { /** l, /d** w, }\n.\nunlink /d5/%\njudged-link p /f /d5/%\n";
     let printed = "ok 21\nlinked node 22 tree 22 policy 1\nallowed ~/% node 22 tree 22 policy 1\n\
         policy p version 2\nok 23\nwider by w ~/% node 22 tree 23 policy 2\n";
-    expect_scripts(&rt, rt.alloc(), "1024", DEEP, &[(script, printed)])
+    expect_scripts(&rt, rt.alloc(), 1024, DEEP, &[(script, printed)])
 }
 
 #[test]
@@ -233,7 +231,7 @@ fn paths_that_are_too_long(rt: HostRuntime) -> Result<(), Fail> {
         "ENAMETOOLONG 36\nEINVAL 22\nENAMETOOLONG 36\nEINVAL 22\n\
         ENAMETOOLONG 36 tree 0\nEINVAL 22 tree 0\nENAMETOOLONG 36 tree 0\n",
     );
-    expect_scripts(&rt, rt.alloc(), "1024", LONG, &[alone, paired])
+    expect_scripts(&rt, rt.alloc(), 1024, LONG, &[alone, paired])
 }
 
 #[test]
@@ -293,7 +291,7 @@ fn expect_links_refused(rt: &impl Abort, alloc: Global, rules: &str) -> Result<(
     expect_scripts(
         rt,
         alloc,
-        "9",
+        9,
         (&before, "policy p version 1\nok 1\nok 2\nok 3\nok 4\n"),
         &[
             ("judged-link p / /g\n", "EBUSY 16 tree 4\n"),
@@ -325,7 +323,7 @@ fn judged_links_in_a_full_tree(rt: HostRuntime) -> Result<(), Fail> {
     expect_scripts(
         &rt,
         rt.alloc(),
-        "1",
+        1,
         (policy, "policy p version 1\n"),
         &[
             (
@@ -444,12 +442,12 @@ fn trees_after_judged_links(rt: HostRuntime) -> Result<(), Fail> {
 /// Asserts that a line stops a script, and that what was printed before stands.
 fn expect_no_command(rt: &impl Abort, alloc: Global, line: &str) -> Result<(), Fail> {
     let script = ["mkdir /a\n\n", line, "\nmkdir /b\n"].concat(alloc)?;
-    let ending = run(alloc, &["aa-trace", "run"], script.as_bytes());
-    assert!(rt;
-        ending.is(Status::Refused, b"ok 1\n", b"line 3: not a command\n"),
-        "{line}"
+    let ending = (
+        Status::Refused,
+        b"ok 1\n".as_slice(),
+        b"line 3: not a command\n".as_slice(),
     );
-    Ok(())
+    expect_ending(rt, alloc, 1024, script.as_bytes(), ending)
 }
 
 /// Lines of too few or too many words are no commands.

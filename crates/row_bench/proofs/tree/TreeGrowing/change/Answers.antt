@@ -1,7 +1,7 @@
 use Rattle.std.proofs.Common.{◌≡◌, ℕ, List, sym, refl, subst}
 use Rattle.tree_row.specs.Worlds.{EncodesWorld}
 use Rattle.row_plan.specs.Plan.{Plannable}
-use Rattle.row_bench.proofs.tree.Tree.change.Goals as goal
+use Rattle.row_bench.proofs.tree.TreeGrowing.change.Goals as goal
 
 pub invariant_of-self : goal.invariant_of-self
 invariant_of-self c =

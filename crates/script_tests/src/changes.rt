@@ -1,70 +1,15 @@
-//! Scripts over a tree in plain memory, as the program runs them.
-use crate::tests::{expect, run};
-use std::alloc::Global;
-use std::process::Abort;
+//! Scripts of changes and opens.
+use crate::testing::{expect_answers, expect_ending, expect_scripts};
 use std::test::Fail;
 use trace_report::Status;
 
-/// A script that goes to its end, and what it prints.
-pub(super) type Script<'a> = (&'a str, &'a str);
-
-/// Runs a script in a new tree, and asserts what it prints.
-pub(super) fn expect_answers(
-    rt: &impl Abort,
-    alloc: Global,
-    capacity: &str,
-    (script, printed): Script,
-) {
-    let words = ["aa-trace", "run", "--capacity", capacity];
-    expect(rt, alloc, &words, script.as_bytes(), Status::Done, printed);
-}
-
-/// What stands for a byte of a text: so many of a byte.
-fn meaning(byte: u8) -> (usize, u8) {
-    match byte {
-        b'@' => (255, b'd'),
-        b'%' => (254, b'x'),
-        b'&' => (253, b'e'),
-        _ => (1, byte),
-    }
-}
-
-/// Two texts in one. There `@` stands for 255 bytes, `%` for 254 others, `&` for 253 others, and `~` for the path of
-/// the innermost of fifteen directories of 255 bytes. That has 3,840 bytes.
-pub(super) fn expanded(alloc: Global, front: &str, rest: &str) -> Result<String, Fail> {
-    let text = [front, rest].concat(alloc)?;
-    let text = text.replace(alloc, '~', "/@/@/@/@/@/@/@/@/@/@/@/@/@/@/@")?;
-    let mut bytes = Vec::new(alloc);
-    for byte in text.bytes() {
-        let (count, byte) = meaning(byte);
-        bytes.resize(bytes.len().saturating_add(count), byte)?;
-    }
-    Ok(String::from_utf8(bytes).ok().ok_or("other bytes")?)
-}
-
-/// Runs scripts with the same beginning, each expanded and in a new tree, and asserts what they print.
-pub(super) fn expect_scripts(
-    rt: &impl Abort,
-    alloc: Global,
-    capacity: &str,
-    (before, printed_before): Script,
-    rows: &[Script],
-) -> Result<(), Fail> {
-    for (script, printed) in rows {
-        let script = expanded(alloc, before, script)?;
-        let printed = expanded(alloc, printed_before, printed)?;
-        expect_answers(rt, alloc, capacity, (&script, &printed));
-    }
-    Ok(())
-}
-
 #[test]
-fn a_directory_moves(rt: HostRuntime) {
+fn a_directory_moves(rt: HostRuntime) -> Result<(), Fail> {
     let script =
         "policy\nprofile p {\n  /b/f r,\n}\n.\nmkdir /a\ncreate /a/f\nopen p /a/f r\nrename /a /b\nopen p /b/f rw\nopen p /b r\nopen p /b/f/ r\nopen q /b r\n";
     let printed =
         "policy p version 1\nok 1\nok 2\nno rule for r /a/f node 3 tree 2 policy 1\nok 3\nno rule for w /b/f node 3 tree 3 policy 1\nno rule for r /b/ node 2 tree 3 policy 1\nENOTDIR 20 tree 3\nno profile policy 1\n";
-    expect_answers(&rt, rt.alloc(), "1024", (script, printed));
+    expect_answers(&rt, rt.alloc(), 1024, (script, printed))
 }
 
 #[test]
@@ -73,7 +18,7 @@ fn opens(rt: HostRuntime) -> Result<(), Fail> {
     expect_scripts(
         &rt,
         rt.alloc(),
-        "9",
+        9,
         (policy, "policy p version 1\n"),
         &[
             ("open p /.. r\n", "allowed / node 1 tree 0 policy 1\n"),
@@ -113,12 +58,12 @@ fn opens(rt: HostRuntime) -> Result<(), Fail> {
 
 /// Where a profile has too many states, the one that was published before stays in force.
 #[test]
-fn too_many_states(rt: HostRuntime) {
+fn too_many_states(rt: HostRuntime) -> Result<(), Fail> {
     let script =
         "policy\nprofile p {\n  /** r,\n}\n.\ncreate /a\npolicy\nprofile p {\n  /**a????????????? r,\n}\n.\nopen p /a rw\npolicy\nprofile q {\n  /**a????????????? r,\n}\n.\nopen q /a r\npolicy\nprofile p {\n  /**a???????????? r,\n}\n.\nopen p /a r\ncreate /abcdefghijklm\nopen p /abcdefghijklm r\n";
     let printed =
         "policy p version 1\nok 1\npolicy refused: compile 1\nno rule for w /a node 2 tree 1 policy 1\npolicy refused: compile 1\nno profile policy 1\npolicy p version 2\nno rule for r /a node 2 tree 1 policy 2\nok 2\nallowed /abcdefghijklm node 3 tree 2 policy 2\n";
-    expect_answers(&rt, rt.alloc(), "9", (script, printed));
+    expect_answers(&rt, rt.alloc(), 9, (script, printed))
 }
 
 #[test]
@@ -126,7 +71,7 @@ fn new_entries(rt: HostRuntime) -> Result<(), Fail> {
     expect_scripts(
         &rt,
         rt.alloc(),
-        "9",
+        9,
         ("", ""),
         &[
             (
@@ -159,7 +104,7 @@ fn renames(rt: HostRuntime) -> Result<(), Fail> {
     expect_scripts(
         &rt,
         rt.alloc(),
-        "9",
+        9,
         ("", ""),
         &[
             (
@@ -191,27 +136,27 @@ fn renames(rt: HostRuntime) -> Result<(), Fail> {
 }
 
 #[test]
-fn full_trees(rt: HostRuntime) {
+fn full_trees(rt: HostRuntime) -> Result<(), Fail> {
     let two = (
         "create /a\ncreate /b\ncreate /c\nmkdir /c\nrename /a /d\ncreate /d\nrename /d /b\ncreate /c\n",
         "ok 1\nok 2\nENOSPC 28\nENOSPC 28\nok 3\nEEXIST 17\nok 4\nok 5\n",
     );
-    expect_answers(&rt, rt.alloc(), "2", two);
+    expect_answers(&rt, rt.alloc(), 2, two)?;
     let one = (
         "mkdir /a\nmkdir /a/b\nrename /a /b\nmkdir /a\n",
         "ok 1\nENOSPC 28\nok 2\nENOSPC 28\n",
     );
-    expect_answers(&rt, rt.alloc(), "1", one);
+    expect_answers(&rt, rt.alloc(), 1, one)
 }
 
 /// A node's number is not used again, and a refused change uses up none.
 #[test]
-fn numbers_of_nodes(rt: HostRuntime) {
+fn numbers_of_nodes(rt: HostRuntime) -> Result<(), Fail> {
     let script =
         "policy\nprofile p {\n}\n.\ncreate /f\ncreate /f\ncreate /g\nrename /f /g\ncreate /f\nopen p /f r\nopen p /g r\n";
     let printed =
         "policy p version 1\nok 1\nEEXIST 17\nok 2\nok 3\nok 4\nno rule for r /f node 4 tree 4 policy 1\nno rule for r /g node 2 tree 4 policy 1\n";
-    expect_answers(&rt, rt.alloc(), "2", (script, printed));
+    expect_answers(&rt, rt.alloc(), 2, (script, printed))
 }
 
 /// A profile, and fifteen directories of 255 bytes, each in the one before.
@@ -241,7 +186,7 @@ fn long_names(rt: HostRuntime) -> Result<(), Fail> {
     expect_scripts(
         &rt,
         rt.alloc(),
-        "1024",
+        1024,
         (NESTED, NESTED_MADE),
         &[
             // The directories make 3,840 bytes: a slash and 254 bytes more are 4,095.
@@ -259,24 +204,18 @@ fn long_names(rt: HostRuntime) -> Result<(), Fail> {
         ],
     )?;
     let component = ("mkdir /@x\n", "ENAMETOOLONG 36\n");
-    expect_scripts(&rt, rt.alloc(), "1024", ("", ""), &[component])
+    expect_scripts(&rt, rt.alloc(), 1024, ("", ""), &[component])
 }
 
 /// Bytes that are no text in UTF-8 are bytes of a name like others.
 #[test]
-fn bytes_of_names(rt: HostRuntime) {
+fn bytes_of_names(rt: HostRuntime) -> Result<(), Fail> {
     let script =
         b"policy\nprofile p {\n  /* r,\n}\n.\ncreate /\x80\xff\x01\ropen\nopen p /\x80\xff\x01\ropen r\n";
     let printed = b"policy p version 1\nok 1\nallowed /\x80\xff\x01\ropen node 2 tree 1 policy 1\n";
-    let ending = run(rt.alloc(), &["aa-trace", "run"], script);
-    assert!(rt; ending.is(Status::Done, printed, b""));
+    let ending = (Status::Done, printed.as_slice(), b"".as_slice());
+    expect_ending(&rt, rt.alloc(), 1024, script, ending)?;
     let zero = b"create /a\0b\n";
-    expect(
-        &rt,
-        rt.alloc(),
-        &["aa-trace", "run"],
-        zero,
-        Status::Done,
-        "EINVAL 22\n",
-    );
+    let ending = (Status::Done, b"EINVAL 22\n".as_slice(), b"".as_slice());
+    expect_ending(&rt, rt.alloc(), 1024, zero, ending)
 }

@@ -1,0 +1,137 @@
+//! What is timed, line by line.
+use crate::attempts::Tally;
+use crate::plan::Plan;
+use crate::rates::{Rate, SIDES, Side, measure};
+use crate::timing::{time_attempts, time_changes, time_clock, time_meets};
+use crate::trips::{KINDS, trip_of};
+use bench_trees::{DEEPEST, middle_name, path};
+use dentry_cache::Keeper;
+use names::Path;
+use std::alloc::Global;
+use std::io;
+use std::io::Print;
+use std::rt::Clock;
+use std::thread::Threads;
+use std::time::Duration;
+
+/// Does all that the plan asks for, and tells the times where it asks for them. Answers whether each change was made, and each
+/// walk that ended well found what stands there.
+pub(crate) fn tell_all<R: Clock + Print + Threads + Sync>(
+    rt: &R,
+    alloc: Global,
+    plan: &Plan,
+    keeper: &mut Keeper,
+) -> io::Result<bool> {
+    let middle = middle_name(plan.capacity / 2);
+    let Some(middle) = path(&middle) else {
+        return Ok(false);
+    };
+    let changed = tell_changes(rt, plan, keeper)?;
+    let walked = tell_walks(rt, plan, keeper, &middle)?;
+    let met = tell_meets(rt, plan, keeper)?;
+    let went = tell_sides(rt, alloc, plan, keeper, &middle)?;
+    Ok(changed && walked && met && went)
+}
+
+// Each kind of change, and the clock that times it.
+fn tell_changes<R: Clock + Print>(rt: &R, plan: &Plan, keeper: &mut Keeper) -> io::Result<bool> {
+    tell(
+        rt,
+        plan,
+        "clock",
+        plan.changes,
+        time_clock(rt, plan.changes)?,
+    )?;
+    for kind in KINDS {
+        let Some(trip) = trip_of(kind.as_bytes()) else {
+            return Ok(false);
+        };
+        let Some(took) = time_changes(rt, keeper, &trip, plan.changes)? else {
+            return Ok(false);
+        };
+        tell(rt, plan, kind, plan.changes, took)?;
+    }
+    Ok(true)
+}
+
+// Walks of one thread: to directories that are so deep, and to the middle one of the files of numbered names.
+fn tell_walks<R: Clock + Print>(
+    rt: &R,
+    plan: &Plan,
+    keeper: &mut Keeper,
+    middle: &Path<'_>,
+) -> io::Result<bool> {
+    let (Some(walk1), Some(walk4), Some(walk16)) = (path(b"/d"), path(b"/d/d/d/d"), path(DEEPEST))
+    else {
+        return Ok(false);
+    };
+    Ok(
+        tell_walk(rt, plan, keeper, "walk1", &walk1)?
+            && tell_walk(rt, plan, keeper, "walk4", &walk4)?
+            && tell_walk(rt, plan, keeper, "walk16", &walk16)?
+            && tell_walk(rt, plan, keeper, "middle", middle)?,
+    )
+}
+
+fn tell_walk<R: Clock + Print>(
+    rt: &R,
+    plan: &Plan,
+    keeper: &mut Keeper,
+    name: &str,
+    path: &Path<'_>,
+) -> io::Result<bool> {
+    let Ok(walker) = keeper.walker() else {
+        return Ok(false);
+    };
+    let (took, tally) = time_attempts(rt, walker, path, plan.attempts)?;
+    tell(rt, plan, name, plan.attempts, took)?;
+    Ok(tally == Tally::NONE)
+}
+
+fn tell_meets<R: Clock + Print>(rt: &R, plan: &Plan, keeper: &mut Keeper) -> io::Result<bool> {
+    let Some(took) = time_meets(rt, keeper, plan.attempts)? else {
+        return Ok(false);
+    };
+    tell(rt, plan, "meet", plan.attempts, took)?;
+    Ok(true)
+}
+
+// Walkers side by side, all of which walk to one file.
+fn tell_sides<R: Clock + Print + Threads + Sync>(
+    rt: &R,
+    alloc: Global,
+    plan: &Plan,
+    keeper: &mut Keeper,
+    file: &Path<'_>,
+) -> io::Result<bool> {
+    for side in SIDES {
+        let Some(rate) = measure(rt, alloc, keeper, side, file, plan.attempts)? else {
+            return Ok(false);
+        };
+        if plan.is_timed {
+            tell_rate(rt, side, plan.attempts, &rate)?;
+        }
+        if rate.tally.wrong > 0 || rate.tally.busy > 0 && !side.is_beside {
+            return Ok(false);
+        }
+    }
+    Ok(true)
+}
+
+fn tell_rate<R: Print>(rt: &R, side: Side, attempts: u64, rate: &Rate) -> io::Result<()> {
+    let count = attempts.saturating_mul(side.walkers as u64);
+    let nanoseconds = rate.took.as_nanos();
+    let Tally { busy, .. } = rate.tally;
+    println!(rt;
+        "{} {count} {nanoseconds} {busy} {}",
+        side.name, rate.renames
+    )
+}
+
+fn tell<R: Print>(rt: &R, plan: &Plan, name: &str, count: u64, took: Duration) -> io::Result<()> {
+    if plan.is_timed {
+        println!(rt; "{name} {count} {}", took.as_nanos())
+    } else {
+        Ok(())
+    }
+}

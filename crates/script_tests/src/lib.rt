@@ -1,0 +1,9 @@
+//! Tests of scripts on a bench in plain memory and on that of a keeper, which have to print the same, and nothing else.
+#![tactic(auto)]
+
+#[cfg(test)]
+mod changes;
+#[cfg(test)]
+mod links;
+#[cfg(test)]
+mod testing;
