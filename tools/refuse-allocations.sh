@@ -1,14 +1,25 @@
 #!/bin/sh
-# Refuses each allocation of one run of ./aa-trace in turn: the first alone, then the second alone, and so on, until a
-# run has no such allocation. Each refused run must write `no memory` to standard error and end with status 4, with
+# Refuses each allocation of one run of ./aa-trace in turn, and of the program that answers a script on the row that threads
+# share: the first alone, then the second alone, and so on, until a run has no such allocation. Each refused run must write `no memory` to standard error and end with status 4, with
 # nothing on standard output or, for a script, a front part of the answers in whole lines; or it did without that
-# allocation, and then answers all as the whole run does. Wants a C compiler, for the few lines that stand before malloc
-# and realloc.
+# allocation, and then answers all as the whole run does. Last come walks over that row beside its changes, some of which
+# want memory then: no walk may find what isn't there. Wants a C compiler, for the few lines that stand before malloc and
+# realloc.
 set -eu
 cd "$(dirname "$0")/.."
 [ -x ./aa-trace ] || { echo "./aa-trace is missing: run make" >&2; exit 1; }
 work=$(mktemp -d)
 trap 'rm -rf "$work"' EXIT
+
+# build NAME: a program of the tests, proved
+build() {
+    echo "proving and building $1 .."
+    (cd "crates/$1" && rt run </dev/null) >"$work/log" 2>&1 || { cat "$work/log"; exit 1; }
+}
+build keeper_run
+build walk_storm
+KEEPER_RUN=crates/keeper_run/out/keeper_run
+WALK_STORM=crates/walk_storm/out/walk_storm
 
 cat >"$work/refuse.c" <<'C'
 #define _GNU_SOURCE
@@ -39,54 +50,59 @@ void *realloc(void *old, size_t size) {
 C
 ${CC:-cc} -shared -fPIC -O1 -o "$work/refuse.so" "$work/refuse.c" -ldl
 
-# is_front COMMAND: the answers are a front part, in whole lines, of those of the whole run; of a judge call, nothing
+# is_front: the answers are a front part, in whole lines, of those of the whole run; where that isn't a script's, nothing
 is_front() {
     size=$(wc -c <"$work/answers")
     [ "$size" -eq 0 ] && return 0
-    [ "$1" = run ] || [ "$1" = steps ] || return 1
+    case $what in
+    'aa-trace run '* | 'aa-trace steps '* | 'keeper_run '*) ;;
+    *) return 1 ;;
+    esac
     [ "$(tail -c 1 "$work/answers" | wc -l)" -eq 1 ] && head -c "$size" "$work/whole-answers" | cmp -s - "$work/answers"
 }
 
-# refuse_all TEXT ARGUMENTS..: every allocation of the run `./aa-trace ARGUMENTS < TEXT`
+# refuse_all TEXT PROGRAM ARGUMENTS..: every allocation of the run `PROGRAM ARGUMENTS < TEXT`
 refuse_all() {
     text=$1
-    shift
+    program=$2
+    shift 2
+    what="${program##*/} $*"
     refused=0
     spared=0
     wanted=0
-    ./aa-trace "$@" <"$text" >"$work/whole-answers" 2>"$work/whole-faults" || wanted=$?
+    "$program" "$@" <"$text" >"$work/whole-answers" 2>"$work/whole-faults" || wanted=$?
     while :; do
         status=0
         : >"$work/told"
         REFUSE=$((refused + 1)) REFUSE_TOLD=9 LD_PRELOAD="$work/refuse.so" \
-            ./aa-trace "$@" <"$text" >"$work/answers" 2>"$work/faults" 9>"$work/told" || status=$?
+            "$program" "$@" <"$text" >"$work/answers" 2>"$work/faults" 9>"$work/told" || status=$?
         [ -s "$work/told" ] || break
         refused=$((refused + 1))
         if [ "$status" -eq "$wanted" ] && cmp -s "$work/answers" "$work/whole-answers" \
             && cmp -s "$work/faults" "$work/whole-faults"; then
             spared=$((spared + 1))
-        elif [ "$status" -ne 4 ] || [ "$(cat "$work/faults")" != 'no memory' ] || ! is_front "$1"; then
-            echo "allocation $refused of '$*': status $status, $(cat "$work/answers" "$work/faults")" >&2
+        elif [ "$status" -ne 4 ] || [ "$(cat "$work/faults")" != 'no memory' ] || ! is_front; then
+            echo "allocation $refused of '$what': status $status, $(cat "$work/answers" "$work/faults")" >&2
             exit 1
         fi
     done
-    [ "$refused" -gt 0 ] || { echo "no allocation of '$*' could be refused" >&2; exit 1; }
-    echo "aa-trace $*: $refused allocations, each refused in turn: $((refused - spared)) times no memory, $spared times done without"
+    [ "$refused" -gt 0 ] || { echo "no allocation of '$what' could be refused" >&2; exit 1; }
+    echo "$what: $refused allocations, each refused in turn: $((refused - spared)) times no memory, $spared times done without"
 }
 
 # A text of many rules and items, so that every vector grows more than once.
 awk 'BEGIN { print "profile p {"; for (i = 0; i < 40; i++) print "  deny /home/*/.ssh/**/id_" i "*.pub rwklm,"; print "}" }' >"$work/rules"
 
-refuse_all examples/passwd.profile judge rw /etc/passwd
-refuse_all examples/viewer.profile judge w /home/me/.gnupg/keys
-refuse_all "$work/rules" judge r /home/me/.ssh/a/id_39.pub
-refuse_all /dev/null judge r /x
-refuse_all /dev/null judge r
-refuse_all examples/viewer.profile compile
+refuse_all examples/passwd.profile ./aa-trace judge rw /etc/passwd
+refuse_all examples/viewer.profile ./aa-trace judge w /home/me/.gnupg/keys
+refuse_all "$work/rules" ./aa-trace judge r /home/me/.ssh/a/id_39.pub
+refuse_all /dev/null ./aa-trace judge r /x
+refuse_all /dev/null ./aa-trace judge r
+refuse_all examples/viewer.profile ./aa-trace compile
 ./aa-trace compile <examples/viewer.profile >"$work/image"
-refuse_all "$work/image" check
-refuse_all "$work/image" match rw /home/me/.gnupg/keys
-refuse_all /dev/null --help
+refuse_all "$work/image" ./aa-trace check
+refuse_all "$work/image" ./aa-trace match rw /home/me/.gnupg/keys
+refuse_all /dev/null ./aa-trace --help
 
 # Directories, files, moves onto what stands and what doesn't, policies that are replaced and dropped.
 cat >"$work/script" <<'SCRIPT'
@@ -117,7 +133,8 @@ open p /b/c/key r
 drop p
 open p /b r
 SCRIPT
-refuse_all "$work/script" run --capacity 9
+refuse_all "$work/script" ./aa-trace run --capacity 9
+refuse_all "$work/script" "$KEEPER_RUN" 9
 
 # Links of both kinds, opens through them, removals, and judged links that are made, refused and can't be made.
 cat >"$work/links" <<'SCRIPT'
@@ -146,7 +163,8 @@ rmdir /a
 rmdir /b
 open p /s w
 SCRIPT
-refuse_all "$work/links" run --capacity 9
+refuse_all "$work/links" ./aa-trace run --capacity 9
+refuse_all "$work/links" "$KEEPER_RUN" 9
 
 # Calls step by step beside changes that are open, walks that are disturbed, and publications.
 cat >"$work/events" <<'SCRIPT'
@@ -188,4 +206,25 @@ go 1
 open p /b r
 keep create /b/none/x
 SCRIPT
-refuse_all "$work/events" steps --capacity 9
+refuse_all "$work/events" ./aa-trace steps --capacity 9
+
+# Walks beside changes, a walker in a thread of its own: a change that wants memory isn't made, and the walks find the tree as
+# it was before. What the threads' library takes is refused, too.
+refused=0
+ended=0
+while :; do
+    : >"$work/told"
+    REFUSE=$((refused + 1)) REFUSE_TOLD=9 LD_PRELOAD="$work/refuse.so" \
+        "$WALK_STORM" 1 40 40 >"$work/answers" 2>"$work/faults" 9>"$work/told" || true
+    [ -s "$work/told" ] || break
+    refused=$((refused + 1))
+    case $(cat "$work/answers") in
+    *': no answer differs') ended=$((ended + 1)) ;;
+    'no memory') ;;
+    *)
+        echo "allocation $refused of 'walk_storm 1 40 40': $(cat "$work/answers" "$work/faults")" >&2
+        exit 1
+        ;;
+    esac
+done
+echo "walk_storm 1 40 40: $refused allocations, each refused in turn: $((refused - ended)) times no memory, $ended times no answer differs"
