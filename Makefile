@@ -3,11 +3,12 @@
 # make test       the gate: every proof from nothing, must-fail edits, tests, programs
 # make bench      times on large inputs, each with the ratio to half the size or to another input, of compiled profiles, of
 #                 the loop that runs names through a table, beside the same loop in C, of names judged from C, of plans and
-#                 walks over a row, and of reads of what is published, beside a lock
+#                 walks over a row, of changes and walks over the one that threads share, and of reads of what is published,
+#                 beside a lock
 # make tour       runs every command of README.md and docs/TOUR.md, and compares what it prints
 # make calls      calls the library for C, and compares its answers with those of ./aa-trace
 # make embed      builds the examples for those who embed the library, ./embed in C and ./embed_rs in Rust, and runs them
-# make refusals   refuses each allocation of the program in turn
+# make refusals   refuses each allocation of the program in turn, and of scripts on the row that threads share
 # make drawn      makes 100,000 drawn changes in a row and in plain memory, which have to answer alike
 # make install    installs the program, the static library for C with its header, the manual page and completion for bash
 #                 below PREFIX, which is /usr/local if not given; DESTDIR is put before it. Builds what isn't built
@@ -64,6 +65,7 @@ bench: aa-trace
 	sh bench/match.sh
 	sh bench/judge.sh
 	sh bench/row.sh
+	sh bench/cache.sh
 	sh bench/steps.sh
 	sh bench/registry.sh
 

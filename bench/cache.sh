@@ -67,7 +67,7 @@ for name in mkdir create symlink link unlink rmdir rename replace walk1 walk4 wa
         walk* | middle | meet) ;;
         *) clock=$(each clock "$capacity") ;;
         esac
-        awk -v each="$(each "$name" "$capacity")" -v clock="$clock" 'BEGIN { printf " %10.2f", (each - clock) / 1000 }'
+        awk -v each="$(each "$name" "$capacity")" -v clock="$clock" 'BEGIN { printf " %10.3f", (each - clock) / 1000 }'
     done
     printf '\n'
 done

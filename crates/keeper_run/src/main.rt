@@ -12,7 +12,7 @@ use keeper_bench::KeeperBench;
 use names::NoMemory;
 use std::env;
 use std::io;
-use std::io::{BufReader, Input, Print, Write};
+use std::io::{BufReader, ErrorKind, Input, Print, Write};
 use std::process::ExitCode;
 use std::rt::Env;
 use trace_report::{Status, fail};
@@ -24,28 +24,42 @@ const CAPACITY: usize = 1024;
 
 fn main(rt: HostRuntime) -> ExitCode {
     let mut faults = rt.stderr();
-    let status = match capacity(&rt) {
-        Some(capacity) => answer(&rt, capacity, &mut faults),
-        None => fail(
+    let status = match words(&rt) {
+        Ok(words) => match capacity(&words) {
+            Some(capacity) => answer(&rt, capacity, &mut faults),
+            None => fail(
+                &mut faults,
+                "usage: keeper_run [CAPACITY]",
+                Status::BadArguments,
+            ),
+        },
+        Err(error) if error.kind() == ErrorKind::OutOfMemory => {
+            fail(&mut faults, NoMemory, Status::NoMemory)
+        }
+        Err(_) => fail(
             &mut faults,
-            "usage: keeper_run [CAPACITY]",
+            "the command line isn't text in UTF-8",
             Status::BadArguments,
         ),
     };
     ExitCode::from(status.code())
 }
 
-// The number that the command line tells, or the one that is meant where it tells none; none where that is no capacity.
-fn capacity<R: Env + AllocGlobal>(rt: &R) -> Option<usize>
+// The words of the command line, the program's name first.
+fn words<R: Env + AllocGlobal>(rt: &R) -> io::Result<Vec<String>> {
+    let words = env::args(rt)?.collect(rt.alloc())?;
+    Ok(words)
+}
+
+// The number that the words tell, or the one that is meant where they tell none; none where that is no capacity.
+fn capacity(words: &[String]) -> Option<usize>
     ensures { IfSome result (λ capacity. capacity ≤ MOST_ENTRIES) }
 {
-    let mut args = env::args(rt).ok()?;
-    let _program = args.next();
-    let Some(word) = args.next() else {
+    if words.len() < 2 {
         return Some(CAPACITY);
-    };
-    let capacity: usize = word.as_str().parse().ok()?;
-    if 1 <= capacity && capacity <= MOST_ENTRIES && args.next().is_none() {
+    }
+    let capacity: usize = words[1].as_str().parse().ok()?;
+    if 1 <= capacity && capacity <= MOST_ENTRIES && words.len() == 2 {
         Some(capacity)
     } else {
         None
