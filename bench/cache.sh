@@ -9,7 +9,7 @@ set -eu
 cd "$(dirname "$0")/.."
 RUNS=${RUNS:-7}
 CHANGES=${CHANGES:-2000}
-CELLS=${CELLS:-20000000}
+CELLS=${CELLS:-200000000}
 UNDER=${UNDER:-}
 work=$(mktemp -d)
 trap 'rm -rf "$work"' EXIT

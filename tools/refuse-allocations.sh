@@ -218,9 +218,9 @@ while :; do
         "$WALK_STORM" 1 40 40 >"$work/answers" 2>"$work/faults" 9>"$work/told" || true
     [ -s "$work/told" ] || break
     refused=$((refused + 1))
-    case $(cat "$work/answers") in
+    case $(cat "$work/answers")$(grep -v '^answers:' "$work/faults") in
     *': no answer differs') ended=$((ended + 1)) ;;
-    'no memory') ;;
+    'no memory' | 'Error: Kind(OutOfMemory)') ;;
     *)
         echo "allocation $refused of 'walk_storm 1 40 40': $(cat "$work/answers" "$work/faults")" >&2
         exit 1

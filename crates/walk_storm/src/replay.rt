@@ -3,7 +3,7 @@ use crate::answers::{Answer, Found};
 use crate::drawing::DrawnChange;
 use crate::paths::NumberedPath;
 use crate::telling::{Rooms, tell};
-use names::{NoMemory, Path};
+use names::{Errno, Path};
 use path_lookup::WalkFault;
 use plain_tree::PlainTree;
 use std::alloc::{AllocError, Global};
@@ -22,30 +22,34 @@ pub(crate) fn differing(
     let mut rooms = Rooms::new();
     let mut differing: u64 = 0;
     for answer in answers {
-        if !advances(&mut tree, log, answer.version) || !is_right(&mut tree, answer, &mut rooms) {
+        if !advances(&mut tree, log, answer.version)? || !is_right(&mut tree, answer, &mut rooms) {
             differing = differing.saturating_add(1);
         }
     }
     Ok(differing)
 }
 
-// Makes the changes up to a version. Says whether each could be made.
-fn advances(tree: &mut PlainTree, log: &[DrawnChange], version: u64) -> bool {
+// Makes the changes up to a version. Says whether each could be made, memory aside.
+fn advances(tree: &mut PlainTree, log: &[DrawnChange], version: u64) -> Result<bool, AllocError> {
     let Some(changes) = log.get(tree.version() as usize..version as usize) else {
-        return false;
+        return Ok(false);
     };
     for change in changes {
-        if !applies(tree, change) {
-            return false;
+        if !applies(tree, change)? {
+            return Ok(false);
         }
     }
-    tree.version() == version
+    Ok(tree.version() == version)
 }
 
-fn applies(tree: &mut PlainTree, drawn: &DrawnChange) -> bool {
-    match drawn.change() {
-        Some(change) => tree.apply(&change).is_ok(),
-        None => false,
+fn applies(tree: &mut PlainTree, drawn: &DrawnChange) -> Result<bool, AllocError> {
+    let Some(change) = drawn.change() else {
+        return Ok(false);
+    };
+    match tree.apply(&change) {
+        Ok(_) => Ok(true),
+        Err(Errno::ENOMEM) => Err(AllocError),
+        Err(_) => Ok(false),
     }
 }
 
