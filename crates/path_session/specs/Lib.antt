@@ -1,0 +1,3 @@
+pub mod Sitting
+pub mod Standing
+pub mod inner

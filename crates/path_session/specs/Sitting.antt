@@ -1,0 +1,108 @@
+-- What contracts see of a session, and what they say of its calls.
+use Rattle.std.specs.Prelude.{◌≡◌, ◌+◌, ◌%◌, ◌≤◌, ℕ, List, [], length, Option, None, IsSome, Ok}
+use mathlib.Core.List.{IsPrefix}
+use Rattle.names.specs.declared.permissions.Perms.{Perms}
+use Rattle.directory_tree.specs.declared.change.Change.{Change}
+use Rattle.directory_tree.specs.Tree.{Tree}
+use Rattle.dentry_cache.specs.Models.{Walk}
+use Rattle.row_rule.specs.Steps.{newcomer}
+use Rattle.mediation.specs.Judge.{Judge}
+use Rattle.mediation.specs.Opening.{Answered, judged, failed, no_profile, Reached, reached}
+use Rattle.profile_registry.specs.Views.{Reading, IsUnanswered}
+use Rattle.row_rule.specs.declared.view.WalkerView.{WalkerView}
+use Rattle.justification.specs.declared.answer.Answer.{Answer}
+use Rattle.justification.specs.declared.answer.Answer.TheVariants.{Judged, Failed, NoProfile, Busy, NoEntry}
+use Rattle.justification.specs.Versions.{IsTreeAt}
+
+-- its walker, its reader of the policy, the profile that it opens by, the name that it judged last, and how often it met its
+-- keeper, modulo 2^64
+pub record Sitting : Type 0 where
+  pub walk : Walk
+  pub reading : Reading
+  pub profile : List ℕ
+  pub judged : List ℕ
+  pub meetings : ℕ
+
+-- what is seen of a walker that is lent to a call, which no caller sees
+abbrev pub no_walk : Walk
+no_walk =
+    record {
+      table = record { words = 0; slots = 0; views_name = 0; atom = 0; block = 0; offset = 0; slot_names = [] };
+      capacity = 0;
+      view = newcomer;
+    }
+
+-- it walks over the same row, and opens by the same profile
+abbrev pub IsSameSession : Sitting → Sitting → Type 0
+IsSameSession before now =
+    (now.walk.table ≡ before.walk.table) × (now.walk.capacity ≡ before.walk.capacity) × (now.profile ≡ before.profile)
+
+-- the changes of the tree and of the policy that it had seen are the first ones of those that it has seen now
+abbrev pub HasSeenMore : Sitting → Sitting → Type 0
+HasSeenMore before now = IsPrefix before.walk.view.seen now.walk.view.seen × IsPrefix before.reading.seen now.reading.seen
+
+-- it was let in to the policy once more, or it wasn't answered
+abbrev pub HasReadPolicy : Sitting → Sitting → Answer → Type 0
+HasReadPolicy before now (Judged verdict node tree policy) = now.reading.entries ≡ before.reading.entries + 1
+HasReadPolicy before now (Failed errno tree) = now.reading.entries ≡ before.reading.entries + 1
+HasReadPolicy before now (NoProfile policy) = now.reading.entries ≡ before.reading.entries + 1
+HasReadPolicy before now (Busy began ended) = now.reading.entries ≡ before.reading.entries + 1
+HasReadPolicy before now NoEntry = IsUnanswered before.reading now.reading now.profile
+
+-- it read the count twice, or not at all: where the policy gave no profile, no word is read
+abbrev pub HasReadCounts : WalkerView → WalkerView → Answer → Type 0
+HasReadCounts before now (Judged verdict node tree policy) = now.count_reads ≡ before.count_reads + 2
+HasReadCounts before now (Failed errno tree) = now.count_reads ≡ before.count_reads + 2
+HasReadCounts before now (NoProfile policy) = now ≡ before
+HasReadCounts before now (Busy began ended) = now.count_reads ≡ before.count_reads + 2
+HasReadCounts before now NoEntry = now ≡ before
+
+-- the versions are those of all changes that it has seen
+abbrev pub HasVersions : Sitting → Answer → Type 0
+HasVersions now (Judged verdict node tree policy) = (tree ≡ length now.walk.view.seen) × (policy ≡ length now.reading.seen)
+HasVersions now (Failed errno tree) = tree ≡ length now.walk.view.seen
+HasVersions now (NoProfile policy) = policy ≡ length now.reading.seen
+HasVersions now (Busy began ended) = Unit {0}
+HasVersions now NoEntry = Unit {0}
+
+-- The tree's version is half the count that the walk began with. A busy walk tells both its counts, and where the first one is
+-- odd it read no cell.
+abbrev pub IsByCounts : WalkerView → Answer → Type 0
+IsByCounts now (Judged verdict node tree policy) = now.noted ≡ tree + tree
+IsByCounts now (Failed errno tree) = now.noted ≡ tree + tree
+IsByCounts now (NoProfile policy) = Unit {0}
+IsByCounts now (Busy began ended) = (now.noted ≡ began) × (now.last ≡ ended) × (began % 2 ≡ 1 → now.reads ≡ [])
+IsByCounts now NoEntry = Unit {0}
+
+-- the name of the file that was judged, and none where none was
+abbrev pub IsNameJudged : List Change → List ℕ → Perms → Answer → List ℕ → Type 0
+IsNameJudged changes path ask (Judged verdict node tree policy) name =
+    (t : Tree) × (file : Reached) × IsTreeAt changes tree t × (reached t path ask ≡ Ok file) × (file.name ≡ name)
+IsNameJudged changes path ask (Failed errno tree) name = name ≡ []
+IsNameJudged changes path ask (NoProfile policy) name = name ≡ []
+IsNameJudged changes path ask (Busy began ended) name = name ≡ []
+IsNameJudged changes path ask NoEntry name = name ≡ []
+
+-- unless there was no entry: there is no profile just where none is published
+abbrev pub IsByPublished : Option Judge → Answer → Type 0
+IsByPublished published (Judged verdict node tree policy) = IsSome published
+IsByPublished published (Failed errno tree) = IsSome published
+IsByPublished published (NoProfile policy) = published ≡ None
+IsByPublished published (Busy began ended) = IsSome published
+IsByPublished published NoEntry = Unit {0}
+
+-- NoEntry is answered just where the reader wasn't answered, which is counted
+abbrev pub CountsRefusals : Sitting → Sitting → Answer → Type 0
+CountsRefusals before now (Judged verdict node tree policy) = now.reading.refused ≡ before.reading.refused
+CountsRefusals before now (Failed errno tree) = now.reading.refused ≡ before.reading.refused
+CountsRefusals before now (NoProfile policy) = now.reading.refused ≡ before.reading.refused
+CountsRefusals before now (Busy began ended) = now.reading.refused ≡ before.reading.refused
+CountsRefusals before now NoEntry = now.reading.refused ≡ before.reading.refused + 1
+
+-- what an open is answered where nothing changes meanwhile, with the name that was judged; busy it never is
+abbrev pub IsAnswer : Answered → List ℕ → Answer → Type 0
+IsAnswer answered name (Judged verdict node tree policy) = answered ≡ judged (record { name = name; node = node; verdict = verdict }) tree policy
+IsAnswer answered name (Failed errno tree) = answered ≡ failed errno tree
+IsAnswer answered name (NoProfile policy) = answered ≡ no_profile policy
+IsAnswer answered name (Busy began ended) = ⊥
+IsAnswer answered name NoEntry = Unit {0}

@@ -1,0 +1,16 @@
+//! Opens in the midst of changes: a session walks over the row of words that threads share, judges by the published policy, and
+//! waits for nobody.
+//!
+//! [`Session::try_open`] answers beside the tree's keeper and the policy's publisher, or says that the tree was being changed;
+//! [`Session::open_with`] answers at once where the keeper is at hand, and [`Session::link_with`] makes hard links.
+//!
+//! To be believed are about 100 lines of definitions in `specs/`.
+#![tactic(auto)]
+
+mod quick;
+mod session;
+mod unanswered;
+
+pub use justification::{Answer, justify};
+pub use session::Session;
+pub use unanswered::Unanswered;
