@@ -1,11 +1,10 @@
 -- What a walk saw that ended well.
-use Rattle.std.proofs.Common.{◌≡◌, ℕ, List, [], ◌++◌, length, take, ap, sym, ◌∙◌, subst, arith}
+use Rattle.std.proofs.Common.{◌≡◌, ℕ, List, length, take, ap, ◌∙◌, subst, arith}
 use Rattle.std.proofs.Math.Seq.{take-length}
 use Rattle.std.specs.Prelude.{Ok}
 use Rattle.directory_tree.specs.declared.change.Change.{Change}
 use Rattle.directory_tree.specs.Tree.{Tree}
 use Rattle.directory_tree.specs.Apply.{tree_after}
-use Rattle.path_lookup.specs.World.{World}
 use Rattle.tree_row.specs.Worlds.{SeesBy}
 use Rattle.row_rule.specs.Row.{Agrees}
 use Rattle.dentry_cache.specs.Models.{Walk}

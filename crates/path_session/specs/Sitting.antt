@@ -1,18 +1,24 @@
 -- What contracts see of a session, and what they say of its calls.
-use Rattle.std.specs.Prelude.{◌≡◌, ◌+◌, ◌%◌, ◌≤◌, ℕ, List, [], length, Option, None, IsSome, Ok}
+use Rattle.std.specs.Prelude.{◌≡◌, ◌+◌, ◌%◌, ℕ, List, [], length, Option, None, IsSome, Ok}
 use mathlib.Core.List.{IsPrefix}
 use Rattle.names.specs.declared.permissions.Perms.{Perms}
 use Rattle.directory_tree.specs.declared.change.Change.{Change}
 use Rattle.directory_tree.specs.Tree.{Tree}
-use Rattle.dentry_cache.specs.Models.{Walk}
+use Rattle.dentry_cache.specs.Models.{Walk, Held}
 use Rattle.row_rule.specs.Steps.{newcomer}
+use Rattle.mediation.specs.declared.answer.LinkAnswer.{LinkAnswer}
+use Rattle.mediation.specs.declared.answer.LinkAnswer.TheVariants as link
 use Rattle.mediation.specs.Judge.{Judge}
+use Rattle.mediation.specs.Linking.{LinkAnswered, IsMade}
 use Rattle.mediation.specs.Opening.{Answered, judged, failed, no_profile, Reached, reached}
 use Rattle.profile_registry.specs.Views.{Reading, IsUnanswered}
 use Rattle.row_rule.specs.declared.view.WalkerView.{WalkerView}
 use Rattle.justification.specs.declared.answer.Answer.{Answer}
-use Rattle.justification.specs.declared.answer.Answer.TheVariants.{Judged, Failed, NoProfile, Busy, NoEntry}
+use Rattle.justification.specs.declared.answer.Answer.TheVariants.{Judged, Failed, NoProfile, Busy}
+use Rattle.justification.specs.declared.answer.Answer.TheVariants as answer
 use Rattle.justification.specs.Versions.{IsTreeAt}
+use Rattle.path_session.specs.declared.unanswered.Unanswered.{Unanswered}
+use Rattle.path_session.specs.declared.unanswered.Unanswered.TheVariants.{NoEntry, NoMemory}
 
 -- its walker, its reader of the policy, the profile that it opens by, the name that it judged last, and how often it met its
 -- keeper, modulo 2^64
@@ -47,7 +53,7 @@ HasReadPolicy before now (Judged verdict node tree policy) = now.reading.entries
 HasReadPolicy before now (Failed errno tree) = now.reading.entries ≡ before.reading.entries + 1
 HasReadPolicy before now (NoProfile policy) = now.reading.entries ≡ before.reading.entries + 1
 HasReadPolicy before now (Busy began ended) = now.reading.entries ≡ before.reading.entries + 1
-HasReadPolicy before now NoEntry = IsUnanswered before.reading now.reading now.profile
+HasReadPolicy before now answer.NoEntry = IsUnanswered before.reading now.reading now.profile
 
 -- it read the count twice, or not at all: where the policy gave no profile, no word is read
 abbrev pub HasReadCounts : WalkerView → WalkerView → Answer → Type 0
@@ -55,7 +61,7 @@ HasReadCounts before now (Judged verdict node tree policy) = now.count_reads ≡
 HasReadCounts before now (Failed errno tree) = now.count_reads ≡ before.count_reads + 2
 HasReadCounts before now (NoProfile policy) = now ≡ before
 HasReadCounts before now (Busy began ended) = now.count_reads ≡ before.count_reads + 2
-HasReadCounts before now NoEntry = now ≡ before
+HasReadCounts before now answer.NoEntry = now ≡ before
 
 -- the versions are those of all changes that it has seen
 abbrev pub HasVersions : Sitting → Answer → Type 0
@@ -63,7 +69,7 @@ HasVersions now (Judged verdict node tree policy) = (tree ≡ length now.walk.vi
 HasVersions now (Failed errno tree) = tree ≡ length now.walk.view.seen
 HasVersions now (NoProfile policy) = policy ≡ length now.reading.seen
 HasVersions now (Busy began ended) = Unit {0}
-HasVersions now NoEntry = Unit {0}
+HasVersions now answer.NoEntry = Unit {0}
 
 -- The tree's version is half the count that the walk began with. A busy walk tells both its counts, and where the first one is
 -- odd it read no cell.
@@ -72,7 +78,7 @@ IsByCounts now (Judged verdict node tree policy) = now.noted ≡ tree + tree
 IsByCounts now (Failed errno tree) = now.noted ≡ tree + tree
 IsByCounts now (NoProfile policy) = Unit {0}
 IsByCounts now (Busy began ended) = (now.noted ≡ began) × (now.last ≡ ended) × (began % 2 ≡ 1 → now.reads ≡ [])
-IsByCounts now NoEntry = Unit {0}
+IsByCounts now answer.NoEntry = Unit {0}
 
 -- the name of the file that was judged, and none where none was
 abbrev pub IsNameJudged : List Change → List ℕ → Perms → Answer → List ℕ → Type 0
@@ -81,7 +87,7 @@ IsNameJudged changes path ask (Judged verdict node tree policy) name =
 IsNameJudged changes path ask (Failed errno tree) name = name ≡ []
 IsNameJudged changes path ask (NoProfile policy) name = name ≡ []
 IsNameJudged changes path ask (Busy began ended) name = name ≡ []
-IsNameJudged changes path ask NoEntry name = name ≡ []
+IsNameJudged changes path ask answer.NoEntry name = name ≡ []
 
 -- unless there was no entry: there is no profile just where none is published
 abbrev pub IsByPublished : Option Judge → Answer → Type 0
@@ -89,7 +95,7 @@ IsByPublished published (Judged verdict node tree policy) = IsSome published
 IsByPublished published (Failed errno tree) = IsSome published
 IsByPublished published (NoProfile policy) = published ≡ None
 IsByPublished published (Busy began ended) = IsSome published
-IsByPublished published NoEntry = Unit {0}
+IsByPublished published answer.NoEntry = Unit {0}
 
 -- NoEntry is answered just where the reader wasn't answered, which is counted
 abbrev pub CountsRefusals : Sitting → Sitting → Answer → Type 0
@@ -97,7 +103,7 @@ CountsRefusals before now (Judged verdict node tree policy) = now.reading.refuse
 CountsRefusals before now (Failed errno tree) = now.reading.refused ≡ before.reading.refused
 CountsRefusals before now (NoProfile policy) = now.reading.refused ≡ before.reading.refused
 CountsRefusals before now (Busy began ended) = now.reading.refused ≡ before.reading.refused
-CountsRefusals before now NoEntry = now.reading.refused ≡ before.reading.refused + 1
+CountsRefusals before now answer.NoEntry = now.reading.refused ≡ before.reading.refused + 1
 
 -- what an open is answered where nothing changes meanwhile, with the name that was judged; busy it never is
 abbrev pub IsAnswer : Answered → List ℕ → Answer → Type 0
@@ -105,4 +111,20 @@ IsAnswer answered name (Judged verdict node tree policy) = answered ≡ judged (
 IsAnswer answered name (Failed errno tree) = answered ≡ failed errno tree
 IsAnswer answered name (NoProfile policy) = answered ≡ no_profile policy
 IsAnswer answered name (Busy began ended) = ⊥
-IsAnswer answered name NoEntry = Unit {0}
+IsAnswer answered name answer.NoEntry = Unit {0}
+
+-- the reader was let in once more, and answered
+abbrev pub IsLetIn : Sitting → Sitting → Type 0
+IsLetIn before now = (now.reading.entries ≡ before.reading.entries + 1) × (now.reading.refused ≡ before.reading.refused)
+
+-- Why a link isn't answered: the reader wasn't, which is counted; or it was, and memory was refused for a link that would be made.
+abbrev pub IsNoLink : Sitting → Sitting → LinkAnswered → Unanswered → Type 0
+IsNoLink before now answered NoEntry = IsUnanswered before.reading now.reading now.profile × (now.reading.refused ≡ before.reading.refused + 1)
+IsNoLink before now answered NoMemory = IsLetIn before now × IsMade answered
+
+-- where no link was made, the keeper is as it was, with its count and its cells
+abbrev pub IsUntouchedUnlessMade : LinkAnswer → Held → Held → Type 0
+IsUntouchedUnlessMade (link.Linked node tree policy) before now = now.table ≡ before.table
+IsUntouchedUnlessMade (link.NotAllowed verdict node tree policy) before now = now ≡ before
+IsUntouchedUnlessMade (link.Failed errno tree) before now = now ≡ before
+IsUntouchedUnlessMade (link.NoProfile policy) before now = now ≡ before

@@ -1,2 +1,3 @@
 -- Words of private contracts alone.
 pub mod Walks
+pub mod Settling

@@ -7,10 +7,13 @@
 //! To be believed are about 100 lines of definitions in `specs/`.
 #![tactic(auto)]
 
+mod keeping;
+mod linking;
 mod quick;
 mod session;
 mod unanswered;
 
 pub use justification::{Answer, justify};
+pub use mediation::LinkAnswer;
 pub use session::Session;
 pub use unanswered::Unanswered;

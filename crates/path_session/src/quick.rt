@@ -54,17 +54,21 @@ impl Session {
         self.walker = Some(walker);
         match walked {
             Err(Busy { began, ended }) => Answer::Busy { began, ended },
-            Ok(Walked {
-                version: tree_version,
-                file: Err(errno),
-            }) => Answer::Failed {
+            Ok(
+                Walked {
+                    version: tree_version,
+                    file: Err(errno),
+                },
+            ) => Answer::Failed {
                 errno,
                 tree_version,
             },
-            Ok(Walked {
-                version: tree_version,
-                file: Ok(file),
-            }) => {
+            Ok(
+                Walked {
+                    version: tree_version,
+                    file: Ok(file),
+                },
+            ) => {
                 self.name_length = file.name_length;
                 Answer::Judged {
                     verdict: judge_name(&profile, &self.name[..file.name_length], ask),

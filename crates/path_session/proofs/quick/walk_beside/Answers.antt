@@ -19,17 +19,17 @@ returns-clause-ok c =
     let at = tree_at _ _ _ _ version saw.made in
     elim c.match-reached.branch [
       | in-Ok-reached w ↦ record {
-          version_is = version;
-          half = half;
-          tree = saw.world.tree;
-          is_at = at;
-          end = rw w.file-is ((rw w.in-Ok-reached.is at c.reach_file-reached.ensures.answer) saw.world (look_sees _ _ _ c.into_cells.ensures saw));
-        }
+        version_is = version;
+        half = half;
+        tree = saw.world.tree;
+        is_at = at;
+        end = rw w.file-is ((rw w.in-Ok-reached.is at c.reach_file-reached.ensures.answer) saw.world (look_sees _ _ _ c.into_cells.ensures saw));
+      }
       | in-Err-reached+in-Refused w ↦ record {
-          version_is = version;
-          half = half;
-          tree = saw.world.tree;
-          is_at = at;
-          end = rw w.file-is ((rw w.in-Refused.is at w.in-Err-reached.ensures.fault) saw.world (look_sees _ _ _ c.into_cells.ensures saw));
-        }
+        version_is = version;
+        half = half;
+        tree = saw.world.tree;
+        is_at = at;
+        end = rw w.file-is ((rw w.in-Refused.is at w.in-Err-reached.ensures.fault) saw.world (look_sees _ _ _ c.into_cells.ensures saw));
+      }
     ]
