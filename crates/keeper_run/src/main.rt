@@ -10,11 +10,10 @@ ghost use Rattle.tree_row.specs.declared.cells.TheConstants.{MOST_ENTRIES};
 
 use keeper_bench::KeeperBench;
 use names::NoMemory;
-use std::env;
-use std::io;
 use std::io::{BufReader, ErrorKind, Input, Print, Write};
 use std::process::ExitCode;
 use std::rt::Env;
+use std::{env, io};
 use trace_report::{Status, fail};
 use trace_script::run_script;
 use tree_row::MOST_ENTRIES;

@@ -133,9 +133,9 @@ impl<T: BenchTree> Bench for TreeBench<T> {
         let Some(published) = self.policy.get(profile) else {
             return Answer::NoProfile { policy_version };
         };
-        let judged =
-            self.tree
-                .judge_file(published, path, ask, &mut self.scratch, &mut self.name);
+        let judged = self
+            .tree
+            .judge_file(published, path, ask, &mut self.scratch, &mut self.name);
         match judged {
             Ok(judged) => {
                 self.name_length = judged.name_length;

@@ -70,11 +70,17 @@ pub(crate) fn expect_ending(
     let Ok(in_memory) = run_in_memory(alloc, capacity, script) else {
         return Err(Fail::from("no memory"));
     };
-    assert!(rt; in_memory.is(status, answers, faults), "in memory: {script:?}");
+    assert!(rt;
+        in_memory.is(status, answers, faults),
+        "in memory: {script:?}"
+    );
     let Ok(by_keeper) = run_by_keeper(alloc, capacity, script) else {
         return Err(Fail::from("no memory"));
     };
-    assert!(rt; by_keeper.is(status, answers, faults), "by a keeper: {script:?}");
+    assert!(rt;
+        by_keeper.is(status, answers, faults),
+        "by a keeper: {script:?}"
+    );
     Ok(())
 }
 
