@@ -1,0 +1,136 @@
+//! The guard, and what it does but opens.
+ghost use Rattle.std.specs.Prelude.{◌≡◌, ◌^◌, ◌<◌, [], IfOk};
+ghost use Rattle.row_rule.specs.Steps.{newcomer};
+
+use crate::fault::SessionFault;
+use crate::row::{Row, RowKeeper};
+use dentry_cache::{Keeper, Walker};
+use directory_tree::Change;
+use matcher::AnyProfile;
+use names::{Errno, NoMemory};
+use path_session::Session;
+use profile_registry::{PolicyReader, Publisher};
+use std::alloc::Global;
+use std::sync::{Arc, Mutex, MutexGuard, Wait};
+
+/// The most changes of the policy.
+const MOST_CHANGES: u64 = (1 << 60) - 1;
+
+/// A keeper and a publisher, each behind a lock, for the sessions of many threads. `M` names the keeper's row.
+///
+/// It is not `Drop`: end it by [`close`](Guard::close).
+pub struct Guard<M: Row> {
+    alloc: Global,
+    pub(crate) keeper: Mutex<RowKeeper<M>>,
+    publisher: Mutex<Publisher>,
+}
+
+impl<M: Row> Guard<M> {
+    /// A guard of this keeper, the one that `M` names, and of this publisher.
+    pub fn new(alloc: Global, keeper: Keeper, publisher: Publisher) -> Guard<M>
+        requires { keeper.table ≡ M.table }
+    {
+        Guard {
+            alloc,
+            keeper: Mutex::new(RowKeeper::new(keeper)),
+            publisher: Mutex::new(publisher),
+        }
+    }
+
+    /// A new session, which opens by the profile of this name and may go to another thread. It waits for both locks, one after
+    /// the other.
+    pub fn session(&self, rt: &impl Wait, profile: &[u8]) -> Result<Session, SessionFault>
+        ensures { IfOk result (λ session. (session.walk.table ≡ M.table) × (session.walk.view ≡ newcomer)
+            × (session.profile ≡ profile.now) × (session.judged ≡ [])) }
+    {
+        let walker = self.walker(rt)?;
+        let reader = self.reader(rt)?;
+        match Session::new(self.alloc, walker, reader, profile) {
+            Ok(session) => Ok(session),
+            Err(_) => Err(SessionFault::NoMemory),
+        }
+    }
+
+    fn walker(&self, rt: &impl Wait) -> Result<Walker, SessionFault>
+        ensures { IfOk result (λ walker. (walker.table ≡ M.table) × (walker.view ≡ newcomer)) }
+    {
+        let mut keeper = self.keeper.lock(rt);
+        let walker = keeper.walker();
+        MutexGuard::unlock(keeper);
+        walker.map_err(|_| SessionFault::NoSeat)
+    }
+
+    fn reader(&self, rt: &impl Wait) -> Result<PolicyReader, SessionFault> {
+        let mut publisher = self.publisher.lock(rt);
+        let reader = publisher.reader();
+        MutexGuard::unlock(publisher);
+        reader.map_err(|_| SessionFault::NoSeat)
+    }
+
+    /// Makes a change of the tree, and answers the version that it makes, or tells by number why not; then nothing was changed.
+    pub fn change(&self, rt: &impl Wait, change: &Change<'_>) -> Result<u64, Errno> {
+        let mut keeper = self.keeper.lock(rt);
+        let version = keeper.change(change);
+        MutexGuard::unlock(keeper);
+        version
+    }
+
+    /// Publishes a profile under a name, in place of the one that is there, and answers the policy's new version. It waits for
+    /// readers that are inside. `EOVERFLOW` where no more changes can be counted. At `ENOMEM` the published policy is as before;
+    /// where memory was refused to the publication, the change stays staged, and the next publication takes it along.
+    pub fn replace(
+        &self,
+        rt: &impl Wait,
+        name: &[u8],
+        profile: Arc<AnyProfile>,
+    ) -> Result<u64, Errno> {
+        let mut publisher = self.publisher.lock(rt);
+        let version = replace_in(rt, &mut publisher, name, profile);
+        MutexGuard::unlock(publisher);
+        version
+    }
+
+    /// Takes away what is published under a name, and answers the policy's new version, as [`replace`](Guard::replace) does.
+    pub fn remove(&self, rt: &impl Wait, name: &[u8]) -> Result<u64, Errno> {
+        let mut publisher = self.publisher.lock(rt);
+        let version = remove_in(rt, &mut publisher, name);
+        MutexGuard::unlock(publisher);
+        version
+    }
+
+    /// Ends the guard. Sessions may live on: they find no change any more, and their readers of the policy are refused. It
+    /// waits for those that are inside.
+    pub fn close(self, rt: &impl Wait) {
+        let Guard {
+            alloc: _,
+            keeper: _,
+            publisher,
+        } = self;
+        publisher.into_inner().close(rt);
+    }
+}
+
+fn replace_in<R: Wait>(
+    rt: &R,
+    publisher: &mut Publisher,
+    name: &[u8],
+    profile: Arc<AnyProfile>,
+) -> Result<u64, Errno> {
+    if publisher.changes() >= MOST_CHANGES {
+        return Err(Errno::EOVERFLOW);
+    }
+    publisher.replace(name, profile).map_err(no_memory)?;
+    publisher.publish(rt).map_err(no_memory)
+}
+
+fn remove_in<R: Wait>(rt: &R, publisher: &mut Publisher, name: &[u8]) -> Result<u64, Errno> {
+    if publisher.changes() >= MOST_CHANGES {
+        return Err(Errno::EOVERFLOW);
+    }
+    publisher.remove(name).map_err(no_memory)?;
+    publisher.publish(rt).map_err(no_memory)
+}
+
+fn no_memory(_refused: NoMemory) -> Errno {
+    Errno::ENOMEM
+}

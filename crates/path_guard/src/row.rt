@@ -1,0 +1,69 @@
+//! The keeper of one row, as its type names it.
+ghost use Rattle.std.specs.Prelude.{◌≡◌, ◌≢◌, [], IfOk};
+ghost use Rattle.atomic_table.specs.Seated.{TableId};
+ghost use Rattle.justification.specs.Justified.{Justified};
+ghost use Rattle.mediation.specs.Deeds.{policy_after};
+ghost use Rattle.row_rule.specs.Steps.{newcomer};
+ghost use Rattle.path_session.specs.Sitting.{IsSameSession, HasSeenMore, HasReadPolicy, HasVersions, IsNameJudged, IsByPublished, CountsRefusals};
+ghost use Rattle.path_guard.specs.Opening.{IsNotBusy};
+
+use dentry_cache::{Keeper, NoSeat, Walker};
+use directory_tree::Change;
+use names::{Errno, Perms};
+use path_session::{Answer, Session};
+use std::marker::{Brand, PhantomData};
+
+/// Which row it is. Code that is generic in it speaks of one row, whichever that is; who makes the keeper picks it, by `Brand`.
+pub trait Row {
+    ghost table: { TableId };
+}
+
+impl Row for Brand {
+    ghost table = { record { words = 0; slots = 0; views_name = 0; atom = 0; block = 0; offset = 0; slot_names = [] } };
+}
+
+/// The keeper of that row: so it is known under its lock, too.
+#[derive(Drop)]
+pub(crate) struct RowKeeper<M: Row> {
+    keeper: Keeper,
+    of: PhantomData<M>,
+    ghost ours: { keeper.table ≡ M.table },
+}
+
+impl<M: Row> RowKeeper<M> {
+    pub(crate) fn new(keeper: Keeper) -> RowKeeper<M>
+        requires { keeper.table ≡ M.table }
+    {
+        RowKeeper {
+            keeper,
+            of: PhantomData,
+        }
+    }
+
+    pub(crate) fn change(&mut self, change: &Change<'_>) -> Result<u64, Errno> {
+        self.keeper.apply(change)
+    }
+
+    pub(crate) fn walker(&mut self) -> Result<Walker, NoSeat>
+        ensures { IfOk result (λ walker. (walker.table ≡ M.table) × (walker.view ≡ newcomer)) }
+    {
+        self.keeper.walker()
+    }
+
+    /// Opens a file by a session of this row.
+    pub(crate) fn open(&mut self, session: &mut Session, path: &[u8], ask: Perms) -> Answer
+        requires { session.old.walk.table ≡ M.table }
+        ensures same { IsSameSession session.old session.new }
+        ensures history { HasSeenMore session.old session.new }
+        ensures policy_read { HasReadPolicy session.old session.new result }
+        ensures meetings { session.new.meetings ≢ session.old.meetings }
+        ensures versions { HasVersions session.new result }
+        ensures justified { Justified session.old.profile path.now ask session.new.walk.view.seen session.new.reading.seen result }
+        ensures name { IsNameJudged session.new.walk.view.seen path.now ask result session.new.judged }
+        ensures published { IsByPublished (policy_after session.new.reading.seen session.old.profile) result }
+        ensures refused { CountsRefusals session.old session.new result }
+        ensures not_busy { IsNotBusy result }
+    {
+        session.open_with(&mut self.keeper, path, ask)
+    }
+}
