@@ -1,2 +1,3 @@
 pub mod Opening
+pub mod Linking
 pub mod inner

@@ -40,8 +40,9 @@ impl<M: Row> Guard<M> {
     /// A new session, which opens by the profile of this name and may go to another thread. It waits for both locks, one after
     /// the other.
     pub fn session(&self, rt: &impl Wait, profile: &[u8]) -> Result<Session, SessionFault>
-        ensures { IfOk result (λ session. (session.walk.table ≡ M.table) × (session.walk.view ≡ newcomer)
-            × (session.profile ≡ profile.now) × (session.judged ≡ [])) }
+        ensures row { IfOk result (λ session. (session.walk.table ≡ M.table) × (session.walk.view ≡ newcomer)) }
+        ensures reader { IfOk result (λ session. (session.reading.entries ≡ 0) × (session.reading.refused ≡ 0)) }
+        ensures profile { IfOk result (λ session. (session.profile ≡ profile.now) × (session.judged ≡ []) × (session.meetings ≡ 0)) }
     {
         let walker = self.walker(rt)?;
         let reader = self.reader(rt)?;
@@ -60,7 +61,9 @@ impl<M: Row> Guard<M> {
         walker.map_err(|_| SessionFault::NoSeat)
     }
 
-    fn reader(&self, rt: &impl Wait) -> Result<PolicyReader, SessionFault> {
+    fn reader(&self, rt: &impl Wait) -> Result<PolicyReader, SessionFault>
+        ensures { IfOk result (λ reader. (reader.entries ≡ 0) × (reader.refused ≡ 0)) }
+    {
         let mut publisher = self.publisher.lock(rt);
         let reader = publisher.reader();
         MutexGuard::unlock(publisher);

@@ -1,16 +1,18 @@
 //! The keeper of one row, as its type names it.
-ghost use Rattle.std.specs.Prelude.{◌≡◌, ◌≢◌, [], IfOk};
+ghost use Rattle.std.specs.Prelude.{◌≡◌, ◌≢◌, [], IfOk, IfErr, OnOk};
+ghost use mathlib.Core.List.{IsPrefix};
 ghost use Rattle.atomic_table.specs.Seated.{TableId};
 ghost use Rattle.justification.specs.Justified.{Justified};
 ghost use Rattle.mediation.specs.Deeds.{policy_after};
 ghost use Rattle.row_rule.specs.Steps.{newcomer};
-ghost use Rattle.path_session.specs.Sitting.{IsSameSession, HasSeenMore, HasReadPolicy, HasVersions, IsNameJudged, IsByPublished, CountsRefusals};
+ghost use Rattle.path_session.specs.Sitting.{IsSameSession, HasSeenMore, HasReadPolicy, HasVersions, IsNameJudged, IsByPublished, CountsRefusals, IsLetIn};
 ghost use Rattle.path_guard.specs.Opening.{IsNotBusy};
+ghost use Rattle.path_guard.specs.Linking.{IsAnswerSomewhere, IsNoAnswer};
 
 use dentry_cache::{Keeper, NoSeat, Walker};
 use directory_tree::Change;
 use names::{Errno, Perms};
-use path_session::{Answer, Session};
+use path_session::{Answer, LinkAnswer, Session, Unanswered};
 use std::marker::{Brand, PhantomData};
 
 /// Which row it is. Code that is generic in it speaks of one row, whichever that is; who makes the keeper picks it, by `Brand`.
@@ -65,5 +67,21 @@ impl<M: Row> RowKeeper<M> {
         ensures not_busy { IsNotBusy result }
     {
         session.open_with(&mut self.keeper, path, ask)
+    }
+
+    /// Makes a hard link by a session.
+    pub(crate) fn link(
+        &mut self,
+        session: &mut Session,
+        old: &[u8],
+        new: &[u8],
+    ) -> Result<LinkAnswer, Unanswered>
+        ensures same { IsSameSession session.old session.new × (session.new.walk ≡ session.old.walk) }
+        ensures policy_seen { IsPrefix session.old.reading.seen session.new.reading.seen }
+        ensures policy_read { OnOk result (IsLetIn session.old session.new) }
+        ensures ok { IfOk result (IsAnswerSomewhere session.new old.now new.now) }
+        ensures err { IfErr result (IsNoAnswer session.old session.new old.now new.now) }
+    {
+        session.link_with(&mut self.keeper, old, new)
     }
 }
