@@ -18,3 +18,6 @@ pub use fault::SessionFault;
 pub use guard::Guard;
 pub use path_session::{Answer, LinkAnswer, Session, Unanswered, justify};
 pub use row::Row;
+
+#[cfg(test)]
+mod tests;
