@@ -42,8 +42,8 @@ impl Bench for FullBench {
         Err(Errno::ENOMEM)
     }
 
-    fn open(&mut self, _profile: &[u8], _path: &[u8], _ask: Perms) -> Answer {
-        Answer::NoProfile { policy_version: 0 }
+    fn open(&mut self, _profile: &[u8], _path: &[u8], _ask: Perms) -> Result<Answer, NoMemory> {
+        Ok(Answer::NoProfile { policy_version: 0 })
     }
 
     fn link(&mut self, _profile: &[u8], _old: &[u8], _new: &[u8]) -> Result<LinkAnswer, NoMemory> {
