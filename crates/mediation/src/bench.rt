@@ -24,6 +24,10 @@ pub trait Bench {
     // The name that was judged last.
     ghost judged_name: { Self → List ℕ };
 
+    // What shows that memory is wanted for nothing but what is made, if anything does: for no open, and for no link that would
+    // not be made.
+    ghost spares_memory: { Type 0 } = { ⊥ };
+
     /// Makes a change of the tree, and answers the version that it makes, or tells why not: ENOMEM where memory was refused
     /// for a change that the tree would take, else the tree's own reason.
     fn change(&mut self, change: &Change<'_>) -> Result<u64, Errno>
@@ -33,21 +37,22 @@ pub trait Bench {
             × Refused (history self.old).tree (history self.new).tree change.now errno) };
 
     /// Judges the file that a path leads to by a published profile.
-    fn open(&mut self, profile: &[u8], path: &[u8], ask: Perms) -> Answer
+    fn open(&mut self, profile: &[u8], path: &[u8], ask: Perms) -> Result<Answer, NoMemory>
         ensures history { history self.new ≡ history self.old }
-        ensures answer { answered (judged_name self.new) result ≡ open_answer (history self.old) profile.now path.now ask }
-        ensures name { judged_name self.new ≡ name_opened (open_answer (history self.old) profile.now path.now ask) };
+        ensures ok { IfOk result (λ answer. answered (judged_name self.new) answer ≡ open_answer (history self.old) profile.now path.now ask) }
+        ensures name { OnOk result (judged_name self.new ≡ name_opened (open_answer (history self.old) profile.now path.now ask)) }
+        ensures err { OnErr result (judged_name self.new ≡ []) }
+        ensures spares { spares_memory → IsOk result };
 
-    /// Makes one more entry of a file, where a published profile allows it. Memory is wanted for a link that would be made
-    /// alone.
+    /// Makes one more entry of a file, where a published profile allows it.
     fn link(&mut self, profile: &[u8], old: &[u8], new: &[u8]) -> Result<LinkAnswer, NoMemory>
         ensures ok { IfOk result (λ answer. link_answered (judged_name self.new) answer
             ≡ link_answer (history self.old) profile.now old.now new.now) }
         ensures name { OnOk result (judged_name self.new ≡ name_linked (link_answer (history self.old) profile.now old.now new.now)) }
         ensures history { OnOk result (history self.new
             ≡ after_link (history self.old) old.now new.now (link_answer (history self.old) profile.now old.now new.now)) }
-        ensures err { OnErr result ((history self.new ≡ history self.old) × (judged_name self.new ≡ [])
-            × IsMade (link_answer (history self.old) profile.now old.now new.now)) };
+        ensures err { OnErr result ((history self.new ≡ history self.old) × (judged_name self.new ≡ [])) }
+        ensures spares { spares_memory → OnErr result (IsMade (link_answer (history self.old) profile.now old.now new.now)) };
 
     /// The name that the last open or link judged: of a link, the name of its new entry, whether or not it was made. It is
     /// empty where none was judged: the profile isn't published, there was a failure, or memory was refused.

@@ -122,6 +122,11 @@ abbrev pub IsNoLink : Sitting → Sitting → LinkAnswered → Unanswered → Ty
 IsNoLink before now answered NoEntry = IsUnanswered before.reading now.reading now.profile × (now.reading.refused ≡ before.reading.refused + 1)
 IsNoLink before now answered NoMemory = IsLetIn before now × IsMade answered
 
+-- the same where the publisher is at hand: no share of the profile was given, or memory was refused for a link that would be made
+abbrev pub IsNoLinkOf : LinkAnswered → Unanswered → Type 0
+IsNoLinkOf answered NoEntry = Unit {0}
+IsNoLinkOf answered NoMemory = IsMade answered
+
 -- where no link was made, the keeper is as it was, with its count and its cells
 abbrev pub IsUntouchedUnlessMade : LinkAnswer → Held → Held → Type 0
 IsUntouchedUnlessMade (link.Linked node tree policy) before now = now.table ≡ before.table

@@ -65,7 +65,7 @@ impl Session {
     }
 
     // The walker meets the keeper.
-    fn meet(&mut self, keeper: &mut Keeper)
+    pub(crate) fn meet(&mut self, keeper: &mut Keeper)
         requires { self.old.walk.table ≡ keeper.old.table }
         ensures same { IsSameSession self.old self.new × (keeper.new ≡ keeper.old) × (self.new.reading ≡ self.old.reading) × (self.new.judged ≡ self.old.judged) }
         ensures met { IsPrefix self.old.walk.view.seen keeper.old.history × (self.new.walk.view ≡ met_at keeper.old.history) }
@@ -81,7 +81,7 @@ impl Session {
 }
 
 /// Finds a file in the tree as it stands.
-fn reach_here(
+pub(crate) fn reach_here(
     keeper: &mut Keeper,
     path: &[u8],
     ask: Perms,

@@ -2,11 +2,13 @@
 //! waits for nobody.
 //!
 //! [`Session::try_open`] answers beside the tree's keeper and the policy's publisher, or says that the tree was being changed;
-//! [`Session::open_with`] answers at once where the keeper is at hand, and [`Session::link_with`] makes hard links.
+//! [`Session::open_with`] answers at once where the keeper is at hand, and [`Session::link_with`] makes hard links. Where the
+//! publisher is at hand, too, [`Session::open_with_both`] and [`Session::link_with_both`] answer by all that it has published.
 //!
 //! To be believed are about 100 lines of definitions in `specs/`.
 #![tactic(auto)]
 
+mod at_hand;
 mod keeping;
 mod linking;
 mod quick;

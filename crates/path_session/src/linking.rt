@@ -1,5 +1,5 @@
 //! Hard links, judged and made, where the keeper is at hand.
-ghost use Rattle.std.specs.Prelude.{◌≡◌, ◌≤◌, ℕ, List, [], IfOk, IfErr, OnOk, OnErr, IsOk, Ok, Err, length, take};
+ghost use Rattle.std.specs.Prelude.{◌≡◌, ◌≤◌, ℕ, List, [], IfOk, IfErr, OnOk, OnErr, IsOk, Ok, Err, Some, length, take};
 ghost use mathlib.Core.List.{IsPrefix};
 ghost use Rattle.directory_tree.specs.Place.{named_place};
 ghost use Rattle.directory_tree.specs.Plain.{tree_of, outcome, Accepted, Refused};
@@ -7,7 +7,9 @@ ghost use Rattle.directory_tree.specs.declared.change.Change.TheVariants.{Link};
 ghost use Rattle.mediation.specs.Answers.{link_answered, name_linked};
 ghost use Rattle.mediation.specs.History.{link_answer, after_link};
 ghost use Rattle.mediation.specs.Judging.{link_of};
-ghost use Rattle.mediation.specs.Linking.{judged_by_name, link_judged, answer_by_verdict};
+ghost use Rattle.mediation.specs.Deeds.{Deed};
+ghost use Rattle.mediation.specs.Linking.{judged_by_name, link_judged, answer_by_verdict, IsMade};
+ghost use Rattle.mediation.specs.Linking.{link_answered as answer_by};
 ghost use Rattle.mediation.specs.Profiles.{judge_of};
 ghost use Rattle.path_session.specs.inner.Settling.{settled};
 ghost use Rattle.path_session.specs.Sitting.{IsSameSession, IsLetIn, IsNoLink, IsUntouchedUnlessMade};
@@ -57,19 +59,39 @@ impl Session {
         let Some(profile) = published else {
             return Ok(LinkAnswer::NoProfile { policy_version });
         };
+        match self.link_by(keeper, &profile, policy_version, old, new) {
+            Ok(answer) => Ok(answer),
+            Err(NoMemory) => Err(Unanswered::NoMemory),
+        }
+    }
+
+    /// Makes a hard link where this profile allows it, which is of this version of the policy.
+    pub(crate) fn link_by(
+        &mut self,
+        keeper: &mut Keeper,
+        profile: &AnyProfile,
+        policy_version: u64,
+        old: &[u8],
+        new: &[u8],
+    ) -> Result<LinkAnswer, NoMemory>
+        requires { self.old.judged ≡ [] }
+        ensures same { IsSameSession self.old self.new × (self.new.walk ≡ self.old.walk) × (self.new.meetings ≡ self.old.meetings)
+            × (self.new.reading ≡ self.old.reading) × (keeper.new.table ≡ keeper.old.table) }
+        ensures kept { IfOk result (λ answer. IsUntouchedUnlessMade answer keeper.old keeper.new) }
+        ensures ok { IfOk result (λ answer. link_answered self.new.judged answer
+            ≡ answer_by (plain_of keeper.old) policy_version old.now new.now (Some (judge_of profile.now))) }
+        ensures name { OnOk result (self.new.judged
+            ≡ name_linked (answer_by (plain_of keeper.old) policy_version old.now new.now (Some (judge_of profile.now)))) }
+        ensures history { (deeds : List Deed) → OnOk result (history_of keeper.new deeds
+            ≡ after_link (history_of keeper.old deeds) old.now new.now
+            (answer_by (plain_of keeper.old) policy_version old.now new.now (Some (judge_of profile.now)))) }
+        ensures err { OnErr result ((keeper.new ≡ keeper.old) × (self.new.judged ≡ [])
+            × IsMade (answer_by (plain_of keeper.old) policy_version old.now new.now (Some (judge_of profile.now)))) }
+    {
         let tree_version = keeper.version();
-        match judge_tested(
-            keeper,
-            &profile,
-            old,
-            new,
-            &mut self.scratch,
-            &mut self.name,
-        ) {
+        match judge_tested(keeper, profile, old, new, &mut self.scratch, &mut self.name) {
             Ok((change, judged)) => {
-                let Ok(answer) = settle(keeper, &change, &judged, policy_version) else {
-                    return Err(Unanswered::NoMemory);
-                };
+                let answer = settle(keeper, &change, &judged, policy_version)?;
                 self.name_length = judged.name_length;
                 Ok(answer)
             }

@@ -81,6 +81,13 @@ impl Session {
         Ok(())
     }
 
+    /// The name of the profile that it opens by.
+    pub fn profile(&self) -> &[u8]
+        ensures { result.now ≡ self.now.profile }
+    {
+        &self.profile
+    }
+
     /// The name that the last answer judged, of a link that of its new entry; empty where it judged none.
     pub fn name(&self) -> &[u8]
         ensures { result.now ≡ self.now.judged }

@@ -1,5 +1,5 @@
 //! What is done on a bench.
-ghost use Rattle.std.specs.Prelude.{◌≡◌, ◌≤◌, ℕ, List, IfOk, IfErr, OnOk, OnErr, IsOk, Ok, Err, length, take};
+ghost use Rattle.std.specs.Prelude.{◌≡◌, ◌≤◌, ℕ, List, IfOk, IfErr, OnOk, OnErr, IsOk, Ok, Err, length, take, ⊤};
 ghost use Rattle.mediation.specs.Answers.{link_answered};
 ghost use Rattle.mediation.specs.Deeds.{published_rules};
 ghost use Rattle.mediation.specs.History.{new_history};
@@ -122,16 +122,18 @@ impl<T: BenchTree> Bench for TreeBench<T> {
 
     ghost judged_name = { λ b. take b.name_length b.name };
 
+    ghost spares_memory = { ⊤ };
+
     fn change(&mut self, change: &Change<'_>) -> Result<u64, Errno> {
         self.tree.apply(change)
     }
 
-    fn open(&mut self, profile: &[u8], path: &[u8], ask: Perms) -> Answer {
+    fn open(&mut self, profile: &[u8], path: &[u8], ask: Perms) -> Result<Answer, NoMemory> {
         self.name_length = 0;
         let policy_version = self.policy.version();
         let tree_version = self.tree.version();
         let Some(published) = self.policy.get(profile) else {
-            return Answer::NoProfile { policy_version };
+            return Ok(Answer::NoProfile { policy_version });
         };
         let judged = self
             .tree
@@ -139,17 +141,17 @@ impl<T: BenchTree> Bench for TreeBench<T> {
         match judged {
             Ok(judged) => {
                 self.name_length = judged.name_length;
-                Answer::Judged {
+                Ok(Answer::Judged {
                     verdict: judged.verdict,
                     node: judged.node,
                     tree_version,
                     policy_version,
-                }
+                })
             }
-            Err(errno) => Answer::Failed {
+            Err(errno) => Ok(Answer::Failed {
                 errno,
                 tree_version,
-            },
+            }),
         }
     }
 

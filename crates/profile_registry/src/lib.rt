@@ -7,6 +7,7 @@
 #![tactic(auto)]
 
 mod absorbing;
+mod at_hand;
 mod faults;
 mod known;
 mod looking;

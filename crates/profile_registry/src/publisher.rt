@@ -71,6 +71,16 @@ impl Publisher {
         self.changes
     }
 
+    /// How many changes were published: the version that a reader is told.
+    pub fn version(&self) -> u64
+        ensures { result ≡ length self.now.published }
+    {
+        let Some(writer) = &self.writer else {
+            unreachable!()
+        };
+        writer.published().version()
+    }
+
     /// Stages a profile under a name, in place of the one that is there.
     pub fn replace(&mut self, name: &[u8], profile: Arc<AnyProfile>) -> Result<(), NoMemory>
         requires { changes_of self.old < 2 ^ 60 - 1 }

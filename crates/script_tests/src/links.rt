@@ -2,11 +2,17 @@
 use crate::testing::{Script, expanded, expect_answers, expect_ending, expect_scripts};
 use std::alloc::Global;
 use std::process::Abort;
+use std::sync::Wait;
 use std::test::Fail;
 use trace_report::Status;
 
 /// Runs scripts behind these rules of the profile p, each in a new tree, and asserts what they print.
-fn expect_behind(rt: &impl Abort, alloc: Global, rules: &str, rows: &[Script]) -> Result<(), Fail> {
+fn expect_behind(
+    rt: &(impl Abort + Wait),
+    alloc: Global,
+    rules: &str,
+    rows: &[Script],
+) -> Result<(), Fail> {
     let policy = ["policy\nprofile p { ", rules, " }\n.\n"].concat(alloc)?;
     expect_scripts(rt, alloc, 9, (&policy, "policy p version 1\n"), rows)
 }
@@ -37,7 +43,7 @@ fn chain_made(alloc: Global) -> Result<String, Fail> {
 }
 
 /// Forty links on the way to a file, one more, and a link to itself.
-fn expect_forty_links(rt: &impl Abort, alloc: Global, slash: &str) -> Result<(), Fail> {
+fn expect_forty_links(rt: &(impl Abort + Wait), alloc: Global, slash: &str) -> Result<(), Fail> {
     let script = chain(alloc, slash)?;
     let printed = chain_made(alloc)?;
     let before = "policy\nprofile p { /f r, }\n.\ncreate /f\n";
@@ -170,7 +176,7 @@ fn names_of_4096_bytes(rt: HostRuntime) -> Result<(), Fail> {
 
 /// The same of scripts in the deep tree that start with these lines.
 fn expect_in_deep_tree(
-    rt: &impl Abort,
+    rt: &(impl Abort + Wait),
     alloc: Global,
     (lines, answers): Script,
     rows: &[Script],
@@ -285,7 +291,7 @@ fn judged_links_that_fail_first(rt: HostRuntime) -> Result<(), Fail> {
 }
 
 /// Asserts what links are refused for behind these rules.
-fn expect_links_refused(rt: &impl Abort, alloc: Global, rules: &str) -> Result<(), Fail> {
+fn expect_links_refused(rt: &(impl Abort + Wait), alloc: Global, rules: &str) -> Result<(), Fail> {
     let tree = " }\n.\nmkdir /a\ncreate /f\nsymlink f /l\nsymlink r /r\n";
     let before = ["policy\nprofile p { ", rules, tree].concat(alloc)?;
     expect_scripts(
@@ -340,7 +346,11 @@ fn judged_links_in_a_full_tree(rt: HostRuntime) -> Result<(), Fail> {
 }
 
 /// Rules, each in a new tree with a file /f, and what is said of a link /g to it.
-fn expect_verdicts(rt: &impl Abort, alloc: Global, rows: &[(&str, &str)]) -> Result<(), Fail> {
+fn expect_verdicts(
+    rt: &(impl Abort + Wait),
+    alloc: Global,
+    rows: &[(&str, &str)],
+) -> Result<(), Fail> {
     for (rules, printed) in rows {
         let row = ("create /f\njudged-link p /f /g\n", *printed);
         expect_behind(rt, alloc, rules, &[row])?;
@@ -440,7 +450,7 @@ fn trees_after_judged_links(rt: HostRuntime) -> Result<(), Fail> {
 }
 
 /// Asserts that a line stops a script, and that what was printed before stands.
-fn expect_no_command(rt: &impl Abort, alloc: Global, line: &str) -> Result<(), Fail> {
+fn expect_no_command(rt: &(impl Abort + Wait), alloc: Global, line: &str) -> Result<(), Fail> {
     let script = ["mkdir /a\n\n", line, "\nmkdir /b\n"].concat(alloc)?;
     let ending = (
         Status::Refused,

@@ -2,11 +2,12 @@
 ghost use Rattle.std.specs.Prelude.{◌≡◌, ◌≤◌};
 ghost use Rattle.mediation.specs.History.{policy_version};
 
-use keeper_bench::KeeperBench;
 use names::NoMemory;
 use plain_bench::{Bench, PlainBench};
+use session_bench::SessionBench;
 use std::alloc::Global;
 use std::process::Abort;
+use std::sync::Wait;
 use std::test::Fail;
 use trace_report::Status;
 use trace_script::run_script;
@@ -32,13 +33,13 @@ impl Ending {
 }
 
 /// A run on a new bench.
-fn run_on<B: Bench + Drop>(alloc: Global, mut bench: B, script: &[u8]) -> Ending
-    requires { policy_version (B.history bench) ≡ 0 }
+fn run_on<B: Bench>(alloc: Global, bench: &mut B, script: &[u8]) -> Ending
+    requires { policy_version (B.history bench.old) ≡ 0 }
 {
     let mut input = script;
     let mut answers = Vec::new(alloc);
     let mut faults = Vec::new(alloc);
-    let status = run_script(alloc, &mut bench, &mut input, &mut answers, &mut faults);
+    let status = run_script(alloc, bench, &mut input, &mut answers, &mut faults);
     Ending {
         status,
         answers,
@@ -47,20 +48,27 @@ fn run_on<B: Bench + Drop>(alloc: Global, mut bench: B, script: &[u8]) -> Ending
 }
 
 fn run_in_memory(alloc: Global, capacity: usize, script: &[u8]) -> Result<Ending, NoMemory> {
-    let bench = PlainBench::new(alloc, capacity)?;
-    Ok(run_on(alloc, bench, script))
+    let mut bench = PlainBench::new(alloc, capacity)?;
+    Ok(run_on(alloc, &mut bench, script))
 }
 
-fn run_by_keeper(alloc: Global, capacity: usize, script: &[u8]) -> Result<Ending, NoMemory>
+fn run_by_session(
+    rt: &impl Wait,
+    alloc: Global,
+    capacity: usize,
+    script: &[u8],
+) -> Result<Ending, NoMemory>
     requires { capacity ≤ MOST_ENTRIES }
 {
-    let bench = KeeperBench::new(alloc, capacity)?;
-    Ok(run_on(alloc, bench, script))
+    let mut bench = SessionBench::new(rt, alloc, capacity)?;
+    let ending = run_on(alloc, &mut bench, script);
+    bench.close();
+    Ok(ending)
 }
 
-/// Runs a script in a new tree of each kind, and asserts how both runs end.
+/// Runs a script on a new bench of each kind, and asserts how both runs end.
 pub(crate) fn expect_ending(
-    rt: &impl Abort,
+    rt: &(impl Abort + Wait),
     alloc: Global,
     capacity: usize,
     script: &[u8],
@@ -74,19 +82,19 @@ pub(crate) fn expect_ending(
         in_memory.is(status, answers, faults),
         "in memory: {script:?}"
     );
-    let Ok(by_keeper) = run_by_keeper(alloc, capacity, script) else {
+    let Ok(by_session) = run_by_session(rt, alloc, capacity, script) else {
         return Err(Fail::from("no memory"));
     };
     assert!(rt;
-        by_keeper.is(status, answers, faults),
-        "by a keeper: {script:?}"
+        by_session.is(status, answers, faults),
+        "by a session: {script:?}"
     );
     Ok(())
 }
 
 /// The same of a script that goes to its end.
 pub(crate) fn expect_answers(
-    rt: &impl Abort,
+    rt: &(impl Abort + Wait),
     alloc: Global,
     capacity: usize,
     (script, printed): Script,
@@ -97,7 +105,7 @@ pub(crate) fn expect_answers(
 
 /// The same of scripts with one beginning, each expanded.
 pub(crate) fn expect_scripts(
-    rt: &impl Abort,
+    rt: &(impl Abort + Wait),
     alloc: Global,
     capacity: usize,
     (before, printed_before): Script,

@@ -1,5 +1,5 @@
 -- The capacity that words give is one that the option takes.
-use Rattle.std.proofs.Common.{◌≡◌, ◌≤◌, ◌&&◌, ◌++◌, ℕ, Bool, true, false, zero, suc, List, [], ◌∷◌, Option, Some, None, refl, subst}
+use Rattle.std.proofs.Common.{arith, ◌≡◌, ◌≤◌, ◌&&◌, ◌++◌, ℕ, Bool, true, false, zero, suc, List, [], ◌∷◌, Option, Some, None, refl, subst}
 use Rattle.std.specs.Prelude.{codes, find, int_le, is_some, nat_eq, nat_le, neg_ℤ, not, option_and_then, option_map, pos, if◌then◌else◌}
 use Rattle.std.specs.Str.{bytes_eq}
 use Rattle.std.specs.Str.Parse.{digits_value, without_leading_plus, without_leading_sign}
@@ -118,50 +118,65 @@ given_fits given all = go (find (λ (pair : Text × Text). bytes_eq pair.0 capac
     go None e = rw e (number_fits capacity.default refl)
     go (Some it) e = rw e (number_fits it.1 (found_holds _ _ given it all e))
 
--- the capacity of a line of `steps`
+-- the capacity of a line of `run` or of `steps`
+abbrev capacity_of : LineValue → ℕ
+capacity_of (run n) = n
+capacity_of (steps n) = n
+capacity_of _ = 0
+
 abbrev Fits : Option LineValue → Type 0
-Fits line = (n : ℕ) → line ≡ Some (steps n) → n ≤ 16384
+Fits line = (it : LineValue) → line ≡ Some it → capacity_of it ≤ 16384
 
--- of what the words give by a command, none is a line of `steps`
-other_pair : (line : Text → Text → LineValue) → ((first second : Text) (n : ℕ) → line first second ≡ steps n → ⊥) → (words : List Text) → Fits (line_by (pair line) words)
-other_pair line other words n is = go (pair_of (arguments_of words)) is
+of_pair : (line : Text → Text → LineValue) → ((first second : Text) → capacity_of (line first second) ≤ 16384) → (words : List Text) → Fits (line_by (pair line) words)
+of_pair line fits words it is = go (pair_of (arguments_of words)) is
   where
-    go : (asked : Option (Text × Text)) → option_map (λ (asked : Text × Text). line asked.0 asked.1) asked ≡ Some (steps n) → n ≤ 16384
+    go : (asked : Option (Text × Text)) → option_map (λ (asked : Text × Text). line asked.0 asked.1) asked ≡ Some it → capacity_of it ≤ 16384
     go None is = absurd (cc is)
-    go (Some asked) is = absurd (other asked.0 asked.1 n (cc is))
+    go (Some asked) is =
+        let same : line asked.0 asked.1 ≡ it = cc is in
+        subst (λ line. capacity_of line ≤ 16384) same (fits asked.0 asked.1)
 
-other_numbers : (options : List NumberOption) (line : (NumberOption → ℕ) → LineValue) → ((number : NumberOption → ℕ) (n : ℕ) → line number ≡ steps n → ⊥)
-    → (words : List Text) → Fits (line_by (numbers options line) words)
-other_numbers options line other words n is = go (given_by options [] words) is
+of_none : (line : (NumberOption → ℕ) → LineValue) → ((number : NumberOption → ℕ) → capacity_of (line number) ≤ 16384) → (words : List Text) → Fits (line_by (numbers [] line) words)
+of_none line fits words it is = go (given_by [] [] words) is
   where
-    go : (given : Option Given) → option_map (λ given. line (number_of given)) given ≡ Some (steps n) → n ≤ 16384
+    go : (given : Option Given) → option_map (λ given. line (number_of given)) given ≡ Some it → capacity_of it ≤ 16384
     go None is = absurd (cc is)
-    go (Some given) is = absurd (other (number_of given) n (cc is))
+    go (Some given) is =
+        let same : line (number_of given) ≡ it = cc is in
+        subst (λ line. capacity_of line ≤ 16384) same (fits (number_of given))
 
-of_steps : (words : List Text) → Fits (line_by (numbers (capacity ∷ []) (λ number. steps (number capacity))) words)
-of_steps words n is = go (given_by (capacity ∷ []) [] words) refl is
+of_capacity : (line : (NumberOption → ℕ) → LineValue) → ((given : Given) → AreNumbers given → capacity_of (line (number_of given)) ≤ 16384) → (words : List Text)
+    → Fits (line_by (numbers (capacity ∷ []) line) words)
+of_capacity line fits words it is = go (given_by (capacity ∷ []) [] words) refl is
   where
-    go : (given : Option Given) → given_by (capacity ∷ []) [] words ≡ given → option_map (λ given. steps (number_of given capacity)) given ≡ Some (steps n) → n ≤ 16384
+    go : (given : Option Given) → given_by (capacity ∷ []) [] words ≡ given → option_map (λ given. line (number_of given)) given ≡ Some it → capacity_of it ≤ 16384
     go None e is = absurd (cc is)
     go (Some given) e is =
-        let it : number_of given capacity ≡ n = cc is in
-        subst (λ number. number ≤ 16384) it (given_fits given (given_numbers [] words given tt e))
+        let same : line (number_of given) ≡ it = cc is in
+        subst (λ line. capacity_of line ≤ 16384) same (fits given (given_numbers [] words given tt e))
 
 each_fits : (words : List Text) → Each (λ (command : CommandForm). Fits (line_by command.takes words)) commands
 each_fits words =
-    let of_match = other_pair match_name (λ first second n e. cc e) words in
-    let of_check = other_numbers [] (λ number. check) (λ number n e. cc e) words in
-    let of_compile = other_numbers [] (λ number. compile) (λ number n e. cc e) words in
-    let of_run = other_numbers (capacity ∷ []) (λ number. run (number capacity)) (λ number n e. cc e) words in
-    let of_judge = other_pair judge (λ first second n e. cc e) words in
-    (of_judge, (of_run, (of_compile, (of_check, (of_match, (of_steps words, tt))))))
+    let of_match = of_pair match_name (λ first second. omega arith) words in
+    let of_check = of_none (λ number. check) (λ number. omega arith) words in
+    let of_compile = of_none (λ number. compile) (λ number. omega arith) words in
+    let of_run = of_capacity (λ number. run (number capacity)) given_fits words in
+    let of_judge = of_pair judge (λ first second. omega arith) words in
+    let of_steps = of_capacity (λ number. steps (number capacity)) given_fits words in
+    (of_judge, (of_run, (of_compile, (of_check, (of_match, (of_steps, tt))))))
+
+number_of_line : (words : List Text) → Fits (line_of words)
+number_of_line [] it is = absurd (cc is)
+number_of_line (program ∷ []) it is = absurd (cc is)
+number_of_line (program ∷ name ∷ words) it is = go (command_named commands name) refl is
+  where
+    go : (command : Option CommandForm) → command_named commands name ≡ command → option_and_then (λ (command : CommandForm). line_by command.takes words) command ≡ Some it
+        → capacity_of it ≤ 16384
+    go None e is = absurd (cc is)
+    go (Some command) e is = found_holds (λ (command : CommandForm). Fits (line_by command.takes words)) (λ (command : CommandForm). bytes_eq command.name name) commands command (each_fits words) e it is
+
+pub run_number : (words : List Text) (n : ℕ) → line_of words ≡ Some (run n) → n ≤ 16384
+run_number words n is = number_of_line words (run n) is
 
 pub steps_number : (words : List Text) (n : ℕ) → line_of words ≡ Some (steps n) → n ≤ 16384
-steps_number [] n is = absurd (cc is)
-steps_number (program ∷ []) n is = absurd (cc is)
-steps_number (program ∷ name ∷ words) n is = go (command_named commands name) refl is
-  where
-    go : (command : Option CommandForm) → command_named commands name ≡ command → option_and_then (λ (command : CommandForm). line_by command.takes words) command ≡ Some (steps n)
-        → n ≤ 16384
-    go None e is = absurd (cc is)
-    go (Some command) e is = found_holds (λ (command : CommandForm). Fits (line_by command.takes words)) (λ (command : CommandForm). bytes_eq command.name name) commands command (each_fits words) e n is
+steps_number words n is = number_of_line words (steps n) is

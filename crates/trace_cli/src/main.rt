@@ -20,6 +20,7 @@ use program::run_words;
 use std::io::{BufReader, ErrorKind, Input, Print, Write};
 use std::process::ExitCode;
 use std::rt::Env;
+use std::sync::Wait;
 use std::{env, io};
 use trace_report::{Status, fail};
 
@@ -40,13 +41,20 @@ fn main(rt: HostRuntime) -> ExitCode {
 }
 
 /// Does what the words ask for, on standard input and output.
-fn run_on_streams<R: Input + Print + AllocGlobal, F: Write>(
+fn run_on_streams<R: Input + Print + AllocGlobal + Wait, F: Write>(
     rt: &R,
     words: &[String],
     faults: &mut F,
 ) -> Status {
     match BufReader::new(rt.alloc(), rt.reader()) {
-        Ok(mut input) => run_words(rt.alloc(), words, &mut input, &mut io::writer(rt), faults),
+        Ok(mut input) => run_words(
+            rt,
+            rt.alloc(),
+            words,
+            &mut input,
+            &mut io::writer(rt),
+            faults,
+        ),
         Err(_) => fail(faults, NoMemory, Status::NoMemory),
     }
 }

@@ -12,12 +12,15 @@ use names::NoMemory;
 use std::alloc::Global;
 use std::convert::AsStr;
 use std::io::{BufRead, Write};
+use std::sync::Wait;
 use trace_commands::{check, compile, judge, match_name};
 use trace_line::{Line, LineFault, command_line};
 use trace_report::{Status, fail};
 
-/// Does what the words ask for, of which the first is the program's name. A fault is told on `faults`.
-pub fn run_words<S: AsStr, R: BufRead, A: Write, F: Write>(
+/// Does what the words ask for, of which the first is the program's name. A fault is told on `faults`. A script's publications
+/// wait for readers, of which there are none inside then.
+pub fn run_words<H: Wait, S: AsStr, R: BufRead, A: Write, F: Write>(
+    rt: &H,
     alloc: Global,
     words: &[S],
     input: &mut R,
@@ -37,7 +40,7 @@ pub fn run_words<S: AsStr, R: BufRead, A: Write, F: Write>(
 {
     match command_line(alloc, words) {
         Ok(Line::Judge { perms, name }) => judge(alloc, perms, name, input, answers, faults),
-        Ok(Line::Run { capacity }) => run(alloc, capacity, input, answers, faults),
+        Ok(Line::Run { capacity }) => run(rt, alloc, capacity, input, answers, faults),
         Ok(Line::Compile) => compile(alloc, input, answers, faults),
         Ok(Line::Check) => check(alloc, input, answers, faults),
         Ok(Line::Match { perms, name }) => match_name(alloc, perms, name, input, answers, faults),

@@ -3,6 +3,7 @@ use std::alloc::Global;
 use std::io;
 use std::io::{BufRead, BufReader, ErrorKind, Read, Write};
 use std::process::Abort;
+use std::sync::Wait;
 use std::test::Fail;
 use trace_line::{Line, LineFault, command_line};
 use trace_report::Status;
@@ -130,13 +131,14 @@ impl Ending {
 
 /// A run whose streams are taken as those two writers allow.
 fn run_within<R: BufRead>(
+    rt: &impl Wait,
     alloc: Global,
     words: &[&str],
     input: &mut R,
     mut answers: Failing,
     mut faults: Failing,
 ) -> Ending {
-    let status = run_words(alloc, words, input, &mut answers, &mut faults);
+    let status = run_words(rt, alloc, words, input, &mut answers, &mut faults);
     Ending {
         status,
         answers: answers.taken,
@@ -145,9 +147,10 @@ fn run_within<R: BufRead>(
 }
 
 /// A run over memory.
-fn run(alloc: Global, words: &[&str], bytes: &[u8]) -> Ending {
+fn run(rt: &impl Wait, alloc: Global, words: &[&str], bytes: &[u8]) -> Ending {
     let mut input = bytes;
     run_within(
+        rt,
         alloc,
         words,
         &mut input,
@@ -157,41 +160,59 @@ fn run(alloc: Global, words: &[&str], bytes: &[u8]) -> Ending {
 }
 
 /// A run of a command on permissions and a name.
-fn ask(alloc: Global, command: &str, perms: &str, name: &str, bytes: &[u8]) -> Ending {
-    run(alloc, &["aa-trace", command, perms, name], bytes)
+fn ask(
+    rt: &impl Wait,
+    alloc: Global,
+    command: &str,
+    perms: &str,
+    name: &str,
+    bytes: &[u8],
+) -> Ending {
+    run(rt, alloc, &["aa-trace", command, perms, name], bytes)
 }
 
 /// A run over a reader that fails.
-fn run_on_pieces(alloc: Global, words: &[&str], pieces: Pieces<'_>) -> Result<Ending, Fail> {
+fn run_on_pieces(
+    rt: &impl Wait,
+    alloc: Global,
+    words: &[&str],
+    pieces: Pieces<'_>,
+) -> Result<Ending, Fail> {
     let mut input = BufReader::new(alloc, pieces)?;
     let (answers, faults) = (Failing::never(alloc), Failing::never(alloc));
-    Ok(run_within(alloc, words, &mut input, answers, faults))
+    Ok(run_within(rt, alloc, words, &mut input, answers, faults))
 }
 
 /// A run over one profile, whose answers are taken a few bytes at a time and in so many calls at most.
-fn run_into_failing(alloc: Global, words: &[&str], piece: usize, calls: usize) -> Ending {
+fn run_into_failing(
+    rt: &impl Wait,
+    alloc: Global,
+    words: &[&str],
+    piece: usize,
+    calls: usize,
+) -> Ending {
     let mut input = PASSWD.as_bytes();
     let answers = Failing::after(alloc, piece, calls);
-    run_within(alloc, words, &mut input, answers, Failing::never(alloc))
+    run_within(rt, alloc, words, &mut input, answers, Failing::never(alloc))
 }
 
 /// Asserts how a run over memory ends, and that it tells just this.
 fn expect(
-    rt: &impl Abort,
+    rt: &(impl Abort + Wait),
     alloc: Global,
     words: &[&str],
     bytes: &[u8],
     status: Status,
     told: &str,
 ) {
-    let ending = run(alloc, words, bytes);
+    let ending = run(rt, alloc, words, bytes);
     assert!(rt; ending.tells(status, told), "{words:?} tells {told}");
 }
 
 /// Permissions and a name, the profile's text by which they are judged, and how that ends.
 type Judged<'a> = (&'a str, &'a str, &'a str, Status, &'a str);
 
-fn expect_judged(rt: &impl Abort, alloc: Global, rows: &[Judged]) {
+fn expect_judged(rt: &(impl Abort + Wait), alloc: Global, rows: &[Judged]) {
     for (perms, name, text, status, told) in rows {
         let words = ["aa-trace", "judge", perms, name];
         expect(rt, alloc, &words, text.as_bytes(), *status, told);
@@ -259,7 +280,7 @@ type ReadFault<'a> = (usize, usize, ErrorKind, Status, &'a str);
 
 /// Judges by one profile, over readers that fail.
 fn expect_read_faults(
-    rt: &impl Abort,
+    rt: &(impl Abort + Wait),
     alloc: Global,
     words: &[&str],
     rows: &[ReadFault],
@@ -271,7 +292,7 @@ fn expect_read_faults(
             reads: *reads,
             error: *error,
         };
-        let ending = run_on_pieces(alloc, words, pieces)?;
+        let ending = run_on_pieces(rt, alloc, words, pieces)?;
         assert!(rt; ending.tells(*status, told), "{words:?} tells {told}");
     }
     Ok(())
@@ -304,7 +325,7 @@ fn answers_that_fail(rt: HostRuntime) {
     let words = ["aa-trace", "judge", "r", "/etc/passwd"];
     // Eight bytes are written in three parts and flushed, so a fifth call isn't made.
     for calls in 0..4 {
-        let ending = run_into_failing(rt.alloc(), &words, 3, calls);
+        let ending = run_into_failing(&rt, rt.alloc(), &words, 3, calls);
         let written = 8.min(3 * calls);
         assert!(rt;
             ending.is(
@@ -315,15 +336,21 @@ fn answers_that_fail(rt: HostRuntime) {
             "{calls}"
         );
     }
-    let ending = run_into_failing(rt.alloc(), &words, 3, 4);
+    let ending = run_into_failing(&rt, rt.alloc(), &words, 3, 4);
     assert!(rt; ending.tells(Status::Done, "allowed\n"));
 }
 
 /// Asserts how a run ends whose fault is taken in so many calls at most: nothing is read, and nothing answered.
-fn expect_unread(rt: &impl Abort, alloc: Global, words: &[&str], calls: usize, wanted: Status) {
+fn expect_unread(
+    rt: &(impl Abort + Wait),
+    alloc: Global,
+    words: &[&str],
+    calls: usize,
+    wanted: Status,
+) {
     let mut input = PASSWD.as_bytes();
     let faults = Failing::after(alloc, 5000, calls);
-    let ending = run_within(alloc, words, &mut input, Failing::never(alloc), faults);
+    let ending = run_within(rt, alloc, words, &mut input, Failing::never(alloc), faults);
     let unread = input.len();
     assert!(rt;
         ending.status == wanted && ending.answers.is_empty() && unread == PASSWD.len(),
@@ -332,7 +359,7 @@ fn expect_unread(rt: &impl Abort, alloc: Global, words: &[&str], calls: usize, w
 }
 
 /// Asserts how a run ends whose fault is taken in each number of calls: it isn't told until it is flushed.
-fn expect_told_late(rt: &impl Abort, alloc: Global, words: &[&str]) {
+fn expect_told_late(rt: &(impl Abort + Wait), alloc: Global, words: &[&str]) {
     expect_unread(rt, alloc, words, 0, Status::FaultsFailed);
     expect_unread(rt, alloc, words, 1, Status::FaultsFailed);
     expect_unread(rt, alloc, words, 2, Status::FaultsFailed);
@@ -340,19 +367,19 @@ fn expect_told_late(rt: &impl Abort, alloc: Global, words: &[&str]) {
 }
 
 /// The status of a run neither of whose streams takes anything.
-fn status_of_silent_run(alloc: Global) -> Status {
+fn status_of_silent_run(rt: &impl Wait, alloc: Global) -> Status {
     let words = ["aa-trace", "judge", "r", "/etc/passwd"];
     let mut input = PASSWD.as_bytes();
     let answers = Failing::after(alloc, 5000, 0);
     let faults = Failing::after(alloc, 5000, 0);
-    run_within(alloc, &words, &mut input, answers, faults).status
+    run_within(rt, alloc, &words, &mut input, answers, faults).status
 }
 
 #[test]
 fn messages_that_fail(rt: HostRuntime) {
     expect_told_late(&rt, rt.alloc(), &["aa-trace", "judge", "r", "x"]);
     expect_told_late(&rt, rt.alloc(), &["aa-trace", "judge", "r", "--no"]);
-    assert_eq!(rt; status_of_silent_run(rt.alloc()), Status::FaultsFailed);
+    assert_eq!(rt; status_of_silent_run(&rt, rt.alloc()), Status::FaultsFailed);
 }
 
 /// The words of a command line that is written with bars between them.
@@ -433,9 +460,9 @@ fn usage_of(alloc: Global, words: &[&str]) -> Result<String, Fail> {
 }
 
 /// Asserts that the parser refuses words in a text with a line's end, and that a run tells such a text alone.
-fn expect_usage(rt: &impl Abort, alloc: Global, words: &[&str]) -> Result<(), Fail> {
+fn expect_usage(rt: &(impl Abort + Wait), alloc: Global, words: &[&str]) -> Result<(), Fail> {
     let usage = usage_of(alloc, words)?;
-    let ending = run(alloc, words, PASSWD.as_bytes());
+    let ending = run(rt, alloc, words, PASSWD.as_bytes());
     assert!(rt;
         usage.as_str().ends_with('\n')
             && ending.status == Status::BadArguments
@@ -446,7 +473,7 @@ fn expect_usage(rt: &impl Abort, alloc: Global, words: &[&str]) -> Result<(), Fa
     Ok(())
 }
 
-fn expect_usages(rt: &impl Abort, alloc: Global, rows: &[&str]) -> Result<(), Fail> {
+fn expect_usages(rt: &(impl Abort + Wait), alloc: Global, rows: &[&str]) -> Result<(), Fail> {
     for line in rows {
         let words = words_of(alloc, line)?;
         expect_usage(rt, alloc, &words)?;
@@ -607,7 +634,7 @@ fn a_long_name(rt: HostRuntime) -> Result<(), Fail> {
 }
 
 /// Words that aren't followed, and the whole text that they are told.
-fn expect_texts(rt: &impl Abort, alloc: Global, rows: &[(&[&str], &str)]) {
+fn expect_texts(rt: &(impl Abort + Wait), alloc: Global, rows: &[(&[&str], &str)]) {
     for (words, told) in rows {
         expect(
             rt,

@@ -116,7 +116,7 @@ pub(crate) fn open_line<B: Bench>(
 ) -> Result<Vec<u8>, Stop>
     ensures { IsComposed (open_printed (B.history bench.old) profile.now path.now ask) (B.history bench.new) result }
 {
-    let answer = bench.open(profile, path, ask);
+    let answer = bench.open(profile, path, ask)?;
     answer_line(alloc, &answer, bench.name())
 }
 

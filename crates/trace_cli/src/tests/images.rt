@@ -6,6 +6,7 @@ use super::{
 use std::alloc::Global;
 use std::io::ErrorKind;
 use std::process::Abort;
+use std::sync::Wait;
 use std::test::Fail;
 use trace_line::Line;
 use trace_report::Status;
@@ -13,8 +14,8 @@ use trace_report::Status;
 const TOO_MANY_STATES: &str = "profile p { /**a????????????? r, }";
 
 /// The image of a profile's text.
-fn image_of(rt: &impl Abort, alloc: Global, text: &str) -> Vec<u8> {
-    let ending = run(alloc, &["aa-trace", "compile"], text.as_bytes());
+fn image_of(rt: &(impl Abort + Wait), alloc: Global, text: &str) -> Vec<u8> {
+    let ending = run(rt, alloc, &["aa-trace", "compile"], text.as_bytes());
     assert!(rt;
         ending.status == Status::Done && ending.faults.is_empty(),
         "{text}"
@@ -38,14 +39,19 @@ fn altered(alloc: Global, image: &[u8], place: usize, byte: u8) -> Result<Vec<u8
 }
 
 /// Permissions and names that are judged by an image, and what is told.
-fn expect_matched(rt: &impl Abort, alloc: Global, image: &[u8], rows: &[(&str, &str, &str)]) {
+fn expect_matched(
+    rt: &(impl Abort + Wait),
+    alloc: Global,
+    image: &[u8],
+    rows: &[(&str, &str, &str)],
+) {
     for (perms, name, told) in rows {
         let words = ["aa-trace", "match", perms, name];
         expect(rt, alloc, &words, image, Status::Done, told);
     }
 }
 
-fn expect_checked(rt: &impl Abort, alloc: Global, image: &[u8], told: &str) {
+fn expect_checked(rt: &(impl Abort + Wait), alloc: Global, image: &[u8], told: &str) {
     expect(rt, alloc, &["aa-trace", "check"], image, Status::Done, told);
 }
 
@@ -79,17 +85,20 @@ fn the_smallest_image(rt: HostRuntime) -> Result<(), Fail> {
 }
 
 /// Whether `match` says of a name what `judge` says of it, and then how many steps it took.
-fn agree(alloc: Global, text: &str, image: &[u8], perms: &str, name: &str) -> bool {
-    let judged = ask(alloc, "judge", perms, name, text.as_bytes());
-    let matched = ask(alloc, "match", perms, name, image);
+fn agree(rt: &impl Wait, alloc: Global, text: &str, image: &[u8], perms: &str, name: &str) -> bool {
+    let judged = ask(rt, alloc, "judge", perms, name, text.as_bytes());
+    let matched = ask(rt, alloc, "match", perms, name, image);
     judged.status == Status::Done
         && matched.status == Status::Done
         && matched.answers.starts_with(&judged.answers)
 }
 
-fn expect_agreement(rt: &impl Abort, alloc: Global, text: &str, image: &[u8], name: &str) {
+fn expect_agreement(rt: &(impl Abort + Wait), alloc: Global, text: &str, image: &[u8], name: &str) {
     for perms in &["r", "w", "rw", "l", "rwlkm"] {
-        assert!(rt; agree(alloc, text, image, perms, name), "{perms} {name}");
+        assert!(rt;
+            agree(rt, alloc, text, image, perms, name),
+            "{perms} {name}"
+        );
     }
 }
 
@@ -112,7 +121,7 @@ fn match_agrees_with_judge(rt: HostRuntime) {
 }
 
 /// Asserts that an image is refused, by `check` and by `match`.
-fn expect_refused(rt: &impl Abort, alloc: Global, image: &[u8], told: &str) {
+fn expect_refused(rt: &(impl Abort + Wait), alloc: Global, image: &[u8], told: &str) {
     let check = ["aa-trace", "check"];
     expect(rt, alloc, &check, image, Status::Refused, told);
     let matching = ["aa-trace", "match", "r", "/x"];
@@ -121,7 +130,7 @@ fn expect_refused(rt: &impl Abort, alloc: Global, image: &[u8], told: &str) {
 
 /// Bytes that are put in places of the smallest image, and how each such image is refused.
 fn expect_alterations_refused(
-    rt: &impl Abort,
+    rt: &(impl Abort + Wait),
     alloc: Global,
     image: &[u8],
     rows: &[(usize, u8, &str)],
@@ -180,7 +189,13 @@ fn texts_that_are_not_compiled(rt: HostRuntime) {
 }
 
 /// Asserts what is told of arguments of `match`, and that nothing is read.
-fn expect_bad_arguments(rt: &impl Abort, alloc: Global, perms: &str, name: &str, told: &str) {
+fn expect_bad_arguments(
+    rt: &(impl Abort + Wait),
+    alloc: Global,
+    perms: &str,
+    name: &str,
+    told: &str,
+) {
     let words = ["aa-trace", "match", perms, name];
     expect(rt, alloc, &words, b"no image", Status::BadArguments, told);
     expect_unread(rt, alloc, &words, 3, Status::BadArguments);
@@ -218,8 +233,8 @@ fn images_that_cannot_be_read(rt: HostRuntime) -> Result<(), Fail> {
 }
 
 /// Asserts what stands of an image of which so many calls are taken.
-fn expect_front(rt: &impl Abort, alloc: Global, image: &[u8], calls: usize) {
-    let ending = run_into_failing(alloc, &["aa-trace", "compile"], 10_000, calls);
+fn expect_front(rt: &(impl Abort + Wait), alloc: Global, image: &[u8], calls: usize) {
+    let ending = run_into_failing(rt, alloc, &["aa-trace", "compile"], 10_000, calls);
     assert!(rt;
         ending.status == Status::OutputFailed
             && ending.faults.as_slice() == b"refused: output\n".as_slice()
@@ -236,7 +251,7 @@ fn images_that_cannot_be_written(rt: HostRuntime) {
     for calls in 0..4 {
         expect_front(&rt, rt.alloc(), &image, calls);
     }
-    let ending = run_into_failing(rt.alloc(), &["aa-trace", "compile"], 10_000, 4);
+    let ending = run_into_failing(&rt, rt.alloc(), &["aa-trace", "compile"], 10_000, 4);
     assert!(rt; ending.is(Status::Done, &image, b""));
 }
 

@@ -4,9 +4,8 @@ ghost use Rattle.std.specs.Prelude.{[]};
 use crate::tests::{Ending, Failing, Pieces};
 use directory_tree::Change;
 use matcher::MakeFault;
-use mediation::{Answer, LinkAnswer};
+use mediation::{Answer, Bench, LinkAnswer};
 use names::{Errno, NoMemory, Perms};
-use plain_bench::Bench;
 use plain_tree::PlainTree;
 use rule_reader::Profile;
 use std::alloc::Global;
@@ -42,8 +41,8 @@ impl Bench for FullBench {
         Err(Errno::ENOMEM)
     }
 
-    fn open(&mut self, _profile: &[u8], _path: &[u8], _ask: Perms) -> Answer {
-        Answer::NoProfile { policy_version: 0 }
+    fn open(&mut self, _profile: &[u8], _path: &[u8], _ask: Perms) -> Result<Answer, NoMemory> {
+        Ok(Answer::NoProfile { policy_version: 0 })
     }
 
     fn link(&mut self, _profile: &[u8], _old: &[u8], _new: &[u8]) -> Result<LinkAnswer, NoMemory> {

@@ -1,8 +1,8 @@
 use Rattle.std.proofs.Common.{◌≡◌, true, map, Some}
 use Rattle.std.specs.Prelude.{is_some}
-use Rattle.trace_line.specs.CommandLine.{line_of, steps}
+use Rattle.trace_line.specs.CommandLine.{line_of, run, steps}
 use Rattle.trace_report.proofs.Endings.{text_of}
-use Rattle.trace_cli.proofs.Capacities.{steps_number}
+use Rattle.trace_cli.proofs.Capacities.{run_number, steps_number}
 use Rattle.trace_cli.proofs.Running.{memory_ends, usage_ends}
 use Rattle.trace_cli.proofs.program.run_words.Goals as goal
 
@@ -21,6 +21,11 @@ pub returns-in-Ok-Run-clause-output : goal.returns-in-Ok-Run-clause-output
 returns-in-Ok-Run-clause-output g c limit =
     let ran = c.run.ensures limit in
     (ran.0, ran.1, rw (c.in-Ok-Run.ensures.ok, c.in-Ok-Run.field-0-is) ran.2)
+
+pub run-requires : goal.run-requires
+run-requires g c =
+    let is : line_of (map g.S.AsStr.text c.args.words.now) ≡ Some (run c.in-Ok-Run.capacity) = rw c.in-Ok-Run.field-0-is at c.in-Ok-Run.ensures.ok in
+    run_number (map g.S.AsStr.text c.args.words.now) c.in-Ok-Run.capacity is
 
 pub steps-requires : goal.steps-requires
 steps-requires g c =

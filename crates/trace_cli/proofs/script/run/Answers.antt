@@ -16,8 +16,8 @@ returns-in-Ok g c limit =
     let P : History → Type 0 = λ history. (text : List ℕ) × IsTextOf (g.R.Read.remaining c.args.input.now) text × ScriptEnds limit
     (record {
       answers_before = g.A.Write.contents c.args.answers.now;
-      answers_after = g.A.Write.contents c.run_script.new.answers;
+      answers_after = g.A.Write.contents c.run_script-status.new.answers;
       faults_before = g.F.Write.contents c.args.faults.now;
-      faults_after = g.F.Write.contents c.run_script.new.faults;
-    }) (g.R.Read.remaining c.args.input.now) (g.R.Read.remaining c.run_script.new.input) history text c.run_script.result in
-    subst P c.in-Ok.ensures (c.run_script.ensures limit)
+      faults_after = g.F.Write.contents c.run_script-status.new.faults;
+    }) (g.R.Read.remaining c.args.input.now) (g.R.Read.remaining c.run_script-status.new.input) history text c.run_script-status.result in
+    subst P c.in-Ok.ensures (c.run_script-status.ensures limit)

@@ -1,0 +1,95 @@
+//! Opens and hard links where both the keeper and the publisher are at hand.
+ghost use Rattle.std.specs.Prelude.{◌≡◌, [], IfOk, IfErr, OnOk, OnErr};
+ghost use mathlib.Core.List.{IsPrefix};
+ghost use Rattle.dentry_cache.specs.Models.{met_at};
+ghost use Rattle.mediation.specs.Answers.{answered, name_opened, link_answered, name_linked};
+ghost use Rattle.mediation.specs.History.{open_answer, link_answer, after_link};
+ghost use Rattle.path_session.specs.Sitting.{IsSameSession, IsNoLinkOf, IsUntouchedUnlessMade};
+ghost use Rattle.path_session.specs.Standing.{history_of};
+
+use crate::keeping::reach_here;
+use crate::session::Session;
+use crate::unanswered::Unanswered;
+use dentry_cache::Keeper;
+use mediation::{Answer, LinkAnswer, judge_name};
+use names::{NoMemory, Perms};
+use profile_registry::{NoEntry, Publisher};
+
+impl Session {
+    /// Opens a file as [`open_with`](Session::open_with) does, by all that the publisher has published.
+    pub fn open_with_both(
+        &mut self,
+        keeper: &mut Keeper,
+        publisher: &mut Publisher,
+        path: &[u8],
+        ask: Perms,
+    ) -> Result<Answer, NoEntry>
+        requires { self.old.walk.table ≡ keeper.old.table }
+        ensures same { IsSameSession self.old self.new × (keeper.new ≡ keeper.old) × (publisher.new ≡ publisher.old) }
+        ensures met { IsPrefix self.old.walk.view.seen keeper.old.history × (self.new.walk.view ≡ met_at keeper.old.history) }
+        ensures policy_seen { OnOk result (self.new.reading.seen ≡ publisher.old.published) }
+        ensures answer { IfOk result (λ answer. answered self.new.judged answer
+            ≡ open_answer (history_of keeper.old publisher.old.published) self.old.profile path.now ask) }
+        ensures name { OnOk result (self.new.judged
+            ≡ name_opened (open_answer (history_of keeper.old publisher.old.published) self.old.profile path.now ask)) }
+        ensures err { OnErr result (self.new.judged ≡ []) }
+    {
+        self.name_length = 0;
+        self.meet(keeper);
+        let (published, policy_version) = self.reader.get_with(publisher, &self.profile)?;
+        let Some(profile) = published else {
+            return Ok(Answer::NoProfile { policy_version });
+        };
+        let tree_version = keeper.version();
+        match reach_here(keeper, path, ask, &mut self.scratch, &mut self.name) {
+            Err(errno) => Ok(Answer::Failed {
+                errno,
+                tree_version,
+            }),
+            Ok(file) => {
+                self.name_length = file.name_length;
+                Ok(Answer::Judged {
+                    verdict: judge_name(&profile, &self.name[..file.name_length], ask),
+                    node: file.node,
+                    tree_version,
+                    policy_version,
+                })
+            }
+        }
+    }
+
+    /// Makes a hard link as [`link_with`](Session::link_with) does, by all that the publisher has published.
+    pub fn link_with_both(
+        &mut self,
+        keeper: &mut Keeper,
+        publisher: &mut Publisher,
+        old: &[u8],
+        new: &[u8],
+    ) -> Result<LinkAnswer, Unanswered>
+        ensures same { IsSameSession self.old self.new × (self.new.walk ≡ self.old.walk) × (self.new.meetings ≡ self.old.meetings)
+            × (keeper.new.table ≡ keeper.old.table) × (publisher.new ≡ publisher.old) }
+        ensures kept { IfOk result (λ answer. IsUntouchedUnlessMade answer keeper.old keeper.new) }
+        ensures policy_seen { OnOk result (self.new.reading.seen ≡ publisher.old.published) }
+        ensures ok { IfOk result (λ answer. link_answered self.new.judged answer
+            ≡ link_answer (history_of keeper.old publisher.old.published) self.old.profile old.now new.now) }
+        ensures name { OnOk result (self.new.judged
+            ≡ name_linked (link_answer (history_of keeper.old publisher.old.published) self.old.profile old.now new.now)) }
+        ensures history { OnOk result (history_of keeper.new publisher.old.published
+            ≡ after_link (history_of keeper.old publisher.old.published) old.now new.now
+            (link_answer (history_of keeper.old publisher.old.published) self.old.profile old.now new.now)) }
+        ensures err { IfErr result (λ why. (keeper.new ≡ keeper.old) × (self.new.judged ≡ [])
+            × IsNoLinkOf (link_answer (history_of keeper.old publisher.old.published) self.old.profile old.now new.now) why) }
+    {
+        self.name_length = 0;
+        let Ok((published, policy_version)) = self.reader.get_with(publisher, &self.profile) else {
+            return Err(Unanswered::NoEntry);
+        };
+        let Some(profile) = published else {
+            return Ok(LinkAnswer::NoProfile { policy_version });
+        };
+        match self.link_by(keeper, &profile, policy_version, old, new) {
+            Ok(answer) => Ok(answer),
+            Err(NoMemory) => Err(Unanswered::NoMemory),
+        }
+    }
+}

@@ -1,0 +1,39 @@
+//! Reading where the publisher is at hand.
+ghost use Rattle.std.specs.Prelude.{◌≡◌, ◌⊎◌, IfOk, OnOk, OnErr, length};
+ghost use Rattle.std.specs.Option.{option_map};
+ghost use Rattle.mediation.specs.Deeds.{policy_after};
+ghost use Rattle.mediation.specs.PolicyChanges.{judge_shared};
+ghost use mathlib.Core.List.{IsPrefix};
+
+use crate::faults::NoEntry;
+use crate::publisher::Publisher;
+use crate::reader::PolicyReader;
+use matcher::AnyProfile;
+use std::sync::Arc;
+
+impl PolicyReader {
+    /// The profile under a name, and the policy's version, by all that this publisher has published, and no other: the reader
+    /// learns that first, and nothing is published meanwhile. It isn't answered, too, where no place is free for what is told.
+    pub fn get_with(
+        &mut self,
+        publisher: &mut Publisher,
+        name: &[u8],
+    ) -> Result<(Option<Arc<AnyProfile>>, u64), NoEntry>
+        ensures same { publisher.new ≡ publisher.old }
+        ensures seen { OnOk result (self.new.seen ≡ publisher.old.published) }
+        ensures profile { IfOk result (λ found. option_map judge_shared found.0 ≡ policy_after publisher.old.published name.now) }
+        ensures version { IfOk result (λ found. found.1 ≡ length publisher.old.published) }
+        ensures err { OnErr result ((self.new ≡ self.old) ⊎ IsPrefix publisher.old.published self.new.seen) }
+    {
+        let Ok(told) = publisher.tell() else {
+            return Err(NoEntry);
+        };
+        self.learn(told);
+        let (profile, version) = self.get(name)?;
+        // The reader has seen this publisher's list, and maybe more of it; by the version it is no more.
+        if version != publisher.version() {
+            return Err(NoEntry);
+        }
+        Ok((profile, version))
+    }
+}

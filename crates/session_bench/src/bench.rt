@@ -1,0 +1,87 @@
+//! A bench that is a keeper, a publisher and one session.
+ghost use Rattle.std.specs.Prelude.{◌≡◌, ◌≤◌, [], IfOk};
+ghost use Rattle.mediation.specs.History.{new_history};
+ghost use Rattle.path_session.specs.Standing.{history_of};
+
+use dentry_cache::Keeper;
+use names::NoMemory;
+use path_session::Session;
+use profile_registry::Publisher;
+use std::alloc::Global;
+use std::sync::Wait;
+use tree_row::MOST_ENTRIES;
+
+/// A keeper of the row of words that threads may share, a publisher, and a session beside both.
+///
+/// It is not `Drop`: end it by [`close`](SessionBench::close).
+pub struct SessionBench<'a, R: Wait> {
+    // A publication waits for readers, by this.
+    pub(crate) rt: &'a R,
+    pub(crate) alloc: Global,
+    pub(crate) keeper: Keeper,
+    pub(crate) publisher: Publisher,
+    pub(crate) session: Session,
+    // Whether the last open or link was answered.
+    pub(crate) has_answered: bool,
+    ghost beside: { session.walk.table ≡ keeper.table },
+}
+
+impl<'a, R: Wait> SessionBench<'a, R> {
+    /// The root alone, with room for so many entries, and no profile.
+    pub fn new(rt: &'a R, alloc: Global, capacity: usize) -> Result<SessionBench<'a, R>, NoMemory>
+        requires { capacity ≤ MOST_ENTRIES }
+        ensures { IfOk result (λ bench. history_of bench.keeper bench.publisher.published ≡ new_history capacity) }
+    {
+        let mut keeper = Keeper::new(alloc, capacity)?;
+        let mut publisher = Publisher::new(alloc)?;
+        match first_session(alloc, &mut keeper, &mut publisher) {
+            Ok(session) => Ok(SessionBench {
+                rt,
+                alloc,
+                keeper,
+                publisher,
+                session,
+                has_answered: false,
+            }),
+            Err(NoMemory) => {
+                publisher.close(rt);
+                Err(NoMemory)
+            }
+        }
+    }
+
+    /// Ends the bench, and its publisher with it.
+    pub fn close(self) {
+        let SessionBench {
+            rt,
+            alloc: _,
+            keeper: _keeper,
+            publisher,
+            session: _session,
+            has_answered: _,
+        } = self;
+        publisher.close(rt);
+    }
+}
+
+/// A session beside both, which has selected no profile's name yet. Places for it are free, so that only memory can be
+/// wanting.
+fn first_session(
+    alloc: Global,
+    keeper: &mut Keeper,
+    publisher: &mut Publisher,
+) -> Result<Session, NoMemory>
+    ensures same { (keeper.new ≡ keeper.old) × (publisher.new ≡ publisher.old) }
+    ensures beside { IfOk result (λ session. session.walk.table ≡ keeper.old.table) }
+{
+    let Ok(walker) = keeper.walker() else {
+        return Err(NoMemory);
+    };
+    let Ok(reader) = publisher.reader() else {
+        return Err(NoMemory);
+    };
+    match Session::new(alloc, walker, reader, b"") {
+        Ok(session) => Ok(session),
+        Err((NoMemory, _walker, _reader)) => Err(NoMemory),
+    }
+}

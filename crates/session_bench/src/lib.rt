@@ -1,0 +1,11 @@
+//! Judged opens and links as sessions answer them: a keeper, a publisher and one session in one hand, in one thread.
+//!
+//! [`SessionBench`] is a [`Bench`], which is what a script works on.
+#![tactic(auto)]
+
+mod bench;
+mod publishing;
+mod working;
+
+pub use bench::SessionBench;
+pub use mediation::Bench;
