@@ -1,7 +1,8 @@
-//! What the tests share: each script is run on two benches.
+//! What the tests share: each script is run on each bench.
 ghost use Rattle.std.specs.Prelude.{◌≡◌, ◌≤◌};
 ghost use Rattle.mediation.specs.History.{policy_version};
 
+use keeper_bench::KeeperBench;
 use names::NoMemory;
 use plain_bench::{Bench, PlainBench};
 use session_bench::SessionBench;
@@ -52,6 +53,13 @@ fn run_in_memory(alloc: Global, capacity: usize, script: &[u8]) -> Result<Ending
     Ok(run_on(alloc, &mut bench, script))
 }
 
+fn run_by_keeper(alloc: Global, capacity: usize, script: &[u8]) -> Result<Ending, NoMemory>
+    requires { capacity ≤ MOST_ENTRIES }
+{
+    let mut bench = KeeperBench::new(alloc, capacity)?;
+    Ok(run_on(alloc, &mut bench, script))
+}
+
 fn run_by_session(
     rt: &impl Wait,
     alloc: Global,
@@ -66,7 +74,7 @@ fn run_by_session(
     Ok(ending)
 }
 
-/// Runs a script on a new bench of each kind, and asserts how both runs end.
+/// Runs a script on a new bench of each kind, and asserts how all runs end.
 pub(crate) fn expect_ending(
     rt: &(impl Abort + Wait),
     alloc: Global,
@@ -81,6 +89,13 @@ pub(crate) fn expect_ending(
     assert!(rt;
         in_memory.is(status, answers, faults),
         "in memory: {script:?}"
+    );
+    let Ok(by_keeper) = run_by_keeper(alloc, capacity, script) else {
+        return Err(Fail::from("no memory"));
+    };
+    assert!(rt;
+        by_keeper.is(status, answers, faults),
+        "by a keeper: {script:?}"
     );
     let Ok(by_session) = run_by_session(rt, alloc, capacity, script) else {
         return Err(Fail::from("no memory"));
