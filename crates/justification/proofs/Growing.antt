@@ -11,7 +11,7 @@ use Rattle.directory_tree.specs.Apply.{Changed, and_then, apply_counted, after_f
 use Rattle.directory_tree.specs.Plain.{Plain, tree_of, outcome}
 
 -- some changes, and then others
-after_append : (capacity count : ℕ) (t : Tree) (cs ds : List Change) (n : ℕ) → n ≡ count + length cs
+pub after_append : (capacity count : ℕ) (t : Tree) (cs ds : List Change) (n : ℕ) → n ≡ count + length cs
     → after_from capacity count t (cs ++ ds) ≡ and_then (after_from capacity count t cs) (λ u. after_from capacity n u ds)
 after_append capacity count t [] ds n is = let same : count ≡ n = omega arith in ap (λ (k : ℕ). after_from capacity k t ds) same
 after_append capacity count t (c ∷ cs) ds n is =

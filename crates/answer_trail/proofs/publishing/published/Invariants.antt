@@ -1,0 +1,11 @@
+use Rattle.std.proofs.Common.{◌≡◌, map, length}
+use Rattle.mediation.specs.Deeds.{policy_after}
+use Rattle.mediation.specs.PolicyChanges.{deed_of}
+use Rattle.answer_trail.proofs.publishing.published.Given as goal
+
+-- the changes behind say nothing of the name
+abbrev pub invariant-loop-change : goal.invariant-loop-change
+invariant-loop-change l = policy_after (map deed_of l.rest) l.name ≡ policy_after (map deed_of l.changes) l.name
+
+abbrev pub decreases-loop-change : goal.decreases-loop-change
+decreases-loop-change l = length l.rest

@@ -1,0 +1,2 @@
+-- Words of private contracts and proofs alone.
+pub mod Ends

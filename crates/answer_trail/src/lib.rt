@@ -1,0 +1,15 @@
+//! Whether many answers to one open are right: what the open comes to in the tree of each version is found once, and kept.
+//!
+//! A [`Trail`] is for one path and one set of permissions; [`Trail::justifies`] tests an answer as `justification::justify` does,
+//! and makes no tree for it.
+//!
+//! To be believed are the 6 lines of definitions in `specs/`, beside those of `justification`; those in `specs/inner/` are of
+//! private contracts and proofs.
+#![tactic(auto)]
+
+mod end;
+mod growing;
+mod publishing;
+mod trail;
+
+pub use trail::Trail;

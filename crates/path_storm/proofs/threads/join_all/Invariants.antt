@@ -1,0 +1,13 @@
+use Rattle.std.proofs.Common.{◌≡◌, ◌+◌, All, vec_len}
+use Rattle.path_storm.proofs.threads.join_all.Given as goal
+
+-- each session stands on one side, and all are full
+abbrev pub invariant-loop-opening : goal.invariant-loop-opening
+invariant-loop-opening g l = record {
+  count : vec_len l.all + vec_len l.openings ≡ vec_len l.fn.openings;
+  promised : All (λ opening. opening.promise.opens ≡ l.opens) l.openings.items;
+  full : All (λ own. vec_len own ≡ l.opens) l.all.items;
+}
+
+abbrev pub decreases-loop-opening : goal.decreases-loop-opening
+decreases-loop-opening g l = vec_len l.openings

@@ -1,0 +1,41 @@
+//! Why there was no storm.
+use names::NoMemory;
+use path_guard::SessionFault;
+use std::alloc::{AllocError, AllocFailed};
+
+/// Why a storm came to no report.
+#[derive(Clone, Copy, Debug, PartialEq, Eq)]
+pub enum StormFault {
+    NoMemory,
+    /// A thread could not be started.
+    NoThread,
+    /// All places of walkers, or of readers of the policy, are taken.
+    NoSeat,
+}
+
+impl From<AllocError> for StormFault {
+    fn from(_refused: AllocError) -> StormFault {
+        StormFault::NoMemory
+    }
+}
+
+impl<T: Drop> From<AllocFailed<T>> for StormFault {
+    fn from(_refused: AllocFailed<T>) -> StormFault {
+        StormFault::NoMemory
+    }
+}
+
+impl From<NoMemory> for StormFault {
+    fn from(_refused: NoMemory) -> StormFault {
+        StormFault::NoMemory
+    }
+}
+
+impl From<SessionFault> for StormFault {
+    fn from(fault: SessionFault) -> StormFault {
+        match fault {
+            SessionFault::NoSeat => StormFault::NoSeat,
+            SessionFault::NoMemory => StormFault::NoMemory,
+        }
+    }
+}

@@ -1,0 +1,1 @@
+//! Answers that are put to a trail.
