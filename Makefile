@@ -9,6 +9,7 @@
 # make calls      calls the library for C, and compares its answers with those of ./aa-trace
 # make embed      builds the examples for those who embed the library, ./embed in C and ./embed_rs in Rust, and runs them
 # make refusals   refuses each allocation of the program in turn, and of scripts on the row that threads share
+# make storm      opens a file 1,600,000 times in 16 threads beside renames and new profiles, and tests each answer
 # make drawn      makes 100,000 drawn changes in a row and in plain memory, which have to answer alike
 # make install    installs the program, the static library for C with its header, the manual page and completion for bash
 #                 below PREFIX, which is /usr/local if not given; DESTDIR is put before it. Builds what isn't built
@@ -25,7 +26,7 @@ LIBRARY := crates/coqetwal/out/libcoqetwal.a
 LIBRARY_CRATES := coqetwal $(shell sed -n 's/^coqetwal staticlib: *//p' crates.txt)
 LIBRARY_SOURCES := crates.txt HANDLES $(filter $(addprefix crates/,$(addsuffix /%,$(LIBRARY_CRATES))),$(SOURCES))
 
-.PHONY: all run test tour bench calls embed refusals drawn install uninstall help need-rt
+.PHONY: all run test tour bench calls embed refusals storm drawn install uninstall help need-rt
 # Each recipe takes all processors, and two that prove the same crates would disturb each other.
 .NOTPARALLEL:
 
@@ -77,6 +78,10 @@ embed: aa-trace $(LIBRARY)
 
 refusals: aa-trace
 	sh tools/refuse-allocations.sh
+
+storm: need-rt
+	cd crates/open_storm && rt run
+	time crates/open_storm/out/open_storm 16 100000 100000
 
 drawn: need-rt
 	tools/drawn-changes
