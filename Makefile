@@ -80,8 +80,7 @@ refusals: aa-trace
 	sh tools/refuse-allocations.sh
 
 storm: need-rt
-	cd crates/open_storm && rt run
-	time crates/open_storm/out/open_storm 16 100000 100000
+	sh tools/storm.sh
 
 drawn: need-rt
 	tools/drawn-changes

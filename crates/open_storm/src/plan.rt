@@ -3,6 +3,7 @@ use path_storm::Plan;
 
 /// The most sessions, and the most opens of each and changes of each kind.
 const MOST_SESSIONS: u32 = 16;
+
 const MOST_OF_EACH: u64 = 100_000;
 
 /// The plan that the words tell, of which the first is the program's name.
