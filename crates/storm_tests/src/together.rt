@@ -63,7 +63,10 @@ fn meet<R: Abort + Threads + Wait + Sync>(rt: &R, alloc: Global) -> Result<(), F
         failed: AtomicBool::new(false),
     };
     let report = storm_on::<Brand, R, Meeting>(rt, alloc, keeper(alloc)?, &plan, &meeting)?;
-    assert!(rt; !meeting.failed.load(Ordering::SeqCst), "one waited for the other");
+    assert!(rt;
+        !meeting.failed.load(Ordering::SeqCst),
+        "one waited for the other"
+    );
     let report = report.ok().ok_or("a storm")?;
     let wanted = StormReport {
         answers: 2,

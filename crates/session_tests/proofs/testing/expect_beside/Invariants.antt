@@ -1,0 +1,6 @@
+use Rattle.std.proofs.Common.{◌≡◌}
+use Rattle.session_tests.proofs.testing.expect_beside.Given as goal
+
+-- the session stays one of its row
+abbrev pub invariant-loop-row : goal.invariant-loop-row
+invariant-loop-row g l = l.session.walk.table ≡ l.initial.session.walk.table

@@ -1,0 +1,9 @@
+use Rattle.std.proofs.Common.{◌≡◌}
+use Rattle.session_tests.proofs.testing.expect_with.Given as goal
+
+-- the keeper stays as it is, and the session one of its row
+abbrev pub invariant-loop-row : goal.invariant-loop-row
+invariant-loop-row g l = record {
+  same : l.keeper ≡ l.initial.keeper;
+  of : l.session.walk.table ≡ l.initial.session.walk.table;
+}

@@ -1,0 +1,7 @@
+//! x
+#![tactic(auto)]
+
+#[cfg(test)]
+mod links;
+#[cfg(test)]
+mod testing;

@@ -1,0 +1,241 @@
+//! A keeper, a publisher, and sessions of both. Where memory is refused once, it is asked for again, as
+//! `rt try --test --fail-alloc N` refuses it.
+ghost use Rattle.std.specs.Prelude.{◌≡◌, IfOk};
+
+use dentry_cache::{Keeper, Walker};
+use directory_tree::{Change, LinkBytes};
+use matcher::{AnyProfile, CompiledProfile};
+use names::{Errno, NoMemory, Path, Perms};
+use path_session::{Answer, Session};
+use profile_registry::{PolicyReader, Publisher};
+use rule_text::{Verdict, read};
+use std::alloc::Global;
+use std::process::Abort;
+use std::sync::{Arc, Wait};
+use std::test::Fail;
+
+/// Room for the entries of each test.
+const ROOM: usize = 9;
+
+/// The file `/d/f` has this node.
+pub(crate) const FILE: u64 = 3;
+
+/// How many changes made the tree of [`first_keeper`].
+pub(crate) const TREE: u64 = 5;
+
+/// The profile that is published under the name `p`.
+const RULES: &[u8] =
+    b"profile p {\n  /d/* r,\n  deny /d/k w,\n  /e/* r,\n  /m rl,\n  /n rwl,\n  deny /b l,\n}\n";
+
+pub(crate) fn path(text: &[u8]) -> Result<Path<'_>, Fail> {
+    Ok(Path::check(text).ok().ok_or("a path")?)
+}
+
+pub(crate) fn perms(letters: &[u8]) -> Result<Perms, Fail> {
+    Ok(Perms::from_letters(letters).ok_or("letters")?)
+}
+
+/// The profile that a text tells.
+pub(crate) fn compiled(alloc: Global, text: &[u8]) -> Result<Arc<AnyProfile>, Fail> {
+    match compile(alloc, text) {
+        Some(profile) => Ok(profile),
+        None => Err(Fail::from("EARLY")),
+    }
+}
+
+fn compile(alloc: Global, text: &[u8]) -> Option<Arc<AnyProfile>> {
+    let compiled = CompiledProfile::make(alloc, read(alloc, text).ok()?).ok()?;
+    Arc::new(alloc, AnyProfile::Compiled(compiled)).ok()
+}
+
+/// The root alone.
+pub(crate) fn new_keeper(alloc: Global) -> Result<Keeper, Fail> {
+    match Keeper::new(alloc, ROOM) {
+        Ok(keeper) => Ok(keeper),
+        Err(NoMemory) => Ok(Keeper::new(alloc, ROOM)?),
+    }
+}
+
+/// `/d` with the files `/d/f` and `/d/k`, a link `/l` to it, and a link `/r` to itself.
+pub(crate) fn first_keeper(alloc: Global) -> Result<Keeper, Fail> {
+    let mut keeper = new_keeper(alloc)?;
+    let changes = [
+        Change::Mkdir(path(b"/d")?),
+        Change::Create(path(b"/d/f")?),
+        Change::Create(path(b"/d/k")?),
+        Change::Symlink(LinkBytes::new(b"d"), path(b"/l")?),
+        Change::Symlink(LinkBytes::new(b"r"), path(b"/r")?),
+    ];
+    for change in &changes {
+        apply(&mut keeper, change)
+            .ok()
+            .ok_or("a change that is refused")?;
+    }
+    Ok(keeper)
+}
+
+/// Makes a change.
+pub(crate) fn apply(keeper: &mut Keeper, change: &Change<'_>) -> Result<u64, Errno>
+    ensures { keeper.new.table ≡ keeper.old.table }
+{
+    match keeper.apply(change) {
+        Err(Errno::ENOMEM) => keeper.apply(change),
+        answer => answer,
+    }
+}
+
+/// Nothing is published. It is to be closed, whatever comes of the test that it is lent to.
+pub(crate) fn new_publisher(alloc: Global) -> Result<Publisher, NoMemory> {
+    match Publisher::new(alloc) {
+        Ok(publisher) => Ok(publisher),
+        Err(NoMemory) => Publisher::new(alloc),
+    }
+}
+
+/// Publishes a profile under a name, and answers the policy's version.
+pub(crate) fn publish<R: Wait>(
+    rt: &R,
+    publisher: &mut Publisher,
+    name: &[u8],
+    profile: &Arc<AnyProfile>,
+) -> Result<u64, Fail> {
+    if publisher.changes() >= 1 << 59 {
+        return Err(Fail::from("too many changes"));
+    }
+    if publisher.replace(name, Arc::try_clone(profile)?).is_err() {
+        publisher.replace(name, Arc::try_clone(profile)?)?;
+    }
+    match publisher.publish(rt) {
+        Ok(version) => Ok(version),
+        Err(NoMemory) => Ok(publisher.publish(rt)?),
+    }
+}
+
+/// Publishes the rules of `p`.
+pub(crate) fn publish_first<R: Wait>(
+    rt: &R,
+    alloc: Global,
+    publisher: &mut Publisher,
+) -> Result<(), Fail> {
+    publish(rt, publisher, b"p", &compiled(alloc, RULES)?)?;
+    Ok(())
+}
+
+fn walker(keeper: &mut Keeper) -> Result<Walker, Fail>
+    ensures same { keeper.new ≡ keeper.old }
+    ensures walker { IfOk result (λ walker. walker.table ≡ keeper.old.table) }
+{
+    match keeper.walker() {
+        Ok(walker) => Ok(walker),
+        Err(_) => Ok(keeper.walker().ok().ok_or("a walker")?),
+    }
+}
+
+/// A session of a keeper and a publisher, which opens by the profile of a name.
+pub(crate) fn session(
+    alloc: Global,
+    keeper: &mut Keeper,
+    publisher: &mut Publisher,
+    profile: &[u8],
+) -> Result<Session, Fail>
+    ensures same { keeper.new ≡ keeper.old }
+    ensures of { IfOk result (λ session. session.walk.table ≡ keeper.old.table) }
+{
+    let walker = walker(keeper)?;
+    let reader: PolicyReader = publisher.reader()?;
+    match Session::new(alloc, walker, reader, profile) {
+        Ok(session) => Ok(session),
+        Err((NoMemory, walker, reader)) => Ok(
+            Session::new(alloc, walker, reader, profile)
+                .ok()
+                .ok_or("memory")?,
+        ),
+    }
+}
+
+/// Opens by the profile of another name from now on.
+pub(crate) fn select(session: &mut Session, profile: &[u8]) -> Result<(), Fail>
+    ensures { session.new.walk ≡ session.old.walk }
+{
+    match session.select(profile) {
+        Ok(()) => Ok(()),
+        Err(NoMemory) => Ok(session.select(profile)?),
+    }
+}
+
+/// The verdict on a file in the tree of a version, by the first profile that was published.
+pub(crate) fn judged(verdict: Verdict, node: u64, tree_version: u64) -> Answer {
+    Answer::Judged {
+        verdict,
+        node,
+        tree_version,
+        policy_version: 1,
+    }
+}
+
+pub(crate) fn failed(errno: Errno, tree_version: u64) -> Answer {
+    Answer::Failed {
+        errno,
+        tree_version,
+    }
+}
+
+/// An open, and what is to come of it.
+#[derive(Clone, Copy)]
+pub(crate) struct Row<'a> {
+    pub path: &'a [u8],
+    pub ask: &'a [u8],
+    pub answer: Answer,
+    /// The name that is judged, if one is.
+    pub name: &'a [u8],
+}
+
+/// An open, and the name that is judged.
+pub(crate) fn opened<'a>(path: &'a [u8], ask: &'a [u8], answer: Answer, name: &'a [u8]) -> Row<'a> {
+    Row {
+        path,
+        ask,
+        answer,
+        name,
+    }
+}
+
+/// An open of a path to read, of which no name is judged.
+pub(crate) fn unjudged<'a>(path: &'a [u8], answer: Answer) -> Row<'a> {
+    opened(path, b"r", answer, b"")
+}
+
+/// Opens beside the keeper, one after another.
+pub(crate) fn expect_beside(
+    rt: &impl Abort,
+    session: &mut Session,
+    rows: &[Row<'_>],
+) -> Result<(), Fail>
+    ensures { session.new.walk.table ≡ session.old.walk.table }
+{
+    for row in rows {
+        let answer = session.try_open(row.path, perms(row.ask)?);
+        assert_eq!(rt; answer, row.answer, "{:?}", row.path);
+        assert!(rt; session.name() == row.name, "{:?}", row.path);
+    }
+    Ok(())
+}
+
+/// Opens where the keeper is at hand, one after another.
+pub(crate) fn expect_with(
+    rt: &impl Abort,
+    session: &mut Session,
+    keeper: &mut Keeper,
+    rows: &[Row<'_>],
+) -> Result<(), Fail>
+    requires { session.old.walk.table ≡ keeper.old.table }
+    ensures same { keeper.new ≡ keeper.old }
+    ensures of { session.new.walk.table ≡ session.old.walk.table }
+{
+    for row in rows {
+        let answer = session.open_with(keeper, row.path, perms(row.ask)?);
+        assert_eq!(rt; answer, row.answer, "{:?}", row.path);
+        assert!(rt; session.name() == row.name, "{:?}", row.path);
+    }
+    Ok(())
+}
