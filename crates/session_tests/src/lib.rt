@@ -1,7 +1,0 @@
-//! x
-#![tactic(auto)]
-
-#[cfg(test)]
-mod links;
-#[cfg(test)]
-mod testing;

@@ -1,1 +1,0 @@
-//! Answers that are put to a trail.
