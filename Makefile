@@ -79,7 +79,7 @@ embed: aa-trace $(LIBRARY)
 refusals: aa-trace
 	sh tools/refuse-allocations.sh
 
-storm: need-rt
+storm: aa-trace
 	sh tools/storm.sh
 
 drawn: need-rt

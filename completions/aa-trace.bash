@@ -1,7 +1,7 @@
 # Completion of aa-trace for bash. It needs nothing but bash itself.
 
-# What the words before the cursor say: the command, how many arguments it has so far, whether --capacity was given, and
-# whether options have come to an end. A redirection and its file are no words of the program.
+# What the words before the cursor say: the command, how many arguments it has so far, which options with a number were given,
+# and whether options have come to an end. A redirection and its file are no words of the program.
 _aa_trace_read_words() {
     local index word is_file=
     for ((index = 1; index < COMP_CWORD; index++)); do
@@ -16,8 +16,8 @@ _aa_trace_read_words() {
             command=$word
         elif [[ -z $literal && $word == -- ]]; then
             literal=yes
-        elif [[ -z $literal && $word == --capacity ]]; then
-            capacity=given
+        elif [[ -z $literal && $word == --@(capacity|sessions|opens|changes) ]]; then
+            given+=" $word"
         elif [[ -n $literal || $word != -?* ]]; then
             ((arguments += 1))
         fi
@@ -32,6 +32,15 @@ _aa_trace_letters() {
     for letter in r w l k m; do
         [[ $so_far == *"$letter"* ]] || COMPREPLY+=("$so_far$letter")
     done
+}
+
+# Those of some options that weren't given.
+_aa_trace_left() {
+    local option left=
+    for option in "$@"; do
+        [[ " $given " == *" $option "* ]] || left+=" $option"
+    done
+    printf '%s' "$left"
 }
 
 # Those of some words that begin as the word at the cursor.
@@ -51,8 +60,8 @@ _aa_trace_files() {
 
 _aa_trace() {
     local cur=${COMP_WORDS[COMP_CWORD]} previous=${COMP_WORDS[COMP_CWORD - 1]}
-    local command='' capacity='' literal='' arguments=0
-    local commands='judge run steps compile check match help'
+    local command='' given='' literal='' arguments=0
+    local commands='judge run steps storm compile check match help'
     COMPREPLY=()
     if [[ $previous == *[\<\>]* ]]; then
         _aa_trace_files "$cur"
@@ -60,12 +69,13 @@ _aa_trace() {
     fi
     _aa_trace_read_words
     # The number of an option is nothing to complete. A = is a word of its own.
-    [[ $command == @(run|steps) && ($previous == --capacity || $previous == = || $cur == =) ]] && return
+    [[ $command == @(run|steps|storm) && ($previous == --@(capacity|sessions|opens|changes) || $previous == = || $cur == =) ]] && return
     if [[ -z $literal && $cur == -* ]]; then
         local options='-h --help'
         case $command in
         '') options+=' --version' ;;
-        run | steps) [[ -z $capacity ]] && options+=' --capacity' ;;
+        run | steps) options+=$(_aa_trace_left --capacity) ;;
+        storm) options+=$(_aa_trace_left --sessions --opens --changes) ;;
         judge | compile | check | match) ;;
         *) return ;;
         esac

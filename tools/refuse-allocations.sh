@@ -1,10 +1,9 @@
 #!/bin/sh
-# Refuses each allocation of one run of ./aa-trace in turn, and of the program that answers a script on the row that threads
-# share: the first alone, then the second alone, and so on, until a run has no such allocation. Each refused run must write `no memory` to standard error and end with status 4, with
-# nothing on standard output or, for a script, a front part of the answers in whole lines; or it did without that
-# allocation, and then answers all as the whole run does. Last come walks over that row beside its changes, some of which
-# want memory then: no walk may find what isn't there. Wants a C compiler, for the few lines that stand before malloc and
-# realloc.
+# Refuses each allocation of one run of ./aa-trace in turn: the first alone, then the second alone, and so on, until a run has no
+# such allocation. Each refused run must write `no memory` to standard error and end with status 4, with nothing on standard
+# output or, for a script, a front part of the answers in whole lines; or it did without that allocation, and then answers all
+# as the whole run does. Last come walks over the row that threads share beside its changes, some of which want memory then: no
+# walk may find what isn't there. Wants a C compiler, for the few lines that stand before malloc and realloc.
 set -eu
 cd "$(dirname "$0")/.."
 [ -x ./aa-trace ] || { echo "./aa-trace is missing: run make" >&2; exit 1; }
@@ -16,9 +15,7 @@ build() {
     echo "proving and building $1 .."
     (cd "crates/$1" && rt run </dev/null) >"$work/log" 2>&1 || { cat "$work/log"; exit 1; }
 }
-build keeper_run
 build walk_storm
-KEEPER_RUN=crates/keeper_run/out/keeper_run
 WALK_STORM=crates/walk_storm/out/walk_storm
 
 cat >"$work/refuse.c" <<'C'
@@ -55,7 +52,7 @@ is_front() {
     size=$(wc -c <"$work/answers")
     [ "$size" -eq 0 ] && return 0
     case $what in
-    'aa-trace run '* | 'aa-trace steps '* | 'keeper_run '*) ;;
+    'aa-trace run '* | 'aa-trace steps '*) ;;
     *) return 1 ;;
     esac
     [ "$(tail -c 1 "$work/answers" | wc -l)" -eq 1 ] && head -c "$size" "$work/whole-answers" | cmp -s - "$work/answers"
@@ -134,7 +131,6 @@ drop p
 open p /b r
 SCRIPT
 refuse_all "$work/script" ./aa-trace run --capacity 9
-refuse_all "$work/script" "$KEEPER_RUN" 9
 
 # Links of both kinds, opens through them, removals, and judged links that are made, refused and can't be made.
 cat >"$work/links" <<'SCRIPT'
@@ -164,7 +160,6 @@ rmdir /b
 open p /s w
 SCRIPT
 refuse_all "$work/links" ./aa-trace run --capacity 9
-refuse_all "$work/links" "$KEEPER_RUN" 9
 
 # Calls step by step beside changes that are open, walks that are disturbed, and publications.
 cat >"$work/events" <<'SCRIPT'

@@ -1,8 +1,13 @@
--- How many answers something doesn't hold of.
-use Rattle.std.specs.Prelude.{◌≡◌, ◌+◌, ◌⊎◌, ℕ, List, [], ◌∷◌, flat_map}
+-- The answers of a storm, and how many of them something doesn't hold of.
+use Rattle.std.specs.Prelude.{◌≡◌, ◌+◌, ◌⊎◌, ℕ, All, List, [], ◌∷◌, flat_map, length, map, vec_len}
 use Rattle.std.specs.declared.vec.Vec.{Vec}
 use Rattle.std.specs.declared.alloc.Global.{Global}
+use Rattle.mediation.specs.PolicyChanges.{deed_of}
+use Rattle.justification.specs.Justified.{Justified}
 use Rattle.justification.specs.declared.answer.Answer.{Answer}
+use Rattle.path_storm.specs.declared.laying.TheConstants.{FILE, PROFILE}
+use Rattle.path_storm.specs.declared.log.StormLog.{StormLog}
+use Rattle.path_storm.specs.declared.plan.StormReport.{StormReport}
 
 -- the answers of all sessions
 abbrev pub answers_of : List (Vec Answer Global) → List Answer
@@ -14,3 +19,12 @@ IsCountOfOthers Holds [] count = count ≡ 0
 IsCountOfOthers Holds (answer ∷ answers) count =
     (Holds answer × IsCountOfOthers Holds answers count)
     ⊎ (¬ (Holds answer) × (less : ℕ) × (count ≡ less + 1) × IsCountOfOthers Holds answers less)
+
+-- so many lists, each of so many answers
+abbrev pub AreFull : ℕ → ℕ → Vec (Vec Answer Global) Global → Type 0
+AreFull sessions opens all = (vec_len all ≡ sessions) × All (λ own. vec_len own ≡ opens) all.items
+
+-- the report counts the answers of a storm, and those of them that what was made doesn't justify
+pub record IsReportOf (log : StormLog) (report : StormReport) : Type 0 where
+  pub answers : report.answers ≡ length (answers_of log.answers.items)
+  pub unjustified : IsCountOfOthers (Justified PROFILE.now FILE.now log.ask log.changes.items (map deed_of log.policy.items)) (answers_of log.answers.items) report.unjustified

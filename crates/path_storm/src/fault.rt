@@ -1,7 +1,11 @@
 //! Why there was no storm.
+ghost use Rattle.std.specs.Prelude.{Some};
+ghost use Rattle.path_storm.specs.Faults.{storm_fault_text};
+
 use names::NoMemory;
 use path_guard::SessionFault;
 use std::alloc::{AllocError, AllocFailed};
+use std::fmt;
 
 /// Why a storm came to no report.
 #[derive(Clone, Copy, Debug, PartialEq, Eq)]
@@ -11,6 +15,18 @@ pub enum StormFault {
     NoThread,
     /// All places of walkers, or of readers of the policy, are taken.
     NoSeat,
+}
+
+impl fmt::Display for StormFault {
+    ghost output = { λ fault. Some (storm_fault_text fault) };
+
+    fn fmt<W: fmt::Write>(&self, f: &mut fmt::Formatter<W>) -> fmt::Result {
+        match self {
+            StormFault::NoMemory => write!(f, "{}", NoMemory),
+            StormFault::NoThread => write!(f, "no thread"),
+            StormFault::NoSeat => write!(f, "no seat"),
+        }
+    }
 }
 
 impl From<AllocError> for StormFault {

@@ -9,11 +9,11 @@ use path_guard::{Guard, Row};
 use std::alloc::Global;
 use std::sync::Wait;
 
-/// The file that is opened.
-pub(crate) const FILE: &[u8] = b"/a/f";
+/// The file that is opened in a storm.
+pub const FILE: &[u8] = b"/a/f";
 
-/// The name of the profile that all opens are by.
-pub(crate) const PROFILE: &[u8] = b"p";
+/// The name of the profile that all opens of a storm are by.
+pub const PROFILE: &[u8] = b"p";
 
 /// The changes that were made so far.
 #[derive(Drop)]

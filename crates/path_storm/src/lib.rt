@@ -1,24 +1,27 @@
 //! A storm of opens of one file, in threads, while another thread renames the file's directory and a third one replaces the
 //! profile; and whether each answer is right.
 //!
-//! [`storm_with`] lays it on a guard, and puts each answer to the trail of what was really changed.
+//! [`storm_with`] lays it on a guard, and puts each answer to the trail of what was really changed. [`storm_log`] gives what it
+//! did, and [`StormLog::report`] what that comes to.
 //!
-//! To be believed are the 10 lines of definitions in `specs/`, beside those of `justification`.
+//! To be believed are the 15 lines of definitions in `specs/`, beside those of `justification`.
 #![tactic(auto)]
 
 mod fault;
 mod gate;
 mod laying;
+mod log;
 mod plan;
 mod profiles;
 mod renaming;
 mod replacing;
 mod storm;
-mod tally;
 mod threads;
 mod worker;
 
 pub use fault::StormFault;
 pub use gate::{Gate, Open};
+pub use laying::{FILE, PROFILE};
+pub use log::StormLog;
 pub use plan::{Plan, StormReport};
-pub use storm::storm_with;
+pub use storm::{storm_log, storm_with};

@@ -1,12 +1,14 @@
 //! The storm.
 ghost use Rattle.std.specs.Prelude.{◌≡◌, ◌*◌, All, IfOk, vec_len};
+ghost use Rattle.path_storm.specs.declared.log.StormLog.{StormLog};
+ghost use Rattle.path_storm.specs.Counting.{AreFull, IsReportOf};
 
 use crate::fault::StormFault;
 use crate::gate::Gate;
 use crate::laying::{PROFILE, lay};
+use crate::log::StormLog;
 use crate::plan::{Plan, StormReport};
 use crate::profiles::Profiles;
-use crate::tally::tally;
 use crate::threads::{Scene, blow};
 use crate::worker::Worker;
 use names::{Permission, Perms};
@@ -25,23 +27,36 @@ pub fn storm_with<M: Row + Send + Sync, R: Threads + Wait + Sync, G: Gate + Sync
     plan: &Plan,
     gate: &G,
 ) -> Result<StormReport, StormFault>
-    ensures { IfOk result (λ report. report.answers ≡ plan.now.sessions * plan.now.opens) }
+    ensures answers { IfOk result (λ report. report.answers ≡ plan.now.sessions * plan.now.opens) }
+    ensures told { IfOk result (λ report. (log : StormLog) × AreFull plan.now.sessions plan.now.opens log.answers × IsReportOf log report) }
+{
+    let log = storm_log(rt, alloc, guard, plan, gate)?;
+    log.report(alloc)
+}
+
+/// The same, with all that was made and answered in place of how many answers are right.
+pub fn storm_log<M: Row + Send + Sync, R: Threads + Wait + Sync, G: Gate + Sync>(
+    rt: &R,
+    alloc: Global,
+    guard: &Guard<M>,
+    plan: &Plan,
+    gate: &G,
+) -> Result<StormLog, StormFault>
+    ensures { IfOk result (λ log. AreFull plan.now.sessions plan.now.opens log.answers) }
 {
     let profiles = Profiles::new(alloc)?;
     let made = lay(rt, alloc, guard, &profiles)?;
     let workers = workers(rt, alloc, guard, plan.sessions)?;
-    let ask = Perms::NONE.with(Permission::Read);
     let scene = Scene {
         alloc,
         guard,
         gate,
         profiles: &profiles,
-        ask,
+        ask: Perms::NONE.with(Permission::Read),
         opens: plan.opens,
         changes: plan.changes,
     };
-    let brought = blow(rt, &scene, made, workers)?;
-    tally(alloc, ask, &brought.made, brought.answers.as_slice())
+    blow(rt, &scene, made, workers)
 }
 
 /// The sessions, before the first of them opens.

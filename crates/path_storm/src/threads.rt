@@ -1,10 +1,11 @@
 //! The threads of a storm.
 ghost use Rattle.std.specs.Prelude.{◌≡◌, All, IfOk, vec_len};
-ghost use Rattle.path_storm.specs.inner.Bringing.{AreFull};
+ghost use Rattle.path_storm.specs.Counting.{AreFull};
 
 use crate::fault::StormFault;
 use crate::gate::Gate;
 use crate::laying::Made;
+use crate::log::StormLog;
 use crate::profiles::Profiles;
 use crate::renaming::rename_all;
 use crate::replacing::replace_all;
@@ -29,13 +30,6 @@ pub(crate) struct Scene<'a, M: Row, G> {
     pub changes: u64,
 }
 
-/// What all threads bring back.
-#[derive(Drop)]
-pub(crate) struct Brought {
-    pub made: Made,
-    pub answers: Vec<Vec<Answer>>,
-}
-
 /// A thread that opens.
 type Opening = PromisedHandle<Result<Vec<Answer>, StormFault>, Answered>;
 
@@ -45,14 +39,14 @@ pub(crate) fn blow<M: Row + Send + Sync, R: Threads + Wait + Sync, G: Gate + Syn
     scene: &Scene<'_, M, G>,
     made: Made,
     workers: Vec<Worker<M>>,
-) -> Result<Brought, StormFault>
-    ensures { IfOk result (λ brought. AreFull (vec_len workers) scene.now.opens brought.answers) }
+) -> Result<StormLog, StormFault>
+    ensures { IfOk result (λ log. AreFull (vec_len workers) scene.now.opens log.answers) }
 {
     scope(
         scope_env(),
         rt,
-        move |scope| -> Result<Brought, StormFault>
-            ensures { IfOk result (λ brought. AreFull (vec_len workers) scene.entry.now.opens brought.answers) }
+        move |scope| -> Result<StormLog, StormFault>
+            ensures { IfOk result (λ log. AreFull (vec_len workers) scene.entry.now.opens log.answers) }
         { blow_in(scope, rt, scene, made, workers) },
     )
 }
@@ -63,8 +57,8 @@ fn blow_in<'s, 'e: 's, M: Row + Send + Sync, R: Threads + Wait + Sync, G: Gate +
     scene: &'e Scene<'e, M, G>,
     made: Made,
     workers: Vec<Worker<M>>,
-) -> Result<Brought, StormFault>
-    ensures { IfOk result (λ brought. AreFull (vec_len workers) scene.now.opens brought.answers) }
+) -> Result<StormLog, StormFault>
+    ensures { IfOk result (λ log. AreFull (vec_len workers) scene.now.opens log.answers) }
 {
     let Made { changes, policy } = made;
     let openings = start_workers(scope, rt, scene, workers)?;
@@ -84,8 +78,10 @@ fn blow_in<'s, 'e: 's, M: Row + Send + Sync, R: Threads + Wait + Sync, G: Gate +
     let answers = join_all(rt, scene.alloc, openings, scene.opens)?;
     let changes = renamer.join(rt)?;
     let policy = publisher.join(rt)?;
-    Ok(Brought {
-        made: Made { changes, policy },
+    Ok(StormLog {
+        ask: scene.ask,
+        changes,
+        policy,
         answers,
     })
 }

@@ -2,7 +2,6 @@
 ghost use Rattle.std.specs.Prelude.{◌≡◌, ◌≤◌};
 ghost use Rattle.mediation.specs.History.{policy_version};
 
-use keeper_bench::KeeperBench;
 use names::NoMemory;
 use plain_bench::{Bench, PlainBench};
 use session_bench::SessionBench;
@@ -53,13 +52,6 @@ fn run_in_memory(alloc: Global, capacity: usize, script: &[u8]) -> Result<Ending
     Ok(run_on(alloc, &mut bench, script))
 }
 
-fn run_by_keeper(alloc: Global, capacity: usize, script: &[u8]) -> Result<Ending, NoMemory>
-    requires { capacity ≤ MOST_ENTRIES }
-{
-    let mut bench = KeeperBench::new(alloc, capacity)?;
-    Ok(run_on(alloc, &mut bench, script))
-}
-
 fn run_by_session(
     rt: &impl Wait,
     alloc: Global,
@@ -89,13 +81,6 @@ pub(crate) fn expect_ending(
     assert!(rt;
         in_memory.is(status, answers, faults),
         "in memory: {script:?}"
-    );
-    let Ok(by_keeper) = run_by_keeper(alloc, capacity, script) else {
-        return Err(Fail::from("no memory"));
-    };
-    assert!(rt;
-        by_keeper.is(status, answers, faults),
-        "by a keeper: {script:?}"
     );
     let Ok(by_session) = run_by_session(rt, alloc, capacity, script) else {
         return Err(Fail::from("no memory"));

@@ -6,7 +6,7 @@ use Rattle.std.specs.Str.Parse.{digits_value, without_leading_plus, without_lead
 use Rattle.std.proofs.lemmas.Bool.{leb-true}
 use Rattle.clap.specs.ValueTests.{fits_i64, is_numeral}
 use Rattle.clap.proofs.WalkLemmas.{both}
-use Rattle.trace_line.specs.CommandLine.{CommandForm, Given, LineValue, NumberOption, arguments_of, capacity, check, compile, command_named, commands, given_by, is_number_of, is_taken, judge, line_by, line_of, match_name, name_in, number_of, numbers, one_more, pair, pair_of, run, steps, text_behind, text_given, text_in}
+use Rattle.trace_line.specs.CommandLine.{CommandForm, Given, LineValue, NumberOption, arguments_of, capacity, changes, check, compile, command_named, commands, given_by, is_number_of, is_taken, judge, line_by, line_of, match_name, name_in, number_of, numbers, one_more, opens, pair, pair_of, run, sessions, steps, storm, storm_by, text_behind, text_given, text_in}
 
 -- ---- one option
 
@@ -136,8 +136,10 @@ of_pair line fits words it is = go (pair_of (arguments_of words)) is
         let same : line asked.0 asked.1 ≡ it = cc is in
         subst (λ line. capacity_of line ≤ 16384) same (fits asked.0 asked.1)
 
-of_none : (line : (NumberOption → ℕ) → LineValue) → ((number : NumberOption → ℕ) → capacity_of (line number) ≤ 16384) → (words : List Text) → Fits (line_by (numbers [] line) words)
-of_none line fits words it is = go (given_by [] [] words) is
+-- options of which the capacity is none
+of_others : (options : List NumberOption) (line : (NumberOption → ℕ) → LineValue) → ((number : NumberOption → ℕ) → capacity_of (line number) ≤ 16384) → (words : List Text)
+    → Fits (line_by (numbers options line) words)
+of_others options line fits words it is = go (given_by options [] words) is
   where
     go : (given : Option Given) → option_map (λ given. line (number_of given)) given ≡ Some it → capacity_of it ≤ 16384
     go None is = absurd (cc is)
@@ -158,12 +160,13 @@ of_capacity line fits words it is = go (given_by (capacity ∷ []) [] words) ref
 each_fits : (words : List Text) → Each (λ (command : CommandForm). Fits (line_by command.takes words)) commands
 each_fits words =
     let of_match = of_pair match_name (λ first second. omega arith) words in
-    let of_check = of_none (λ number. check) (λ number. omega arith) words in
-    let of_compile = of_none (λ number. compile) (λ number. omega arith) words in
+    let of_check = of_others [] (λ number. check) (λ number. omega arith) words in
+    let of_compile = of_others [] (λ number. compile) (λ number. omega arith) words in
     let of_run = of_capacity (λ number. run (number capacity)) given_fits words in
     let of_judge = of_pair judge (λ first second. omega arith) words in
     let of_steps = of_capacity (λ number. steps (number capacity)) given_fits words in
-    (of_judge, (of_run, (of_compile, (of_check, (of_match, (of_steps, tt))))))
+    let of_storm = of_others (sessions ∷ opens ∷ changes ∷ []) storm_by (λ number. omega arith) words in
+    (of_judge, (of_run, (of_compile, (of_check, (of_match, (of_steps, (of_storm, tt)))))))
 
 number_of_line : (words : List Text) → Fits (line_of words)
 number_of_line [] it is = absurd (cc is)

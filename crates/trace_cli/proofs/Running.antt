@@ -2,11 +2,12 @@
 use Rattle.std.proofs.Common.{◌≡◌, ℕ, true, List, Option, Some, None, refl, inl, inr}
 use Rattle.std.specs.Prelude.{codes, is_some}
 use Rattle.glob_automaton.specs.Automata.{StateLimit}
-use Rattle.trace_line.specs.CommandLine.{LineValue, judge, run, compile, check, match_name, steps}
+use Rattle.trace_line.specs.CommandLine.{LineValue, judge, run, compile, check, match_name, steps, storm}
 use Rattle.trace_cli.specs.Program.{ProgramEnds, TellsUsage}
 use Rattle.trace_commands.specs.Judge.{judge_output}
 use Rattle.trace_cli.proofs.Unanswered.{nothing_answered, nothing_stepped}
 use Rattle.trace_report.specs.Streams.{IsTold}
+use Rattle.path_storm.specs.declared.fault.StormFault.TheVariants as fault
 use Rattle.trace_report.specs.declared.status.Status.{Status}
 use Rattle.trace_report.specs.declared.status.Status.TheVariants.{NoMemory}
 use Rattle.trace_commands.proofs.OneOutput.{compile_arguments, check_arguments}
@@ -33,3 +34,5 @@ memory_ends limit (Some check) text left answers before after status (inr h) =
     rw h.0 (record { answers = keeps answers; faults = h.1; arguments = check_arguments text })
 memory_ends limit (Some (match_name perms name)) text left answers before after status (inl e) = inl (rw e (inl (keeps answers)))
 memory_ends limit (Some (match_name perms name)) text left answers before after status (inr h) = inr (h.0, record { answers = keeps answers; faults = h.1 })
+memory_ends limit (Some (storm sessions opens changes)) text left answers before after status (inl e) = rw e (inl (keeps answers))
+memory_ends limit (Some (storm sessions opens changes)) text left answers before after status (inr h) = rw h.0 (keeps answers, fault.NoMemory, h.1)

@@ -1,14 +1,15 @@
 -- What a run of the program comes to, by its words and the text on standard input.
 use Rattle.names.specs.Errors.{no_memory_text}
-use Rattle.std.specs.Prelude.{◌≡◌, ◌⊎◌, ℕ, Bool, true, false, List, Option, Some, None, is_err, ⊤}
+use Rattle.std.specs.Prelude.{◌≡◌, ◌*◌, ◌⊎◌, ℕ, Bool, true, false, List, Option, Some, None, is_err, ⊤}
 use Rattle.std.specs.Io.KnownBytes.{Keeps, Appends}
 use Rattle.event_core.specs.Machine.{Machine, first}
 use Rattle.glob_automaton.specs.Automata.{StateLimit}
-use Rattle.trace_line.specs.CommandLine.{LineValue, judge, run, compile, check, match_name, steps}
+use Rattle.trace_line.specs.CommandLine.{LineValue, judge, run, compile, check, match_name, steps, storm}
 use Rattle.trace_commands.specs.Judge.{ask_of, judge_output}
 use Rattle.trace_report.specs.Output.{line}
 use Rattle.trace_script.specs.RunOutput.{RunEnds}
 use Rattle.trace_steps.specs.StepsOutput.{StepsEnd}
+use Rattle.trace_cli.specs.Storm.{StormEnds}
 use Rattle.trace_report.specs.Streams.{Ends, EndsInOne, Streams}
 use Rattle.trace_commands.specs.Tables.{IsCompileOutput, IsCheckOutput, IsMatchOutput}
 use Rattle.trace_report.specs.declared.status.Status.{Status}
@@ -48,6 +49,7 @@ ProgramEnds limit (Some check) text streams left_before left_after status = Ends
 ProgramEnds limit (Some (match_name perms name)) text streams left_before left_after status =
     EndsInOne streams (IsMatchOutput perms name text) status ⊎ ((status ≡ NoMemory) × IsOutOfMemory streams)
 ProgramEnds limit (Some (steps capacity)) text streams left_before left_after status = StepsEndFrom limit streams left_before left_after capacity text status
+ProgramEnds limit (Some (storm sessions opens changes)) text streams left_before left_after status = StormEnds streams (sessions * opens) status
 
 -- whether the words say that nothing is to be read
 abbrev pub reads_nothing : Option LineValue → Bool
@@ -55,6 +57,7 @@ reads_nothing None = true
 reads_nothing (Some (judge perms name)) = is_err (ask_of perms name)
 reads_nothing (Some (run capacity)) = false
 reads_nothing (Some (steps capacity)) = false
+reads_nothing (Some (storm sessions opens changes)) = true
 reads_nothing (Some compile) = false
 reads_nothing (Some check) = false
 reads_nothing (Some (match_name perms name)) = is_err (ask_of perms name)

@@ -5,15 +5,18 @@
 //! input, and `aa-trace match PERMS NAME` judges a name by it. `aa-trace run --capacity N` answers the script on standard
 //! input line by line: changes of a tree, profiles, and judged opens. `aa-trace steps --capacity N` takes the events of the
 //! script on standard input one at a time: opens by several sessions, each read of a word and each store, in the script's order.
+//! `aa-trace storm --sessions N --opens N --changes N` opens a file in threads beside renames and new profiles, and writes how many
+//! answers there were, and how many of them aren't justified by what was changed.
 //! Faults go to standard error, and the exit status is 0 for answers, 2 for a bad command line, 3 for a refused text, profile,
-//! image or stream, and 4 for want of memory.
+//! image or stream, or an answer of a storm that isn't justified, and 4 for want of memory, of a thread or of a seat.
 //!
-//! To be believed are about 50 lines of definitions in `specs/`.
+//! To be believed are about 90 lines of definitions in `specs/`.
 #![tactic(auto)]
 
 mod program;
 mod script;
 mod steps;
+mod storm;
 
 use names::NoMemory;
 use program::run_words;
@@ -21,6 +24,7 @@ use std::io::{BufReader, ErrorKind, Input, Print, Write};
 use std::process::ExitCode;
 use std::rt::Env;
 use std::sync::Wait;
+use std::thread::Threads;
 use std::{env, io};
 use trace_report::{Status, fail};
 
@@ -41,7 +45,7 @@ fn main(rt: HostRuntime) -> ExitCode {
 }
 
 /// Does what the words ask for, on standard input and output.
-fn run_on_streams<R: Input + Print + AllocGlobal + Wait, F: Write>(
+fn run_on_streams<R: Input + Print + AllocGlobal + Threads + Wait + Sync, F: Write>(
     rt: &R,
     words: &[String],
     faults: &mut F,

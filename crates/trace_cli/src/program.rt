@@ -8,18 +8,21 @@ ghost use Rattle.trace_report.specs.Streams.{IsTextOf};
 
 use crate::script::run;
 use crate::steps::steps;
+use crate::storm::storm;
 use names::NoMemory;
+use path_storm::Plan;
 use std::alloc::Global;
 use std::convert::AsStr;
 use std::io::{BufRead, Write};
 use std::sync::Wait;
+use std::thread::Threads;
 use trace_commands::{check, compile, judge, match_name};
 use trace_line::{Line, LineFault, command_line};
 use trace_report::{Status, fail};
 
 /// Does what the words ask for, of which the first is the program's name. A fault is told on `faults`. A script's publications
-/// wait for readers, of which there are none inside then.
-pub fn run_words<H: Wait, S: AsStr, R: BufRead, A: Write, F: Write>(
+/// wait for readers, of which there are none inside then; a storm waits for its threads.
+pub fn run_words<H: Threads + Wait + Sync, S: AsStr, R: BufRead, A: Write, F: Write>(
     rt: &H,
     alloc: Global,
     words: &[S],
@@ -45,6 +48,20 @@ pub fn run_words<H: Wait, S: AsStr, R: BufRead, A: Write, F: Write>(
         Ok(Line::Check) => check(alloc, input, answers, faults),
         Ok(Line::Match { perms, name }) => match_name(alloc, perms, name, input, answers, faults),
         Ok(Line::Steps { capacity }) => steps(alloc, capacity, input, answers, faults),
+        Ok(
+            Line::Storm {
+                sessions,
+                opens,
+                changes,
+            },
+        ) => {
+            let plan = Plan {
+                sessions,
+                opens: u64::from(opens),
+                changes: u64::from(changes),
+            };
+            storm(rt, alloc, &plan, answers, faults)
+        }
         Err(LineFault::Usage(error)) => report_usage(alloc, faults, &error),
         Err(LineFault::NoMemory) => fail(faults, NoMemory, Status::NoMemory),
     }

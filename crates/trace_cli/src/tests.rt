@@ -5,6 +5,7 @@ use std::io::{BufRead, BufReader, ErrorKind, Read, Write};
 use std::process::Abort;
 use std::sync::Wait;
 use std::test::Fail;
+use std::thread::Threads;
 use trace_line::{Line, LineFault, command_line};
 use trace_report::Status;
 
@@ -12,6 +13,7 @@ mod events;
 mod images;
 mod runs;
 mod scripts;
+mod storms;
 
 const PASSWD: &str = "profile passwd {\n  /etc/passwd r,\n}\n";
 
@@ -131,7 +133,7 @@ impl Ending {
 
 /// A run whose streams are taken as those two writers allow.
 fn run_within<R: BufRead>(
-    rt: &impl Wait,
+    rt: &(impl Threads + Wait + Sync),
     alloc: Global,
     words: &[&str],
     input: &mut R,
@@ -147,7 +149,7 @@ fn run_within<R: BufRead>(
 }
 
 /// A run over memory.
-fn run(rt: &impl Wait, alloc: Global, words: &[&str], bytes: &[u8]) -> Ending {
+fn run(rt: &(impl Threads + Wait + Sync), alloc: Global, words: &[&str], bytes: &[u8]) -> Ending {
     let mut input = bytes;
     run_within(
         rt,
@@ -161,7 +163,7 @@ fn run(rt: &impl Wait, alloc: Global, words: &[&str], bytes: &[u8]) -> Ending {
 
 /// A run of a command on permissions and a name.
 fn ask(
-    rt: &impl Wait,
+    rt: &(impl Threads + Wait + Sync),
     alloc: Global,
     command: &str,
     perms: &str,
@@ -173,7 +175,7 @@ fn ask(
 
 /// A run over a reader that fails.
 fn run_on_pieces(
-    rt: &impl Wait,
+    rt: &(impl Threads + Wait + Sync),
     alloc: Global,
     words: &[&str],
     pieces: Pieces<'_>,
@@ -185,7 +187,7 @@ fn run_on_pieces(
 
 /// A run over one profile, whose answers are taken a few bytes at a time and in so many calls at most.
 fn run_into_failing(
-    rt: &impl Wait,
+    rt: &(impl Threads + Wait + Sync),
     alloc: Global,
     words: &[&str],
     piece: usize,
@@ -198,7 +200,7 @@ fn run_into_failing(
 
 /// Asserts how a run over memory ends, and that it tells just this.
 fn expect(
-    rt: &(impl Abort + Wait),
+    rt: &(impl Abort + Threads + Wait + Sync),
     alloc: Global,
     words: &[&str],
     bytes: &[u8],
@@ -212,7 +214,7 @@ fn expect(
 /// Permissions and a name, the profile's text by which they are judged, and how that ends.
 type Judged<'a> = (&'a str, &'a str, &'a str, Status, &'a str);
 
-fn expect_judged(rt: &(impl Abort + Wait), alloc: Global, rows: &[Judged]) {
+fn expect_judged(rt: &(impl Abort + Threads + Wait + Sync), alloc: Global, rows: &[Judged]) {
     for (perms, name, text, status, told) in rows {
         let words = ["aa-trace", "judge", perms, name];
         expect(rt, alloc, &words, text.as_bytes(), *status, told);
@@ -280,7 +282,7 @@ type ReadFault<'a> = (usize, usize, ErrorKind, Status, &'a str);
 
 /// Judges by one profile, over readers that fail.
 fn expect_read_faults(
-    rt: &(impl Abort + Wait),
+    rt: &(impl Abort + Threads + Wait + Sync),
     alloc: Global,
     words: &[&str],
     rows: &[ReadFault],
@@ -342,7 +344,7 @@ fn answers_that_fail(rt: HostRuntime) {
 
 /// Asserts how a run ends whose fault is taken in so many calls at most: nothing is read, and nothing answered.
 fn expect_unread(
-    rt: &(impl Abort + Wait),
+    rt: &(impl Abort + Threads + Wait + Sync),
     alloc: Global,
     words: &[&str],
     calls: usize,
@@ -359,7 +361,7 @@ fn expect_unread(
 }
 
 /// Asserts how a run ends whose fault is taken in each number of calls: it isn't told until it is flushed.
-fn expect_told_late(rt: &(impl Abort + Wait), alloc: Global, words: &[&str]) {
+fn expect_told_late(rt: &(impl Abort + Threads + Wait + Sync), alloc: Global, words: &[&str]) {
     expect_unread(rt, alloc, words, 0, Status::FaultsFailed);
     expect_unread(rt, alloc, words, 1, Status::FaultsFailed);
     expect_unread(rt, alloc, words, 2, Status::FaultsFailed);
@@ -367,7 +369,7 @@ fn expect_told_late(rt: &(impl Abort + Wait), alloc: Global, words: &[&str]) {
 }
 
 /// The status of a run neither of whose streams takes anything.
-fn status_of_silent_run(rt: &impl Wait, alloc: Global) -> Status {
+fn status_of_silent_run(rt: &(impl Threads + Wait + Sync), alloc: Global) -> Status {
     let words = ["aa-trace", "judge", "r", "/etc/passwd"];
     let mut input = PASSWD.as_bytes();
     let answers = Failing::after(alloc, 5000, 0);
@@ -460,7 +462,11 @@ fn usage_of(alloc: Global, words: &[&str]) -> Result<String, Fail> {
 }
 
 /// Asserts that the parser refuses words in a text with a line's end, and that a run tells such a text alone.
-fn expect_usage(rt: &(impl Abort + Wait), alloc: Global, words: &[&str]) -> Result<(), Fail> {
+fn expect_usage(
+    rt: &(impl Abort + Threads + Wait + Sync),
+    alloc: Global,
+    words: &[&str],
+) -> Result<(), Fail> {
     let usage = usage_of(alloc, words)?;
     let ending = run(rt, alloc, words, PASSWD.as_bytes());
     assert!(rt;
@@ -473,7 +479,11 @@ fn expect_usage(rt: &(impl Abort + Wait), alloc: Global, words: &[&str]) -> Resu
     Ok(())
 }
 
-fn expect_usages(rt: &(impl Abort + Wait), alloc: Global, rows: &[&str]) -> Result<(), Fail> {
+fn expect_usages(
+    rt: &(impl Abort + Threads + Wait + Sync),
+    alloc: Global,
+    rows: &[&str],
+) -> Result<(), Fail> {
     for line in rows {
         let words = words_of(alloc, line)?;
         expect_usage(rt, alloc, &words)?;
@@ -634,7 +644,11 @@ fn a_long_name(rt: HostRuntime) -> Result<(), Fail> {
 }
 
 /// Words that aren't followed, and the whole text that they are told.
-fn expect_texts(rt: &(impl Abort + Wait), alloc: Global, rows: &[(&[&str], &str)]) {
+fn expect_texts(
+    rt: &(impl Abort + Threads + Wait + Sync),
+    alloc: Global,
+    rows: &[(&[&str], &str)],
+) {
     for (words, told) in rows {
         expect(
             rt,

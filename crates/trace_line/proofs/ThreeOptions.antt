@@ -1,17 +1,15 @@
--- A command with three options, by the theorem about any list of them. The program has no such command.
+-- The three options of `storm`, by the theorem about any list of them.
 use Rattle.std.proofs.Common.{◌≡◌, false, List, [], ◌∷◌, Some, None, refl}
 use Rattle.std.specs.Prelude.{codes, map}
 use Rattle.std.specs.Str.{chars}
 use Rattle.clap.specs.Walk.{Text, nothing_held, idle}
-use Rattle.trace_line.specs.CommandLine.{NumberOption, given_by, number_of}
+use Rattle.trace_line.specs.CommandLine.{NumberOption, changes, given_by, number_of, opens, sessions}
 use Rattle.trace_line.proofs.LeafWalk.{ComesTo, leaf_shape, walk_at}
 use Rattle.trace_line.proofs.OptionRules.{built_rules}
 use Rattle.trace_line.proofs.OptionWalk.{HasGiven, numbers_walk}
 
 abbrev three : List NumberOption
-three = record { name = codes "sessions"; default = codes "4"; least = 1; most = 16 }
-    ∷ record { name = codes "opens"; default = codes "1000"; least = 1; most = 100000 }
-    ∷ record { name = codes "changes"; default = codes "1000"; least = 0; most = 100000 } ∷ []
+three = sessions ∷ opens ∷ changes ∷ []
 
 -- clap reads the words behind the command's name as `given_by` says
 three_walk : (name : Text) (words : List Text)

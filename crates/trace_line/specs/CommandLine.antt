@@ -6,7 +6,7 @@ use Rattle.std.specs.Str.Parse.{digits_value, without_leading_sign}
 use Rattle.clap.specs.Lexer.{long_of}
 use Rattle.clap.specs.ValueTests.{is_signed_in}
 use Rattle.trace_line.specs.declared.line.Line.{Line}
-use Rattle.trace_line.specs.declared.line.Line.TheVariants.{Judge, Run, Compile, Check, Match, Steps}
+use Rattle.trace_line.specs.declared.line.Line.TheVariants.{Judge, Run, Compile, Check, Match, Steps, Storm}
 use Rattle.trace_line.specs.declared.line.LineFault.{LineFault}
 use Rattle.trace_line.specs.declared.line.LineFault.TheVariants.{Usage, NoMemory}
 
@@ -22,6 +22,8 @@ pub data LineValue : Type 0 where
   match_name : List ℕ → List ℕ → LineValue
   -- how many entries the tree has room for
   steps : ℕ → LineValue
+  -- how many sessions, opens of each, and changes of the tree and of the policy
+  storm : ℕ → ℕ → ℕ → LineValue
 
 abbrev pub line_value : Line → LineValue
 line_value (Judge perms name) = judge perms.now name.now
@@ -30,6 +32,7 @@ line_value Compile = compile
 line_value Check = check
 line_value (Match perms name) = match_name perms.now name.now
 line_value (Steps capacity) = steps capacity
+line_value (Storm sessions opens changes) = storm sessions opens changes
 
 -- the word is an option: a hyphen with a character behind it
 abbrev pub is_option : List ℕ → Bool
@@ -126,13 +129,26 @@ pub record CommandForm : Type 0 where
 abbrev pub capacity : NumberOption
 capacity = record { name = codes "capacity"; default = codes "1024"; least = 1; most = 16384 }
 
+abbrev pub sessions : NumberOption
+sessions = record { name = codes "sessions"; default = codes "4"; least = 1; most = 16 }
+
+abbrev pub opens : NumberOption
+opens = record { name = codes "opens"; default = codes "1000"; least = 1; most = 100000 }
+
+abbrev pub changes : NumberOption
+changes = record { name = codes "changes"; default = codes "1000"; least = 0; most = 100000 }
+
+abbrev pub storm_by : (NumberOption → ℕ) → LineValue
+storm_by number = storm (number sessions) (number opens) (number changes)
+
 abbrev pub commands : List CommandForm
 commands = record { name = codes "judge"; takes = pair judge }
     ∷ record { name = codes "run"; takes = numbers (capacity ∷ []) (λ number. run (number capacity)) }
     ∷ record { name = codes "compile"; takes = numbers [] (λ number. compile) }
     ∷ record { name = codes "check"; takes = numbers [] (λ number. check) }
     ∷ record { name = codes "match"; takes = pair match_name }
-    ∷ record { name = codes "steps"; takes = numbers (capacity ∷ []) (λ number. steps (number capacity)) } ∷ []
+    ∷ record { name = codes "steps"; takes = numbers (capacity ∷ []) (λ number. steps (number capacity)) }
+    ∷ record { name = codes "storm"; takes = numbers (sessions ∷ opens ∷ changes ∷ []) storm_by } ∷ []
 
 abbrev pub command_named : List CommandForm → List ℕ → Option CommandForm
 command_named commands name = find (λ command. bytes_eq command.name name) commands

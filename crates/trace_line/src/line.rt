@@ -16,17 +16,33 @@ use thiserror::Error;
 #[derive(Clone, Copy, Debug, PartialEq, Eq)]
 pub enum Line<'a> {
     /// `judge PERMS NAME`
-    Judge { perms: &'a str, name: &'a str },
+    Judge {
+        perms: &'a str,
+        name: &'a str,
+    },
     /// `run --capacity N`
-    Run { capacity: u32 },
+    Run {
+        capacity: u32,
+    },
     /// `compile`
     Compile,
     /// `check`
     Check,
     /// `match PERMS NAME`
-    Match { perms: &'a str, name: &'a str },
+    Match {
+        perms: &'a str,
+        name: &'a str,
+    },
     /// `steps --capacity N`
-    Steps { capacity: u32 },
+    Steps {
+        capacity: u32,
+    },
+    /// `storm --sessions N --opens N --changes N`
+    Storm {
+        sessions: u32,
+        opens: u32,
+        changes: u32,
+    },
 }
 
 /// Why a command line can't be followed.
@@ -98,6 +114,33 @@ const CAPACITY: NumberOption = NumberOption {
     help: "The number of entries that the tree has room for, 1 to 16384",
 };
 
+/// How many sessions there are in a storm.
+const SESSIONS: NumberOption = NumberOption {
+    name: "sessions",
+    default: "4",
+    least: 1,
+    most: 16,
+    help: "The number of sessions, each in a thread, 1 to 16",
+};
+
+/// How often each of them opens.
+const OPENS: NumberOption = NumberOption {
+    name: "opens",
+    default: "1000",
+    least: 1,
+    most: 100000,
+    help: "The number of opens of each session, 1 to 100000",
+};
+
+/// How often the tree is changed meanwhile, and the policy.
+const CHANGES: NumberOption = NumberOption {
+    name: "changes",
+    default: "1000",
+    least: 0,
+    most: 100000,
+    help: "The number of renames meanwhile, and of new profiles, 0 to 100000",
+};
+
 /// Reads the words of a command line, of which the first is the program's name.
 pub fn command_line<'a, S: AsStr>(alloc: Global, words: &'a [S]) -> Result<Line<'a>, LineFault>
     ensures ok { IfOk result (λ line. line_of (map S.text words.now) ≡ Some (line_value line)) }
@@ -122,6 +165,11 @@ pub fn command_line<'a, S: AsStr>(alloc: Global, words: &'a [S]) -> Result<Line<
         }
         "steps" => Ok(Line::Steps {
             capacity: number_in(found, CAPACITY.name),
+        }),
+        "storm" => Ok(Line::Storm {
+            sessions: number_in(found, SESSIONS.name),
+            opens: number_in(found, OPENS.name),
+            changes: number_in(found, CHANGES.name),
         }),
         _ => unreachable!(),
     }
@@ -199,12 +247,19 @@ fn program<'a>(alloc: Global) -> Result<Command<'a>, AllocError>
         "match",
         "Judges a name by the image on standard input",
     )?;
-    with_numbers(
+    let stepping = with_numbers(
         matching,
         alloc,
         "steps",
         "Runs a script of single events on standard input",
         &[CAPACITY],
+    )?;
+    with_numbers(
+        stepping,
+        alloc,
+        "storm",
+        "Opens a file in threads beside renames and new profiles, and counts the answers that aren't justified",
+        &[SESSIONS, OPENS, CHANGES],
     )
 }
 

@@ -8,13 +8,14 @@ use std::io::ErrorKind;
 use std::process::Abort;
 use std::sync::Wait;
 use std::test::Fail;
+use std::thread::Threads;
 use trace_line::Line;
 use trace_report::Status;
 
 const TOO_MANY_STATES: &str = "profile p { /**a????????????? r, }";
 
 /// The image of a profile's text.
-fn image_of(rt: &(impl Abort + Wait), alloc: Global, text: &str) -> Vec<u8> {
+fn image_of(rt: &(impl Abort + Threads + Wait + Sync), alloc: Global, text: &str) -> Vec<u8> {
     let ending = run(rt, alloc, &["aa-trace", "compile"], text.as_bytes());
     assert!(rt;
         ending.status == Status::Done && ending.faults.is_empty(),
@@ -40,7 +41,7 @@ fn altered(alloc: Global, image: &[u8], place: usize, byte: u8) -> Result<Vec<u8
 
 /// Permissions and names that are judged by an image, and what is told.
 fn expect_matched(
-    rt: &(impl Abort + Wait),
+    rt: &(impl Abort + Threads + Wait + Sync),
     alloc: Global,
     image: &[u8],
     rows: &[(&str, &str, &str)],
@@ -51,7 +52,12 @@ fn expect_matched(
     }
 }
 
-fn expect_checked(rt: &(impl Abort + Wait), alloc: Global, image: &[u8], told: &str) {
+fn expect_checked(
+    rt: &(impl Abort + Threads + Wait + Sync),
+    alloc: Global,
+    image: &[u8],
+    told: &str,
+) {
     expect(rt, alloc, &["aa-trace", "check"], image, Status::Done, told);
 }
 
@@ -85,7 +91,14 @@ fn the_smallest_image(rt: HostRuntime) -> Result<(), Fail> {
 }
 
 /// Whether `match` says of a name what `judge` says of it, and then how many steps it took.
-fn agree(rt: &impl Wait, alloc: Global, text: &str, image: &[u8], perms: &str, name: &str) -> bool {
+fn agree(
+    rt: &(impl Threads + Wait + Sync),
+    alloc: Global,
+    text: &str,
+    image: &[u8],
+    perms: &str,
+    name: &str,
+) -> bool {
     let judged = ask(rt, alloc, "judge", perms, name, text.as_bytes());
     let matched = ask(rt, alloc, "match", perms, name, image);
     judged.status == Status::Done
@@ -93,7 +106,13 @@ fn agree(rt: &impl Wait, alloc: Global, text: &str, image: &[u8], perms: &str, n
         && matched.answers.starts_with(&judged.answers)
 }
 
-fn expect_agreement(rt: &(impl Abort + Wait), alloc: Global, text: &str, image: &[u8], name: &str) {
+fn expect_agreement(
+    rt: &(impl Abort + Threads + Wait + Sync),
+    alloc: Global,
+    text: &str,
+    image: &[u8],
+    name: &str,
+) {
     for perms in &["r", "w", "rw", "l", "rwlkm"] {
         assert!(rt;
             agree(rt, alloc, text, image, perms, name),
@@ -121,7 +140,12 @@ fn match_agrees_with_judge(rt: HostRuntime) {
 }
 
 /// Asserts that an image is refused, by `check` and by `match`.
-fn expect_refused(rt: &(impl Abort + Wait), alloc: Global, image: &[u8], told: &str) {
+fn expect_refused(
+    rt: &(impl Abort + Threads + Wait + Sync),
+    alloc: Global,
+    image: &[u8],
+    told: &str,
+) {
     let check = ["aa-trace", "check"];
     expect(rt, alloc, &check, image, Status::Refused, told);
     let matching = ["aa-trace", "match", "r", "/x"];
@@ -130,7 +154,7 @@ fn expect_refused(rt: &(impl Abort + Wait), alloc: Global, image: &[u8], told: &
 
 /// Bytes that are put in places of the smallest image, and how each such image is refused.
 fn expect_alterations_refused(
-    rt: &(impl Abort + Wait),
+    rt: &(impl Abort + Threads + Wait + Sync),
     alloc: Global,
     image: &[u8],
     rows: &[(usize, u8, &str)],
@@ -190,7 +214,7 @@ fn texts_that_are_not_compiled(rt: HostRuntime) {
 
 /// Asserts what is told of arguments of `match`, and that nothing is read.
 fn expect_bad_arguments(
-    rt: &(impl Abort + Wait),
+    rt: &(impl Abort + Threads + Wait + Sync),
     alloc: Global,
     perms: &str,
     name: &str,
@@ -233,7 +257,12 @@ fn images_that_cannot_be_read(rt: HostRuntime) -> Result<(), Fail> {
 }
 
 /// Asserts what stands of an image of which so many calls are taken.
-fn expect_front(rt: &(impl Abort + Wait), alloc: Global, image: &[u8], calls: usize) {
+fn expect_front(
+    rt: &(impl Abort + Threads + Wait + Sync),
+    alloc: Global,
+    image: &[u8],
+    calls: usize,
+) {
     let ending = run_into_failing(rt, alloc, &["aa-trace", "compile"], 10_000, calls);
     assert!(rt;
         ending.status == Status::OutputFailed

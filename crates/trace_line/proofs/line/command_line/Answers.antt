@@ -1,5 +1,5 @@
 use Rattle.std.proofs.Common.{◌≡◌, ap, codes, is_some, refl, ◌∷◌, []}
-use Rattle.trace_line.specs.CommandLine.{capacity, check, compile, judge, match_name, run, steps}
+use Rattle.trace_line.specs.CommandLine.{capacity, changes, check, compile, judge, match_name, opens, run, sessions, steps, storm_by}
 use Rattle.trace_line.proofs.CommandLine.{known_command, numbers_line, opened_line, pair_first, pair_line, pair_second}
 use Rattle.trace_line.proofs.line.command_line.Goals as goal
 
@@ -69,7 +69,34 @@ returns-in-steps-clause-ok g c =
     let same : c.number_in-in-steps.result ≡ asked.0 capacity = cc (asked.1 capacity refl, c.number_in-in-steps.ensures) in
     rw same asked.2
 
+pub number_in-requires-in-storm : goal.number_in-requires-in-storm
+number_in-requires-in-storm g c =
+    let line = opened_line _ _ _ _ c.in_ok-matches.ensures.ok c.unwrap.ensures c.subcommand.ensures.name c.subcommand.ensures.rows in
+    let asked = numbers_line _ _ _ line (codes "storm") (sessions ∷ opens ∷ changes ∷ []) storm_by c.in-storm.is refl in
+    ap is_some (asked.1 sessions refl)
+
+pub number_in-requires-in-storm-2 : goal.number_in-requires-in-storm-2
+number_in-requires-in-storm-2 g c =
+    let line = opened_line _ _ _ _ c.in_ok-matches.ensures.ok c.unwrap.ensures c.subcommand.ensures.name c.subcommand.ensures.rows in
+    let asked = numbers_line _ _ _ line (codes "storm") (sessions ∷ opens ∷ changes ∷ []) storm_by c.in-storm.is refl in
+    ap is_some (asked.1 opens refl)
+
+pub number_in-requires-in-storm-3 : goal.number_in-requires-in-storm-3
+number_in-requires-in-storm-3 g c =
+    let line = opened_line _ _ _ _ c.in_ok-matches.ensures.ok c.unwrap.ensures c.subcommand.ensures.name c.subcommand.ensures.rows in
+    let asked = numbers_line _ _ _ line (codes "storm") (sessions ∷ opens ∷ changes ∷ []) storm_by c.in-storm.is refl in
+    ap is_some (asked.1 changes refl)
+
+pub returns-in-storm-clause-ok : goal.returns-in-storm-clause-ok
+returns-in-storm-clause-ok g c =
+    let line = opened_line _ _ _ _ c.in_ok-matches.ensures.ok c.unwrap.ensures c.subcommand.ensures.name c.subcommand.ensures.rows in
+    let asked = numbers_line _ _ _ line (codes "storm") (sessions ∷ opens ∷ changes ∷ []) storm_by c.in-storm.is refl in
+    let first : c.number_in-in-storm.result ≡ asked.0 sessions = cc (asked.1 sessions refl, c.number_in-in-storm.ensures) in
+    let second : c.number_in-in-storm-2.result ≡ asked.0 opens = cc (asked.1 opens refl, c.number_in-in-storm-2.ensures) in
+    let third : c.number_in-in-storm-3.result ≡ asked.0 changes = cc (asked.1 changes refl, c.number_in-in-storm-3.ensures) in
+    rw (first, second, third) asked.2
+
 pub unreachable-requires : goal.unreachable-requires
 unreachable-requires g c =
     let line = opened_line _ _ _ _ c.in_ok-matches.ensures.ok c.unwrap.ensures c.subcommand.ensures.name c.subcommand.ensures.rows in
-    known_command _ _ _ line c.in_default.not-judge c.in_default.not-run c.in_default.not-compile c.in_default.not-check c.in_default.not-match c.in_default.not-steps
+    known_command _ _ _ line c.in_default.not-judge c.in_default.not-run c.in_default.not-compile c.in_default.not-check c.in_default.not-match c.in_default.not-steps c.in_default.not-storm

@@ -2,7 +2,7 @@ use Rattle.std.proofs.Common.{◌≡◌, ◌∙◌, ap, true, codes, [], ◌∷�
 use Rattle.std.proofs.lemmas.Result.{IfOk-weaker}
 use Rattle.clap.specs.Words.{App, app_of, new_app, with_subcommand}
 use Rattle.clap.specs.Simple.{app_of_fields}
-use Rattle.trace_line.specs.CommandLine.{capacity}
+use Rattle.trace_line.specs.CommandLine.{capacity, changes, opens, sessions}
 use Rattle.trace_line.specs.inner.Parser.{numbers_app, pair_app, wanted_app}
 use Rattle.trace_line.proofs.line.program.Goals as goal
 
@@ -18,5 +18,6 @@ returns c =
     let compiling = c.in_ok-compiling.ensures ∙ ap (λ (a : App). with_subcommand a (numbers_app (codes "compile") []).top) running in
     let checking = c.in_ok-checking.ensures ∙ ap (λ (a : App). with_subcommand a (numbers_app (codes "check") []).top) compiling in
     let matching = c.in_ok-matching.ensures ∙ ap (λ (a : App). with_subcommand a (pair_app (codes "match")).top) checking in
-    IfOk-weaker c.with_numbers-4.result _ _
-    (λ command h. h ∙ ap (λ (a : App). with_subcommand a (numbers_app (codes "steps") (capacity ∷ [])).top) matching) c.with_numbers-4.ensures
+    let stepping = c.in_ok-stepping.ensures ∙ ap (λ (a : App). with_subcommand a (numbers_app (codes "steps") (capacity ∷ [])).top) matching in
+    IfOk-weaker c.with_numbers-5.result _ _
+    (λ command h. h ∙ ap (λ (a : App). with_subcommand a (numbers_app (codes "storm") (sessions ∷ opens ∷ changes ∷ [])).top) stepping) c.with_numbers-5.ensures

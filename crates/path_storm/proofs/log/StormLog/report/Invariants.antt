@@ -1,0 +1,13 @@
+use Rattle.std.proofs.Common.{◌≡◌, length, map, take}
+use Rattle.mediation.specs.PolicyChanges.{deed_of}
+use Rattle.justification.specs.Justified.{Justified}
+use Rattle.path_storm.specs.Counting.{answers_of, IsCountOfOthers}
+use Rattle.path_storm.specs.declared.laying.TheConstants.{FILE, PROFILE}
+use Rattle.path_storm.proofs.log.StormLog.report.Given as goal
+
+-- the report is right of the sessions so far
+abbrev pub invariant-loop-own : goal.invariant-loop-own
+invariant-loop-own l = record {
+  answers : l.report.answers ≡ length (answers_of (take l.own-index l.self.answers.items));
+  unjustified : IsCountOfOthers (Justified PROFILE.now FILE.now l.self.ask l.self.changes.items (map deed_of l.self.policy.items)) (answers_of (take l.own-index l.self.answers.items)) l.report.unjustified;
+}

@@ -1,0 +1,13 @@
+use Rattle.std.proofs.Common.{◌≤◌, map, take}
+use Rattle.mediation.specs.PolicyChanges.{deed_of}
+use Rattle.justification.specs.Justified.{Justified}
+use Rattle.path_storm.specs.Counting.{IsCountOfOthers}
+use Rattle.path_storm.specs.declared.laying.TheConstants.{PROFILE}
+use Rattle.path_storm.proofs.log.unjustified.Given as goal
+
+-- so many of the answers so far are not justified
+abbrev pub invariant-loop-answer : goal.invariant-loop-answer
+invariant-loop-answer l = record {
+  few : l.count ≤ l.answer-index;
+  counted : IsCountOfOthers (Justified PROFILE.now l.trail.path l.trail.ask l.trail.changes (map deed_of l.policy)) (take l.answer-index l.answers) l.count;
+}

@@ -1,2 +1,0 @@
--- Words of private contracts alone.
-pub mod Bringing
