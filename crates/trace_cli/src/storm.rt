@@ -1,6 +1,7 @@
 //! `storm --sessions N --opens N --changes N`: opens in threads, beside changes of the tree and of the policy.
 ghost use Rattle.std.specs.Prelude.{◌≡◌, ◌*◌, IfOk};
-ghost use Rattle.trace_cli.specs.Storm.{StormEnds};
+ghost use Rattle.trace_cli.specs.Storm.{StormEnds, storm_text};
+ghost use Rattle.trace_report.specs.Output.{line};
 
 use dentry_cache::Keeper;
 use names::NoMemory;
@@ -70,7 +71,7 @@ fn report_over<M: Row + Send + Sync, H: Threads + Wait + Sync>(
     report
 }
 
-/// Writes `answers N unjustified K`.
+/// Writes what a storm comes to.
 fn tell<A: Write, F: Write>(
     alloc: Global,
     report: &StormReport,
@@ -86,15 +87,43 @@ fn tell<A: Write, F: Write>(
         })
         report.now.answers result }
 {
-    let StormReport {
-        answers: count,
-        unjustified,
-    } = *report;
-    let Ok(line) = format!(in alloc; "answers {count} unjustified {unjustified}\n") else {
-        return fail(faults, NoMemory, Status::NoMemory);
-    };
-    match write_through(answers, line.as_bytes()) {
-        Ok(()) if unjustified == 0 => Status::Done,
+    match report_line(alloc, report) {
+        Ok(line) => write_report(report, &line, answers, faults),
+        Err(NoMemory) => fail(faults, NoMemory, Status::NoMemory),
+    }
+}
+
+/// `answers N unjustified K`.
+fn report_line(alloc: Global, report: &StormReport) -> Result<Vec<u8>, NoMemory>
+    ensures { IfOk result (λ text. text.items ≡ line (storm_text report.now.answers report.now.unjustified)) }
+{
+    let answers = report.answers;
+    let unjustified = report.unjustified;
+    match format!(in alloc; "answers {answers} unjustified {unjustified}\n") {
+        Ok(text) => Ok(text.into_bytes()),
+        Err(_) => Err(NoMemory),
+    }
+}
+
+/// Writes the line of a report.
+fn write_report<A: Write, F: Write>(
+    report: &StormReport,
+    text: &[u8],
+    answers: &mut A,
+    faults: &mut F,
+) -> Status
+    requires { text.now ≡ line (storm_text report.now.answers report.now.unjustified) }
+    ensures { StormEnds
+        (record {
+          answers_before = A.contents answers.old;
+          answers_after = A.contents answers.new;
+          faults_before = F.contents faults.old;
+          faults_after = F.contents faults.new;
+        })
+        report.now.answers result }
+{
+    match write_through(answers, text) {
+        Ok(()) if report.unjustified == 0 => Status::Done,
         Ok(()) => Status::Refused,
         Err(_) => fail(faults, "refused: output", Status::OutputFailed),
     }
