@@ -2,8 +2,8 @@
 ghost use Rattle.std.specs.Prelude.{◌≡◌};
 
 use crate::testing::{
-    FILE, Row, TREE, expect_beside, expect_with, first_keeper, judged, new_publisher, opened,
-    perms, publish_first, session,
+    FILE, TREE, allowed, expect_beside, expect_with, first_keeper, new_publisher, perms,
+    publish_first, session, sessions_of,
 };
 use dentry_cache::Keeper;
 use mediation::Answer;
@@ -15,24 +15,6 @@ use std::alloc::Global;
 use std::process::Abort;
 use std::sync::Wait;
 use std::test::Fail;
-
-// An open of a file that the profile allows.
-fn allowed<'a>() -> Row<'a> {
-    opened(b"/d/f", b"r", judged(Verdict::Allowed, FILE, TREE), b"/d/f")
-}
-
-fn sessions_of(
-    alloc: Global,
-    keeper: &mut Keeper,
-    publisher: &mut Publisher,
-    count: usize,
-) -> Result<Vec<Session>, Fail> {
-    let mut sessions: Vec<Session> = Vec::with_capacity(alloc, count)?;
-    for _ in 0..count {
-        sessions.push(session(alloc, keeper, publisher, b"p")?)?;
-    }
-    Ok(sessions)
-}
 
 // All of them open, the last one too. Where one ends, its place is free.
 fn fill<R: Abort + Wait>(rt: &R, alloc: Global, publisher: &mut Publisher) -> Result<(), Fail> {
