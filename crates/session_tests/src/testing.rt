@@ -153,6 +153,20 @@ pub(crate) fn session(
     }
 }
 
+/// So many sessions, which open by the profile `p`.
+pub(crate) fn sessions_of(
+    alloc: Global,
+    keeper: &mut Keeper,
+    publisher: &mut Publisher,
+    count: usize,
+) -> Result<Vec<Session>, Fail> {
+    let mut sessions: Vec<Session> = Vec::with_capacity(alloc, count)?;
+    for _ in 0..count {
+        sessions.push(session(alloc, keeper, publisher, b"p")?)?;
+    }
+    Ok(sessions)
+}
+
 /// Opens by the profile of another name from now on.
 pub(crate) fn select(session: &mut Session, profile: &[u8]) -> Result<(), Fail>
     ensures { session.new.walk ≡ session.old.walk }
@@ -203,6 +217,11 @@ pub(crate) fn opened<'a>(path: &'a [u8], ask: &'a [u8], answer: Answer, name: &'
 /// An open of a path to read, of which no name is judged.
 pub(crate) fn unjudged<'a>(path: &'a [u8], answer: Answer) -> Row<'a> {
     opened(path, b"r", answer, b"")
+}
+
+/// An open of a file that the first profile allows, along a link.
+pub(crate) fn allowed<'a>() -> Row<'a> {
+    opened(b"/l/f", b"r", judged(Verdict::Allowed, FILE, TREE), b"/d/f")
 }
 
 /// Opens beside the keeper, one after another.

@@ -1,9 +1,9 @@
 //! Opens beside a keeper that is at rest, and where it is at hand.
 use crate::testing::{
-    FILE, Row, TREE, apply, compiled, expect_beside, expect_with, failed, first_keeper, judged,
-    new_publisher, opened, path, perms, publish, publish_first, select, session, unjudged,
+    FILE, Row, TREE, allowed, apply, compiled, expect_beside, expect_with, failed, first_keeper,
+    judged, new_publisher, opened, path, perms, publish, publish_first, select, session,
+    sessions_of, unjudged,
 };
-use dentry_cache::Keeper;
 use directory_tree::Change;
 use names::{Errno, Perms};
 use path_session::{Answer, Session};
@@ -20,29 +20,12 @@ const SESSIONS: usize = 16;
 /// So often does each of them open a file.
 const OPENS: usize = 1000;
 
-// An open of a file that the profile allows.
-fn allowed<'a>() -> Row<'a> {
-    opened(b"/l/f", b"r", judged(Verdict::Allowed, FILE, TREE), b"/d/f")
-}
-
 // The sessions open the file in turn.
 fn open_in_turn(rt: &impl Abort, sessions: &mut [Session]) -> Result<(), Fail> {
     for session in sessions {
         expect_beside(rt, session, &[allowed()])?;
     }
     Ok(())
-}
-
-fn sessions_of(
-    alloc: Global,
-    keeper: &mut Keeper,
-    publisher: &mut Publisher,
-) -> Result<Vec<Session>, Fail> {
-    let mut sessions: Vec<Session> = Vec::with_capacity(alloc, SESSIONS)?;
-    for _ in 0..SESSIONS {
-        sessions.push(session(alloc, keeper, publisher, b"p")?)?;
-    }
-    Ok(sessions)
 }
 
 fn open_quietly<R: Abort + Wait>(
@@ -52,7 +35,7 @@ fn open_quietly<R: Abort + Wait>(
 ) -> Result<(), Fail> {
     let mut keeper = first_keeper(alloc)?;
     publish_first(rt, alloc, publisher)?;
-    let mut sessions = sessions_of(alloc, &mut keeper, publisher)?;
+    let mut sessions = sessions_of(alloc, &mut keeper, publisher, SESSIONS)?;
     for _ in 0..OPENS {
         open_in_turn(rt, &mut sessions)?;
     }
