@@ -7,14 +7,14 @@
 #
 # A rate is of opens that were answered, in all threads, without those that were Busy, whose share of all opens stands beside it;
 # then come the changes that were made meanwhile, and the ratio of both rates. Each number is the middle one of RUNS runs, both
-# programs by turns, of OPENS opens in each thread, in a tree with room for CAPACITY entries. On a busy machine UNDER='chrt -f
-# 20', as root, lets the runs go first; but a thread that never waits then keeps its processor, so that four of them may leave
-# none for changes. COMPILE names another program that compiles a profile on standard input to an image. Where rustc is missing,
-# the rates of sessions stand alone.
+# programs by turns, of OPENS opens in each thread, in a tree with room for CAPACITY entries. Threads that have no processors of
+# their own meanwhile show little of either. UNDER is put before each run; by 'chrt -f 20' runs go first, but a thread that never
+# waits then keeps its processor, and four of them leave none of four for changes. COMPILE names another program that compiles a
+# profile on standard input to an image. Where rustc is missing, the rates of sessions stand alone.
 set -eu
 cd "$(dirname "$0")/.."
 RUNS=${RUNS:-7}
-OPENS=${OPENS:-50000}
+OPENS=${OPENS:-100000}
 CAPACITY=${CAPACITY:-128}
 REST=${REST:-100}
 UNDER=${UNDER:-}
