@@ -3,8 +3,8 @@
 # make test       the gate: every proof from nothing, must-fail edits, tests, programs
 # make bench      times on large inputs, each with the ratio to half the size or to another input, of compiled profiles, of
 #                 the loop that runs names through a table, beside the same loop in C, of names judged from C, of plans and
-#                 walks over a row, of changes and walks over the one that threads share, and of reads of what is published,
-#                 beside a lock
+#                 walks over a row, of changes and walks over the one that threads share, and of reads of what is published and
+#                 of opens in threads, both beside a lock
 # make tour       runs every command of README.md and docs/TOUR.md, and compares what it prints
 # make calls      calls the library for C, and compares its answers with those of ./aa-trace
 # make embed      builds the examples for those who embed the library, ./embed in C and ./embed_rs in Rust, and runs them
@@ -69,6 +69,7 @@ bench: aa-trace
 	sh bench/cache.sh
 	sh bench/steps.sh
 	sh bench/registry.sh
+	sh bench/open.sh
 
 calls: aa-trace $(LIBRARY)
 	python3 tools/calls.py

@@ -1,0 +1,109 @@
+#!/bin/sh
+# Opens of one file by sessions (Session::try_open), in one thread and in four, each by a session of its own: a file so many
+# directories down, and one four down by one symbolic link and by four. First nothing is changed; then a keeper renames a
+# directory that the file isn't below, or the file's own directory, or a publisher replaces the profile, each all the time, and
+# then with a rest of REST microseconds after each change. Beside it the same opens of the same tree behind std's RwLock in Rust
+# (bench/rwlock_tree.rs, by rustc -O). There is no index yet: a session finds a child by reading slots one after another.
+#
+# A rate is of opens that were answered, in all threads, without those that were Busy, whose share of all opens stands beside it;
+# then come the changes that were made meanwhile, and the ratio of both rates. Each number is the middle one of RUNS runs, both
+# programs by turns, of OPENS opens in each thread, in a tree with room for CAPACITY entries. Threads that have no processors of
+# their own meanwhile show little of either. UNDER is put before each run; by 'chrt -f 20' runs go first, but a thread that never
+# waits then keeps its processor, and four of them leave none of four for changes. COMPILE names another program that compiles a
+# profile on standard input to an image. Where rustc is missing, the rates of sessions stand alone.
+set -eu
+cd "$(dirname "$0")/.."
+RUNS=${RUNS:-7}
+OPENS=${OPENS:-100000}
+CAPACITY=${CAPACITY:-128}
+REST=${REST:-100}
+UNDER=${UNDER:-}
+COMPILE=${COMPILE:-./aa-trace compile}
+PROFILE=crates/open_bench/stdin
+work=$(mktemp -d)
+trap 'rm -rf "$work"' EXIT
+
+echo 'proving and building open_bench ..'
+if ! (cd crates/open_bench && rt run <stdin) >"$work/log" 2>&1; then
+    cat "$work/log"
+    exit 1
+fi
+BENCH=crates/open_bench/out/open_bench
+
+lock=
+if command -v rustc >/dev/null 2>&1; then
+    $COMPILE <"$PROFILE" >"$work/image"
+    rustc -O --edition 2021 -o "$work/rwlock_tree" bench/rwlock_tree.rs
+    lock=yes
+fi
+run=0
+while [ "$run" -lt "$RUNS" ]; do
+    for rest in 0 "$REST"; do
+        $UNDER "$BENCH" "$CAPACITY" "$OPENS" "$rest" <"$PROFILE" >>"$work/session-$rest"
+        if [ -n "$lock" ]; then $UNDER "$work/rwlock_tree" "$work/image" "$OPENS" "$rest" >>"$work/lock-$rest"; fi
+    done
+    run=$((run + 1))
+done
+! grep -h wasn "$work"/session-* || exit 1
+
+# middle: the middle one of the numbers that are read
+middle() {
+    sort -n | awk '{ number[NR] = $1 } END { print number[int((NR + 1) / 2)] }'
+}
+
+# rate FILE NAME BESIDE THREADS: the opens a second that were answered, in thousands
+rate() {
+    awk -v row="$2 $3 $4" '$1 " " $2 " " $3 == row { print ($4 - $6) / $5 * 1e6 }' "$1" | middle
+}
+
+# changes FILE NAME BESIDE THREADS: the changes a second meanwhile, in thousands
+changes() {
+    awk -v row="$2 $3 $4" '$1 " " $2 " " $3 == row { print $8 / $5 * 1e6 }' "$1" | middle
+}
+
+# busy FILE NAME BESIDE THREADS: the share of the opens that were busy, in hundredths
+busy() {
+    awk -v row="$2 $3 $4" '$1 " " $2 " " $3 == row { print 100 * $6 / $4 }' "$1" | middle
+}
+
+# cells REST NAME BESIDE THREADS: a row's half
+cells() {
+    session=$(rate "$work/session-$1" "$2" "$3" "$4")
+    if [ -n "$lock" ]; then
+        held=$(rate "$work/lock-$1" "$2" "$3" "$4")
+        made=$(changes "$work/lock-$1" "$2" "$3" "$4")
+        awk -v session="$session" -v busy="$(busy "$work/session-$1" "$2" "$3" "$4")" \
+            -v changes="$(changes "$work/session-$1" "$2" "$3" "$4")" -v held="$held" -v made="$made" \
+            'BEGIN { printf " | %7.0f %5.1f %7.1f | %7.0f %7.1f | %6.2f", session, busy, changes, held, made, session / held }'
+    else
+        awk -v session="$session" -v busy="$(busy "$work/session-$1" "$2" "$3" "$4")" \
+            -v changes="$(changes "$work/session-$1" "$2" "$3" "$4")" \
+            'BEGIN { printf " | %7.0f %5.1f %7.1f | %7s %7s | %6s", session, busy, changes, "-", "-", "-" }'
+    fi
+}
+
+# table REST BESIDE TITLE
+table() {
+    echo
+    echo "$3"
+    for name in down_1 down_4 down_8 down_16 links_1 links_4; do
+        printf '%-8s' "$name"
+        cells "$1" "$name" "$2" 1
+        printf ' |'
+        cells "$1" "$name" "$2" 4
+        printf '\n'
+    done
+}
+
+echo
+echo 'thousands of opens a second, and of changes; a child is found by reading slots: there is no index yet'
+printf '%-8s | %-21s | %-15s | %6s | | %-21s | %-15s |\n' '' 'sessions, 1 thread' 'RwLock' '' 'sessions, 4 threads' 'RwLock'
+half=$(printf ' | %7s %5s %7s | %7s %7s | %6s' opens Busy% changes opens changes ratio)
+printf '%-8s%s |%s\n' file "$half" "$half"
+table 0 nothing 'nothing is changed'
+table 0 other_name 'a directory that the file is not below is renamed, all the time'
+table 0 own_name "the file's directory is renamed, all the time"
+table 0 profile 'the profile is replaced, all the time'
+table "$REST" other_name "a directory that the file is not below is renamed, with a rest of $REST microseconds"
+table "$REST" own_name "the file's directory is renamed, with such a rest"
+table "$REST" profile 'the profile is replaced, with such a rest'
