@@ -10,6 +10,7 @@
 # make embed      builds the examples for those who embed the library, ./embed in C and ./embed_rs in Rust, and runs them
 # make refusals   refuses each allocation of the program in turn, and of scripts on the row that threads share
 # make storm      opens a file 1,600,000 times in 16 threads beside renames and new profiles, and tests each answer
+# make serve      has a server of four threads answer requests while its profile's file is replaced, and counts the answers
 # make drawn      makes 100,000 drawn changes in a row and in plain memory, which have to answer alike
 # make install    installs the program, the static library for C with its header, the manual page and completion for bash
 #                 below PREFIX, which is /usr/local if not given; DESTDIR is put before it. Builds what isn't built
@@ -26,7 +27,7 @@ LIBRARY := crates/coqetwal/out/libcoqetwal.a
 LIBRARY_CRATES := coqetwal $(shell sed -n 's/^coqetwal staticlib: *//p' crates.txt)
 LIBRARY_SOURCES := crates.txt HANDLES $(filter $(addprefix crates/,$(addsuffix /%,$(LIBRARY_CRATES))),$(SOURCES))
 
-.PHONY: all run test tour bench calls embed refusals storm drawn install uninstall help need-rt
+.PHONY: all run test tour bench calls embed refusals storm serve drawn install uninstall help need-rt
 # Each recipe takes all processors, and two that prove the same crates would disturb each other.
 .NOTPARALLEL:
 
@@ -82,6 +83,9 @@ refusals: aa-trace
 
 storm: aa-trace
 	sh tools/storm.sh
+
+serve: need-rt
+	sh tools/serve-example.sh
 
 drawn: need-rt
 	tools/drawn-changes

@@ -1,0 +1,5 @@
+profile served {
+  /srv/** r,
+  /srv/log/* rw,
+  deny /srv/log/old w,
+}

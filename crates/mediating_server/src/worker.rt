@@ -1,0 +1,97 @@
+//! The work of a worker's thread.
+ghost use Rattle.std.specs.Prelude.{◌≡◌, IfOk};
+ghost use Rattle.mediating_server.specs.Answers.{TellsRightly};
+
+use crate::answering::{numbered, open_line};
+use crate::desk::Desk;
+use crate::publisher::PROFILE;
+use crate::request::{Request, parse};
+use names::Perms;
+use path_guard::{Guard, Row, Session, SessionFault};
+use std::alloc::Global;
+use std::io::{BufRead, Write};
+use std::marker::PhantomData;
+use std::sync::Wait;
+use trace_script::{ChangeWords, Stop, change_of, errno_line, version_line};
+
+/// A session of a guard, by which requests are answered.
+#[derive(Drop)]
+pub(crate) struct Worker<M: Row> {
+    session: Session,
+    of: PhantomData<M>,
+    ghost ours: { session.walk.table ≡ M.table },
+}
+
+impl<M: Row> Worker<M> {
+    pub(crate) fn new(rt: &impl Wait, guard: &Guard<M>) -> Result<Worker<M>, SessionFault> {
+        let session = guard.session(rt, PROFILE)?;
+        Ok(Worker {
+            session,
+            of: PhantomData,
+        })
+    }
+
+    /// Takes requests, and answers each, until no more are left.
+    pub(crate) fn serve<I: BufRead, O: Write, R: Wait>(
+        self,
+        rt: &R,
+        alloc: Global,
+        guard: &Guard<M>,
+        desk: &Desk<I, O>,
+    ) -> Result<(), Stop> {
+        let mut worker = self;
+        let mut line = Vec::new(alloc);
+        for _ in rt.forever() {
+            let Some(number) = desk.take(rt, &mut line)? else {
+                return Ok(());
+            };
+            let answer = worker.answer(rt, alloc, guard, &line)?;
+            desk.give(rt, &numbered(alloc, number, &answer)?)?;
+        }
+        unreachable!()
+    }
+
+    fn answer(
+        &mut self,
+        rt: &impl Wait,
+        alloc: Global,
+        guard: &Guard<M>,
+        line: &[u8],
+    ) -> Result<Vec<u8>, Stop> {
+        match parse(line) {
+            Some(Request::Open { path, ask }) => self.open(rt, alloc, guard, path, ask),
+            Some(Request::Change(words)) => change(rt, alloc, guard, words),
+            None => Ok(Vec::from_slice(alloc, b"not a request\n")?),
+        }
+    }
+
+    fn open(
+        &mut self,
+        rt: &impl Wait,
+        alloc: Global,
+        guard: &Guard<M>,
+        path: &[u8],
+        ask: Perms,
+    ) -> Result<Vec<u8>, Stop>
+        ensures { IfOk result (λ line. TellsRightly self.new.session path.now ask line.items) }
+    {
+        let answer = guard.open(rt, &mut self.session, path, ask);
+        open_line(alloc, &answer, self.session.name())
+    }
+}
+
+fn change<M: Row>(
+    rt: &impl Wait,
+    alloc: Global,
+    guard: &Guard<M>,
+    words: ChangeWords<'_>,
+) -> Result<Vec<u8>, Stop> {
+    let made = match change_of(words) {
+        Ok(change) => guard.change(rt, &change),
+        Err(errno) => Err(errno),
+    };
+    match made {
+        Ok(version) => version_line(alloc, version),
+        Err(errno) => errno_line(alloc, errno),
+    }
+}
