@@ -5,6 +5,8 @@
 //! each: `open PATH PERMS`, or a change of the tree, as `mkdir P`, `create P`, `rename OLD NEW` or `unlink P`. Each line is answered
 //! by one on standard output, behind the line's number; the order of answers is that in which the workers come to them. What
 //! became of the file is told on standard error.
+//!
+//! To be believed are about 50 lines of definitions in `specs/`, for contracts of private functions alone.
 #![tactic(auto)]
 
 mod answering;

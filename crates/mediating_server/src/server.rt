@@ -115,6 +115,7 @@ fn run<
     Ok(())
 }
 
+/// Starts a worker's thread.
 fn start<
     's,
     'e: 's,
