@@ -30,12 +30,11 @@ module _ (I O : RattleType) (input : IsSend I) (output : IsSend O) where
   pub desk_sync : IsSync (desk.the_row I O)
   desk_sync = search (sendable, requests_send, boxes.crosses) depth 40 fits 20000
 
-module _ (M : RattleType) (g : row.Ghosts M.Denot) (send : IsSend M) where
-  pub worker_send : IsSend (worker.the_row M g)
-  worker_send = search (sendable, session_send, boxes.crosses) depth 40 fits 20000
+  pub scene_sync : (name : Lifetime) (life : Lft) → IsSync (scene.the_row (record { mir = name; lft = life }) I O)
+  scene_sync name life = search (sendable, desk_sync, boxes.crosses) depth 40 fits 20000
 
-  pub scene_sync : (I O : RattleType) → IsSend I → IsSend O → (name : Lifetime) (life : Lft) → IsSync (scene.the_row (record { mir = name; lft = life }) M I O g)
-  scene_sync I O input output name life = search (sendable, guard_sync, desk_sync, boxes.crosses) depth 40 fits 20000
+pub worker_send : (M : RattleType) (g : row.Ghosts M.Denot) → IsSend M → (name : Lifetime) (life : Lft) → IsSend (worker.the_row (record { mir = name; lft = life }) M g)
+worker_send M g send name life = search (sendable, session_send, guard_sync, boxes.crosses) depth 40 fits 20000
 
 -- a closure that captures three values may go to a thread where all of them may
 module _ (i : ℕ) (layout : Ty) (kept : Kept) (name : Sym) where

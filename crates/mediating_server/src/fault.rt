@@ -1,8 +1,8 @@
 //! Why the server ends before its input does.
 use names::{Errno, NoMemory};
 use path_guard::SessionFault;
-use std::alloc::{AllocError, AllocFailed};
-use std::{fmt, io};
+use std::alloc::AllocFailed;
+use std::fmt;
 use trace_report::{Fault, Status};
 use trace_script::Stop;
 
@@ -14,12 +14,11 @@ pub(crate) enum ServerFault {
     Profile(Fault),
     /// The profile isn't published.
     Publication(Errno),
-    /// A request couldn't be read, or an answer not be written.
+    /// A request couldn't be read, or an answer not be written, or memory was refused.
     Requests(Stop),
     /// There is no place for one more session.
     NoSeat,
     NoThread,
-    NoMemory,
 }
 
 impl ServerFault {
@@ -32,7 +31,6 @@ impl ServerFault {
             ServerFault::Publication(_) | ServerFault::NoSeat | ServerFault::NoThread => {
                 Status::Refused
             }
-            ServerFault::NoMemory => Status::NoMemory,
         }
     }
 }
@@ -46,7 +44,6 @@ impl fmt::Display for ServerFault {
             ServerFault::Requests(stop) => write!(f, "{stop}"),
             ServerFault::NoSeat => write!(f, "no seat"),
             ServerFault::NoThread => write!(f, "no thread"),
-            ServerFault::NoMemory => write!(f, "{}", NoMemory),
         }
     }
 }
@@ -67,31 +64,19 @@ impl From<SessionFault> for ServerFault {
     fn from(fault: SessionFault) -> ServerFault {
         match fault {
             SessionFault::NoSeat => ServerFault::NoSeat,
-            SessionFault::NoMemory => ServerFault::NoMemory,
+            SessionFault::NoMemory => ServerFault::from(NoMemory),
         }
-    }
-}
-
-impl From<io::Error> for ServerFault {
-    fn from(error: io::Error) -> ServerFault {
-        ServerFault::Requests(Stop::from(error))
     }
 }
 
 impl From<NoMemory> for ServerFault {
     fn from(_refused: NoMemory) -> ServerFault {
-        ServerFault::NoMemory
-    }
-}
-
-impl From<AllocError> for ServerFault {
-    fn from(_refused: AllocError) -> ServerFault {
-        ServerFault::NoMemory
+        ServerFault::Requests(Stop::Memory)
     }
 }
 
 impl<T: Drop> From<AllocFailed<T>> for ServerFault {
     fn from(_refused: AllocFailed<T>) -> ServerFault {
-        ServerFault::NoMemory
+        ServerFault::from(NoMemory)
     }
 }

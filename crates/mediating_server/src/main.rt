@@ -5,6 +5,8 @@
 //! each: `open PATH PERMS`, or a change of the tree, as `mkdir P`, `create P`, `rename OLD NEW` or `unlink P`. Each line is answered
 //! by one on standard output, behind the line's number; the order of answers is that in which the workers come to them. What
 //! became of the file is told on standard error.
+//!
+//! To be believed are about 50 lines of definitions in `specs/`, for contracts of private functions alone.
 #![tactic(auto)]
 
 mod answering;
@@ -26,6 +28,7 @@ use std::sync::Wait;
 use std::thread::Threads;
 use std::{env, io};
 use trace_report::{Status, fail};
+use trace_script::Stop;
 
 /// So many workers, where no number is told.
 const WORKERS: u32 = 4;
@@ -42,13 +45,17 @@ fn answer<R: Runtime + AllocGlobal + Threads + Wait + Sync, I: Read + Drop + Sen
     rt: &R,
     input: I,
 ) -> Result<(), ServerFault> {
-    let words: Vec<String> = env::args(rt)?.collect(rt.alloc())?;
+    let words = words(rt)?;
     let Some((path, workers)) = planned(&words) else {
         return Err(ServerFault::Usage);
     };
-    let input = BufReader::new(rt.alloc(), input)?;
+    let input = BufReader::new(rt.alloc(), input).map_err(Stop::from)?;
     let desk = Desk::new(input, io::writer(rt));
     serve(rt, ProfileFile::at(path), workers, &desk)
+}
+
+fn words<R: Runtime + AllocGlobal>(rt: &R) -> Result<Vec<String>, Stop> {
+    Ok(env::args(rt)?.collect(rt.alloc())?)
 }
 
 /// The profile's file, and how many workers there are.

@@ -8,7 +8,6 @@ use crate::worker::Worker;
 use dentry_cache::Keeper;
 use path_guard::{Guard, Row};
 use profile_registry::Publisher;
-use std::alloc::Global;
 use std::io::{BufRead, Write};
 use std::marker::Brand;
 use std::rt::Runtime;
@@ -20,11 +19,9 @@ use trace_script::Stop;
 /// The tree has room for so many entries.
 const CAPACITY: usize = 1024;
 
-/// What all threads work on.
+/// What all threads work at.
 #[derive(Drop)]
-struct Scene<'a, M: Row, I, O> {
-    alloc: Global,
-    guard: &'a Guard<M>,
+struct Scene<'a, I, O> {
     desk: &'a Desk<I, O>,
     /// So many workers have not ended yet.
     at_work: AtomicU64,
@@ -80,15 +77,15 @@ fn serve_by<
     file.publish(rt, guard)?;
     let mut ready = Vec::new(rt.alloc());
     for _ in 0..workers {
-        ready.push(Worker::new(rt, guard)?)?;
+        ready.push(Worker::new(rt, rt.alloc(), guard)?)?;
     }
-    let scene = Scene {
-        alloc: rt.alloc(),
-        guard,
-        desk,
-        at_work: AtomicU64::new(u64::from(workers)),
-    };
-    scope(scope_env(), rt, |scope| run(scope, rt, &scene, file, ready))
+    let at_work = AtomicU64::new(u64::from(workers));
+    let scene = Scene { desk, at_work };
+    scope(
+        scope_env(),
+        rt,
+        |scope| run(scope, rt, &scene, guard, file, ready),
+    )
 }
 
 /// Starts a thread for each worker, and is the publisher itself until the last one ends.
@@ -102,18 +99,23 @@ fn run<
 >(
     scope: &Scope<'s, &'e ()>,
     rt: &'e R,
-    scene: &'e Scene<'e, M, I, O>,
+    scene: &'e Scene<'e, I, O>,
+    guard: &'e Guard<M>,
     file: ProfileFile<'e>,
-    ready: Vec<Worker<M>>,
+    ready: Vec<Worker<'e, M>>,
 ) -> Result<(), ServerFault> {
-    let mut working = Vec::new(scene.alloc);
+    let mut threads = Vec::new(rt.alloc());
     for worker in ready {
-        working.push(start(scope, rt, scene, worker)?)?;
+        threads.push(start(scope, rt, scene, worker)?)?;
     }
-    file.watch(rt, scene.guard, &scene.at_work);
-    join_all(rt, working)
+    file.watch(rt, guard, &scene.at_work);
+    for thread in threads {
+        thread.join(rt)?;
+    }
+    Ok(())
 }
 
+/// Starts a worker's thread.
 fn start<
     's,
     'e: 's,
@@ -124,28 +126,13 @@ fn start<
 >(
     scope: &Scope<'s, &'e ()>,
     rt: &'e R,
-    scene: &'e Scene<'e, M, I, O>,
-    worker: Worker<M>,
+    scene: &'e Scene<'e, I, O>,
+    worker: Worker<'e, M>,
 ) -> Result<JoinHandle<Result<(), Stop>>, ServerFault> {
     let thread = scope.spawn(move || {
-        let outcome = worker.serve(rt, scene.alloc, scene.guard, scene.desk);
+        let outcome = worker.serve(rt, scene.desk);
         scene.at_work.fetch_sub(1, Ordering::SeqCst);
         outcome
     });
     thread.map_err(|_| ServerFault::NoThread)
-}
-
-/// Why the first worker stopped that did so before the input's end, once all have ended.
-fn join_all(
-    rt: &impl Threads,
-    working: Vec<JoinHandle<Result<(), Stop>>>,
-) -> Result<(), ServerFault> {
-    let mut outcome = Ok(());
-    for worker in working {
-        let ended = worker.join(rt);
-        if outcome.is_ok() {
-            outcome = ended.map_err(ServerFault::from);
-        }
-    }
-    outcome
 }
