@@ -9,7 +9,8 @@
 # make calls      calls the library for C, and compares its answers with those of ./aa-trace
 # make embed      builds the examples for those who embed the library, ./embed in C and ./embed_rs in Rust, and runs them
 # make refusals   refuses each allocation of the program in turn, and of scripts on the row that threads share
-# make storm      opens a file 1,600,000 times in 16 threads beside renames and new profiles, and tests each answer
+# make storm      opens a file 1,600,000 times in 16 threads beside renames and new profiles, then random paths a million times
+#                 beside random changes, and tests each answer
 # make drawn      makes 100,000 drawn changes in a row and in plain memory, which have to answer alike
 # make install    installs the program, the static library for C with its header, the manual page and completion for bash
 #                 below PREFIX, which is /usr/local if not given; DESTDIR is put before it. Builds what isn't built
@@ -81,6 +82,7 @@ refusals: aa-trace
 
 storm: need-rt
 	sh tools/storm.sh
+	sh tools/drawn-storm.sh
 
 drawn: need-rt
 	tools/drawn-changes

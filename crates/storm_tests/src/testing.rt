@@ -1,0 +1,43 @@
+//! Guards. Where memory is refused once, it is asked for again, as `rt try --test --fail-alloc N` refuses it.
+ghost use Rattle.std.specs.Prelude.{◌≡◌, IfOk};
+
+use dentry_cache::Keeper;
+use names::NoMemory;
+use path_guard::{Guard, Row};
+use path_storm::{Gate, Plan, StormFault, StormReport, storm_with};
+use profile_registry::Publisher;
+use std::alloc::Global;
+use std::sync::Wait;
+use std::test::Fail;
+use std::thread::Threads;
+
+/// The keeper of a row with room for the two entries of a storm.
+pub(crate) fn keeper(alloc: Global) -> Result<Keeper, Fail> {
+    match Keeper::new(alloc, 2) {
+        Ok(keeper) => Ok(keeper),
+        Err(NoMemory) => Ok(Keeper::new(alloc, 2)?),
+    }
+}
+
+fn publisher(alloc: Global) -> Result<Publisher, Fail> {
+    match Publisher::new(alloc) {
+        Ok(publisher) => Ok(publisher),
+        Err(NoMemory) => Ok(Publisher::new(alloc)?),
+    }
+}
+
+/// A storm on a guard of this keeper, which ends with it.
+pub(crate) fn storm_on<M: Row + Send + Sync, R: Threads + Wait + Sync, G: Gate + Sync>(
+    rt: &R,
+    alloc: Global,
+    keeper: Keeper,
+    plan: &Plan,
+    gate: &G,
+) -> Result<Result<StormReport, StormFault>, Fail>
+    requires { keeper.table ≡ M.table }
+{
+    let guard: Guard<M> = Guard::new(alloc, keeper, publisher(alloc)?);
+    let outcome = storm_with(rt, alloc, &guard, plan, gate);
+    guard.close(rt);
+    Ok(outcome)
+}
