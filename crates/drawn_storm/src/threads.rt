@@ -113,7 +113,7 @@ fn start_publishers<'s, 'e: 's, M: Row + Send + Sync, R: Threads + Wait + Sync>(
 
 /// How many of the changes the thread of this number makes.
 fn part(changes: usize, number: u32) -> usize {
-    (changes + number as usize) / CHANGERS as usize
+    changes.saturating_add(number as usize) / CHANGERS as usize
 }
 
 /// Waits for the threads.
