@@ -1,4 +1,5 @@
 //! Answers, and what they were given to.
+use crate::profiles::Name;
 use path_guard::Answer;
 
 /// What a session was answered.
@@ -7,6 +8,6 @@ pub(crate) struct Answered {
     /// The number of the question.
     pub question: usize,
     /// The name of the profile that the session opened by.
-    pub profile: &'static [u8],
+    pub profile: Name,
     pub answer: Answer,
 }

@@ -1,11 +1,11 @@
 //! Changes of the tree.
 use crate::fault::Fault;
 use crate::noting::Noted;
-use crate::work::{Scene, Work, work_all};
+use crate::scene::Scene;
 use names::Errno;
 use path_guard::{Guard, Row};
 use std::sync::Wait;
-use storm_parts::{DrawnChange, Random};
+use storm_parts::{DrawnChange, ROUNDS, Random, share};
 
 // Of changes that are drawn at random a tree makes one in ten or less. So that most pieces of work make one, so many are tried.
 const DRAWS: usize = 16;
@@ -28,11 +28,40 @@ pub(crate) fn change_all<M: Row>(
         random,
         made: Vec::new(scene.alloc),
     };
-    work_all(rt, scene, &mut changer, changes)?;
+    for round in 0..ROUNDS {
+        scene.rounds.begin(round);
+        if let Err(fault) = changer.change_round(rt, scene.guard, share(changes, round)) {
+            scene.rounds.give_up();
+            return Err(fault);
+        }
+    }
     Ok(changer.made)
 }
 
 impl Changer {
+    fn change_round<M: Row>(
+        &mut self,
+        rt: &impl Wait,
+        guard: &Guard<M>,
+        changes: usize,
+    ) -> Result<(), Fault> {
+        for _ in 0..changes {
+            self.change(rt, guard)?;
+        }
+        Ok(())
+    }
+
+    /// Draws changes until one is made.
+    fn change<M: Row>(&mut self, rt: &impl Wait, guard: &Guard<M>) -> Result<(), Fault> {
+        for _ in 0..DRAWS {
+            let drawn = self.random.change();
+            if self.make(rt, guard, drawn)? {
+                break;
+            }
+        }
+        Ok(())
+    }
+
     /// Makes a change, and notes it where it was made.
     fn make<M: Row>(
         &mut self,
@@ -54,17 +83,5 @@ impl Changer {
             Err(Errno::ENOMEM) => Err(Fault::NoMemory),
             Err(_) => Ok(false),
         }
-    }
-}
-
-impl<M: Row> Work<M> for Changer {
-    fn step(&mut self, rt: &impl Wait, scene: &Scene<'_, M>) -> Result<(), Fault> {
-        for _ in 0..DRAWS {
-            let drawn = self.random.change();
-            if self.make(rt, scene.guard, drawn)? {
-                break;
-            }
-        }
-        Ok(())
     }
 }

@@ -18,10 +18,10 @@ mod plan;
 mod profiles;
 mod publishing;
 mod questions;
+mod scene;
 mod storm;
 mod tally;
 mod threads;
-mod work;
 
 use crate::fault::Fault;
 use crate::plan::planned;
@@ -51,7 +51,13 @@ fn report<R: Print + Eprint>(rt: &R, outcome: &Outcome) -> io::Result<()> {
     )?;
     eprintln!(rt;
         "judged: allowed {}, denied {}, no rule {}; failed {}, without profile {}, busy {}, no entry {}",
-        counts.allowed, counts.denied, counts.no_rule, counts.failed, counts.no_profile, counts.busy, counts.no_entry
+        counts.allowed,
+        counts.denied,
+        counts.no_rule,
+        counts.failed,
+        counts.no_profile,
+        counts.busy,
+        counts.no_entry
     )?;
     eprintln!(rt;
         "changes made: {} of the tree, {} of the policy",

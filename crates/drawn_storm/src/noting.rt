@@ -10,10 +10,7 @@ pub(crate) struct Noted<T> {
 }
 
 /// The changes that several threads noted, in the order of the versions, which have to be 1, 2 and so on.
-pub(crate) fn in_order<T: Drop>(
-    alloc: Global,
-    all: Vec<Vec<Noted<T>>>,
-) -> Result<Vec<T>, Fault> {
+pub(crate) fn in_order<T: Drop>(alloc: Global, all: Vec<Vec<Noted<T>>>) -> Result<Vec<T>, Fault> {
     let mut noted = Vec::new(alloc);
     for own in all {
         noted.extend(own)?;

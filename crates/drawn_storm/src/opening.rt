@@ -3,14 +3,14 @@ ghost use Rattle.std.specs.Prelude.{◌≡◌};
 
 use crate::answering::Answered;
 use crate::fault::Fault;
-use crate::profiles::NAMES;
+use crate::profiles::Name;
 use crate::questions::QUESTIONS;
-use crate::work::{Scene, Work, work_all};
+use crate::scene::Scene;
 use path_guard::{Guard, Row, Session};
 use std::alloc::Global;
 use std::marker::PhantomData;
 use std::sync::Wait;
-use storm_parts::Random;
+use storm_parts::{ROUNDS, Random, share};
 
 // One open in so many is tried beside the keeper alone, and so may be busy.
 const TRIED: usize = 4;
@@ -22,7 +22,7 @@ const SELECTED: usize = 50;
 #[derive(Drop)]
 pub(crate) struct Opener<M: Row> {
     session: Session,
-    profile: &'static [u8],
+    profile: Name,
     random: Random,
     answers: Vec<Answered>,
     of: PhantomData<M>,
@@ -37,8 +37,8 @@ impl<M: Row> Opener<M> {
         random: Random,
     ) -> Result<Opener<M>, Fault> {
         let mut random = random;
-        let profile = NAMES[random.below(NAMES.len())];
-        let session = guard.session(rt, profile)?;
+        let profile = Name::draw(&mut random);
+        let session = guard.session(rt, profile.as_bytes())?;
         Ok(Opener {
             session,
             profile,
@@ -55,20 +55,38 @@ impl<M: Row> Opener<M> {
         scene: &Scene<'_, M>,
     ) -> Result<Vec<Answered>, Fault> {
         let mut opener = self;
-        work_all(rt, scene, &mut opener, scene.plan.opens)?;
+        for round in 0..ROUNDS {
+            scene.rounds.begin(round);
+            let opens = share(scene.plan.opens, round);
+            if let Err(fault) = opener.open_round(rt, scene, opens) {
+                scene.rounds.give_up();
+                return Err(fault);
+            }
+        }
         Ok(opener.answers)
     }
 
+    fn open_round(
+        &mut self,
+        rt: &impl Wait,
+        scene: &Scene<'_, M>,
+        opens: usize,
+    ) -> Result<(), Fault> {
+        for _ in 0..opens {
+            self.open(rt, scene)?;
+        }
+        Ok(())
+    }
+
     fn select(&mut self) -> Result<(), Fault> {
-        let profile = NAMES[self.random.below(NAMES.len())];
-        self.session.select(profile)?;
+        let profile = Name::draw(&mut self.random);
+        self.session.select(profile.as_bytes())?;
         self.profile = profile;
         Ok(())
     }
-}
 
-impl<M: Row> Work<M> for Opener<M> {
-    fn step(&mut self, rt: &impl Wait, scene: &Scene<'_, M>) -> Result<(), Fault> {
+    /// Asks one of the questions.
+    fn open(&mut self, rt: &impl Wait, scene: &Scene<'_, M>) -> Result<(), Fault> {
         if self.random.below(SELECTED) == 0 {
             self.select()?;
         }

@@ -7,7 +7,33 @@ use std::sync::Arc;
 use storm_parts::Random;
 
 /// The names that profiles are published under.
-pub(crate) const NAMES: [&[u8]; 4] = [b"p", b"q", b"s", b"t"];
+#[derive(Clone, Copy)]
+pub(crate) enum Name {
+    P,
+    Q,
+    S,
+    T,
+}
+
+impl Name {
+    pub(crate) fn draw(random: &mut Random) -> Name {
+        match random.below(4) {
+            0 => Name::P,
+            1 => Name::Q,
+            2 => Name::S,
+            _ => Name::T,
+        }
+    }
+
+    pub(crate) fn as_bytes(self) -> &'static [u8] {
+        match self {
+            Name::P => b"p",
+            Name::Q => b"q",
+            Name::S => b"s",
+            Name::T => b"t",
+        }
+    }
+}
 
 /// So many profiles are drawn, of which each may be published under each name.
 pub(crate) const PROFILES: usize = 24;
@@ -33,10 +59,7 @@ const COMPONENTS: [&str; 14] = [
 const LETTERS: [&str; 6] = ["r", "w", "rw", "rk", "rwm", "rwlkm"];
 
 /// The profiles of a storm.
-pub(crate) fn profiles(
-    alloc: Global,
-    random: &mut Random,
-) -> Result<Vec<Arc<AnyProfile>>, Fault> {
+pub(crate) fn profiles(alloc: Global, random: &mut Random) -> Result<Vec<Arc<AnyProfile>>, Fault> {
     let mut profiles = Vec::new(alloc);
     for _ in 0..PROFILES {
         let text = text(alloc, random)?;

@@ -1,14 +1,14 @@
 //! Changes of the policy.
 use crate::fault::Fault;
 use crate::noting::Noted;
-use crate::profiles::{NAMES, PROFILES};
-use crate::work::{Scene, Work, work_all};
+use crate::profiles::{Name, PROFILES};
+use crate::scene::Scene;
 use matcher::{AnyProfile, PolicyChange};
 use names::Errno;
 use path_guard::{Guard, Row};
 use std::alloc::Global;
 use std::sync::{Arc, Wait};
-use storm_parts::Random;
+use storm_parts::{ROUNDS, Random, share};
 
 // One change in so many takes a profile away.
 const REMOVED: usize = 4;
@@ -31,11 +31,41 @@ pub(crate) fn publish_all<M: Row>(
         random,
         made: Vec::new(scene.alloc),
     };
-    work_all(rt, scene, &mut publisher, changes)?;
+    for round in 0..ROUNDS {
+        scene.rounds.begin(round);
+        if let Err(fault) = publisher.publish_round(rt, scene, share(changes, round)) {
+            scene.rounds.give_up();
+            return Err(fault);
+        }
+    }
     Ok(publisher.made)
 }
 
 impl Publisher {
+    fn publish_round<M: Row>(
+        &mut self,
+        rt: &impl Wait,
+        scene: &Scene<'_, M>,
+        changes: usize,
+    ) -> Result<(), Fault> {
+        for _ in 0..changes {
+            self.publish(rt, scene)?;
+        }
+        Ok(())
+    }
+
+    /// Publishes a profile, or takes one away.
+    fn publish<M: Row>(&mut self, rt: &impl Wait, scene: &Scene<'_, M>) -> Result<(), Fault> {
+        let name = Name::draw(&mut self.random).as_bytes();
+        if self.random.below(REMOVED) == 0 {
+            return self.remove(rt, scene.alloc, scene.guard, name);
+        }
+        match scene.profiles.get(self.random.below(PROFILES)) {
+            Some(profile) => self.replace(rt, scene.alloc, scene.guard, name, profile),
+            None => Ok(()),
+        }
+    }
+
     fn replace<M: Row>(
         &mut self,
         rt: &impl Wait,
@@ -44,8 +74,7 @@ impl Publisher {
         name: &[u8],
         profile: &Arc<AnyProfile>,
     ) -> Result<(), Fault> {
-        let change =
-            PolicyChange::Replace(Vec::from_slice(alloc, name)?, Arc::try_clone(profile)?);
+        let change = PolicyChange::Replace(Vec::from_slice(alloc, name)?, Arc::try_clone(profile)?);
         let version = guard.replace(rt, name, Arc::try_clone(profile)?);
         self.note(version, change)
     }
@@ -68,19 +97,6 @@ impl Publisher {
             Ok(version) => Ok(self.made.push(Noted { version, change })?),
             Err(Errno::ENOMEM) => Err(Fault::NoMemory),
             Err(_) => Ok(()),
-        }
-    }
-}
-
-impl<M: Row> Work<M> for Publisher {
-    fn step(&mut self, rt: &impl Wait, scene: &Scene<'_, M>) -> Result<(), Fault> {
-        let name = NAMES[self.random.below(NAMES.len())];
-        if self.random.below(REMOVED) == 0 {
-            return self.remove(rt, scene.alloc, scene.guard, name);
-        }
-        match scene.profiles.get(self.random.below(PROFILES)) {
-            Some(profile) => self.replace(rt, scene.alloc, scene.guard, name, profile),
-            None => Ok(()),
         }
     }
 }

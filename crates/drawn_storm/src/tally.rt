@@ -122,7 +122,7 @@ fn count_all(
     }
     let trail = Trail::new(alloc, &question.path, question.ask, changes)?;
     for answered in answers {
-        let is_justified = trail.justifies(&answered.answer, answered.profile, policy);
+        let is_justified = trail.justifies(&answered.answer, answered.profile.as_bytes(), policy);
         counts.count(&answered.answer, is_justified);
     }
     Ok(())

@@ -6,7 +6,7 @@ use crate::noting::Noted;
 use crate::opening::Opener;
 use crate::plan::Plan;
 use crate::publishing::publish_all;
-use crate::work::Scene;
+use crate::scene::Scene;
 use matcher::PolicyChange;
 use path_guard::Row;
 use std::alloc::Global;
@@ -39,16 +39,12 @@ pub(crate) fn blow<M: Row + Send + Sync, R: Threads + Wait + Sync>(
     scene: &Scene<'_, M>,
     openers: Vec<Opener<M>>,
 ) -> Result<Brought, Fault> {
-    scope(
-        scope_env(),
-        rt,
-        move |scope| -> Result<Brought, Fault> {
-            let brought = blow_in(scope, rt, scene, openers);
-            // Where a thread could not be started, the others don't wait for it.
-            scene.rounds.give_up();
-            brought
-        },
-    )
+    scope(scope_env(), rt, move |scope| -> Result<Brought, Fault> {
+        let brought = blow_in(scope, rt, scene, openers);
+        // Where a thread could not be started, the others don't wait for it.
+        scene.rounds.give_up();
+        brought
+    })
 }
 
 fn blow_in<'s, 'e: 's, M: Row + Send + Sync, R: Threads + Wait + Sync>(
