@@ -8,7 +8,7 @@ use std::sync::Wait;
 use storm_parts::{DrawnChange, ROUNDS, Random, share};
 
 // Of changes that are drawn at random a tree makes one in ten or less. So that most pieces of work make one, so many are tried.
-const DRAWS: usize = 16;
+const DRAWS: usize = 40;
 
 /// Who changes the tree, and what it changed.
 #[derive(Drop)]

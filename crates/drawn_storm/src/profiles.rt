@@ -56,7 +56,10 @@ const COMPONENTS: [&str; 14] = [
     "**",
 ];
 
-const LETTERS: [&str; 6] = ["r", "w", "rw", "rk", "rwm", "rwlkm"];
+// What they end in: often what takes many names.
+const ENDS: [&str; 8] = ["/**", "/**", "/**", "/*", "/*", "/a", "/[b-d]", "/{e,?/a}"];
+
+const LETTERS: [&str; 6] = ["r", "w", "rw", "rwk", "rwkm", "rwlkm"];
 
 /// The profiles of a storm.
 pub(crate) fn profiles(alloc: Global, random: &mut Random) -> Result<Vec<Arc<AnyProfile>>, Fault> {
@@ -82,10 +85,11 @@ fn push_rule(text: &mut Vec<u8>, random: &mut Random) -> Result<(), Fault> {
     if random.below(4) == 0 {
         text.extend_from_slice(b"deny ")?;
     }
-    for _ in 0..=random.below(3) {
+    for _ in 0..random.below(3) {
         text.push(b'/')?;
         text.extend_from_slice(COMPONENTS[random.below(COMPONENTS.len())].as_bytes())?;
     }
+    text.extend_from_slice(ENDS[random.below(ENDS.len())].as_bytes())?;
     text.push(b' ')?;
     text.extend_from_slice(LETTERS[random.below(LETTERS.len())].as_bytes())?;
     Ok(text.extend_from_slice(b",\n")?)

@@ -14,7 +14,7 @@ const ASKS: usize = 6;
 pub(crate) const QUESTIONS: usize = PATHS * ASKS;
 
 // What stands behind the components of a path.
-const TAILS: [&str; 10] = ["", "", "", "", "", "/", "/.", "/..", "/../a", "//b"];
+const TAILS: [&str; 12] = ["", "", "", "", "", "", "", "/", "/.", "/..", "/../a", "//b"];
 
 /// A path, and what it is opened for.
 #[derive(Drop)]
@@ -61,7 +61,7 @@ fn ask(random: &mut Random) -> Perms {
     for permission in &Permission::ALL {
         let often = match permission {
             Permission::Read => 12,
-            Permission::Write | Permission::Lock | Permission::Map => 5,
+            Permission::Write | Permission::Lock | Permission::Map => 4,
             Permission::Link => 1,
         };
         if random.below(20) < often {
