@@ -9,7 +9,8 @@
 # make calls      calls the library for C, and compares its answers with those of ./aa-trace
 # make embed      builds the examples for those who embed the library, ./embed in C and ./embed_rs in Rust, and runs them
 # make refusals   refuses each allocation of the program in turn, and of scripts on the row that threads share
-# make storm      opens a file 1,600,000 times in 16 threads beside renames and new profiles, and tests each answer
+# make storm      opens a file 1,600,000 times in 16 threads beside renames and new profiles, then random paths a million times
+#                 beside random changes, and tests each answer
 # make serve      has a server of four threads answer requests while its profile's file is replaced, and counts the answers
 # make drawn      makes 100,000 drawn changes in a row and in plain memory, which have to answer alike
 # make install    installs the program, the static library for C with its header, the manual page and completion for bash
@@ -83,6 +84,7 @@ refusals: aa-trace
 
 storm: aa-trace
 	sh tools/storm.sh
+	sh tools/drawn-storm.sh
 
 serve: need-rt
 	sh tools/serve-example.sh

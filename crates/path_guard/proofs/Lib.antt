@@ -1,1 +1,2 @@
+pub mod Closures
 pub mod Sending

@@ -6,12 +6,9 @@
 #![tactic(auto)]
 
 mod answers;
-mod drawing;
 mod ours;
-mod paths;
 mod plan;
 mod replay;
-mod rounds;
 mod script;
 mod storm;
 mod telling;

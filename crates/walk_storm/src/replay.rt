@@ -1,12 +1,11 @@
 //! The tree of each version, made again in plain memory, and what was found beside it.
 use crate::answers::{Answer, Found};
-use crate::drawing::DrawnChange;
-use crate::paths::NumberedPath;
 use crate::telling::{Rooms, tell};
 use names::{Errno, Path};
 use path_lookup::WalkFault;
 use plain_tree::PlainTree;
 use std::alloc::{AllocError, Global};
+use storm_parts::{DrawnChange, NumberedPath};
 
 /// How many of a walker's answers differ from what the plain tree of their version has. Where versions fall, or changes can't be
 /// made again, they differ, too.

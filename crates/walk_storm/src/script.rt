@@ -1,9 +1,9 @@
 //! The changes that a keeper tries.
 ghost use Rattle.std.specs.Prelude.{◌≡◌, ◌≤◌, ◌<◌};
 
-use crate::drawing::{DrawnChange, Random};
 use plain_tree::PlainTree;
 use std::alloc::{AllocError, Global};
+use storm_parts::{DrawnChange, Random};
 
 // Of changes that are drawn at random a plain tree would make one in ten or less. So that most are made, it is asked about so many.
 const DRAWS: usize = 16;

@@ -1,11 +1,9 @@
 //! Walkers beside a keeper, and what they found beside what they should have found.
 ghost use Rattle.std.specs.Prelude.{◌≡◌};
 
-use crate::drawing::{DrawnChange, Random};
 use crate::ours::{Row, RowKeeper};
 use crate::plan::Plan;
 use crate::replay::differing;
-use crate::rounds::{ROUNDS, Rounds, share};
 use crate::script::script;
 use crate::walking::{Walked, Work, walk_all};
 use dentry_cache::Keeper;
@@ -13,6 +11,7 @@ use std::alloc::{AllocError, Global};
 use std::marker::Brand;
 use std::sync::Arc;
 use std::thread::{JoinHandle, Threads, spawn};
+use storm_parts::{DrawnChange, ROUNDS, Random, Rounds, share};
 
 /// Room for so many entries: few, so that trees are full at times, and walks are short.
 const CAPACITY: usize = 40;
@@ -48,7 +47,8 @@ fn storm_over<J: Row + Send + Sync + 'static, R: Threads>(
 {
     let mut keeper: RowKeeper<J> = RowKeeper::new(keeper);
     let script = script(alloc, CAPACITY, plan.changes)?;
-    let rounds = Arc::new(alloc, Rounds::new(plan.walkers))?;
+    // The walkers', and the keeper's.
+    let rounds = Arc::new(alloc, Rounds::new(plan.walkers.saturating_add(1)))?;
     let threads = start_walkers(rt, alloc, plan, &mut keeper, &rounds)?;
     let log = change_all(alloc, &script, &mut keeper, &rounds)?;
     let mut outcome = Outcome {

@@ -2,15 +2,13 @@
 ghost use Rattle.std.specs.Prelude.{◌≤◌, IfOk};
 
 use crate::answers::{Answer, Answers, Found};
-use crate::drawing::Random;
 use crate::ours::{Row, RowWalker};
-use crate::paths::NumberedPath;
-use crate::rounds::{ROUNDS, Rounds, share};
 use crate::telling::{Rooms, Told};
 use names::{LONGEST_PATH, Path};
 use path_lookup::WalkFault;
 use std::alloc::{AllocError, Global};
 use std::sync::Arc;
+use storm_parts::{NumberedPath, ROUNDS, Random, Rounds, share};
 
 /// What a walker is given.
 #[derive(Drop)]

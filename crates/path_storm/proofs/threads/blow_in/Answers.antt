@@ -2,7 +2,8 @@ use denote.Exit.{no}
 use denote.Param.{param}
 use denote.Param.Send.{shr_send}
 use Rattle.std.proofs.Crossing.{Vec-send}
-use Rattle.path_storm.proofs.Sending.{policy_change_send, change_send, scene_sync, of_three}
+use Rattle.path_guard.proofs.Closures.{of_three}
+use Rattle.path_storm.proofs.Sending.{policy_change_send, change_send, scene_sync}
 use Rattle.path_storm.proofs.threads.blow_in.Goals as goal
 
 pub spawn-renamer-requires-send-F : goal.spawn-renamer-requires-send-F

@@ -1,7 +1,8 @@
 use denote.Exit.{no}
 use denote.Param.{param}
 use denote.Param.Send.{shr_send}
-use Rattle.path_storm.proofs.Sending.{number_send, worker_send, scene_sync, of_four}
+use Rattle.path_guard.proofs.Closures.{of_four}
+use Rattle.path_storm.proofs.Sending.{number_send, worker_send, scene_sync}
 use Rattle.path_storm.proofs.threads.start.Goals as goal
 
 pub spawn_with-opening-requires-send-F : goal.spawn_with-opening-requires-send-F

@@ -15,7 +15,7 @@ fn expect_justified<R: Abort + Threads + Wait + Sync>(
 ) -> Result<(), Fail> {
     let report = storm_on::<Brand, R, Open>(rt, alloc, keeper(alloc)?, plan, &Open)?;
     let report = report.ok().ok_or("a storm")?;
-    let answers = plan.sessions as u64 * plan.opens;
+    let answers = u64::from(plan.sessions).saturating_mul(plan.opens);
     let wanted = StormReport {
         answers,
         unjustified: 0,

@@ -7,10 +7,13 @@ use std::process::Abort;
 use std::sync::Wait;
 use std::sync::atomic::{AtomicBool, Ordering};
 use std::test::Fail;
-use std::thread::Threads;
+use std::thread::{Threads, yield_now};
 
 // Who waits longer fails the test, and goes on.
 const MOST_TURNS: u64 = 100_000_000;
+
+// After so many turns it gives way, so that the other worker gets on where processors are few.
+const TURNS_AT_ONCE: u64 = 4096;
 
 /// The first worker opens only after the second one has opened, and the second one only after the first one has begun: one at a
 /// time, neither of them would open.
@@ -25,9 +28,12 @@ struct Meeting {
 
 impl Meeting {
     fn wait_for(&self, flag: &AtomicBool) {
-        for _ in 0..MOST_TURNS {
+        for turn in 0..MOST_TURNS {
             if flag.load(Ordering::SeqCst) {
                 return;
+            }
+            if turn % TURNS_AT_ONCE == 0 {
+                yield_now();
             }
         }
         self.failed.store(true, Ordering::SeqCst);

@@ -24,7 +24,7 @@ enum Kind {
 
 /// A change as plain data, which can be made of two trees.
 #[derive(Clone, Copy)]
-pub(crate) struct DrawnChange {
+pub struct DrawnChange {
     kind: Kind,
     path: NumberedPath,
     // The second path, of a link or a rename.
@@ -35,7 +35,7 @@ pub(crate) struct DrawnChange {
 
 impl DrawnChange {
     /// The change, if its paths are paths.
-    pub(crate) fn change(&self) -> Option<Change<'_>> {
+    pub fn change(&self) -> Option<Change<'_>> {
         let path = Path::check(self.path.as_bytes()).ok()?;
         let change = match self.kind {
             Kind::Mkdir => Change::Mkdir(path),
@@ -60,17 +60,18 @@ impl DrawnChange {
 
 /// Numbers that look random, and are the same in each run.
 #[derive(Drop)]
-pub(crate) struct Random {
+pub struct Random {
     state: u64,
 }
 
 impl Random {
-    pub(crate) fn new(seed: u64) -> Random {
+    /// The numbers that come of this seed.
+    pub fn new(seed: u64) -> Random {
         Random { state: seed }
     }
 
     /// A number below this one (Knuth's constants of a linear congruential generator).
-    fn below(&mut self, n: usize) -> usize
+    pub fn below(&mut self, n: usize) -> usize
         requires { 0 < n }
         ensures { result < n }
     {
@@ -82,7 +83,7 @@ impl Random {
     }
 
     /// The number of a path. Short ones come more often, since longer ones mostly lead nowhere.
-    pub(crate) fn path(&mut self) -> usize {
+    pub fn path(&mut self) -> usize {
         // The paths of one component begin at 1, those of two at 6, of three at 31 and of four at 156.
         match self.below(12) {
             0..5 => 1 + self.below(5),
@@ -92,7 +93,8 @@ impl Random {
         }
     }
 
-    pub(crate) fn change(&mut self) -> DrawnChange {
+    /// A change, which most trees refuse.
+    pub fn change(&mut self) -> DrawnChange {
         let kind = match self.below(24) {
             0..3 => Kind::Mkdir,
             3..5 => Kind::Create,

@@ -6,13 +6,14 @@ const MOST_COMPONENTS: usize = 4;
 /// A path of at most four components, each of which is one of five letters. They are numbered: the root's path is 0, and those of
 /// what stands in the directory of path n are 5n + 1 to 5n + 5.
 #[derive(Clone, Copy)]
-pub(crate) struct NumberedPath {
+pub struct NumberedPath {
     bytes: [u8; 2 * MOST_COMPONENTS],
     components: usize,
 }
 
 impl NumberedPath {
-    pub(crate) fn new(number: usize) -> NumberedPath {
+    /// The path of this number.
+    pub fn new(number: usize) -> NumberedPath {
         let mut bytes = [b'/'; 2 * MOST_COMPONENTS];
         let mut components = 0;
         let mut left = number;
@@ -29,7 +30,7 @@ impl NumberedPath {
     }
 
     /// Its text.
-    pub(crate) fn as_bytes(&self) -> &[u8] {
+    pub fn as_bytes(&self) -> &[u8] {
         if self.components == 0 {
             return b"/";
         }

@@ -3,7 +3,7 @@ use std::sync::atomic::{AtomicU64, Ordering};
 use std::thread::yield_now;
 
 /// In how many rounds the work of each thread is done.
-pub(crate) const ROUNDS: usize = 100;
+pub const ROUNDS: usize = 100;
 
 // A thread that waits longer goes on without the others, so that none waits for ever.
 const MOST_YIELDS: u64 = 1 << 20;
@@ -11,23 +11,23 @@ const MOST_YIELDS: u64 = 1 << 20;
 /// Threads that do their work in rounds, which they begin together: so walks stand beside changes from the first to the last,
 /// however the threads get on.
 #[derive(Drop)]
-pub(crate) struct Rounds {
+pub struct Rounds {
     threads: u64,
     // How many rounds were begun, by all threads together.
     begun: AtomicU64,
 }
 
 impl Rounds {
-    /// Those of a keeper and so many walkers.
-    pub(crate) fn new(walkers: usize) -> Rounds {
+    /// Those of so many threads.
+    pub fn new(threads: usize) -> Rounds {
         Rounds {
-            threads: (walkers as u64).saturating_add(1),
+            threads: threads as u64,
             begun: AtomicU64::new(0),
         }
     }
 
     /// Begins a round, and waits until the other threads have begun it, too.
-    pub(crate) fn begin(&self, round: usize) {
+    pub fn begin(&self, round: usize) {
         self.begun.fetch_add(1, Ordering::SeqCst);
         let all = (round as u64)
             .saturating_add(1)
@@ -41,13 +41,13 @@ impl Rounds {
     }
 
     /// The others wait no more for a thread that stops before its last round.
-    pub(crate) fn give_up(&self) {
+    pub fn give_up(&self) {
         self.begun.fetch_add(1 << 40, Ordering::SeqCst);
     }
 }
 
 /// How much of some work belongs to a round.
-pub(crate) fn share(work: usize, round: usize) -> usize {
+pub fn share(work: usize, round: usize) -> usize {
     if round < work % ROUNDS {
         work / ROUNDS + 1
     } else {

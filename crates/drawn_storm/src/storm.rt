@@ -1,0 +1,114 @@
+//! The storm.
+ghost use Rattle.std.specs.Prelude.{◌≡◌};
+
+use crate::fault::Fault;
+use crate::noting::in_order;
+use crate::opening::Opener;
+use crate::plan::Plan;
+use crate::profiles::profiles;
+use crate::questions::{Question, questions};
+use crate::scene::Scene;
+use crate::tally::{Counts, tally};
+use crate::threads::{Brought, blow, threads_of};
+use dentry_cache::Keeper;
+use path_guard::{Guard, Row};
+use profile_registry::Publisher;
+use std::alloc::Global;
+use std::marker::Brand;
+use std::sync::Wait;
+use std::thread::Threads;
+use storm_parts::{Random, Rounds};
+
+/// Room for so many entries: few, so that trees are full at times, and opens often find something.
+const CAPACITY: usize = 40;
+
+/// What a storm came to.
+#[derive(Clone, Copy)]
+pub(crate) struct Outcome {
+    pub counts: Counts,
+    /// So many changes of the tree were made.
+    pub changes: usize,
+    /// So many changes of the policy were made.
+    pub policy_changes: usize,
+}
+
+/// Lays a storm on a guard of its own.
+pub(crate) fn storm<R: Threads + Wait + Sync>(
+    rt: &R,
+    alloc: Global,
+    plan: &Plan,
+) -> Result<Outcome, Fault> {
+    let keeper = Keeper::new(alloc, CAPACITY)?;
+    let publisher = Publisher::new(alloc)?;
+    storm_over::<Brand, R>(rt, alloc, plan, keeper, publisher)
+}
+
+fn storm_over<M: Row + Send + Sync, R: Threads + Wait + Sync>(
+    rt: &R,
+    alloc: Global,
+    plan: &Plan,
+    keeper: Keeper,
+    publisher: Publisher,
+) -> Result<Outcome, Fault>
+    requires { keeper.table ≡ M.table }
+{
+    let guard: Guard<M> = Guard::new(alloc, keeper, publisher);
+    let outcome = storm_on(rt, alloc, plan, &guard);
+    guard.close(rt);
+    outcome
+}
+
+fn storm_on<M: Row + Send + Sync, R: Threads + Wait + Sync>(
+    rt: &R,
+    alloc: Global,
+    plan: &Plan,
+    guard: &Guard<M>,
+) -> Result<Outcome, Fault> {
+    let mut random = Random::new(plan.seed);
+    let questions = questions(alloc, &mut random)?;
+    let profiles = profiles(alloc, &mut random)?;
+    let rounds = Rounds::new(threads_of(plan));
+    let scene = Scene {
+        alloc,
+        guard,
+        rounds: &rounds,
+        questions: &questions,
+        profiles: &profiles,
+        plan: *plan,
+    };
+    let openers = openers(rt, &scene)?;
+    let brought = blow(rt, &scene, openers)?;
+    judge(alloc, plan, &questions, brought)
+}
+
+/// The sessions, before the first of them opens.
+fn openers<M: Row>(rt: &impl Wait, scene: &Scene<'_, M>) -> Result<Vec<Opener<M>>, Fault> {
+    let mut openers = Vec::new(scene.alloc);
+    for number in 0..scene.plan.sessions {
+        let random = scene.random(number + 1);
+        openers.push(Opener::new(rt, scene.alloc, scene.guard, random)?)?;
+    }
+    Ok(openers)
+}
+
+/// Puts the answers to what was changed, but for the change that is to be left out.
+fn judge(
+    alloc: Global,
+    plan: &Plan,
+    questions: &[Question],
+    brought: Brought,
+) -> Result<Outcome, Fault> {
+    let mut changes = in_order(alloc, brought.changes)?;
+    let policy = in_order(alloc, brought.policy)?;
+    let made = changes.len();
+    if let Some(number) = plan.left_out
+        && number < changes.len()
+    {
+        changes.remove(number);
+    }
+    Ok(Outcome {
+        counts: tally(alloc, questions, &changes, &policy, &brought.answers)?,
+        changes: made,
+        policy_changes: policy.len(),
+    })
+}
