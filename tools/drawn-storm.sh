@@ -20,7 +20,7 @@ end=$(date +%s%N)
 echo "$(((end - begin) / 1000000)) milliseconds"
 [ "$(cat "$log")" = "answers $((SESSIONS * OPENS)) unjustified 0" ] || exit 1
 
-echo 'with the tenth change left out:'
+echo 'with one change of the tree left out:'
 out/drawn_storm "$SEED" 4 1000 1000 10 | tee "$log"
 case $(cat "$log") in
 'answers 4000 unjustified 0') echo 'all of them should not be justified' >&2; exit 1 ;;

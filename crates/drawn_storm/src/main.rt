@@ -3,8 +3,8 @@
 //!
 //! With no arguments four sessions make a thousand opens each beside a thousand changes of the tree and as many of the policy, all
 //! drawn from the seed 1. With the arguments SEED, SESSIONS, OPENS and CHANGES they are drawn from that seed, and so many sessions
-//! make so many opens each beside so many changes of both. With a fifth one, LEFT_OUT, the change of the tree of that number is
-//! left out of what the answers are put to: then many of them aren't justified.
+//! make so many opens each beside so many changes of both. With a fifth one, LEFT_OUT, the change of the tree behind the
+//! first so many is left out of what the answers are put to: then many of them aren't justified.
 //!
 //! On standard error stands what was answered, and how many changes were made.
 #![tactic(auto)]

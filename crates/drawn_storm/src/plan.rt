@@ -9,7 +9,7 @@ pub(crate) struct Plan {
     pub opens: usize,
     /// So many changes of the tree are made, and as many of the policy.
     pub changes: usize,
-    /// The number of the change of the tree that answers are put to a list without.
+    /// The change of the tree behind the first so many is left out of what answers are put to.
     pub left_out: Option<usize>,
 }
 

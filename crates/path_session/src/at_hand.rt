@@ -1,5 +1,5 @@
 //! Opens and hard links where both the keeper and the publisher are at hand.
-ghost use Rattle.std.specs.Prelude.{◌≡◌, [], IfOk, IfErr, OnOk, OnErr};
+ghost use Rattle.std.specs.Prelude.{◌≡◌, ◌≢◌, [], IfOk, IfErr, OnOk, OnErr};
 ghost use mathlib.Core.List.{IsPrefix};
 ghost use Rattle.dentry_cache.specs.Models.{met_at};
 ghost use Rattle.mediation.specs.Answers.{answered, name_opened, link_answered, name_linked};
@@ -27,6 +27,7 @@ impl Session {
         requires { self.old.walk.table ≡ keeper.old.table }
         ensures same { IsSameSession self.old self.new × (keeper.new ≡ keeper.old) × (publisher.new ≡ publisher.old) }
         ensures met { IsPrefix self.old.walk.view.seen keeper.old.history × (self.new.walk.view ≡ met_at keeper.old.history) }
+        ensures meetings { self.new.meetings ≢ self.old.meetings }
         ensures policy_seen { OnOk result (self.new.reading.seen ≡ publisher.old.published) }
         ensures answer { IfOk result (λ answer. answered self.new.judged answer
             ≡ open_answer (history_of keeper.old publisher.old.published) self.old.profile path.now ask) }

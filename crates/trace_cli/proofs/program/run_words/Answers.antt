@@ -36,3 +36,9 @@ pub returns-in-Ok-Steps-clause-output : goal.returns-in-Ok-Steps-clause-output
 returns-in-Ok-Steps-clause-output g c limit =
     let ran = c.steps.ensures limit in
     (ran.0, ran.1, rw (c.in-Ok-Steps.ensures.ok, c.in-Ok-Steps.field-0-is) ran.2)
+
+pub returns-in-Ok-Storm-clause-output : goal.returns-in-Ok-Storm-clause-output
+returns-in-Ok-Storm-clause-output g c limit =
+    let text = text_of (g.R.Read.remaining c.args.input.now) in
+    let ended = rw c.from.ensures at c.storm.ensures in
+    (text.0, text.1, rw (c.in-Ok-Storm.ensures.ok, c.in-Ok-Storm.field-0-is) ended)
