@@ -1,9 +1,9 @@
 #!/bin/sh
 # Refuses each allocation of one run of ./aa-trace in turn: the first alone, then the second alone, and so on, until a run has no
-# such allocation. Each refused run must write `no memory` to standard error and end with status 4, with nothing on standard
-# output or, for a script, a front part of the answers in whole lines; or it did without that allocation, and then answers all
-# as the whole run does. Last come walks over the row that threads share beside its changes, some of which want memory then: no
-# walk may find what isn't there. Wants a C compiler, for the few lines that stand before malloc and realloc.
+# such allocation. Each refused run must write `no memory` (a storm perhaps `no thread`) to standard error and end with status 4,
+# with nothing on standard output or, for a script, a front part of the answers in whole lines; or it did without that
+# allocation, and then answers all as the whole run does. Last come walks over the row that threads share beside its changes,
+# some of which want memory then: no walk may find what isn't there. Wants a C compiler, for the few lines that stand before malloc and realloc.
 set -eu
 cd "$(dirname "$0")/.."
 [ -x ./aa-trace ] || { echo "./aa-trace is missing: run make" >&2; exit 1; }
@@ -58,6 +58,15 @@ is_front() {
     [ "$(tail -c 1 "$work/answers" | wc -l)" -eq 1 ] && head -c "$size" "$work/whole-answers" | cmp -s - "$work/answers"
 }
 
+# is_refusal: what was told says that memory is wanting, or of a storm that a thread couldn't be started for want of it
+is_refusal() {
+    case "$(cat "$work/faults")" in
+    'no memory') ;;
+    'no thread') [ "${what#aa-trace storm }" != "$what" ] ;;
+    *) return 1 ;;
+    esac
+}
+
 # refuse_all TEXT PROGRAM ARGUMENTS..: every allocation of the run `PROGRAM ARGUMENTS < TEXT`
 refuse_all() {
     text=$1
@@ -78,7 +87,7 @@ refuse_all() {
         if [ "$status" -eq "$wanted" ] && cmp -s "$work/answers" "$work/whole-answers" \
             && cmp -s "$work/faults" "$work/whole-faults"; then
             spared=$((spared + 1))
-        elif [ "$status" -ne 4 ] || [ "$(cat "$work/faults")" != 'no memory' ] || ! is_front; then
+        elif [ "$status" -ne 4 ] || ! is_refusal || ! is_front; then
             echo "allocation $refused of '$what': status $status, $(cat "$work/answers" "$work/faults")" >&2
             exit 1
         fi
@@ -95,6 +104,7 @@ refuse_all examples/viewer.profile ./aa-trace judge w /home/me/.gnupg/keys
 refuse_all "$work/rules" ./aa-trace judge r /home/me/.ssh/a/id_39.pub
 refuse_all /dev/null ./aa-trace judge r /x
 refuse_all /dev/null ./aa-trace judge r
+refuse_all /dev/null ./aa-trace storm --sessions 2 --opens 3 --changes 2
 refuse_all examples/viewer.profile ./aa-trace compile
 ./aa-trace compile <examples/viewer.profile >"$work/image"
 refuse_all "$work/image" ./aa-trace check
