@@ -41,10 +41,16 @@ impl<'a> ProfileFile<'a> {
             return Ok(None);
         }
         let profile = compiled(rt.alloc(), &text);
-        self.text = Some(text);
+        // A text that is refused is told once. Memory may be there the next time.
+        if profile.as_ref().err() != Some(&Fault::Memory) {
+            self.text = Some(text);
+        }
         match guard.replace(rt, PROFILE, profile?) {
             Ok(version) => Ok(Some(version)),
-            Err(errno) => Err(ServerFault::Publication(errno)),
+            Err(errno) => {
+                self.text = None;
+                Err(ServerFault::Publication(errno))
+            }
         }
     }
 
