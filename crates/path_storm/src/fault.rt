@@ -1,5 +1,5 @@
 //! Why there was no storm.
-ghost use Rattle.std.specs.Prelude.{Some};
+ghost use Rattle.std.specs.Prelude.{◌≡◌, Some};
 ghost use Rattle.path_storm.specs.Faults.{storm_fault_text};
 
 use names::NoMemory;
@@ -30,24 +30,40 @@ impl fmt::Display for StormFault {
 }
 
 impl From<AllocError> for StormFault {
+    ghost use Rattle.path_storm.specs.declared.fault.StormFault.TheVariants.{NoMemory};
+
+    ghost from_gives = { λ _ fault. fault ≡ NoMemory };
+
     fn from(_refused: AllocError) -> StormFault {
         StormFault::NoMemory
     }
 }
 
 impl<T: Drop> From<AllocFailed<T>> for StormFault {
+    ghost use Rattle.path_storm.specs.declared.fault.StormFault.TheVariants.{NoMemory};
+
+    ghost from_gives = { λ _ fault. fault ≡ NoMemory };
+
     fn from(_refused: AllocFailed<T>) -> StormFault {
         StormFault::NoMemory
     }
 }
 
 impl From<NoMemory> for StormFault {
+    ghost use Rattle.path_storm.specs.declared.fault.StormFault.TheVariants as storm;
+
+    ghost from_gives = { λ _ fault. fault ≡ storm.NoMemory };
+
     fn from(_refused: NoMemory) -> StormFault {
         StormFault::NoMemory
     }
 }
 
 impl From<SessionFault> for StormFault {
+    ghost use Rattle.path_storm.specs.Faults.{of_session};
+
+    ghost from_gives = { λ fault told. told ≡ of_session fault };
+
     fn from(fault: SessionFault) -> StormFault {
         match fault {
             SessionFault::NoSeat => StormFault::NoSeat,

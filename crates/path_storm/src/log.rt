@@ -1,5 +1,6 @@
 //! What a storm did, and what that comes to.
-ghost use Rattle.std.specs.Prelude.{◌≡◌, ◌+◌, IfOk, map};
+ghost use Rattle.std.specs.Prelude.{◌≡◌, ◌+◌, IfErr, IfOk, map};
+ghost use Rattle.path_storm.specs.declared.fault.StormFault.TheVariants.{NoMemory};
 ghost use Rattle.mediation.specs.PolicyChanges.{deed_of};
 ghost use Rattle.justification.specs.Justified.{Justified};
 ghost use Rattle.path_storm.specs.Counting.{IsCountOfOthers, IsReportOf};
@@ -30,7 +31,8 @@ pub struct StormLog {
 impl StormLog {
     /// How many answers there are, and how many of them are not justified by the changes that were made.
     pub fn report(&self, alloc: Global) -> Result<StormReport, StormFault>
-        ensures { IfOk result (IsReportOf self.now) }
+        ensures ok { IfOk result (IsReportOf self.now) }
+        ensures err { IfErr result (λ fault. fault ≡ NoMemory) }
     {
         let trail = Trail::new(alloc, FILE, self.ask, self.changes.as_slice())?;
         let mut report = StormReport {
@@ -64,7 +66,8 @@ fn unjustified(trail: &Trail<'_>, policy: &[PolicyChange], answers: &[Answer]) -
 
 /// There is no memory for more answers than can be counted.
 fn sum(one: u64, other: u64) -> Result<u64, StormFault>
-    ensures { IfOk result (λ sum. sum ≡ one + other) }
+    ensures ok { IfOk result (λ sum. sum ≡ one + other) }
+    ensures err { IfErr result (λ fault. fault ≡ NoMemory) }
 {
     one.checked_add(other).ok_or(StormFault::NoMemory)
 }

@@ -17,6 +17,6 @@ loop-own-preserved c =
     c.as_slice-in-loop-own-2.result.now own.items c.unjustified-unjustified.result
     c.in_ok-trail.ensures c.as_slice.ensures.value c.as_slice-in-loop-own.ensures.value c.as_slice-in-loop-own-2.ensures.value c.unjustified-unjustified.ensures in
     record {
-      answers = omega (arith, more, length-append (answers_of (take c.loop-own.own-index c.args.self.now.answers.items)) own.items, c.in_ok-sum.ensures, c.len.ensures, so_far.answers, own.ok.0);
-      unjustified = rw c.in_ok-sum-2.ensures (one_session _ c.args.self.now.answers.items c.loop-own.own-index own c.loop-own.report.unjustified c.unjustified-unjustified.result low here so_far.unjustified counted);
+      answers = omega (arith, more, length-append (answers_of (take c.loop-own.own-index c.args.self.now.answers.items)) own.items, c.in_ok-sum.ensures.ok, c.len.ensures, so_far.answers, own.ok.0);
+      unjustified = rw c.in_ok-sum-2.ensures.ok (one_session _ c.args.self.now.answers.items c.loop-own.own-index own c.loop-own.report.unjustified c.unjustified-unjustified.result low here so_far.unjustified counted);
     }
