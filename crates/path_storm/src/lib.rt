@@ -4,7 +4,7 @@
 //! [`storm_with`] lays it on a guard, and puts each answer to the trail of what was really changed. [`storm_log`] gives what it
 //! did, and [`StormLog::report`] what that comes to.
 //!
-//! To be believed are the 15 lines of definitions in `specs/`, beside those of `justification`.
+//! To be believed are some 45 lines of definitions in `specs/`, beside those of `justification`.
 #![tactic(auto)]
 
 mod fault;

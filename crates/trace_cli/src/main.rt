@@ -10,7 +10,7 @@
 //! Faults go to standard error, and the exit status is 0 for answers, 2 for a bad command line, 3 for a refused text, profile,
 //! image or stream, or an answer of a storm that isn't justified, and 4 for want of memory, of a thread or of a seat.
 //!
-//! To be believed are about 90 lines of definitions in `specs/`.
+//! To be believed are about 100 lines of definitions in `specs/`.
 #![tactic(auto)]
 
 mod program;
