@@ -1,5 +1,5 @@
 # make            builds ./aa-trace, the proved program
-# make run        builds it, judges a name by examples/passwd.profile and by its image, and runs two scripts of examples/
+# make run        builds it, judges a name by examples/passwd.profile and by its image, runs two scripts of examples/, and tests a third
 # make test       the gate: every proof from nothing, must-fail edits, tests, programs
 # make bench      times on large inputs, each with the ratio to half the size or to another input, of compiled profiles, of
 #                 the loop that runs names through a table, beside the same loop in C, of names judged from C, of plans and
@@ -54,6 +54,7 @@ run: aa-trace
 	./aa-trace compile < examples/passwd.profile | ./aa-trace match rw /etc/passwd
 	./aa-trace run < examples/move.script
 	./aa-trace run < examples/links.script
+	./aa-trace test < examples/player.test
 
 test: need-rt
 	@tools/version-check

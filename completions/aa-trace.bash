@@ -61,7 +61,7 @@ _aa_trace_files() {
 _aa_trace() {
     local cur=${COMP_WORDS[COMP_CWORD]} previous=${COMP_WORDS[COMP_CWORD - 1]}
     local command='' given='' literal='' arguments=0
-    local commands='judge run steps storm compile check match help'
+    local commands='judge explain run test steps storm compile check match help'
     COMPREPLY=()
     if [[ $previous == *[\<\>]* ]]; then
         _aa_trace_files "$cur"
@@ -69,14 +69,14 @@ _aa_trace() {
     fi
     _aa_trace_read_words
     # The number of an option is nothing to complete. A = is a word of its own.
-    [[ $command == @(run|steps|storm) && ($previous == --@(capacity|sessions|opens|changes) || $previous == = || $cur == =) ]] && return
+    [[ $command == @(run|test|steps|storm) && ($previous == --@(capacity|sessions|opens|changes) || $previous == = || $cur == =) ]] && return
     if [[ -z $literal && $cur == -* ]]; then
         local options='-h --help'
         case $command in
         '') options+=' --version' ;;
-        run | steps) options+=$(_aa_trace_left --capacity) ;;
+        run | test | steps) options+=$(_aa_trace_left --capacity) ;;
         storm) options+=$(_aa_trace_left --sessions --opens --changes) ;;
-        judge | compile | check | match) ;;
+        judge | explain | compile | check | match) ;;
         *) return ;;
         esac
         _aa_trace_words "$options" "$cur"
@@ -85,7 +85,7 @@ _aa_trace() {
     case $command in
     '') _aa_trace_words "$commands" "$cur" ;;
     help) ((arguments == 0)) && _aa_trace_words "$commands" "$cur" ;;
-    judge | match)
+    judge | explain | match)
         case $arguments in
         0) _aa_trace_letters "$cur" ;;
         # A name begins with a slash. What stands in the file system is often one.

@@ -52,7 +52,7 @@ is_front() {
     size=$(wc -c <"$work/answers")
     [ "$size" -eq 0 ] && return 0
     case $what in
-    'aa-trace run '* | 'aa-trace steps '*) ;;
+    'aa-trace run '* | 'aa-trace test '* | 'aa-trace steps '*) ;;
     *) return 1 ;;
     esac
     [ "$(tail -c 1 "$work/answers" | wc -l)" -eq 1 ] && head -c "$size" "$work/whole-answers" | cmp -s - "$work/answers"
@@ -102,6 +102,9 @@ awk 'BEGIN { print "profile p {"; for (i = 0; i < 40; i++) print "  deny /home/*
 refuse_all examples/passwd.profile ./aa-trace judge rw /etc/passwd
 refuse_all examples/viewer.profile ./aa-trace judge w /home/me/.gnupg/keys
 refuse_all "$work/rules" ./aa-trace judge r /home/me/.ssh/a/id_39.pub
+refuse_all "$work/rules" ./aa-trace explain rw /home/me/.ssh/a/id_39.pub
+printf 'profile p {\n  /x ,\n}\n' >"$work/fault"
+refuse_all "$work/fault" ./aa-trace explain r /x
 refuse_all /dev/null ./aa-trace judge r /x
 refuse_all /dev/null ./aa-trace judge r
 refuse_all /dev/null ./aa-trace storm --sessions 2 --opens 3 --changes 2
@@ -170,6 +173,25 @@ rmdir /b
 open p /s w
 SCRIPT
 refuse_all "$work/links" ./aa-trace run --capacity 9
+
+# Expectations that hold and that don't, and words in quotes.
+cat >"$work/test" <<'SCRIPT'
+expect ok 1
+policy
+profile "a b" {
+  "/x y/*" r,
+}
+.
+expect policy a b version 1
+mkdir "/x y"
+create "/x y/f"
+expect ok 1
+open "a b" "/x y/f" rw
+expect no rule for w /x y/f node 3 tree 2 policy 1
+drop "a b"
+expect policy a b version 2
+SCRIPT
+refuse_all "$work/test" ./aa-trace test --capacity 9
 
 # Calls step by step beside changes that are open, walks that are disturbed, and publications.
 cat >"$work/events" <<'SCRIPT'

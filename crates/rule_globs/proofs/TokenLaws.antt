@@ -18,17 +18,17 @@ abbrev pub in_front : List Item → Behind → Behind
 in_front [] behind = behind
 in_front (item ∷ items) behind = one_more (meaning item) (in_front items behind)
 
-in_front-end : (items : List Item) (groups : List (Glob × Glob)) →
+pub in_front-end : (items : List Item) (groups : List (Glob × Glob)) →
     in_front items (record { here = empty; groups = groups }) ≡ record { here = meaning_of items; groups = groups }
 in_front-end [] groups = refl
 in_front-end (item ∷ items) groups = ap (one_more (meaning item)) (in_front-end items groups)
 
 -- The item's tokens put its pattern in front.
-abbrev StandsFor : Item → Type 0
+abbrev pub StandsFor : Item → Type 0
 StandsFor item = (rest : List Token) → IsTrue (is_full item) →
     behind_all (tokens item ++ rest) ≡ one_more (meaning item) (behind_all rest)
 
-items_stand : (items : List Item) → Each StandsFor items → (rest : List Token) → IsTrue (all_full items) →
+pub items_stand : (items : List Item) → Each StandsFor items → (rest : List Token) → IsTrue (all_full items) →
     behind_all (tokens_of items ++ rest) ≡ in_front items (behind_all rest)
 items_stand [] each rest full = refl
 items_stand (item ∷ items) each rest full =
@@ -85,7 +85,7 @@ item_stands = item_induction StandsFor
     (λ s. one_stands (v.Stars s) _ _ (tokens-Stars s) (meaning-Stars s) (λ _. refl))
     (λ alternatives each. group_stands alternatives alternatives.items refl each)
 
-each_item : (items : List Item) → Each StandsFor items
+pub each_item : (items : List Item) → Each StandsFor items
 each_item [] = tt
 each_item (item ∷ items) = (item_stands item, each_item items)
 

@@ -257,7 +257,7 @@ rule_steps bytes body behind rest kind perms path e1 e2 e3 = rw (e1, e2, e3) ref
 rule_regrouped : (q b c rest : List ℕ) → (q ++ (b ++ (c ++ 44 ∷ []))) ++ rest ≡ q ++ (b ++ (c ++ 44 ∷ rest))
 rule_regrouped q b c rest = simp append_assoc
 
-rule_again : (r : WrittenRule) (behind more : List ℕ) → IsRule behind r → rule_at (print_rule r ++ (behind ++ more)) ≡ Ok (rule_means r, behind ++ more)
+pub rule_again : (r : WrittenRule) (behind more : List ℕ) → IsRule behind r → rule_at (print_rule r ++ (behind ++ more)) ≡ Ok (rule_means r, behind ++ more)
 rule_again r behind more h =
     let t : List ℕ = past_body r (behind ++ more) in
     ap rule_at (rule_regrouped (print_qualifier r.qualifier) (print_body r) (print_blank r.before_comma) (behind ++ more))

@@ -196,7 +196,7 @@ item_is_token quoted after_slash depth items open_brace h = lt-ltb depth 50 h
 item_is_token quoted after_slash depth items comma h = lt-ltb 0 depth h
 item_is_token quoted after_slash depth items close_brace h = lt-ltb 0 depth h
 
-items_are_tokens : (quoted after_slash : Bool) (depth : ℕ) (items : List WrittenItem) → AreItems quoted depth items → readable.are_tokens after_slash depth (items_mean after_slash items) ≡ true
+pub items_are_tokens : (quoted after_slash : Bool) (depth : ℕ) (items : List WrittenItem) → AreItems quoted depth items → readable.are_tokens after_slash depth (items_mean after_slash items) ≡ true
 items_are_tokens quoted after_slash depth [] h = eq-eqb depth 0 h
 items_are_tokens quoted after_slash depth (i ∷ items) h =
     let strict : Bool = after_slash && slash_or_end_behind_item items in

@@ -25,3 +25,6 @@ pub mod KeptHeader
 pub mod KeptPaths
 pub mod KeptTexts
 pub mod ReadOutcomes
+pub mod SpanLoops
+pub mod SpanLaws
+pub mod ReadStands

@@ -50,20 +50,20 @@ front_more {A = A} front n read others total so_far h =
 abbrev pub closing : List ℕ → Option (List ℕ)
 closing bytes = cond (begins is_close_brace bytes) (Some (drop 1 bytes)) None
 
-abbrev nothing : Option (List ℕ)
+abbrev pub nothing : Option (List ℕ)
 nothing = None
 
-abbrev just : List ℕ → Option (List ℕ)
+abbrev pub just : List ℕ → Option (List ℕ)
 just x = Some x
 
-not_closing : (bytes : List ℕ) → closing bytes ≡ nothing → begins is_close_brace bytes ≡ false
+pub not_closing : (bytes : List ℕ) → closing bytes ≡ nothing → begins is_close_brace bytes ≡ false
 not_closing bytes h =
     elim (chosen (begins is_close_brace bytes) (just (drop 1 bytes)) nothing nothing h) [
       | inl e ↦ absurd (none_some (drop 1 bytes) (sym e.1))
       | inr e ↦ e.0
     ]
 
-is_closing : (bytes rest : List ℕ) → closing bytes ≡ just rest → (begins is_close_brace bytes ≡ true) × (drop 1 bytes ≡ rest)
+pub is_closing : (bytes rest : List ℕ) → closing bytes ≡ just rest → (begins is_close_brace bytes ≡ true) × (drop 1 bytes ≡ rest)
 is_closing bytes rest h =
     elim (chosen (begins is_close_brace bytes) (just (drop 1 bytes)) nothing (just rest) h) [
       | inl e ↦ (e.0, some_is _ _ e.1)

@@ -3,6 +3,7 @@ use Rattle.std.proofs.Common.{◌≡◌, ℕ, zero, suc, ◌≤◌, ◌<◌, Boo
 use Rattle.std.specs.Prelude.{◌||◌, codes, if◌then◌else◌}
 use Rattle.std.specs.List.{list_all}
 use Rattle.std.proofs.lemmas.Bool.{eqb-false}
+use Rattle.std.proofs.lemmas.List.{length-append}
 use Rattle.names.specs.declared.permissions.Perms.{Perms}
 use Rattle.names.specs.Permissions.{perms_of}
 use Rattle.verdicts.specs.declared.kind.RuleKind.{RuleKind}
@@ -295,6 +296,37 @@ rule_takes bytes x past from tail others e is_past e1 e2 more =
     let c = bind_ok (comma_at b.0.1) (put q.0.0 b.0) x b.2 in
     that_rule bytes (value_of q.0.0 b.0, c.0) x past from tail (ok_is (value_of q.0.0 b.0, c.0) x c.2)
     (λ e1. whole_rule bytes q.0 b.0 c.0 past from tail others (qualifier_takes bytes q.0 q.1 (body_some q.0.1 b.0 b.1)) (body_takes q.0.1 b.0 b.1) (comma_takes b.0.1 c.0 c.1) is_past e1 e2 more) e1
+
+some_parts : (q p w : List ℕ) → 0 < length (q ++ (p ++ (w ++ codes ",")))
+some_parts q p w = omega (arith, length-append q (p ++ (w ++ codes ",")), length-append p (w ++ codes ","), length-append w (codes ","))
+
+-- these are left behind some bytes
+abbrev pub IsBehind : List ℕ → List ℕ → Type 0
+IsBehind bytes rest = (front : List ℕ) × (0 < length front) × (bytes ≡ front ++ rest)
+
+behind_that : (bytes : List ℕ) (x y : RuleValue × List ℕ) → x ≡ y → IsBehind bytes x.1 → IsBehind bytes y.1
+behind_that bytes x y e h = subst (λ (z : RuleValue × List ℕ). IsBehind bytes z.1) e h
+
+-- a rule takes some bytes
+pub rule_ends : (bytes : List ℕ) (x : RuleValue × List ℕ) → rule_at bytes ≡ Ok x → IsBehind bytes x.1
+unfolding rule_at
+rule_ends bytes x e =
+    let R : Type 0 = Result (RuleValue × List ℕ) LocalFault in
+    let put : RuleKind → (Perms × List Token) × List ℕ → List ℕ → R = λ kind body past. Ok (value_of kind body, past) in
+    let second : RuleKind → (Perms × List Token) × List ℕ → R = λ kind body. comma_at body.1 >>= put kind body in
+    let first : RuleKind × List ℕ → R = λ kind. body_at kind.1 >>= second kind.0 in
+    let q = bind_ok (qualifier_at bytes) first x e in
+    let b = bind_ok (body_at q.0.1) (second q.0.0) x q.2 in
+    let c = bind_ok (comma_at b.0.1) (put q.0.0 b.0) x b.2 in
+    let w = qualifier_takes bytes q.0 q.1 (body_some q.0.1 b.0 b.1) in
+    let p = body_takes q.0.1 b.0 b.1 in
+    let k = comma_takes b.0.1 c.0 c.1 in
+    let inner : List ℕ = if p.path_first then print_path p.path ++ (print_blank p.between ++ p.letters) else p.letters ++ (print_blank p.between ++ print_path p.path) in
+    behind_that bytes (value_of q.0.0 b.0, c.0) x (ok_is (value_of q.0.0 b.0, c.0) x c.2) (
+      print_qualifier w.0 ++ (inner ++ (print_blank k.0 ++ codes ",")),
+      some_parts (print_qualifier w.0) inner (print_blank k.0),
+      four_parts bytes (print_qualifier w.0) q.0.1 inner b.0.1 (print_blank k.0) c.0 c.0 w.2 p.parts k.2 (refl {a = c.0}),
+    )
 
 -- ---- rules are written so
 

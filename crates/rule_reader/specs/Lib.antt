@@ -2,6 +2,7 @@ pub mod Limits
 pub mod Rules
 pub mod Profile
 pub mod FaultNumber
+pub mod FaultText
 pub mod TextBytes
 pub mod PathTokens
 pub mod ReadSteps
@@ -9,7 +10,9 @@ pub mod ReadWords
 pub mod ReadHeader
 pub mod ReadClasses
 pub mod ReadPaths
+pub mod PathText
 pub mod Reading
+pub mod Spans
 pub mod GrammarWords
 pub mod GrammarPaths
 pub mod Grammar

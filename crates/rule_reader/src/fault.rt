@@ -1,43 +1,34 @@
-ghost use Rattle.std.specs.Prelude.{◌≡◌, length};
+ghost use Rattle.std.specs.Prelude.{◌≡◌, Some};
 ghost use Rattle.rule_reader.specs.FaultNumber.{fault_number, fault_offset};
+ghost use Rattle.rule_reader.specs.FaultText.{fault_text};
 
-use thiserror::Error;
+use std::error::Error;
+use std::fmt;
 
-/// Why a text is no profile. An offset counts the bytes before the place of the fault.
-#[derive(Clone, Copy, Debug, PartialEq, Eq, Error)]
+/// Why a text is no profile. An offset counts the bytes before the place of the fault. It is printed as a sentence.
+#[derive(Clone, Copy, Debug, PartialEq, Eq)]
 pub enum ReadFault {
     /// The grammar doesn't go on so.
-    #[error("syntax error at byte {offset}")]
     Syntax { offset: usize },
     /// A word that file rules have and that isn't supported: the `len` bytes from `offset` on.
-    #[error("not supported: the {len} bytes from byte {offset} on")]
     LeftOut { offset: usize, len: usize },
     /// A word that stands where permissions are expected.
-    #[error("no permissions at byte {offset}")]
     Permission { offset: usize },
     /// A rule without permissions.
-    #[error("permissions are missing at byte {offset}")]
     EmptyPermissions { offset: usize },
     /// A path that doesn't begin with `/`.
-    #[error("the path at byte {offset} isn't absolute")]
     NotAbsolute { offset: usize },
     /// A class that has no members, a reversed range or no end.
-    #[error("bad class at byte {offset}")]
     Class { offset: usize },
     /// A brace without its partner.
-    #[error("unbalanced brace at byte {offset}")]
     Group { offset: usize },
     /// Groups that are nested too deep.
-    #[error("groups nested too deep at byte {offset}")]
     Depth { offset: usize },
     /// A rule too many begins here.
-    #[error("too many rules at byte {offset}")]
     TooManyRules { offset: usize },
     /// An item too many begins here.
-    #[error("too many items at byte {offset}")]
     TooManyItems { offset: usize },
     /// Memory was refused; nothing is said of the text.
-    #[error("memory allocation failed")]
     NoMemory,
 }
 
@@ -80,3 +71,31 @@ impl ReadFault {
         }
     }
 }
+
+impl fmt::Display for ReadFault {
+    ghost output = { λ f. Some (fault_text f) };
+
+    fn fmt<W: fmt::Write>(&self, f: &mut fmt::Formatter<W>) -> fmt::Result {
+        match self {
+            ReadFault::Syntax { offset } => write!(f, "syntax error at byte {offset}"),
+            ReadFault::LeftOut { offset, len } => {
+                write!(f, "not supported: the {len} bytes from byte {offset} on")
+            }
+            ReadFault::Permission { offset } => write!(f, "no permissions at byte {offset}"),
+            ReadFault::EmptyPermissions { offset } => {
+                write!(f, "permissions are missing at byte {offset}")
+            }
+            ReadFault::NotAbsolute { offset } => {
+                write!(f, "the path at byte {offset} isn't absolute")
+            }
+            ReadFault::Class { offset } => write!(f, "bad class at byte {offset}"),
+            ReadFault::Group { offset } => write!(f, "unbalanced brace at byte {offset}"),
+            ReadFault::Depth { offset } => write!(f, "groups nested too deep at byte {offset}"),
+            ReadFault::TooManyRules { offset } => write!(f, "too many rules at byte {offset}"),
+            ReadFault::TooManyItems { offset } => write!(f, "too many items at byte {offset}"),
+            ReadFault::NoMemory => write!(f, "memory allocation failed"),
+        }
+    }
+}
+
+impl Error for ReadFault {}

@@ -1,8 +1,10 @@
-//! Profile texts read: the grammar, the faults of a text by number and place, and the profiles that reading makes. Nothing
-//! else makes a profile.
+//! Profile texts read: the grammar, the faults of a text by number and place, the profiles that reading makes, and where
+//! their rules stand in the text. A profile is also made of a name and rules, which pass the same tests. The text of a path
+//! alone is read to its items.
 //!
-//! To be believed are about 1,080 lines of definitions in `specs/`, of which the grammar and its profiles are about 600 and
-//! the rest says which fault is the first; those in `specs/inner/` are of private contracts and proofs.
+//! To be believed are about 1,170 lines of definitions in `specs/`, of which the grammar and its profiles are about 600 and
+//! the places of rules about 50; the rest says which fault is the first. Those in `specs/inner/` are of private contracts and
+//! proofs.
 #![tactic(auto)]
 
 mod fault;
@@ -10,5 +12,7 @@ mod profile;
 mod reading;
 
 pub use fault::ReadFault;
-pub use profile::{Profile, Rule};
-pub use reading::{one_outcome, profiles_can_be_read, read, settled_faults_stay};
+pub use profile::{Profile, Rule, Span};
+pub use reading::{
+    one_outcome, profiles_can_be_read, read, read_path, settled_faults_stay, spans_are_read_again,
+};

@@ -10,6 +10,15 @@ use verdicts::RuleKind;
 /// The most rules of a profile.
 pub(crate) const MAX_RULES: usize = 1024;
 
+/// Where a rule stands in its text: from its first byte to its comma.
+#[derive(Clone, Copy, Debug, PartialEq, Eq)]
+pub struct Span {
+    /// How many bytes stand before the rule's first byte.
+    pub start: usize,
+    /// How many stand before the byte behind its comma.
+    pub end: usize,
+}
+
 /// A file rule: it allows or denies its permissions to the names that its path matches
 /// (apparmor.d(5), "Access Modes Details").
 #[derive(Debug, Drop)]
@@ -17,15 +26,31 @@ pub struct Rule {
     pub(crate) kind: RuleKind,
     pub(crate) perms: Perms,
     pub(crate) path: RulePath,
+    pub(crate) span: Span,
 }
 
 impl Rule {
     ghost use Rattle.std.specs.Prelude.{map};
     ghost use Rattle.rule_reader.specs.Limits.{max_places};
     ghost use Rattle.rule_reader.specs.Profile.{rule_value, pattern};
+    ghost use Rattle.rule_reader.specs.Spans.{rule_span};
     ghost use Rattle.rule_globs.specs.Tokens.{tokens_of};
     ghost use Rattle.rule_globs.specs.Meaning.{meaning_of};
     ghost use Rattle.rule_globs.specs.Glob.{places};
+
+    /// The rule that allows or denies these permissions to the names that the path takes. It stands in no text: its span is
+    /// empty.
+    pub fn new(kind: RuleKind, perms: Perms, path: RulePath) -> Rule
+        ensures value { rule_value result ≡ record { kind = kind; perms = perms; items = path } }
+        ensures span { rule_span result ≡ record { start = 0; end = 0 } }
+    {
+        Rule {
+            kind,
+            perms,
+            path,
+            span: Span { start: 0, end: 0 },
+        }
+    }
 
     /// Whether the rule allows or denies.
     pub fn kind(&self) -> RuleKind
@@ -56,9 +81,17 @@ impl Rule {
     {
         self.path.items()
     }
+
+    /// Where the rule stands in the text that it was read from.
+    pub fn span(&self) -> Span
+        ensures { result ≡ rule_span self.now }
+    {
+        self.span
+    }
 }
 
-/// A profile: a name and its rules, numbered from 1 in the order of the text. Only reading makes one.
+/// A profile: a name and its rules, numbered from 1 in the order of the text. Each can be read: reading makes one, or
+/// [`Profile::new`] does of a name and rules that pass the same tests.
 #[derive(Debug, Drop)]
 pub struct Profile {
     pub(crate) name: Vec<u8>,
@@ -71,6 +104,16 @@ impl Profile {
     ghost use Rattle.std.specs.Prelude.{map};
     ghost use Rattle.rule_reader.specs.Limits.{max_rules};
     ghost use Rattle.rule_reader.specs.Profile.{rule_value, profile_value};
+    ghost use Rattle.rule_reader.specs.Readable.{is_profile};
+    ghost use Rattle.rule_reader.specs.Spans.{rule_span, profile_spans};
+
+    /// The profile of this name and these rules, which some text is read as.
+    pub fn new(name: Vec<u8>, rules: Vec<Rule>) -> Profile
+        requires { IsTrue (is_profile (record { name = name.items; rules = map rule_value rules.items })) }
+        ensures { profile_value result ≡ record { name = name.items; rules = map rule_value rules.items } }
+    {
+        Profile { name, rules }
+    }
 
     /// The name, as written: 1 to 255 bytes.
     pub fn name(&self) -> &[u8]
@@ -82,6 +125,7 @@ impl Profile {
     /// The rules, in the order of the text.
     pub fn rules(&self) -> &[Rule]
         ensures rules { map rule_value result.now ≡ (profile_value self.now).rules }
+        ensures spans { map rule_span result.now ≡ profile_spans self.now }
         ensures few { length result.now ≤ max_rules }
     {
         &self.rules

@@ -5,6 +5,7 @@ ghost use Rattle.rule_reader.specs.Grammar.{ReadsAs};
 ghost use Rattle.rule_reader.specs.ReadSteps.{fault_of};
 ghost use Rattle.rule_reader.specs.Reading.{outcome_of};
 ghost use Rattle.rule_reader.specs.ReadFaults.{FaultsAs};
+ghost use Rattle.rule_reader.specs.Spans.{profile_spans, spans_of};
 
 mod builder;
 mod bytes;
@@ -22,7 +23,8 @@ use self::local_fault::{Failure, FaultKind, LocalFault};
 use self::text::text_of;
 use crate::fault::ReadFault;
 use crate::profile::Profile;
-pub use laws::{one_outcome, profiles_can_be_read, settled_faults_stay};
+pub use laws::{one_outcome, profiles_can_be_read, settled_faults_stay, spans_are_read_again};
+pub use path::read_path;
 use std::alloc::Global;
 
 /// The fault that a local fault is of a text of so many bytes.
@@ -56,6 +58,8 @@ pub fn read(alloc: Global, text: &[u8]) -> Result<Profile, ReadFault>
     // The same in one: what reading the text comes to.
     ensures outcome { MatchResult result (λ p. outcome_of text.now ≡ Ok (profile_value p))
         (λ e. (e ≡ ReadFault.NoMemory) ⊎ (outcome_of text.now ≡ Err e)) }
+    // Where its rules stand in the text.
+    ensures spans { IfOk result (λ p. profile_spans p ≡ spans_of text.now) }
 {
     match text_of(alloc, text) {
         Ok(profile) => Ok(profile),

@@ -1,5 +1,5 @@
 //! Canonical texts.
-use rule_text::{read, write};
+use rule_text::{Rule, read, write, write_rule};
 use std::alloc::Global;
 use std::process::Abort;
 use std::test::Fail;
@@ -54,4 +54,37 @@ fn canonical_texts(rt: HostRuntime) -> Result<(), Fail> {
             ),
         ],
     )
+}
+
+/// Whether a rule stands in the text as told, and is written by itself as told.
+fn is_told_as(
+    alloc: Global,
+    text: &[u8],
+    rule: &Rule,
+    stands: &[u8],
+    written: &[u8],
+) -> Result<bool, Fail> {
+    let span = rule.span();
+    Ok(
+        text.get(span.start..span.end) == Some(stands)
+            && write_rule(alloc, rule)?.as_slice() == written,
+    )
+}
+
+#[test]
+fn rules_by_themselves(rt: HostRuntime) -> Result<(), Fail> {
+    let text = b"profile p {\n  /a r,deny # both\n    /b{,c} kw ,}\n";
+    let wanted: [(&[u8], &[u8]); 2] = [
+        (b"/a r,", b"\"/a\" r,"),
+        (b"deny # both\n    /b{,c} kw ,", b"deny \"/b{,c}\" wk,"),
+    ];
+    let profile = read(rt.alloc(), text)?;
+    assert_eq!(rt; profile.rules().len(), wanted.len());
+    for (rule, (stands, written)) in profile.rules().iter().zip(&wanted) {
+        assert!(rt;
+            is_told_as(rt.alloc(), text, rule, stands, written)?,
+            "{stands:?}"
+        );
+    }
+    Ok(())
 }

@@ -11,7 +11,8 @@ pub use rule_judge::{
     judge_slow,
 };
 pub use rule_reader::{
-    Profile, ReadFault, Rule, one_outcome, profiles_can_be_read, read, settled_faults_stay,
+    Profile, ReadFault, Rule, Span, one_outcome, profiles_can_be_read, read, settled_faults_stay,
+    spans_are_read_again,
 };
-pub use rule_writer::{canonical_texts_are_read, write};
+pub use rule_writer::{canonical_texts_are_read, rule_texts_are_read, write, write_rule};
 pub use verdicts::{RuleKind, Verdict};

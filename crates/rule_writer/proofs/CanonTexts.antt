@@ -112,7 +112,7 @@ canonical_rule r rules = record {
   past = line_end rules;
 }
 
-canonical_rule_valid : (behind : List ℕ) (r : RuleValue) (rules : List RuleValue) → is_rule r ≡ true → IsRule behind (canonical_rule r rules)
+pub canonical_rule_valid : (behind : List ℕ) (r : RuleValue) (rules : List RuleValue) → is_rule r ≡ true → IsRule behind (canonical_rule r rules)
 canonical_rule_valid behind r rules h =
     let p = and_parts (list_any (has r.perms) all_permissions) (is_path r.items) h in
     record {
@@ -125,7 +125,7 @@ canonical_rule_valid behind r rules h =
       stands = tt;
     }
 
-canonical_rule_means : (r : RuleValue) (rules : List RuleValue) → is_rule r ≡ true → rule_means (canonical_rule r rules) ≡ r
+pub canonical_rule_means : (r : RuleValue) (rules : List RuleValue) → is_rule r ≡ true → rule_means (canonical_rule r rules) ≡ r
 canonical_rule_means r rules h =
     let p = and_parts (list_any (has r.perms) all_permissions) (is_path r.items) h in
     let kind = kind_means r.kind in

@@ -3,4 +3,5 @@ pub mod CanonClasses
 pub mod CanonItems
 pub mod CanonTexts
 pub mod Canon
+pub mod CanonRules
 pub mod CanonWrites

@@ -35,6 +35,14 @@ kind_text Deny = codes "  deny "
 abbrev pub rule_line : RuleValue → List ℕ
 rule_line r = kind_text r.kind ++ (codes "\"" ++ (flat_map token_text r.items ++ (codes "\" " ++ (letters r.perms ++ codes ",\n"))))
 
+abbrev pub qualifier_text : RuleKind → List ℕ
+qualifier_text Allow = []
+qualifier_text Deny = codes "deny "
+
+-- a rule by itself: its line, without the two spaces and the line's end
+abbrev pub rule_text : RuleValue → List ℕ
+rule_text r = qualifier_text r.kind ++ (codes "\"" ++ (flat_map token_text r.items ++ (codes "\" " ++ (letters r.perms ++ codes ","))))
+
 unfoldable pub canonical : ProfileValue → List ℕ
 canonical p = codes "profile \"" ++ (p.name ++ (codes "\" {\n" ++ (flat_map rule_line p.rules ++ codes "}\n")))
 

@@ -1,9 +1,10 @@
-//! Laws of canonical texts. The function does nothing: it stands for its contract.
-ghost use Rattle.std.specs.Prelude.{◌≡◌, ◌↔◌, IsTrue};
+//! Laws of canonical texts. The functions do nothing: each stands for its contract.
+ghost use Rattle.std.specs.Prelude.{◌≡◌, ◌↔◌, ◌++◌, ℕ, List, Ok, IsTrue, codes};
 ghost use Rattle.rule_reader.specs.Grammar.{ReadsAs};
-ghost use Rattle.rule_reader.specs.Profile.{ProfileValue};
-ghost use Rattle.rule_reader.specs.Readable.{is_profile};
-ghost use Rattle.rule_writer.specs.Canonical.{canonical, CanBeRead};
+ghost use Rattle.rule_reader.specs.Profile.{RuleValue, ProfileValue};
+ghost use Rattle.rule_reader.specs.Readable.{is_profile, is_rule};
+ghost use Rattle.rule_reader.specs.Reading.{rule_at};
+ghost use Rattle.rule_writer.specs.Canonical.{canonical, rule_line, rule_text, CanBeRead};
 
 use rule_reader::{one_outcome, profiles_can_be_read};
 
@@ -16,3 +17,9 @@ pub fn canonical_texts_are_read()
     one_outcome();
     profiles_can_be_read();
 }
+
+/// The text of a rule that can be read is read as that rule, whatever stands behind it. In a canonical text it stands in a line.
+pub fn rule_texts_are_read()
+    ensures again { (r : RuleValue) (more : List ℕ) → IsTrue (is_rule r) → rule_at (rule_text r ++ more) ≡ Ok (r, more) }
+    ensures line { (r : RuleValue) → rule_line r ≡ codes "  " ++ (rule_text r ++ codes "\n") }
+{}

@@ -1,8 +1,8 @@
-//! The canonical text of a profile.
+//! The canonical texts of a profile and of a rule.
 ghost use Rattle.std.specs.Prelude.{◌≡◌, ◌++◌, IfOk, codes, map};
 ghost use Rattle.std.specs.List.{flat_map};
 ghost use Rattle.names.specs.Permissions.{letters};
-ghost use Rattle.rule_writer.specs.Canonical.{escaped_among, range_text, token_text, rule_line, canonical};
+ghost use Rattle.rule_writer.specs.Canonical.{escaped_among, range_text, token_text, rule_line, rule_text, canonical};
 ghost use Rattle.rule_reader.specs.Grammar.{ReadsAs};
 ghost use Rattle.rule_reader.specs.Profile.{rule_value, profile_value};
 ghost use Rattle.rule_globs.specs.Tokens.{bracket, stars as stars_token, tokens, tokens_of, with_commas};
@@ -125,18 +125,38 @@ fn put_perms(text: &mut Vec<u8>, perms: Perms) -> Result<(), NoMemory>
     Ok(())
 }
 
-/// Adds the line of a rule.
+/// Adds a rule.
 fn put_rule(text: &mut Vec<u8>, rule: &Rule) -> Result<(), NoMemory>
-    ensures { IfOk result (λ _. text.new.items ≡ text.old.items ++ rule_line (rule_value rule.now)) }
+    ensures { IfOk result (λ _. text.new.items ≡ text.old.items ++ rule_text (rule_value rule.now)) }
 {
     match rule.kind() {
-        RuleKind::Allow => put(text, b"  \"")?,
-        RuleKind::Deny => put(text, b"  deny \"")?,
+        RuleKind::Allow => put(text, b"\"")?,
+        RuleKind::Deny => put(text, b"deny \"")?,
     }
     put_items(text, rule.items())?;
     put(text, b"\" ")?;
     put_perms(text, rule.perms())?;
-    put(text, b",\n")
+    put(text, b",")
+}
+
+/// Adds the line of a rule.
+#[tactic(auto, using(crate::proofs::CanonRules::line_of_text))]
+fn put_line(text: &mut Vec<u8>, rule: &Rule) -> Result<(), NoMemory>
+    ensures { IfOk result (λ _. text.new.items ≡ text.old.items ++ rule_line (rule_value rule.now)) }
+{
+    put(text, b"  ")?;
+    put_rule(text, rule)?;
+    put(text, b"\n")
+}
+
+/// Writes a rule as it stands in a canonical text, without the spaces before it and the line's end. Read again it is the same
+/// rule ([`rule_texts_are_read`](crate::rule_texts_are_read)).
+pub fn write_rule(alloc: Global, rule: &Rule) -> Result<Vec<u8>, NoMemory>
+    ensures { IfOk result (λ text. text.items ≡ rule_text (rule_value rule.now)) }
+{
+    let mut text = Vec::new(alloc);
+    put_rule(&mut text, rule)?;
+    Ok(text)
 }
 
 /// Writes a profile's canonical text: the line `profile "NAME" {`, a line for each rule, and the line `}`. Read again it is
@@ -152,7 +172,7 @@ pub fn write(alloc: Global, profile: &Profile) -> Result<Vec<u8>, NoMemory>
     put(&mut text, profile.name())?;
     put(&mut text, b"\" {\n")?;
     for rule in profile.rules() {
-        put_rule(&mut text, rule)?;
+        put_line(&mut text, rule)?;
     }
     put(&mut text, b"}\n")?;
     Ok(text)

@@ -6,7 +6,7 @@ use Rattle.std.specs.Str.Parse.{digits_value, without_leading_plus, without_lead
 use Rattle.std.proofs.lemmas.Bool.{leb-true}
 use Rattle.clap.specs.ValueTests.{fits_i64, is_numeral}
 use Rattle.clap.proofs.WalkLemmas.{both}
-use Rattle.trace_line.specs.CommandLine.{CommandForm, Given, LineValue, NumberOption, arguments_of, capacity, changes, check, compile, command_named, commands, given_by, is_number_of, is_taken, judge, line_by, line_of, match_name, name_in, number_of, numbers, one_more, opens, pair, pair_of, run, sessions, steps, storm, storm_by, text_behind, text_given, text_in}
+use Rattle.trace_line.specs.CommandLine.{CommandForm, Given, LineValue, NumberOption, arguments_of, capacity, changes, check, compile, command_named, commands, explain, given_by, is_number_of, is_taken, judge, line_by, line_of, match_name, name_in, number_of, numbers, one_more, opens, pair, pair_of, run, sessions, steps, storm, storm_by, text_behind, text_given, text_in, test}
 
 -- ---- one option
 
@@ -19,11 +19,11 @@ each_with : {A : Type 0} (P : A → Type 0) (xs : List A) (x : A) → Each P xs 
 each_with P [] x all last = (last, tt)
 each_with P (y ∷ ys) x all last = (all.0, each_with P ys x all.1 last)
 
-found_holds : {A : Type 0} (P : A → Type 0) (test : A → Bool) (xs : List A) (x : A) → Each P xs → find test xs ≡ Some x → P x
-found_holds P test [] x all is = absurd (cc is)
-found_holds P test (y ∷ ys) x all is = go (test y) (λ is. found_holds P test ys x all.1 is) is
+found_holds : {A : Type 0} (P : A → Type 0) (passes : A → Bool) (xs : List A) (x : A) → Each P xs → find passes xs ≡ Some x → P x
+found_holds P passes [] x all is = absurd (cc is)
+found_holds P passes (y ∷ ys) x all is = go (passes y) (λ is. found_holds P passes ys x all.1 is) is
   where
-    go : (here : Bool) → (find test ys ≡ Some x → P x) → (if here then Some y else find test ys) ≡ Some x → P x
+    go : (here : Bool) → (find passes ys ≡ Some x → P x) → (if here then Some y else find passes ys) ≡ Some x → P x
     go true later is =
         let it : y ≡ x = cc is in
         subst P it all.0
@@ -118,9 +118,10 @@ given_fits given all = go (find (λ (pair : Text × Text). bytes_eq pair.0 capac
     go None e = rw e (number_fits capacity.default refl)
     go (Some it) e = rw e (number_fits it.1 (found_holds _ _ given it all e))
 
--- the capacity of a line of `run` or of `steps`
+-- the capacity of a line of `run`, of `test` or of `steps`
 abbrev capacity_of : LineValue → ℕ
 capacity_of (run n) = n
+capacity_of (test n) = n
 capacity_of (steps n) = n
 capacity_of _ = 0
 
@@ -163,10 +164,12 @@ each_fits words =
     let of_check = of_others [] (λ number. check) (λ number. omega arith) words in
     let of_compile = of_others [] (λ number. compile) (λ number. omega arith) words in
     let of_run = of_capacity (λ number. run (number capacity)) given_fits words in
+    let of_test = of_capacity (λ number. test (number capacity)) given_fits words in
     let of_judge = of_pair judge (λ first second. omega arith) words in
+    let of_explain = of_pair explain (λ first second. omega arith) words in
     let of_steps = of_capacity (λ number. steps (number capacity)) given_fits words in
     let of_storm = of_others (sessions ∷ opens ∷ changes ∷ []) storm_by (λ number. omega arith) words in
-    (of_judge, (of_run, (of_compile, (of_check, (of_match, (of_steps, (of_storm, tt)))))))
+    (of_judge, (of_explain, (of_run, (of_test, (of_compile, (of_check, (of_match, (of_steps, (of_storm, tt)))))))))
 
 number_of_line : (words : List Text) → Fits (line_of words)
 number_of_line [] it is = absurd (cc is)
@@ -180,6 +183,9 @@ number_of_line (program ∷ name ∷ words) it is = go (command_named commands n
 
 pub run_number : (words : List Text) (n : ℕ) → line_of words ≡ Some (run n) → n ≤ 16384
 run_number words n is = number_of_line words (run n) is
+
+pub test_number : (words : List Text) (n : ℕ) → line_of words ≡ Some (test n) → n ≤ 16384
+test_number words n is = number_of_line words (test n) is
 
 pub steps_number : (words : List Text) (n : ℕ) → line_of words ≡ Some (steps n) → n ≤ 16384
 steps_number words n is = number_of_line words (steps n) is

@@ -2,10 +2,11 @@
 use Rattle.std.proofs.Common.{◌≡◌, ℕ, true, List, Option, Some, None, refl, inl, inr}
 use Rattle.std.specs.Prelude.{codes, is_some}
 use Rattle.glob_automaton.specs.Automata.{StateLimit}
-use Rattle.trace_line.specs.CommandLine.{LineValue, judge, run, compile, check, match_name, steps, storm}
+use Rattle.trace_line.specs.CommandLine.{LineValue, judge, explain, run, compile, check, match_name, steps, storm, test}
 use Rattle.trace_cli.specs.Program.{ProgramEnds, TellsUsage}
+use Rattle.trace_commands.specs.Explain.{explain_output}
 use Rattle.trace_commands.specs.Judge.{judge_output}
-use Rattle.trace_cli.proofs.Unanswered.{nothing_answered, nothing_stepped}
+use Rattle.trace_cli.proofs.Unanswered.{nothing_answered, nothing_stepped, nothing_tested}
 use Rattle.trace_report.specs.Streams.{IsTold}
 use Rattle.path_storm.specs.declared.fault.StormFault.TheVariants as fault
 use Rattle.trace_report.specs.declared.status.Status.{Status}
@@ -24,7 +25,10 @@ memory_ends limit None text left answers before after status (inl e) = record { 
 memory_ends limit None text left answers before after status (inr h) = record { answers = keeps answers; faults = rw h.0 h.1 }
 memory_ends limit (Some (judge perms name)) text left answers before after status (inl e) = inl (rw e (nothing_yet answers (judge_output perms name text).answers))
 memory_ends limit (Some (judge perms name)) text left answers before after status (inr h) = inr (h.0, record { answers = keeps answers; faults = h.1 })
+memory_ends limit (Some (explain perms name)) text left answers before after status (inl e) = inl (rw e (nothing_yet answers (explain_output perms name text).answers))
+memory_ends limit (Some (explain perms name)) text left answers before after status (inr h) = inr (h.0, record { answers = keeps answers; faults = h.1 })
 memory_ends limit (Some (run capacity)) text left answers before after status told = nothing_answered limit capacity text left answers before after status told
+memory_ends limit (Some (test capacity)) text left answers before after status told = nothing_tested limit capacity text left answers before after status told
 memory_ends limit (Some (steps capacity)) text left answers before after status told = nothing_stepped limit capacity text left answers before after status told
 memory_ends limit (Some compile) text left answers before after status (inl e) = rw e (inl (keeps answers))
 memory_ends limit (Some compile) text left answers before after status (inr h) =

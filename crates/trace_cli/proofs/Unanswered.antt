@@ -3,9 +3,12 @@ use Rattle.std.proofs.Common.{ℕ, List, [], arith, Option, Some, None, refl, in
 use Rattle.std.specs.Prelude.{codes}
 use Rattle.event_core.specs.Machine.{first}
 use Rattle.glob_automaton.specs.Automata.{StateLimit}
+use Rattle.mediation.specs.History.{new_history}
 use Rattle.trace_cli.specs.Program.{StepsEndFrom}
 use Rattle.trace_script.specs.RunOutput.{RunEnds, AnswersRead, run_output}
 use Rattle.trace_steps.specs.StepsOutput.{CommandsRead, PrintsFirst}
+use Rattle.trace_test.specs.TestOutput.{TestEndsFrom, TestRead, test_output}
+use Rattle.trace_test.specs.TestScript.{test_script}
 use Rattle.trace_report.specs.Streams.{IsTold}
 use Rattle.trace_report.specs.declared.status.Status.{Status}
 use Rattle.trace_report.specs.declared.status.Status.TheVariants.{NoMemory}
@@ -22,6 +25,19 @@ pub nothing_answered : (limit : StateLimit) (capacity : ℕ) (text : List ℕ) (
 nothing_answered limit capacity text left answers before after status (inl e) = rw e (nothing_yet answers (run_output limit capacity text).answers)
 nothing_answered limit capacity text left answers before after status (inr h) =
     rw h.0 (record { count = 0; read = nothing_read left; answers = appends_nothing answers; faults = h.1 })
+
+-- ---- tests
+
+no_test_read : (left : Option (List ℕ)) → TestRead left left 0
+no_test_read None = ([], tt, omega arith)
+no_test_read (Some xs) = ([], refl, omega arith)
+
+-- a test of which no line was followed, for want of memory
+pub nothing_tested : (limit : StateLimit) (capacity : ℕ) (text : List ℕ) (left answers before after : Option (List ℕ)) (status : Status)
+    → IsTold before after (codes "no memory") NoMemory status → TestEndsFrom limit (told_alone answers before after) left left capacity text status
+nothing_tested limit capacity text left answers before after status (inl e) = rw e (nothing_yet answers (test_output limit (new_history capacity) (test_script text)).answers)
+nothing_tested limit capacity text left answers before after status (inr h) =
+    rw h.0 (record { count = 0; read = no_test_read left; answers = appends_nothing answers; faults = h.1 })
 
 -- ---- scripts of events
 

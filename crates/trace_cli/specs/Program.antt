@@ -4,11 +4,13 @@ use Rattle.std.specs.Prelude.{◌≡◌, ◌*◌, ◌⊎◌, ℕ, Bool, true, fa
 use Rattle.std.specs.Io.KnownBytes.{Keeps, Appends}
 use Rattle.event_core.specs.Machine.{Machine, first}
 use Rattle.glob_automaton.specs.Automata.{StateLimit}
-use Rattle.trace_line.specs.CommandLine.{LineValue, judge, run, compile, check, match_name, steps, storm}
+use Rattle.trace_line.specs.CommandLine.{LineValue, judge, explain, run, compile, check, match_name, steps, storm, test}
+use Rattle.trace_commands.specs.Explain.{explain_output}
 use Rattle.trace_commands.specs.Judge.{ask_of, judge_output}
 use Rattle.trace_report.specs.Output.{line}
 use Rattle.trace_script.specs.RunOutput.{RunEnds}
 use Rattle.trace_steps.specs.StepsOutput.{StepsEnd}
+use Rattle.trace_test.specs.TestOutput.{TestEndsFrom}
 use Rattle.trace_cli.specs.Storm.{StormEnds}
 use Rattle.trace_report.specs.Streams.{Ends, EndsInOne, Streams}
 use Rattle.trace_commands.specs.Tables.{IsCompileOutput, IsCheckOutput, IsMatchOutput}
@@ -43,7 +45,10 @@ abbrev pub ProgramEnds : StateLimit → Option LineValue → List ℕ → Stream
 ProgramEnds limit None text streams left_before left_after status = UsageEnds streams status
 ProgramEnds limit (Some (judge perms name)) text streams left_before left_after status =
     Ends streams (judge_output perms name text) status ⊎ ((status ≡ NoMemory) × IsOutOfMemory streams)
+ProgramEnds limit (Some (explain perms name)) text streams left_before left_after status =
+    Ends streams (explain_output perms name text) status ⊎ ((status ≡ NoMemory) × IsOutOfMemory streams)
 ProgramEnds limit (Some (run capacity)) text streams left_before left_after status = RunEnds limit streams left_before left_after capacity text status
+ProgramEnds limit (Some (test capacity)) text streams left_before left_after status = TestEndsFrom limit streams left_before left_after capacity text status
 ProgramEnds limit (Some compile) text streams left_before left_after status = EndsInOne streams (IsCompileOutput text) status
 ProgramEnds limit (Some check) text streams left_before left_after status = EndsInOne streams (IsCheckOutput text) status
 ProgramEnds limit (Some (match_name perms name)) text streams left_before left_after status =
@@ -55,7 +60,9 @@ ProgramEnds limit (Some (storm sessions opens changes)) text streams left_before
 abbrev pub reads_nothing : Option LineValue → Bool
 reads_nothing None = true
 reads_nothing (Some (judge perms name)) = is_err (ask_of perms name)
+reads_nothing (Some (explain perms name)) = is_err (ask_of perms name)
 reads_nothing (Some (run capacity)) = false
+reads_nothing (Some (test capacity)) = false
 reads_nothing (Some (steps capacity)) = false
 reads_nothing (Some (storm sessions opens changes)) = true
 reads_nothing (Some compile) = false

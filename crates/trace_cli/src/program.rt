@@ -9,6 +9,7 @@ ghost use Rattle.trace_report.specs.Streams.{IsTextOf};
 use crate::script::run;
 use crate::steps::steps;
 use crate::storm::storm;
+use crate::testing::test;
 use names::NoMemory;
 use path_storm::Plan;
 use std::alloc::Global;
@@ -16,7 +17,7 @@ use std::convert::AsStr;
 use std::io::{BufRead, Write};
 use std::sync::Wait;
 use std::thread::Threads;
-use trace_commands::{check, compile, judge, match_name};
+use trace_commands::{check, compile, explain, judge, match_name};
 use trace_line::{Line, LineFault, command_line};
 use trace_report::{Status, fail};
 
@@ -43,7 +44,9 @@ pub fn run_words<H: Threads + Wait + Sync, S: AsStr, R: BufRead, A: Write, F: Wr
 {
     match command_line(alloc, words) {
         Ok(Line::Judge { perms, name }) => judge(alloc, perms, name, input, answers, faults),
+        Ok(Line::Explain { perms, name }) => explain(alloc, perms, name, input, answers, faults),
         Ok(Line::Run { capacity }) => run(rt, alloc, capacity, input, answers, faults),
+        Ok(Line::Test { capacity }) => test(rt, alloc, capacity, input, answers, faults),
         Ok(Line::Compile) => compile(alloc, input, answers, faults),
         Ok(Line::Check) => check(alloc, input, answers, faults),
         Ok(Line::Match { perms, name }) => match_name(alloc, perms, name, input, answers, faults),

@@ -10,6 +10,8 @@ use trace_line::{Line, LineFault, command_line};
 use trace_report::Status;
 
 mod events;
+mod expectations;
+mod explanations;
 mod images;
 mod runs;
 mod scripts;
@@ -567,6 +569,7 @@ fn lines_that_are_not_followed(rt: HostRuntime) -> Result<(), Fail> {
 fn statuses_of_the_process(rt: HostRuntime) {
     for (status, code) in &[
         (Status::Done, 0),
+        (Status::Unmet, 1),
         (Status::BadArguments, 2),
         (Status::Refused, 3),
         (Status::InputFailed, 3),

@@ -1,3 +1,4 @@
 pub mod Arguments
+pub mod ExplainEndings
 pub mod OneOutput
 pub mod ImageAnswers

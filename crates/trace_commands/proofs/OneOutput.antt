@@ -26,7 +26,7 @@ use Rattle.trace_commands.specs.Tables.{IsCheckOutput, IsCompileOutput, IsCompil
 use Rattle.trace_report.specs.declared.fault.Fault.{Fault}
 use Rattle.trace_report.specs.declared.fault.Fault.TheVariants.{Permissions, Name, Text, Compiling, Image, Input, Memory}
 use Rattle.trace_report.specs.declared.status.Status.{Status}
-use Rattle.trace_report.specs.declared.status.Status.TheVariants.{BadArguments, Done, FaultsFailed, InputFailed, NoMemory, OutputFailed, Refused}
+use Rattle.trace_report.specs.declared.status.Status.TheVariants.{BadArguments, Done, FaultsFailed, InputFailed, NoMemory, OutputFailed, Refused, Unmet}
 use Rattle.trace_report.proofs.Endings.{keeps, told_alone, written}
 
 -- answers and refusals tell of no bad arguments
@@ -59,6 +59,7 @@ matched_arguments ask name image output (inr h) = image_refused image output h
 pub one_given : (streams : Streams) (Wanted : Output → Type 0) (output : Output) (status : Status) → AreGood Wanted → Wanted output
     → Ends streams output status → EndsInOne streams Wanted status
 one_given streams Wanted output Done good of h = (output, of, h)
+one_given streams Wanted output Unmet good of h = absurd h
 one_given streams Wanted output BadArguments good of h = (output, of, h)
 one_given streams Wanted output Refused good of h = (output, of, h)
 one_given streams Wanted output InputFailed good of h = record { answers = h.answers; faults = h.faults; arguments = good }

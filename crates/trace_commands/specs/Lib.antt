@@ -1,3 +1,4 @@
 pub mod Tables
 pub mod Judge
+pub mod Explain
 pub mod inner

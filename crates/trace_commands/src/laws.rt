@@ -5,6 +5,8 @@ ghost use Rattle.names.specs.declared.permissions.Perms.{Perms};
 ghost use Rattle.rule_globs.specs.PlainVerdict.{verdict};
 ghost use Rattle.rule_reader.specs.Profile.{ProfileValue};
 ghost use Rattle.trace_report.specs.Output.{Output, whole_answer};
+ghost use Rattle.trace_commands.specs.Explain.{explain_output, GoesOnFrom};
+ghost use Rattle.trace_commands.specs.Judge.{judge_output};
 ghost use Rattle.trace_commands.specs.Tables.{IsCheckOutput, IsImageOutput, IsMatchOutput, IsMatchedOutput, match_text};
 
 use matcher::tables_of_rules_tell_their_verdicts;
@@ -33,3 +35,8 @@ pub fn images_of_rules_tell_their_verdicts()
     tables_have_one_outcome();
     tables_of_rules_tell_their_verdicts();
 }
+
+/// `explain` begins as `judge` does, on both streams, and ends as it.
+pub fn explain_goes_on_from_judge()
+    ensures { (perms name text : List ℕ) → GoesOnFrom (judge_output perms name text) (explain_output perms name text) }
+{}

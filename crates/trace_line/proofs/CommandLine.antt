@@ -161,10 +161,10 @@ module _ (words : List Text) (name : Text) (found : Found) (h : HasLine words na
       go true e = absurd (other (sym ((bytes_eq-Decides known name).0 e)))
       go false e = e
 
-  -- there is no eighth command
-  pub known_command : (name ≡ codes "judge" → ⊥) → (name ≡ codes "run" → ⊥) → (name ≡ codes "compile" → ⊥) → (name ≡ codes "check" → ⊥)
-      → (name ≡ codes "match" → ⊥) → (name ≡ codes "steps" → ⊥) → (name ≡ codes "storm" → ⊥) → ⊥
-  known_command judge run compile check match_name steps storm =
+  -- there is no other command
+  pub known_command : (name ≡ codes "judge" → ⊥) → (name ≡ codes "explain" → ⊥) → (name ≡ codes "run" → ⊥) → (name ≡ codes "test" → ⊥) → (name ≡ codes "compile" → ⊥)
+      → (name ≡ codes "check" → ⊥) → (name ≡ codes "match" → ⊥) → (name ≡ codes "steps" → ⊥) → (name ≡ codes "storm" → ⊥) → ⊥
+  known_command judge explain run test compile check match_name steps storm =
       let none : command_named commands name ≡ None =
-      rw (other_name (codes "judge") judge, other_name (codes "run") run, other_name (codes "compile") compile, other_name (codes "check") check, other_name (codes "match") match_name, other_name (codes "steps") steps, other_name (codes "storm") storm) refl in
+      rw (other_name (codes "judge") judge, other_name (codes "explain") explain, other_name (codes "run") run, other_name (codes "test") test, other_name (codes "compile") compile, other_name (codes "check") check, other_name (codes "match") match_name, other_name (codes "steps") steps, other_name (codes "storm") storm) refl in
       cc (none, h.form_is)

@@ -6,7 +6,7 @@ use Rattle.std.specs.Str.Parse.{digits_value, without_leading_sign}
 use Rattle.clap.specs.Lexer.{long_of}
 use Rattle.clap.specs.ValueTests.{is_signed_in}
 use Rattle.trace_line.specs.declared.line.Line.{Line}
-use Rattle.trace_line.specs.declared.line.Line.TheVariants.{Judge, Run, Compile, Check, Match, Steps, Storm}
+use Rattle.trace_line.specs.declared.line.Line.TheVariants.{Judge, Explain, Run, Compile, Check, Match, Steps, Storm, Test}
 use Rattle.trace_line.specs.declared.line.LineFault.{LineFault}
 use Rattle.trace_line.specs.declared.line.LineFault.TheVariants.{Usage, NoMemory}
 
@@ -14,8 +14,11 @@ use Rattle.trace_line.specs.declared.line.LineFault.TheVariants.{Usage, NoMemory
 pub data LineValue : Type 0 where
   -- PERMS and NAME
   judge : List ℕ → List ℕ → LineValue
+  -- PERMS and NAME
+  explain : List ℕ → List ℕ → LineValue
   -- how many entries the tree has room for
   run : ℕ → LineValue
+  test : ℕ → LineValue
   compile : LineValue
   check : LineValue
   -- PERMS and NAME
@@ -27,7 +30,9 @@ pub data LineValue : Type 0 where
 
 abbrev pub line_value : Line → LineValue
 line_value (Judge perms name) = judge perms.now name.now
+line_value (Explain perms name) = explain perms.now name.now
 line_value (Run capacity) = run capacity
+line_value (Test capacity) = test capacity
 line_value Compile = compile
 line_value Check = check
 line_value (Match perms name) = match_name perms.now name.now
@@ -143,7 +148,9 @@ storm_by number = storm (number sessions) (number opens) (number changes)
 
 abbrev pub commands : List CommandForm
 commands = record { name = codes "judge"; takes = pair judge }
+    ∷ record { name = codes "explain"; takes = pair explain }
     ∷ record { name = codes "run"; takes = numbers (capacity ∷ []) (λ number. run (number capacity)) }
+    ∷ record { name = codes "test"; takes = numbers (capacity ∷ []) (λ number. test (number capacity)) }
     ∷ record { name = codes "compile"; takes = numbers [] (λ number. compile) }
     ∷ record { name = codes "check"; takes = numbers [] (λ number. check) }
     ∷ record { name = codes "match"; takes = pair match_name }

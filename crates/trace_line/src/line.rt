@@ -20,8 +20,17 @@ pub enum Line<'a> {
         perms: &'a str,
         name: &'a str,
     },
+    /// `explain PERMS NAME`
+    Explain {
+        perms: &'a str,
+        name: &'a str,
+    },
     /// `run --capacity N`
     Run {
+        capacity: u32,
+    },
+    /// `test --capacity N`
+    Test {
         capacity: u32,
     },
     /// `compile`
@@ -105,7 +114,7 @@ struct NumberOption {
 /// What `--version` tells.
 const VERSION: &str = "0.1.0";
 
-/// How many entries the tree of `run` and `steps` has room for.
+/// How many entries the tree of `run`, `test` and `steps` has room for.
 const CAPACITY: NumberOption = NumberOption {
     name: "capacity",
     default: "1024",
@@ -154,7 +163,14 @@ pub fn command_line<'a, S: AsStr>(alloc: Global, words: &'a [S]) -> Result<Line<
             let (perms, name) = pair_in(found);
             Ok(Line::Judge { perms, name })
         }
+        "explain" => {
+            let (perms, name) = pair_in(found);
+            Ok(Line::Explain { perms, name })
+        }
         "run" => Ok(Line::Run {
+            capacity: number_in(found, CAPACITY.name),
+        }),
+        "test" => Ok(Line::Test {
             capacity: number_in(found, CAPACITY.name),
         }),
         "compile" => Ok(Line::Compile),
@@ -220,15 +236,28 @@ fn program<'a>(alloc: Global) -> Result<Command<'a>, AllocError>
         "judge",
         "Judges a name by the profile on standard input",
     )?;
-    let running = with_numbers(
+    let explaining = with_pair(
         judging,
+        alloc,
+        "explain",
+        "Judges a name by the profile on standard input, and says why",
+    )?;
+    let running = with_numbers(
+        explaining,
         alloc,
         "run",
         "Runs a script of tree changes, policies and opens on standard input",
         &[CAPACITY],
     )?;
-    let compiling = with_numbers(
+    let testing = with_numbers(
         running,
+        alloc,
+        "test",
+        "Compares the answers of the script on standard input with those that it expects",
+        &[CAPACITY],
+    )?;
+    let compiling = with_numbers(
+        testing,
         alloc,
         "compile",
         "Writes the image of the profile on standard input",

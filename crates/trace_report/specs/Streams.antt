@@ -4,7 +4,7 @@ use Rattle.std.specs.Prelude.{◌≡◌, ◌≢◌, ◌⊎◌, ℕ, List, ◌++�
 use Rattle.std.specs.Io.KnownBytes.{Keeps, Appends}
 use Rattle.trace_report.specs.Output.{Output, line}
 use Rattle.trace_report.specs.declared.status.Status.{Status}
-use Rattle.trace_report.specs.declared.status.Status.TheVariants.{Done, BadArguments, Refused, InputFailed, OutputFailed, FaultsFailed, NoMemory}
+use Rattle.trace_report.specs.declared.status.Status.TheVariants.{Done, Unmet, BadArguments, Refused, InputFailed, OutputFailed, FaultsFailed, NoMemory}
 
 -- the bytes of both streams of output, before and after, where they are known
 pub record Streams : Type 0 where
@@ -43,6 +43,7 @@ IsUntold streams output = AppendsFront streams.answers_before streams.answers_af
 -- How a command ends that is to write `output`.
 abbrev pub Ends : Streams → Output → Status → Type 0
 Ends streams output Done = IsWritten streams output Done
+Ends streams output Unmet = ⊥
 Ends streams output BadArguments = IsWritten streams output BadArguments
 Ends streams output Refused = IsWritten streams output Refused
 Ends streams output InputFailed = IsCutShort streams output (codes "refused: input")
@@ -68,6 +69,7 @@ pub record AreCutShort (streams : Streams) (Wanted : Output → Type 0) (told : 
 -- stands of one that is wanted.
 abbrev pub EndsInOne : Streams → (Output → Type 0) → Status → Type 0
 EndsInOne streams Wanted Done = (output : Output) × Wanted output × IsWritten streams output Done
+EndsInOne streams Wanted Unmet = ⊥
 EndsInOne streams Wanted BadArguments = (output : Output) × Wanted output × IsWritten streams output BadArguments
 EndsInOne streams Wanted Refused = (output : Output) × Wanted output × IsWritten streams output Refused
 EndsInOne streams Wanted InputFailed = AreCutShort streams Wanted (codes "refused: input")

@@ -7,6 +7,8 @@ ghost use Rattle.trace_report.specs.Status.{status_code};
 pub enum Status {
     /// The answer was written.
     Done,
+    /// The answer was written, and says that not all expectations of a test hold.
+    Unmet,
     /// The command line can't be followed, and nothing was read.
     BadArguments,
     /// What was read is refused: a text, its profile, or an image.
@@ -28,6 +30,7 @@ impl Status {
     {
         match self {
             Status::Done => 0,
+            Status::Unmet => 1,
             Status::BadArguments => 2,
             Status::Refused | Status::InputFailed | Status::OutputFailed | Status::FaultsFailed =>
                 3,

@@ -1,6 +1,6 @@
 -- Scripts of any grammar, by what their next line says.
 use Rattle.std.proofs.Common.{ℕ, ◌+◌, ◌≤◌, Bool, true, false, cond, List, [], ◌∷◌, ◌++◌, length, arith}
-use Rattle.trace_script.specs.Script.{Section, outside, within, LineOf, ignored, opens_policy, command, no_command, words_of, is_end, line_feed, ScriptOf, Grammar, script_by, first_command, stops_at}
+use Rattle.trace_script.specs.Script.{Section, outside, within, LineOf, ignored, opens_policy, command, no_command, is_end, line_feed, ScriptOf, Grammar, script_by, first_command, stops_at}
 
 module _ {C : Type 0} (grammar : Grammar C) where
   abbrev pub script_kind : ℕ → List (List ℕ) → LineOf C → ScriptOf C
@@ -33,5 +33,5 @@ module _ {C : Type 0} (grammar : Grammar C) where
   pub few_commands : (before : ℕ) (left : List (List ℕ)) → FewLeft before left
   few_commands before [] outside = omega arith
   few_commands before [] (within start text) = omega arith
-  few_commands before (line ∷ left) outside = few_kind before line left (few_commands (before + 1) left) (grammar.kind (words_of line))
+  few_commands before (line ∷ left) outside = few_kind before line left (few_commands (before + 1) left) (grammar.kind (before + 1) line)
   few_commands before (line ∷ left) (within start text) = few_within start text before line left (few_commands (before + 1) left) (is_end line)

@@ -1,6 +1,7 @@
 pub mod Grammars
 pub mod LineWords
 pub mod Following
+pub mod Printing
 pub mod LineReads
 pub mod ScriptRuns
 pub mod ScriptEndings

@@ -6,14 +6,11 @@ use Rattle.glob_automaton.specs.Automata.{StateLimit, most_sets}
 use Rattle.glob_automaton.specs.Sets.{AreMoreThan}
 use Rattle.rule_reader.specs.Profile.{RuleValue, ProfileValue}
 use Rattle.trace_script.specs.declared.stop.Stop.{Stop}
-use Rattle.trace_script.specs.declared.stop.Stop.TheVariants.{NoCommand, Input, TooLong, Memory, Output}
-use Rattle.trace_script.specs.Engine.{IsText}
-use Rattle.trace_script.specs.inner.Following.{IsComposed, IsPrinted}
+use Rattle.trace_script.specs.Engine.{IsComposed, IsText}
 use Rattle.trace_report.specs.Output.{line}
 use Rattle.mediation.specs.Deeds.{published_rules}
 use Rattle.mediation.specs.History.{History, policy_version, with_deed}
 use Rattle.trace_script.specs.RunOutput.{Printed, policy_printed, profile_printed}
-use Rattle.trace_report.proofs.Endings.{keeps}
 
 is_not_over : (limit : StateLimit) (rules : List RuleValue) → ¬ (AreMoreThan most_sets rules) → limit.is_over rules ≡ false
 is_not_over limit rules few = ⊎_elim (λ over. absurd (few ((limit.right rules).0 over))) (λ h. h) (cases_Bool (limit.is_over rules))
@@ -21,7 +18,7 @@ is_not_over limit rules few = ⊎_elim (λ over. absurd (few ((limit.right rules
 -- a line that was composed, or memory was refused
 pub composed : (p : Printed) (history : History) (text : List ℕ) (result : Result (Vec ℕ Global) Stop) → line text ≡ line p.text → history ≡ p.history → IsText text result → IsComposed p history result
 composed p history text (Ok bytes) same done is = (is ∙ same, done)
-composed p history text (Err stop) same done is = rw is tt
+composed p history text (Err stop) same done is = is
 
 -- a profile that was published
 pub published_whole : (limit : StateLimit) (history after : History) (profile : ProfileValue) (version : ℕ) (text : List ℕ) → ¬ (AreMoreThan most_sets profile.rules)
@@ -35,11 +32,3 @@ published_whole limit history after profile version text few e v is =
           ∙ sym (ap (λ (b : Bool). line (profile_printed history profile b).text) fine),
       e ∙ sym (ap (λ (b : Bool). (profile_printed history profile b).history) fine),
     )
-
--- a line that wasn't composed isn't printed
-pub composed_stop : (p : Printed) (history : History) (before : Option (List ℕ)) (stop : Stop) → IsComposed p history (Err stop) → IsPrinted {T = Unit {0}} p history before before (Err stop)
-composed_stop p history before (NoCommand number) h = absurd h
-composed_stop p history before Input h = absurd h
-composed_stop p history before TooLong h = absurd h
-composed_stop p history before Memory h = keeps before
-composed_stop p history before Output h = absurd h

@@ -1,5 +1,6 @@
 -- What engines of scripts have in common: where reading stands, lines that are read and written, and why a script isn't
 -- followed to its end.
+use Rattle.mediation.specs.History.{History}
 use Rattle.names.specs.Errors.{no_memory_text}
 use Rattle.std.specs.Prelude.{◌≡◌, ◌≢◌, ℕ, ◌<◌, ◌≤◌, List, [], ◌∷◌, ◌++◌, ◌^◌, ◌-◌, length, All, codes, decimal, Option, Some, None, Result, Ok, Err, Vec, IfSome}
 use Rattle.std.specs.Io.KnownBytes.{Appends, Consumes}
@@ -17,6 +18,7 @@ use Rattle.trace_script.specs.declared.reading.LineRead.{LineRead}
 use Rattle.trace_script.specs.declared.reading.LineRead.TheVariants.{Whole, Last, End}
 use Rattle.trace_script.specs.declared.stop.Stop.{Stop}
 use Rattle.trace_script.specs.declared.stop.Stop.TheVariants.{NoCommand, Input, TooLong, Memory, Output}
+use Rattle.trace_script.specs.RunOutput.{Printed}
 use Rattle.trace_script.specs.Script.{Section, outside, within, line_feed, lines_of}
 
 abbrev pub section_value : SectionHere → Section
@@ -53,7 +55,7 @@ abbrev pub IsLineRead : Option (List ℕ) → Option (List ℕ) → List ℕ →
 IsLineRead before after line (Ok Whole) = Consumes before after (line ++ line_feed ∷ []) × All (λ b. b ≢ line_feed) line
 IsLineRead before after line (Ok Last) =
     IfSome before (λ left. left ≡ line) × All (λ b. b ≢ line_feed) line × (0 < length line) × Consumes before after line
-IsLineRead before after line (Ok End) = IfSome before (λ left. left ≡ [])
+IsLineRead before after line (Ok End) = IfSome before (λ left. left ≡ []) × Consumes before after []
 IsLineRead before after line (Err Input) = IsPartRead before after line
 IsLineRead before after line (Err Memory) = IsPartRead before after line
 IsLineRead before after line (Err _) = ⊥
@@ -82,6 +84,11 @@ abbrev pub IsPut : {T : Type 0} → Option (List ℕ) → Option (List ℕ) → 
 IsPut before after bytes (Ok done) = Appends before after bytes
 IsPut before after bytes (Err Output) = AppendsFront before after bytes
 IsPut before after bytes (Err _) = ⊥
+
+-- a printed line, composed, and what was done then; or memory was refused
+abbrev pub IsComposed : Printed → History → Result (Vec ℕ Global) Stop → Type 0
+IsComposed p history (Ok text) = (text.items ≡ line p.text) × (history ≡ p.history)
+IsComposed p history (Err stop) = stop ≡ Memory
 
 -- a text as a line, or memory was refused
 abbrev pub IsText : List ℕ → Result (Vec ℕ Global) Stop → Type 0

@@ -3,5 +3,6 @@ pub mod LineValues
 pub mod Engine
 pub mod AnswerText
 pub mod RunOutput
+pub mod Following
 pub mod Rows
 pub mod inner

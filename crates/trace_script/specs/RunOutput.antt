@@ -17,7 +17,7 @@ use Rattle.rule_reader.specs.declared.fault.ReadFault.{ReadFault}
 use Rattle.rule_reader.specs.Profile.{ProfileValue}
 use Rattle.rule_reader.specs.Reading.{outcome_of}
 use Rattle.trace_report.specs.declared.status.Status.{Status}
-use Rattle.trace_report.specs.declared.status.Status.TheVariants.{Done, BadArguments, Refused, InputFailed, OutputFailed, FaultsFailed, NoMemory}
+use Rattle.trace_report.specs.declared.status.Status.TheVariants.{Done, Unmet, BadArguments, Refused, InputFailed, OutputFailed, FaultsFailed, NoMemory}
 use Rattle.trace_report.specs.Output.{Output, line, refusal, compile_refusal}
 use Rattle.trace_report.specs.Streams.{Streams, IsWritten, AppendsFront}
 use Rattle.trace_script.specs.Script.{ChangeWords, Command, Script, mkdir, create, symlink, link, unlink, rmdir, rename, publish, remove, alter, judge_open, judge_link, script_of}
@@ -141,6 +141,7 @@ pub record IsCut (streams : Streams) (output : Output) : Type 0 where
 -- How a script ends that is answered after this history. `left_before` and `left_after` are the reader's bytes.
 abbrev pub ScriptEnds : StateLimit → Streams → Option (List ℕ) → Option (List ℕ) → History → List ℕ → Status → Type 0
 ScriptEnds limit streams left_before left_after history text Done = IsWritten streams (script_output limit history (script_of text)) Done
+ScriptEnds limit streams left_before left_after history text Unmet = ⊥
 ScriptEnds limit streams left_before left_after history text BadArguments = ⊥
 ScriptEnds limit streams left_before left_after history text Refused = IsWritten streams (script_output limit history (script_of text)) Refused
 ScriptEnds limit streams left_before left_after history text InputFailed =

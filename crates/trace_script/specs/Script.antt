@@ -126,16 +126,16 @@ pub data Section : Type 0 where
 abbrev pub is_end : List ℕ → Bool
 is_end line = bytes_eq line (codes ".")
 
--- what the words of a line say, and the command that the text of a policy is
+-- what the line of a number says, and the command that the text of a policy is
 pub record Grammar (C : Type 0) : Type 0 where
-  pub kind : List (List ℕ) → LineOf C
+  pub kind : ℕ → List ℕ → LineOf C
   pub policy : List ℕ → C
 
 -- a script's lines from a place on, the lines before being so many
 abbrev pub script_by : {C : Type 0} → Grammar C → Section → ℕ → List (List ℕ) → ScriptOf C
 script_by grammar outside before [] = whole
 script_by grammar (within start text) before [] = stops_at start
-script_by grammar outside before (line ∷ lines) = elim (grammar.kind (words_of line)) [
+script_by grammar outside before (line ∷ lines) = elim (grammar.kind (before + 1) line) [
   | ignored ↦ script_by grammar outside (before + 1) lines
   | opens_policy ↦ script_by grammar (within (before + 1) []) (before + 1) lines
   | command c ↦ first_command c (script_by grammar outside (before + 1) lines)
@@ -150,7 +150,7 @@ abbrev pub Script : Type 0
 Script = ScriptOf Command
 
 abbrev pub run_grammar : Grammar Command
-run_grammar = record { kind = line_kind; policy = publish }
+run_grammar = record { kind = λ number line. line_kind (words_of line); policy = publish }
 
 abbrev pub script_from : Section → ℕ → List (List ℕ) → Script
 script_from section before lines = script_by run_grammar section before lines

@@ -1,8 +1,9 @@
 //! The commands of a script, done on a bench, and their answers.
 ghost use Rattle.std.specs.Prelude.{◌+◌, ◌<◌, ◌≤◌, ◌^◌, OnOk};
 ghost use Rattle.glob_automaton.specs.Automata.{StateLimit};
-ghost use Rattle.trace_script.specs.Engine.{IsPut};
-ghost use Rattle.trace_script.specs.inner.Following.{IsPrinted};
+ghost use Rattle.trace_script.specs.Engine.{IsComposed, IsPut};
+ghost use Rattle.trace_script.specs.Following.{IsDone};
+ghost use Rattle.trace_script.specs.inner.Following.{one_line_step};
 ghost use Rattle.trace_script.specs.LineValues.{command_value};
 ghost use Rattle.mediation.specs.History.{MayChangePolicy, policy_version};
 ghost use Rattle.trace_script.specs.RunOutput.{printed};
@@ -24,17 +25,30 @@ pub(crate) fn answer_command<B: Bench, A: Write>(
     answers: &mut A,
 ) -> Result<(), Stop>
     requires { MayChangePolicy (B.history bench.old).deeds }
-    ensures line { (limit : StateLimit) → IsPrinted (printed limit (B.history bench.old) (command_value command.entry)) (B.history bench.new)
+    ensures line { (limit : StateLimit) → IsDone (one_line_step (printed limit (B.history bench.old) (command_value command.entry))) (B.history bench.new)
         (A.contents answers.old) (A.contents answers.new) result }
     ensures few { OnOk result (policy_version (B.history bench.new) ≤ policy_version (B.history bench.old) + 1) }
 {
-    let line = match command {
-        Command::Remove(name) => drop_line(alloc, bench, name)?,
-        Command::Alter(words) => change_line(alloc, bench, words)?,
-        Command::JudgeOpen { profile, path, ask } => open_line(alloc, bench, profile, path, ask)?,
-        Command::JudgeLink { profile, old, new } => link_line(alloc, bench, profile, old, new)?,
-    };
+    let line = command_line(alloc, bench, command)?;
     print_line(answers, &line)
+}
+
+/// Does a command, and composes its answer as a line.
+pub fn command_line<B: Bench>(
+    alloc: Global,
+    bench: &mut B,
+    command: Command<'_>,
+) -> Result<Vec<u8>, Stop>
+    requires { MayChangePolicy (B.history bench.old).deeds }
+    ensures line { (limit : StateLimit) → IsComposed (printed limit (B.history bench.old) (command_value command.entry)) (B.history bench.new) result }
+    ensures few { OnOk result (policy_version (B.history bench.new) ≤ policy_version (B.history bench.old) + 1) }
+{
+    match command {
+        Command::Remove(name) => drop_line(alloc, bench, name),
+        Command::Alter(words) => change_line(alloc, bench, words),
+        Command::JudgeOpen { profile, path, ask } => open_line(alloc, bench, profile, path, ask),
+        Command::JudgeLink { profile, old, new } => link_line(alloc, bench, profile, old, new),
+    }
 }
 
 /// Publishes the profile of a text, if it is one, and writes the answer as a line.
@@ -45,7 +59,7 @@ pub(crate) fn answer_policy<B: Bench, A: Write>(
     answers: &mut A,
 ) -> Result<(), Stop>
     requires { MayChangePolicy (B.history bench.old).deeds }
-    ensures line { (limit : StateLimit) → IsPrinted (printed limit (B.history bench.old) (publish text.now)) (B.history bench.new)
+    ensures line { (limit : StateLimit) → IsDone (one_line_step (printed limit (B.history bench.old) (publish text.now))) (B.history bench.new)
         (A.contents answers.old) (A.contents answers.new) result }
     ensures few { OnOk result (policy_version (B.history bench.new) ≤ policy_version (B.history bench.old) + 1) }
 {

@@ -2,8 +2,7 @@
 ghost use Rattle.std.specs.Prelude.{◌+◌, ◌≡◌, ◌<◌, ◌≤◌, ◌^◌, ◌++◌, IfOk, OnOk, Ok, codes, decimal};
 ghost use Rattle.mediation.specs.Answers.{answered};
 ghost use Rattle.trace_script.specs.AnswerText.{answered_text, versions_text};
-ghost use Rattle.trace_script.specs.Engine.{IsText};
-ghost use Rattle.trace_script.specs.inner.Following.{IsComposed};
+ghost use Rattle.trace_script.specs.Engine.{IsComposed, IsText};
 ghost use Rattle.glob_automaton.specs.Automata.{StateLimit};
 ghost use Rattle.names.specs.Errors.{errno_text};
 ghost use Rattle.rule_reader.specs.Profile.{profile_value};
@@ -23,8 +22,8 @@ use rule_reader::{Profile, ReadFault, read};
 use std::alloc::{AllocError, Global};
 use trace_report::Fault;
 
-/// Publishes the profile of a text, if it is one.
-pub(crate) fn policy_line<B: Bench>(
+/// Publishes the profile of a text, if it is one, and composes the answer as a line.
+pub fn policy_line<B: Bench>(
     alloc: Global,
     bench: &mut B,
     text: &[u8],

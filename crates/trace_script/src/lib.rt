@@ -3,7 +3,7 @@
 //! [`run_script`] is the engine of such scripts. What it is made of is public for engines of other scripts, whose lines and
 //! answers are alike.
 //!
-//! To be believed are about 400 lines of definitions in `specs/`; those in `specs/inner/` are of private contracts and
+//! To be believed are about 500 lines of definitions in `specs/`; those in `specs/inner/` are of private contracts and
 //! proofs.
 #![tactic(auto)]
 
@@ -18,12 +18,14 @@ mod section;
 mod stop;
 mod words;
 
-pub use commands::print_line;
+pub use commands::{command_line, print_line};
 pub use compose::{
-    answer_line, change_of, errno_line, joined, numbered_line, refusal_line, version_line,
+    answer_line, change_of, errno_line, joined, numbered_line, policy_line, refusal_line, version_line,
 };
 pub use laws::lines_are_the_text;
-pub use line::{ChangeWords, Command, LineKind, is_word, parse_line};
+pub use line::{
+    ChangeWords, Command, LineKind, is_comment, is_word, kind_of_words, parse_line,
+};
 pub use reading::{LineRead, read_line};
 pub use rows::{
     commands_are_answered, links_are_answered, opens_are_answered, policies_are_gathered,
@@ -32,4 +34,4 @@ pub use rows::{
 pub use script::{MOST_LINES, run_script};
 pub use section::{Section, with_line};
 pub use stop::Stop;
-pub use words::Words;
+pub use words::{Words, is_blank, skip_blanks, split_at_blank};

@@ -1,7 +1,7 @@
 //! What a line of a script says by itself.
-ghost use Rattle.std.specs.Prelude.{◌≡◌, bytes_eq};
+ghost use Rattle.std.specs.Prelude.{◌≡◌, bytes_eq, map};
 ghost use Rattle.names.specs.Permissions.{perms_of};
-ghost use Rattle.trace_script.specs.Script.{words_of, line_kind, is_comment, kind_of_one, kind_of_two, kind_of_three, kind_of_four, kind_of_open};
+ghost use Rattle.trace_script.specs.Script.{words_of, line_kind, is_comment, kind_of_words, kind_of_one, kind_of_two, kind_of_three, kind_of_four, kind_of_open};
 ghost use Rattle.trace_script.specs.LineValues.{kind_value};
 
 use crate::words::Words;
@@ -79,8 +79,21 @@ pub fn parse_line(line: &[u8]) -> LineKind<Command<'_>>
     kind_of_four(word, first, second, third)
 }
 
+/// What the words of a line say, if there are any, and it is no comment.
+pub fn kind_of_words<'a>(words: &[&'a [u8]]) -> LineKind<Command<'a>>
+    ensures { kind_value result ≡ kind_of_words (map (λ word. word.now) words.now) }
+{
+    match words {
+        [word] => kind_of_one(word),
+        [word, first] => kind_of_two(word, first),
+        [word, first, second] => kind_of_three(word, first, second),
+        [word, first, second, third] => kind_of_four(word, first, second, third),
+        _ => LineKind::NoCommand,
+    }
+}
+
 /// Whether a line is a comment, by its first word.
-fn is_comment(word: &[u8]) -> bool
+pub fn is_comment(word: &[u8]) -> bool
     ensures { result ≡ is_comment word.now }
 {
     word.first() == Some(&b'#')

@@ -1,10 +1,10 @@
 //! `run --capacity N`: a script of tree changes, policies and opens, answered line by line.
 ghost use Rattle.std.specs.Prelude.{◌≡◌, ℕ, List};
 ghost use Rattle.glob_automaton.specs.Automata.{StateLimit};
-ghost use Rattle.trace_script.specs.inner.Following.{IsFollowed};
+ghost use Rattle.trace_script.specs.Following.{IsFollowed};
+ghost use Rattle.trace_script.specs.inner.Following.{run_engine};
 ghost use Rattle.mediation.specs.History.{policy_version};
-ghost use Rattle.trace_script.specs.RunOutput.{ScriptEnds, printed_lines};
-ghost use Rattle.trace_script.specs.Script.{script_of};
+ghost use Rattle.trace_script.specs.RunOutput.{ScriptEnds};
 ghost use Rattle.trace_report.specs.Streams.{IsTextOf};
 
 use crate::reading::{LineRead, read_line};
@@ -52,7 +52,7 @@ fn follow<B: Bench, R: BufRead, A: Write>(
 ) -> Result<(), Stop>
     requires { policy_version (B.history bench.old) ≡ 0 }
     ensures { (limit : StateLimit) → (text : List ℕ) × IsTextOf (R.remaining input.old) text
-        × IsFollowed (R.remaining input.old) (R.remaining input.new) (printed_lines limit (B.history bench.old) (script_of text).commands) (script_of text).stopped
+        × IsFollowed (run_engine limit) (B.history bench.old) (R.remaining input.old) (R.remaining input.new) text (B.history bench.new)
         (A.contents answers.old) (A.contents answers.new) result }
 {
     let mut section = Section::Outside;

@@ -2,7 +2,8 @@
 ghost use Rattle.std.specs.Prelude.{◌+◌, ◌≡◌, ◌<◌, ◌≤◌, ◌^◌, ◌++◌, ◌∷◌, [], IfOk, OnOk};
 ghost use Rattle.glob_automaton.specs.Automata.{StateLimit};
 ghost use Rattle.trace_script.specs.Engine.{section_value, IsClosed};
-ghost use Rattle.trace_script.specs.inner.Following.{followed, IsLineFollowed};
+ghost use Rattle.trace_script.specs.Following.{followed, IsLineFollowed};
+ghost use Rattle.trace_script.specs.inner.Following.{run_engine};
 ghost use Rattle.mediation.specs.History.{MayChangePolicy, policy_version};
 ghost use Rattle.trace_script.specs.Script.{outside, line_feed};
 
@@ -32,7 +33,7 @@ pub(crate) fn follow_line<B: Bench, A: Write>(
     answers: &mut A,
 ) -> Result<Section, Stop>
     requires { MayChangePolicy (B.history bench.old).deeds }
-    ensures line { (limit : StateLimit) → IsLineFollowed (followed limit (B.history bench.old) (section_value section) number line.now)
+    ensures line { (limit : StateLimit) → IsLineFollowed (followed (run_engine limit) (B.history bench.old) (section_value section) number line.now)
         (B.history bench.new) (A.contents answers.old) (A.contents answers.new) result }
     ensures few { OnOk result (policy_version (B.history bench.new) ≤ policy_version (B.history bench.old) + 1) }
 {
@@ -58,7 +59,7 @@ fn follow_command<B: Bench, A: Write>(
     answers: &mut A,
 ) -> Result<Section, Stop>
     requires { MayChangePolicy (B.history bench.old).deeds }
-    ensures line { (limit : StateLimit) → IsLineFollowed (followed limit (B.history bench.old) outside number line.now)
+    ensures line { (limit : StateLimit) → IsLineFollowed (followed (run_engine limit) (B.history bench.old) outside number line.now)
         (B.history bench.new) (A.contents answers.old) (A.contents answers.new) result }
     ensures few { OnOk result (policy_version (B.history bench.new) ≤ policy_version (B.history bench.old) + 1) }
 {

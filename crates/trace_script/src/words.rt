@@ -58,14 +58,14 @@ impl<'a> Iterator for Words<'a> {
 impl<'a> FusedIterator for Words<'a> {}
 
 /// Whether a byte parts words.
-fn is_blank(byte: u8) -> bool
+pub fn is_blank(byte: u8) -> bool
     ensures { result ≡ is_blank byte }
 {
     byte == b' ' || byte == b'\t'
 }
 
 /// The bytes from the first that is no blank on.
-fn skip_blanks(bytes: &[u8]) -> &[u8]
+pub fn skip_blanks(bytes: &[u8]) -> &[u8]
     ensures { result.now ≡ drop (prefix_len is_blank bytes.now) bytes.now }
 {
     match bytes.iter().position(|b| !is_blank(*b)) {
@@ -75,7 +75,7 @@ fn skip_blanks(bytes: &[u8]) -> &[u8]
 }
 
 /// The bytes before the first blank, and those from it on.
-fn split_at_blank(bytes: &[u8]) -> (&[u8], &[u8])
+pub fn split_at_blank(bytes: &[u8]) -> (&[u8], &[u8])
     ensures before { result.0.now ≡ before_first is_blank bytes.now }
     ensures from { result.1.now ≡ drop (position_or_len is_blank bytes.now) bytes.now }
 {

@@ -248,6 +248,6 @@ module _ (limit : StateLimit) (old : Machine) (first left a b : Option (List ℕ
       → Comes limit old first after_line now a b result
   running_end after_line line result ended ends = (
     running.read ++ [],
-    text_ended first left running.read [] running.consumed ended,
+    text_ended first left running.read [] running.consumed ended.0,
     closed limit old first after_line _ now section before running.done running.lines a b result (running.ahead []) running.did ends running.written,
   )

@@ -8,7 +8,7 @@ use Rattle.names.specs.declared.permissions.Perms.{Perms}
 use Rattle.names.specs.Permissions.{perms_of}
 use Rattle.event_core.specs.Machine.{Call, Event}
 use Rattle.event_core.specs.Machine.Event.{begin, read_policy, read_count, check_count}
-use Rattle.trace_script.specs.Script.{ChangeWords, Command, publish, remove, alter, judge_open, judge_link, LineKind, LineOf, ignored, opens_policy, command, no_command, line_kind, Grammar, ScriptOf, outside, script_by, lines_of}
+use Rattle.trace_script.specs.Script.{ChangeWords, Command, publish, remove, alter, judge_open, judge_link, LineKind, LineOf, ignored, opens_policy, command, no_command, line_kind, Grammar, ScriptOf, outside, script_by, lines_of, words_of}
 
 pub data StepCommand : Type 0 where
   -- the text of a profile, which is published under the profile's name
@@ -115,7 +115,7 @@ step_kind words = elim (line_kind words) [
 ]
 
 abbrev pub step_grammar : Grammar StepCommand
-step_grammar = record { kind = step_kind; policy = publish_text }
+step_grammar = record { kind = λ number line. step_kind (words_of line); policy = publish_text }
 
 abbrev pub step_script : List ℕ → ScriptOf StepCommand
 step_script text = script_by step_grammar outside 0 (lines_of text)

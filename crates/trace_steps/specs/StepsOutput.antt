@@ -6,7 +6,7 @@ use Rattle.std.specs.Io.KnownBytes.{Appends, Consumes}
 use Rattle.glob_automaton.specs.Automata.{StateLimit}
 use Rattle.event_core.specs.Machine.{Machine}
 use Rattle.trace_report.specs.declared.status.Status.{Status}
-use Rattle.trace_report.specs.declared.status.Status.TheVariants.{Done, BadArguments, Refused, InputFailed, OutputFailed, FaultsFailed, NoMemory}
+use Rattle.trace_report.specs.declared.status.Status.TheVariants.{Done, Unmet, BadArguments, Refused, InputFailed, OutputFailed, FaultsFailed, NoMemory}
 use Rattle.trace_report.specs.Output.{line}
 use Rattle.trace_report.specs.Streams.{Streams, IsWritten, AppendsFront}
 use Rattle.trace_script.specs.RunOutput.{ended_output, text_of_lines}
@@ -48,6 +48,7 @@ pub record IsFront (limit : StateLimit) (streams : Streams) (text : List ℕ) (o
 -- How `steps` ends, for a machine that stands so before and after. `left_before` and `left_after` are the reader's bytes.
 abbrev pub StepsEnd : StateLimit → Streams → Option (List ℕ) → Option (List ℕ) → Machine → Machine → List ℕ → Status → Type 0
 StepsEnd limit streams left_before left_after old new text Done = IsWhole limit streams text old new Done
+StepsEnd limit streams left_before left_after old new text Unmet = ⊥
 StepsEnd limit streams left_before left_after old new text BadArguments = ⊥
 StepsEnd limit streams left_before left_after old new text Refused = IsWhole limit streams text old new Refused
 StepsEnd limit streams left_before left_after old new text InputFailed =

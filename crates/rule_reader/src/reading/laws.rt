@@ -7,6 +7,7 @@ ghost use Rattle.rule_reader.specs.Grammar.{ReadsAs};
 ghost use Rattle.rule_reader.specs.Reading.{outcome_of};
 ghost use Rattle.rule_reader.specs.Readable.{is_profile};
 ghost use Rattle.rule_reader.specs.ReadFaults.{FaultsAs, HasOutcome, Refused, IsSettled};
+ghost use Rattle.rule_reader.specs.Spans.{AreReadAgain, spans_of};
 
 /// Each text has one profile or one fault.
 pub fn one_outcome()
@@ -33,4 +34,10 @@ pub fn settled_faults_stay()
 pub fn profiles_can_be_read()
     ensures read { (text : List ℕ) (p : ProfileValue) → ReadsAs text p → IsTrue (is_profile p) }
     ensures kept { (p : Profile) → IsTrue (is_profile (profile_value p)) }
+{}
+
+/// Where a text's rules stand, they are read again: the text from a rule's first byte on is read as that rule, up to its comma.
+/// They stand one behind another, in their order.
+pub fn spans_are_read_again()
+    ensures { (text : List ℕ) (p : ProfileValue) → outcome_of text ≡ Ok p → AreReadAgain text 0 p.rules (spans_of text) }
 {}

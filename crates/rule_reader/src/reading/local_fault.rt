@@ -5,28 +5,19 @@ ghost use Rattle.rule_reader.specs.declared.reading.local_fault.Failure.TheVaria
 
 use std::alloc::{AllocError, AllocFailed};
 
-/// What is wrong with a text.
+/// What is wrong with a text, as [`ReadFault`](crate::fault::ReadFault) tells it.
 #[derive(Clone, Copy)]
 pub(crate) enum FaultKind {
-    /// The grammar doesn't go on so.
     Syntax,
     /// So many bytes that are not supported.
     LeftOut(usize),
-    /// A word that is no permissions.
     Permission,
-    /// A rule without permissions.
     EmptyPermissions,
-    /// A path that doesn't begin with a slash.
     NotAbsolute,
-    /// A class that has no members, a reversed range or no end.
     Class,
-    /// A brace without its partner.
     Group,
-    /// Groups that are nested too deep.
     Depth,
-    /// A rule too many begins.
     TooManyRules,
-    /// An item too many begins.
     TooManyItems,
 }
 

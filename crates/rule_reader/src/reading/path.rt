@@ -1,5 +1,5 @@
 //! The path of a rule.
-ghost use Rattle.std.specs.Prelude.{◌≡◌, ◌∷◌, ◌++◌, [], ℕ, List, map, false, option_map, length, drop, IfOk, IfErr, IsTrue, ◌≤◌};
+ghost use Rattle.std.specs.Prelude.{◌≡◌, ◌∷◌, ◌++◌, [], ℕ, List, map, false, option_map, length, drop, codes, IfOk, IfErr, IfSome, IsTrue, ◌≤◌};
 ghost use Rattle.rule_reader.specs.inner.Building.{tokens_in, braces_in, token_value, StandsIn};
 ghost use Rattle.rule_globs.specs.Meaning.{meaning_of, stars_glob};
 ghost use Rattle.rule_reader.specs.inner.Gives.{Gives};
@@ -7,7 +7,9 @@ ghost use Rattle.rule_reader.specs.Limits.{max_items};
 ghost use Rattle.rule_reader.specs.ReadWords.{after};
 ghost use Rattle.rule_globs.specs.Tokens.{tokens_of, all_full};
 ghost use Rattle.rule_reader.specs.ReadPaths.{braces_behind, path_ends, escaped_at, goes_on_at, slash_or_end, token_at, tokens_at, path_in, path_at};
+ghost use Rattle.rule_reader.specs.PathText.{text_tokens};
 ghost use Rattle.rule_reader.specs.PathTokens.{is_plain_slash};
+ghost use Rattle.rule_reader.specs.Readable.{are_tokens};
 ghost use Rattle.rule_reader.specs.TextBytes.{is_star};
 
 use super::builder::Builder;
@@ -15,6 +17,7 @@ use super::bytes::{ends_behind_comma, is_white};
 use super::class::class_of;
 use super::local_fault::{Failure, FaultKind, fault_here, fault_with_left};
 use super::words::after_literal;
+use names::NoMemory;
 use rule_globs::{Class, Item, MAX_ITEMS, RulePath, Stars};
 use std::alloc::Global;
 
@@ -220,4 +223,31 @@ pub(crate) fn path_of(alloc: Global, bytes: &[u8]) -> Result<(RulePath, &[u8]), 
         }
         _ => path_in(alloc, false, bytes),
     }
+}
+
+/// Reads a whole text as the items of a path, as it would stand within quotes: white may be in it, and a quote stands behind a
+/// backslash. It need not begin with a slash. None for a text that is refused, or that goes on behind the path.
+pub fn read_path(alloc: Global, text: &[u8]) -> Result<Option<Vec<Item>>, NoMemory>
+    ensures tokens { IfOk result (λ o. option_map (λ items. tokens_of items.items) o ≡ text_tokens text.now) }
+    ensures full { IfOk result (λ o. IfSome o (λ items. IsTrue (all_full items.items))) }
+    ensures few { IfOk result (λ o. IfSome o (λ items. length (tokens_of items.items) ≤ max_items)) }
+    ensures stand { IfOk result (λ o. IfSome o (λ items. IsTrue (are_tokens false 0 (tokens_of items.items)))) }
+{
+    let Ok(quoted) = with_quote(alloc, text) else {
+        return Err(NoMemory);
+    };
+    match items_of(alloc, true, &quoted) {
+        Ok((items, rest)) if rest.len() == 1 => Ok(Some(items)),
+        Ok(_) | Err(Failure::At(_)) => Ok(None),
+        Err(Failure::NoMemory) => Err(NoMemory),
+    }
+}
+
+/// The text with a quote behind it, as a path in quotes ends.
+fn with_quote(alloc: Global, text: &[u8]) -> Result<Vec<u8>, Failure>
+    ensures { IfOk result (λ quoted. quoted.items ≡ text.now ++ codes "\"") }
+{
+    let mut quoted = Vec::from_slice(alloc, text)?;
+    quoted.push(b'"')?;
+    Ok(quoted)
 }

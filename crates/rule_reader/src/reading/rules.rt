@@ -6,13 +6,14 @@ ghost use Rattle.rule_reader.specs.Profile.{rule_value};
 ghost use Rattle.rule_reader.specs.inner.Gives.{Gives};
 ghost use Rattle.rule_reader.specs.Limits.{max_rules};
 ghost use Rattle.rule_reader.specs.Reading.{is_mode, perms_at, perms_behind, qualifier_at, start_at, comma_at, body_at, rule_at, rule_begins, rules_at};
+ghost use Rattle.rule_reader.specs.Spans.{rule_span, span_between, spans_at};
 ghost use Rattle.rule_reader.specs.TextBytes.{begins, is_close_brace};
 ghost use Rattle.rule_globs.specs.Tokens.{tokens_of};
 
 use super::local_fault::{Failure, FaultKind, fault_here, fault_with_left};
 use super::path::path_of;
 use super::words::{after_blank, after_gap, word_left_out, word_of};
-use crate::profile::{MAX_RULES, Rule};
+use crate::profile::{MAX_RULES, Rule, Span};
 use names::Perms;
 use rule_globs::RulePath;
 use std::alloc::Global;
@@ -138,15 +139,26 @@ fn body_of(alloc: Global, bytes: &[u8]) -> Result<(Perms, RulePath, &[u8]), Fail
     }
 }
 
-/// A rule, and what is left after it.
+/// A rule of a text of `len` bytes, of which these are left, and what is left after it.
 #[tactic(auto, unfolding(crate::specs::Reading::rule_at))]
-fn rule_of(alloc: Global, bytes: &[u8]) -> Result<(Rule, &[u8]), Failure>
-    ensures { Gives (λ x. (rule_value x.0, x.1.now)) result (rule_at bytes.now) }
+fn rule_of(alloc: Global, len: usize, bytes: &[u8]) -> Result<(Rule, &[u8]), Failure>
+    ensures gives { Gives (λ x. (rule_value x.0, x.1.now)) result (rule_at bytes.now) }
+    ensures span { IfOk result (λ x. rule_span x.0 ≡ span_between len bytes.now x.1.now) }
 {
     let (kind, rest) = qualifier_of(bytes)?;
     let (perms, path, rest) = body_of(alloc, rest)?;
     let rest = after_comma(rest)?;
-    Ok((Rule { kind, perms, path }, rest))
+    let span = Span {
+        start: len.saturating_sub(bytes.len()),
+        end: len.saturating_sub(rest.len()),
+    };
+    let rule = Rule {
+        kind,
+        perms,
+        path,
+        span,
+    };
+    Ok((rule, rest))
 }
 
 /// Whether a rule begins here. Else it is a fault for itself.
@@ -170,11 +182,16 @@ fn after_closing(bytes: &[u8]) -> Option<&[u8]>
     }
 }
 
-/// The rules up to the closing brace, and what is left after it.
-pub(crate) fn rules_of(alloc: Global, bytes: &[u8]) -> Result<(Vec<Rule>, &[u8]), Failure>
+/// The rules up to the closing brace, in a text of `len` bytes, and what is left after it.
+pub(crate) fn rules_of(
+    alloc: Global,
+    len: usize,
+    bytes: &[u8],
+) -> Result<(Vec<Rule>, &[u8]), Failure>
     ensures gives { Gives (λ x. (map rule_value x.0.items, x.1.now))
         result (rules_at max_rules bytes.now) }
     ensures few { IfOk result (λ x. length x.0.items ≤ max_rules) }
+    ensures spans { IfOk result (λ x. map rule_span x.0.items ≡ spans_at len max_rules bytes.now) }
 {
     let mut rules = Vec::new(alloc);
     let mut rest = bytes;
@@ -186,7 +203,7 @@ pub(crate) fn rules_of(alloc: Global, bytes: &[u8]) -> Result<(Vec<Rule>, &[u8])
             rule_begins(rest)?;
             return Err(fault_here(FaultKind::TooManyRules, rest));
         }
-        let (rule, more) = rule_of(alloc, rest)?;
+        let (rule, more) = rule_of(alloc, len, rest)?;
         rules.push(rule)?;
         rest = after_blank(more)?;
     }

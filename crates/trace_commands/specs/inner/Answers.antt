@@ -4,6 +4,7 @@ use Rattle.std.specs.declared.alloc.Global.{Global}
 use Rattle.names.specs.declared.permissions.Perms.{Perms}
 use Rattle.verdicts.specs.declared.verdict.Verdict.{Verdict}
 use Rattle.verdicts.specs.VerdictText.{verdict_text}
+use Rattle.trace_commands.specs.Judge.{ask_of}
 use Rattle.trace_report.specs.declared.status.Status.TheVariants.{BadArguments}
 use Rattle.trace_report.specs.declared.fault.Fault.{Fault}
 use Rattle.trace_report.specs.declared.fault.Fault.TheVariants.{Permissions, Name, Input, Memory}
@@ -39,3 +40,8 @@ IsFaultOfOne Wanted f = Wanted (fault (fault_text f) (fault_status f))
 abbrev pub IsAnswered : (Output → Type 0) → Result (Vec ℕ Global) Fault → Type 0
 IsAnswered Wanted (Ok bytes) = Wanted (whole_answer bytes.items)
 IsAnswered Wanted (Err f) = IsFaultOfOne Wanted f
+
+-- what is asked and the text that was read, or a fault in place of the output
+abbrev pub IsTextAsked : List ℕ → List ℕ → List ℕ → Output → Result (Perms × Vec ℕ Global) Fault → Type 0
+IsTextAsked perms name text output (Ok asked) = (ask_of perms name ≡ Ok asked.0) × (text ≡ asked.1.items)
+IsTextAsked perms name text output (Err f) = IsFaultOf output f

@@ -1,8 +1,8 @@
 use Rattle.std.proofs.Common.{◌≡◌, true, map, Some}
 use Rattle.std.specs.Prelude.{is_some}
-use Rattle.trace_line.specs.CommandLine.{line_of, run, steps}
+use Rattle.trace_line.specs.CommandLine.{line_of, run, steps, test}
 use Rattle.trace_report.proofs.Endings.{text_of}
-use Rattle.trace_cli.proofs.Capacities.{run_number, steps_number}
+use Rattle.trace_cli.proofs.Capacities.{run_number, steps_number, test_number}
 use Rattle.trace_cli.proofs.Running.{memory_ends, usage_ends}
 use Rattle.trace_cli.proofs.program.run_words.Goals as goal
 
@@ -26,6 +26,16 @@ pub run-requires : goal.run-requires
 run-requires g c =
     let is : line_of (map g.S.AsStr.text c.args.words.now) ≡ Some (run c.in-Ok-Run.capacity) = rw c.in-Ok-Run.field-0-is at c.in-Ok-Run.ensures.ok in
     run_number (map g.S.AsStr.text c.args.words.now) c.in-Ok-Run.capacity is
+
+pub test-requires : goal.test-requires
+test-requires g c =
+    let is : line_of (map g.S.AsStr.text c.args.words.now) ≡ Some (test c.in-Ok-Test.capacity) = rw c.in-Ok-Test.field-0-is at c.in-Ok-Test.ensures.ok in
+    test_number (map g.S.AsStr.text c.args.words.now) c.in-Ok-Test.capacity is
+
+pub returns-in-Ok-Test-clause-output : goal.returns-in-Ok-Test-clause-output
+returns-in-Ok-Test-clause-output g c limit =
+    let ran = c.test.ensures limit in
+    (ran.0, ran.1, rw (c.in-Ok-Test.ensures.ok, c.in-Ok-Test.field-0-is) ran.2)
 
 pub steps-requires : goal.steps-requires
 steps-requires g c =

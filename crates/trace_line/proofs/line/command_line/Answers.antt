@@ -1,5 +1,5 @@
 use Rattle.std.proofs.Common.{◌≡◌, ap, codes, is_some, refl, ◌∷◌, []}
-use Rattle.trace_line.specs.CommandLine.{capacity, changes, check, compile, judge, match_name, opens, run, sessions, steps, storm_by}
+use Rattle.trace_line.specs.CommandLine.{capacity, changes, check, compile, explain, judge, match_name, opens, run, sessions, steps, storm_by, test}
 use Rattle.trace_line.proofs.CommandLine.{known_command, numbers_line, opened_line, pair_first, pair_line, pair_second}
 use Rattle.trace_line.proofs.line.command_line.Goals as goal
 
@@ -18,6 +18,21 @@ returns-in-judge-clause-ok g c =
     let line = opened_line _ _ _ _ c.in_ok-matches.ensures.ok c.unwrap.ensures c.subcommand.ensures.name c.subcommand.ensures.rows in
     pair_line _ _ _ line (codes "judge") judge c.in-judge.is refl c.pair_in.result.0.now c.pair_in.result.1.now c.pair_in.ensures.perms c.pair_in.ensures.name
 
+pub pair_in-requires-in-explain-clause-perms : goal.pair_in-requires-in-explain-clause-perms
+pair_in-requires-in-explain-clause-perms g c =
+    let line = opened_line _ _ _ _ c.in_ok-matches.ensures.ok c.unwrap.ensures c.subcommand.ensures.name c.subcommand.ensures.rows in
+    pair_first _ _ _ line (codes "explain") explain c.in-explain.is refl
+
+pub pair_in-requires-in-explain-clause-name : goal.pair_in-requires-in-explain-clause-name
+pair_in-requires-in-explain-clause-name g c =
+    let line = opened_line _ _ _ _ c.in_ok-matches.ensures.ok c.unwrap.ensures c.subcommand.ensures.name c.subcommand.ensures.rows in
+    pair_second _ _ _ line (codes "explain") explain c.in-explain.is refl
+
+pub returns-in-explain-clause-ok : goal.returns-in-explain-clause-ok
+returns-in-explain-clause-ok g c =
+    let line = opened_line _ _ _ _ c.in_ok-matches.ensures.ok c.unwrap.ensures c.subcommand.ensures.name c.subcommand.ensures.rows in
+    pair_line _ _ _ line (codes "explain") explain c.in-explain.is refl c.pair_in-in-explain.result.0.now c.pair_in-in-explain.result.1.now c.pair_in-in-explain.ensures.perms c.pair_in-in-explain.ensures.name
+
 pub number_in-requires : goal.number_in-requires
 number_in-requires g c =
     let line = opened_line _ _ _ _ c.in_ok-matches.ensures.ok c.unwrap.ensures c.subcommand.ensures.name c.subcommand.ensures.rows in
@@ -29,6 +44,19 @@ returns-in-run-clause-ok g c =
     let line = opened_line _ _ _ _ c.in_ok-matches.ensures.ok c.unwrap.ensures c.subcommand.ensures.name c.subcommand.ensures.rows in
     let asked = numbers_line _ _ _ line (codes "run") (capacity ∷ []) (λ number. run (number capacity)) c.in-run.is refl in
     let same : c.number_in.result ≡ asked.0 capacity = cc (asked.1 capacity refl, c.number_in.ensures) in
+    rw same asked.2
+
+pub number_in-requires-in-test : goal.number_in-requires-in-test
+number_in-requires-in-test g c =
+    let line = opened_line _ _ _ _ c.in_ok-matches.ensures.ok c.unwrap.ensures c.subcommand.ensures.name c.subcommand.ensures.rows in
+    let asked = numbers_line _ _ _ line (codes "test") (capacity ∷ []) (λ number. test (number capacity)) c.in-test.is refl in
+    ap is_some (asked.1 capacity refl)
+
+pub returns-in-test-clause-ok : goal.returns-in-test-clause-ok
+returns-in-test-clause-ok g c =
+    let line = opened_line _ _ _ _ c.in_ok-matches.ensures.ok c.unwrap.ensures c.subcommand.ensures.name c.subcommand.ensures.rows in
+    let asked = numbers_line _ _ _ line (codes "test") (capacity ∷ []) (λ number. test (number capacity)) c.in-test.is refl in
+    let same : c.number_in-in-test.result ≡ asked.0 capacity = cc (asked.1 capacity refl, c.number_in-in-test.ensures) in
     rw same asked.2
 
 pub returns-in-compile-clause-ok : goal.returns-in-compile-clause-ok
@@ -99,4 +127,4 @@ returns-in-storm-clause-ok g c =
 pub unreachable-requires : goal.unreachable-requires
 unreachable-requires g c =
     let line = opened_line _ _ _ _ c.in_ok-matches.ensures.ok c.unwrap.ensures c.subcommand.ensures.name c.subcommand.ensures.rows in
-    known_command _ _ _ line c.in_default.not-judge c.in_default.not-run c.in_default.not-compile c.in_default.not-check c.in_default.not-match c.in_default.not-steps c.in_default.not-storm
+    known_command _ _ _ line c.in_default.not-judge c.in_default.not-explain c.in_default.not-run c.in_default.not-test c.in_default.not-compile c.in_default.not-check c.in_default.not-match c.in_default.not-steps c.in_default.not-storm

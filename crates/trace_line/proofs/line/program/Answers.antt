@@ -14,10 +14,12 @@ returns c =
     let wanted : app_of c.subcommand_required-bare.result ≡ wanted_app =
     ap app_of_fields c.subcommand_required-bare.ensures ∙ ap (λ (a : App). record a { top = record a.top { subcommand_required = true } }) told in
     let judging = c.in_ok-judging.ensures ∙ ap (λ (a : App). with_subcommand a (pair_app (codes "judge")).top) wanted in
-    let running = c.in_ok-running.ensures ∙ ap (λ (a : App). with_subcommand a (numbers_app (codes "run") (capacity ∷ [])).top) judging in
-    let compiling = c.in_ok-compiling.ensures ∙ ap (λ (a : App). with_subcommand a (numbers_app (codes "compile") []).top) running in
+    let explaining = c.in_ok-explaining.ensures ∙ ap (λ (a : App). with_subcommand a (pair_app (codes "explain")).top) judging in
+    let running = c.in_ok-running.ensures ∙ ap (λ (a : App). with_subcommand a (numbers_app (codes "run") (capacity ∷ [])).top) explaining in
+    let testing = c.in_ok-testing.ensures ∙ ap (λ (a : App). with_subcommand a (numbers_app (codes "test") (capacity ∷ [])).top) running in
+    let compiling = c.in_ok-compiling.ensures ∙ ap (λ (a : App). with_subcommand a (numbers_app (codes "compile") []).top) testing in
     let checking = c.in_ok-checking.ensures ∙ ap (λ (a : App). with_subcommand a (numbers_app (codes "check") []).top) compiling in
     let matching = c.in_ok-matching.ensures ∙ ap (λ (a : App). with_subcommand a (pair_app (codes "match")).top) checking in
     let stepping = c.in_ok-stepping.ensures ∙ ap (λ (a : App). with_subcommand a (numbers_app (codes "steps") (capacity ∷ [])).top) matching in
-    IfOk-weaker c.with_numbers-5.result _ _
-    (λ command h. h ∙ ap (λ (a : App). with_subcommand a (numbers_app (codes "storm") (sessions ∷ opens ∷ changes ∷ [])).top) stepping) c.with_numbers-5.ensures
+    IfOk-weaker c.with_numbers-6.result _ _
+    (λ command h. h ∙ ap (λ (a : App). with_subcommand a (numbers_app (codes "storm") (sessions ∷ opens ∷ changes ∷ [])).top) stepping) c.with_numbers-6.ensures

@@ -1,22 +1,19 @@
-use Rattle.std.proofs.Common.{rules}
-use Rattle.trace_script.proofs.Following.{printed_by, drop_few, change_few, same_few, link_few}
+use Rattle.std.proofs.Common.{◌≡◌, Err, rules, ◌∙◌}
+use Rattle.trace_script.specs.LineValues.{command_value}
+use Rattle.trace_script.specs.RunOutput.{printed}
+use Rattle.trace_script.proofs.Printing.{printed_by}
+use Rattle.trace_script.proofs.Following.{done_not}
+use Rattle.trace_script.specs.inner.Following.{one_line_step}
 use Rattle.trace_script.proofs.commands.answer_command.Goals as goal
-use Rattle.trace_script.proofs.commands.answer_command.Goals.{in-Remove+in_ok-line-in-Remove, in-Alter+in_ok-line-in-Alter, in-JudgeOpen+in_ok-line-in-JudgeOpen, in-JudgeLink+in_ok-line-in-JudgeLink}
+
+pub returns-in_err-line-clause-line : goal.returns-in_err-line-clause-line
+returns-in_err-line-clause-line g c limit =
+    let told : c.from_residual.result ≡ Err c.in_err-line.field-0.0 = search rules in
+    let p = printed limit (g.B.Bench.history c.args.bench.now) (command_value c.args.command) in
+    rw told (done_not (one_line_step p) (g.B.Bench.history c.command_line.new.bench) (g.A.Write.contents c.args.answers.now) c.in_err-line.field-0.0 (c.in_err-line.ensures.line limit))
 
 pub returns-clause-line : goal.returns-clause-line
 returns-clause-line g c limit =
-    elim c.match-command.branch [
-      | in-Remove+in_ok-line-in-Remove w ↦ search (rules, printed_by)
-      | in-Alter+in_ok-line-in-Alter w ↦ search (rules, printed_by)
-      | in-JudgeOpen+in_ok-line-in-JudgeOpen w ↦ search (rules, printed_by)
-      | in-JudgeLink+in_ok-line-in-JudgeLink w ↦ search (rules, printed_by)
-    ]
-
-pub returns-clause-few : goal.returns-clause-few
-returns-clause-few g c =
-    elim c.match-command.branch [
-      | in-Remove+in_ok-line-in-Remove w ↦ search (rules, drop_few)
-      | in-Alter+in_ok-line-in-Alter w ↦ search (rules, change_few)
-      | in-JudgeOpen+in_ok-line-in-JudgeOpen w ↦ search (rules, same_few)
-      | in-JudgeLink+in_ok-line-in-JudgeLink w ↦ search (rules, link_few)
-    ]
+    let p = printed limit (g.B.Bench.history c.args.bench.now) (command_value c.args.command) in
+    let composed = c.in_ok-line.ensures.line limit in
+    printed_by p _ _ _ _ c.print_line.result (c.deref.ensures.value ∙ composed.0) composed.1 c.print_line.ensures

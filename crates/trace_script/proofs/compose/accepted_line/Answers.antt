@@ -1,6 +1,6 @@
 use Rattle.std.proofs.Common.{Ok, ◌++◌, codes, decimal}
 use Rattle.trace_script.specs.RunOutput.{change_printed}
-use Rattle.trace_script.proofs.Following.{accepted}
+use Rattle.trace_script.proofs.Printing.{accepted}
 use Rattle.trace_script.proofs.Publishing.{composed}
 use Rattle.trace_script.proofs.compose.accepted_line.Goals as goal
 

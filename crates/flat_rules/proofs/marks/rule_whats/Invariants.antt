@@ -1,0 +1,7 @@
+-- What is told of the parts before, and of those that are left, is what is told of all.
+use Rattle.std.proofs.Common.{◌≡◌, ◌++◌, drop}
+use Rattle.flat_rules.specs.RuleParts.{rule_whats}
+use Rattle.flat_rules.proofs.marks.rule_whats.Given as goal
+
+abbrev pub invariant-loop-part : goal.invariant-loop-part
+invariant-loop-part l = l.whats.items ++ rule_whats l.marks (drop l.part-index l.parts) ≡ rule_whats l.marks l.parts

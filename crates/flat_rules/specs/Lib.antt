@@ -1,0 +1,2 @@
+pub mod RuleWords
+pub mod RuleParts

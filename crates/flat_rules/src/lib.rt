@@ -1,0 +1,10 @@
+//! What a file rule of a flattened profile text says, and what of it isn't in the imported text as it stands.
+//!
+//! To be believed are about 190 lines of definitions in `specs/`.
+#![tactic(auto)]
+
+mod marks;
+mod words;
+
+pub use marks::{Marks, part_effect, rule_whats};
+pub use words::{RuleWords, content};

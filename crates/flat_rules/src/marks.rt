@@ -1,0 +1,99 @@
+//! What an account says of the parts of a file rule.
+ghost use Rattle.std.specs.Prelude.{◌≡◌, ◌++◌, [], ◌∷◌, IfOk};
+ghost use Rattle.std.specs.List.{flat_map};
+ghost use Rattle.flat_rules.specs.RuleParts.{if_so, part_whats, part_effect, rule_whats, no_effect};
+
+use flat_text::{Part, PartKind};
+use flat_words::Letters;
+use import_account::What;
+use names::NoMemory;
+use std::alloc::Global;
+use subject_rules::{Change, Effect, RuleShape, Subject};
+
+/// What of a rule has its parts told.
+#[derive(Clone, Copy, Debug)]
+pub struct Marks {
+    pub letters: Letters,
+    /// Some run of slashes in the path becomes one.
+    pub slashes: bool,
+    /// The path may be read otherwise, which is why the rule goes.
+    pub pattern: bool,
+    /// The word `link` stands before the path.
+    pub link: bool,
+    /// An arrow binds link.
+    pub binds: bool,
+}
+
+/// One word more, if it is told.
+fn push_if(whats: &mut Vec<What>, told: bool, what: What) -> Result<(), NoMemory>
+    ensures { IfOk result (λ _. whats.new.items ≡ whats.old.items ++ if_so told what) }
+{
+    if !told {
+        return Ok(());
+    }
+    match whats.push(what) {
+        Ok(()) => Ok(()),
+        Err(_) => Err(NoMemory),
+    }
+}
+
+impl Marks {
+    ghost use Rattle.std.specs.Prelude.{◌≡◌, ◌++◌, IfOk};
+    ghost use Rattle.flat_rules.specs.RuleParts.{part_whats};
+
+    /// Adds what is told of a part of this kind.
+    pub fn put(self, kind: PartKind, whats: &mut Vec<What>) -> Result<(), NoMemory>
+        ensures { IfOk result (λ _. whats.new.items ≡ whats.old.items ++ part_whats self kind) }
+    {
+        match kind {
+            PartKind::Audit => push_if(whats, true, What::Audit),
+            PartKind::Owner => push_if(whats, true, What::Owner),
+            PartKind::Other => push_if(whats, true, What::Other),
+            PartKind::File => push_if(whats, true, What::File),
+            PartKind::Safe => push_if(whats, true, What::Safe),
+            PartKind::Unsafe => push_if(whats, true, What::Unsafe),
+            PartKind::Link => push_if(whats, true, What::Link),
+            PartKind::Subset => push_if(whats, true, What::Subset),
+            PartKind::Path => {
+                push_if(whats, self.slashes, What::Slashes)?;
+                push_if(whats, self.pattern, What::Pattern)
+            }
+            PartKind::Permissions => {
+                push_if(whats, self.letters.exec.is_some(), What::Exec)?;
+                push_if(whats, self.letters.append, What::Append)?;
+                push_if(whats, self.letters.capitals, What::Capitals)
+            }
+            PartKind::Arrow => {
+                push_if(whats, !self.link && self.binds, What::Link)?;
+                push_if(whats, !self.link && !self.binds, What::Target)
+            }
+            _ => Ok(()),
+        }
+    }
+}
+
+/// What is told of a rule of which nothing stays, in the order of its parts.
+pub fn rule_whats(alloc: Global, marks: Marks, parts: &[Part<'_>]) -> Result<Vec<What>, NoMemory>
+    ensures { IfOk result (λ whats. whats.items ≡ rule_whats marks parts.now) }
+{
+    let mut whats = Vec::new(alloc);
+    for part in parts {
+        marks.put(part.kind(), &mut whats)?;
+    }
+    Ok(whats)
+}
+
+/// What it changes, in a rule that stays, that a part of this kind is left out.
+pub fn part_effect(chosen: Subject, shape: RuleShape, kind: PartKind) -> Effect
+    ensures { result ≡ part_effect chosen shape kind }
+{
+    match kind {
+        PartKind::Owner | PartKind::Other => Effect::of(chosen, shape.qualifier_alone()),
+        PartKind::Arrow => Effect::of(chosen, shape.for_everybody()),
+        _ => Effect {
+            chosen,
+            on_chosen: Change::Exact,
+            on_other: Change::Exact,
+        },
+    }
+}

@@ -1,0 +1,254 @@
+//! What a file rule says, by its parts.
+ghost use Rattle.std.specs.Prelude.{◌≡◌, option_map, true, false};
+ghost use Rattle.names.specs.Permissions.{set_of};
+ghost use Rattle.flat_rules.specs.RuleWords.{content, is_deny, is_owner, is_other, is_link, is_path, is_permissions, is_arrow_part, past_blank, target_text, first_bytes, has_part, permissions_lead, letters_in, perms_of_rule, kind_of, applies_to_of, path_of, may_bind_link, target_of};
+
+use flat_text::{Part, PartKind};
+use flat_words::{Letters, letters_of};
+use names::{Permission, Perms};
+use subject_rules::AppliesTo;
+use verdicts::RuleKind;
+
+/// A word without its quotes.
+pub fn content(bytes: &[u8]) -> &[u8]
+    ensures { result.now ≡ content bytes.now }
+{
+    match bytes {
+        [b'"', inside @ ..] => inside.split_at(bytes.len().saturating_sub(2)).0,
+        _ => bytes,
+    }
+}
+
+/// What a file rule says.
+#[derive(Clone, Copy, Debug)]
+pub struct RuleWords<'t> {
+    pub kind: RuleKind,
+    pub applies_to: AppliesTo,
+    /// What it holds of r, w, l, k and m.
+    pub perms: Perms,
+    /// The letters that are written.
+    pub letters: Letters,
+    /// The path's text. The word `file` by itself has none.
+    pub path: Option<&'t [u8]>,
+    /// What link is bound to.
+    pub target: Option<&'t [u8]>,
+}
+
+fn denies(parts: &[Part<'_>]) -> bool
+    ensures { result ≡ has_part is_deny parts.now }
+{
+    parts
+        .iter()
+        .any(|part| matches!(part.kind(), PartKind::Deny))
+}
+
+fn is_for_owners(parts: &[Part<'_>]) -> bool
+    ensures { result ≡ has_part is_owner parts.now }
+{
+    parts
+        .iter()
+        .any(|part| matches!(part.kind(), PartKind::Owner))
+}
+
+fn is_for_others(parts: &[Part<'_>]) -> bool
+    ensures { result ≡ has_part is_other parts.now }
+{
+    parts
+        .iter()
+        .any(|part| matches!(part.kind(), PartKind::Other))
+}
+
+/// Whether the word `link` is there.
+fn is_link_rule(parts: &[Part<'_>]) -> bool
+    ensures { result ≡ has_part is_link parts.now }
+{
+    parts
+        .iter()
+        .any(|part| matches!(part.kind(), PartKind::Link))
+}
+
+/// Whether letters are written.
+fn has_letters(parts: &[Part<'_>]) -> bool
+    ensures { result ≡ has_part is_permissions parts.now }
+{
+    parts
+        .iter()
+        .any(|part| matches!(part.kind(), PartKind::Permissions))
+}
+
+/// The word that is the path.
+fn path_word<'t>(parts: &[Part<'t>]) -> Option<&'t [u8]>
+    ensures { option_map (λ bytes. bytes.now) result ≡ first_bytes is_path parts.now }
+{
+    let part = parts
+        .iter()
+        .find(|part| matches!(part.kind(), PartKind::Path))?;
+    Some(part.bytes())
+}
+
+/// The word of permissions.
+fn permissions_word<'t>(parts: &[Part<'t>]) -> Option<&'t [u8]>
+    ensures { option_map (λ bytes. bytes.now) result ≡ first_bytes is_permissions parts.now }
+{
+    let part = parts
+        .iter()
+        .find(|part| matches!(part.kind(), PartKind::Permissions))?;
+    Some(part.bytes())
+}
+
+/// An arrow and the word behind it.
+fn arrow_of<'t>(parts: &[Part<'t>]) -> Option<&'t [u8]>
+    ensures { option_map (λ bytes. bytes.now) result ≡ first_bytes is_arrow_part parts.now }
+{
+    let part = parts
+        .iter()
+        .find(|part| matches!(part.kind(), PartKind::Arrow))?;
+    Some(part.bytes())
+}
+
+/// The word behind an arrow.
+fn target_text(arrow: &[u8]) -> &[u8]
+    ensures { result.now ≡ target_text arrow.now }
+{
+    match arrow {
+        [_, _, behind @ ..] => content(past_blank(behind)),
+        _ => &[],
+    }
+}
+
+/// What stands behind white and comments.
+fn past_blank(bytes: &[u8]) -> &[u8]
+    ensures { result.now ≡ past_blank false bytes.now }
+{
+    let mut rest = bytes;
+    let mut comment = false;
+    while let [byte, more @ ..] = rest {
+        match byte {
+            b'\n' => comment = false,
+            b'#' => comment = true,
+            b' ' | b'\t' | b'\r' => {}
+            _ if comment => {}
+            _ => break,
+        }
+        rest = more;
+    }
+    rest
+}
+
+/// Whether the permissions stand before the path.
+fn permissions_lead(parts: &[Part<'_>]) -> bool
+    ensures { result ≡ permissions_lead parts.now }
+{
+    for part in parts {
+        match part.kind() {
+            PartKind::Path => return false,
+            PartKind::Permissions => return true,
+            _ => {}
+        }
+    }
+    false
+}
+
+fn kind_of(parts: &[Part<'_>]) -> RuleKind
+    ensures { result ≡ kind_of parts.now }
+{
+    if denies(parts) {
+        RuleKind::Deny
+    } else {
+        RuleKind::Allow
+    }
+}
+
+fn applies_to_of(parts: &[Part<'_>]) -> AppliesTo
+    ensures { result ≡ applies_to_of parts.now }
+{
+    if is_for_owners(parts) {
+        AppliesTo::Owners
+    } else if is_for_others(parts) {
+        AppliesTo::Others
+    } else {
+        AppliesTo::Everybody
+    }
+}
+
+/// The letters that are written.
+fn letters_in(parts: &[Part<'_>]) -> Letters
+    ensures { result ≡ letters_in parts.now }
+{
+    match permissions_word(parts) {
+        Some(word) => letters_of(word).unwrap_or(Letters::none()),
+        None => Letters::none(),
+    }
+}
+
+/// Every permission.
+fn all_perms() -> Perms
+    ensures { result ≡ set_of (λ p. true) }
+{
+    Perms::NONE
+        .with(Permission::Read)
+        .with(Permission::Write)
+        .with(Permission::Link)
+        .with(Permission::Lock)
+        .with(Permission::Map)
+}
+
+/// What a rule holds of r, w, l, k and m: its letters; with none written, `l` behind the word `link`, and all behind `file`.
+fn perms_of(parts: &[Part<'_>], letters: Letters) -> Perms
+    requires { letters ≡ letters_in parts.now }
+    ensures { result ≡ perms_of_rule parts.now }
+{
+    if is_link_rule(parts) {
+        Perms::NONE.with(Permission::Link)
+    } else if has_letters(parts) {
+        letters.perms
+    } else {
+        all_perms()
+    }
+}
+
+/// Whether an arrow would bind link, where the rule has these permissions.
+fn may_bind_link(parts: &[Part<'_>], perms: Perms) -> bool
+    requires { perms ≡ perms_of_rule parts.now }
+    ensures { result ≡ may_bind_link parts.now }
+{
+    is_link_rule(parts) || (permissions_lead(parts) && perms.contains(Permission::Link))
+}
+
+/// What link is bound to, where the rule has these permissions.
+fn target_of<'t>(parts: &[Part<'t>], perms: Perms) -> Option<&'t [u8]>
+    requires { perms ≡ perms_of_rule parts.now }
+    ensures { option_map (λ text. text.now) result ≡ target_of parts.now }
+{
+    if may_bind_link(parts, perms) {
+        arrow_of(parts).map(target_text)
+    } else {
+        None
+    }
+}
+
+impl<'t> RuleWords<'t> {
+    ghost use Rattle.std.specs.Prelude.{◌≡◌, option_map};
+    ghost use Rattle.flat_rules.specs.RuleWords.{kind_of, applies_to_of, perms_of_rule, letters_in, path_of, target_of};
+
+    /// What the rule of these parts says.
+    pub fn of(parts: &[Part<'t>]) -> RuleWords<'t>
+        ensures kind { result.kind ≡ kind_of parts.now }
+        ensures applies_to { result.applies_to ≡ applies_to_of parts.now }
+        ensures perms { result.perms ≡ perms_of_rule parts.now }
+        ensures letters { result.letters ≡ letters_in parts.now }
+        ensures path { option_map (λ text. text.now) result.path ≡ path_of parts.now }
+        ensures target { option_map (λ text. text.now) result.target ≡ target_of parts.now }
+    {
+        let letters = letters_in(parts);
+        let perms = perms_of(parts, letters);
+        RuleWords {
+            kind: kind_of(parts),
+            applies_to: applies_to_of(parts),
+            perms,
+            letters,
+            path: path_word(parts).map(content),
+            target: target_of(parts, perms),
+        }
+    }
+}

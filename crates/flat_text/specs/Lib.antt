@@ -1,0 +1,10 @@
+pub mod Parts
+pub mod Readings
+pub mod WordParts
+pub mod Statements
+pub mod Headers
+pub mod Assignments
+pub mod Rules
+pub mod Texts
+pub mod Laws
+pub mod inner

@@ -1,0 +1,150 @@
+-- File rules (apparmor.d(5), "Format" and "Access Modes"), and what else begins with a rule's qualifiers.
+use Rattle.std.specs.Prelude.{ℕ, List, [], ◌∷◌, length, codes, Result, Ok, Err, Option, Some, None, Bool, true, false, not, ◌&&◌, ◌||◌, ◌==◌, if◌then◌else◌, nat_eq, take, drop}
+use Rattle.std.specs.List.{starts_with}
+use Rattle.names.specs.declared.permissions.Permission.TheVariants.{Link}
+use Rattle.names.specs.Permissions.{has}
+use Rattle.rule_reader.specs.TextBytes.{begins, is_quote, is_comma, is_arrow, is_open_brace}
+use Rattle.rule_reader.specs.ReadWords.{word, is_word}
+use Rattle.flat_text.specs.declared.part.PartKind.{PartKind}
+use Rattle.flat_text.specs.declared.part.PartKind.TheVariants as parts
+use Rattle.flat_text.specs.declared.part.ItemKind.{ItemKind}
+use Rattle.flat_text.specs.declared.part.ItemKind.TheVariants as items
+use Rattle.flat_words.specs.declared.letters.ExecMode.{ExecMode}
+use Rattle.flat_words.specs.declared.letters.Letters.{Letters}
+use Rattle.flat_words.specs.Letters.{letters_of, are_fitting, is_letter_there}
+use Rattle.flat_words.specs.Steps.{Stop, include, left_out, permissions, ◌>>=◌, fault_here, syntax_here}
+use Rattle.flat_text.specs.Readings.{Reading, taken, taken_to}
+use Rattle.flat_words.specs.Words.{blank_at, word_end}
+use Rattle.flat_text.specs.WordParts.{blank_part, gap_part, path_part, literal_part}
+use Rattle.flat_words.specs.Statements.{is_statement}
+use Rattle.flat_text.specs.Statements.{statement_part}
+
+-- ---- words
+
+-- this word and the blank behind it, if it stands here
+abbrev pub optional_word : PartKind → List ℕ → Reading → Result Reading Stop
+optional_word kind name s = if is_word name s.rest then blank_part (taken kind (length name) s) else Ok s
+
+-- one of two words and the blank behind it, if one stands here
+abbrev pub optional_choice : PartKind → List ℕ → PartKind → List ℕ → Reading → Result Reading Stop
+optional_choice kind name other_kind other_name s =
+    if is_word name s.rest then blank_part (taken kind (length name) s) else optional_word other_kind other_name s
+
+-- the word that stands here is not supported
+abbrev pub word_left_out : {A : Type 0} → List ℕ → Result A Stop
+word_left_out bytes = fault_here (left_out (word bytes)) bytes
+
+-- ---- permissions
+
+-- The word of permissions that stands here, in a rule that denies or not. Letters that are none are this fault.
+abbrev pub permissions_word : Bool → Stop → List ℕ → Result Letters Stop
+permissions_word denies unknown bytes =
+    if length (word bytes) == 0 then syntax_here bytes
+    else elim (letters_of (word bytes)) [
+      | None ↦ Err unknown
+      | Some l ↦ if are_fitting denies l then Ok l else fault_here permissions bytes
+    ]
+
+-- the word as a part
+abbrev pub permissions_part : Reading → Reading
+permissions_part s = taken parts.Permissions (length (word s.rest)) s
+
+-- ---- arrows and the comma
+
+-- an arrow, which stands here, and the word behind it: one part
+abbrev pub target_part : Reading → Result Reading Stop
+target_part s =
+    blank_at false (drop 2 s.rest) >>= λ word. word_end word >>= λ rest. blank_part (taken_to parts.Arrow rest s)
+
+abbrev pub comma_part : Reading → Result Reading Stop
+comma_part s = literal_part parts.Comma (codes ",") s
+
+-- what stands behind path and permissions: an arrow, if one is there, and the comma
+unfoldable pub rule_end : Reading → Result Reading Stop
+rule_end s = blank_part s >>= λ at. (if is_arrow at.rest then target_part at else Ok at) >>= λ comma. comma_part comma
+
+-- ---- file rules
+
+-- PATH PERMISSIONS
+unfoldable pub path_first : Bool → Reading → Result Reading Stop
+path_first denies s = do
+  path ← path_part parts.Path s
+  at ← blank_part path
+  letters ← permissions_word denies (record { kind = permissions; left = length at.rest }) at.rest
+  rule_end (permissions_part at)
+
+abbrev pub is_mode_there : Option ExecMode → Bool
+is_mode_there None = false
+is_mode_there (Some m) = true
+
+-- a rule of these letters can have no arrow: it links, and it runs programs
+abbrev pub links_and_runs : Letters → Bool
+links_and_runs l = has l.perms Link && is_mode_there l.exec
+
+-- PERMISSIONS PATH. Letters that are none are a word that is not supported.
+unfoldable pub permissions_first : Bool → Reading → Result Reading Stop
+permissions_first denies s = do
+  letters ← permissions_word denies (record { kind = left_out (word s.rest); left = length s.rest }) s.rest
+  from ← gap_part (permissions_part s)
+  path ← optional_word parts.Subset (codes "subset") from
+  behind ← path_part parts.Path path
+  at ← blank_part behind
+  if is_arrow at.rest && links_and_runs letters then fault_here permissions s.rest else rule_end at
+
+-- what may begin the path of a rule
+abbrev pub begins_path_word : ℕ → Bool
+begins_path_word b = b == 47 || b == 64 || is_quote b
+
+-- { and $ (36), which would begin a block and a boolean, are not supported
+abbrev pub is_left_out_byte : ℕ → Bool
+is_left_out_byte b = is_open_brace b || b == 36
+
+unfoldable pub body_part : Bool → Reading → Result Reading Stop
+body_part denies s =
+    if begins begins_path_word s.rest then path_first denies s
+    else if not (length (word s.rest) == 0) then permissions_first denies s
+    else if begins is_left_out_byte s.rest then fault_here (left_out (take 1 s.rest)) s.rest
+    else syntax_here s.rest
+
+-- safe or unsafe, if one stands here, and path and permissions
+abbrev pub guarded_body : Bool → Reading → Result Reading Stop
+guarded_body denies s =
+    optional_choice parts.Safe (codes "safe") parts.Unsafe (codes "unsafe") s >>= λ body. body_part denies body
+
+-- the word file by itself allows every file, and denies none; else it is no more than a word. So many bytes are left from the
+-- word deny on.
+unfoldable pub file_rule : Bool → ℕ → Reading → Result Reading Stop
+file_rule denies from_deny s = blank_part (taken parts.File 4 s) >>= λ at.
+    if begins is_comma at.rest then (if denies then Err (record { kind = permissions; left = from_deny }) else comma_part at)
+    else guarded_body denies at
+
+-- link PATH -> TARGET
+unfoldable pub link_rule : Reading → Result Reading Stop
+link_rule s = do
+  from ← blank_part (taken parts.Link 4 s)
+  path ← optional_word parts.Subset (codes "subset") from
+  behind ← path_part parts.Path path
+  at ← blank_part behind
+  comma ← (if is_arrow at.rest then target_part at else syntax_here at.rest)
+  comma_part comma
+
+abbrev pub of_kind : ItemKind → Result Reading Stop → Result (ItemKind × Reading) Stop
+of_kind kind s = s >>= λ s. Ok (kind, s)
+
+-- behind the qualifiers, one of which denies or not: a statement or a file rule
+unfoldable pub unqualified_item : Bool → ℕ → Reading → Result (ItemKind × Reading) Stop
+unqualified_item denies from_deny s =
+    if is_word (codes "include") s.rest then fault_here include s.rest
+    else if is_statement s.rest then of_kind items.Statement (statement_part s)
+    else of_kind items.Rule (
+    if is_word (codes "link") s.rest then link_rule s
+    else if is_word (codes "file") s.rest then file_rule denies from_deny s
+    else guarded_body denies s)
+
+-- audit, then allow or deny, then owner or other, and what they stand before
+unfoldable pub rule_item : Reading → Result (ItemKind × Reading) Stop
+rule_item s = do
+  audited ← optional_word parts.Audit (codes "audit") s
+  told ← optional_choice parts.Allow (codes "allow") parts.Deny (codes "deny") audited
+  from ← optional_choice parts.Owner (codes "owner") parts.Other (codes "other") told
+  unqualified_item (is_word (codes "deny") audited.rest) (length audited.rest) from

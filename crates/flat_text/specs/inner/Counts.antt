@@ -1,0 +1,6 @@
+-- What counts may come to.
+use Rattle.std.specs.Prelude.{ℕ}
+
+-- the largest usize
+abbrev pub max_count : ℕ
+max_count = 18446744073709551615

@@ -1,0 +1,59 @@
+-- What stands in the head of a profile besides its names: extended attributes and flags (apparmor.d(5), "Format").
+use Rattle.std.specs.Prelude.{ℕ, List, [], ◌∷◌, codes, Result, Ok, Option, Some, None, Bool, true, false, not, ◌&&◌, ◌||◌, ◌==◌, if◌then◌else◌, find}
+use Rattle.rule_reader.specs.TextBytes.{is_white, is_quote, is_comma}
+use Rattle.rule_reader.specs.ReadWords.{leading, after}
+use Rattle.flat_words.specs.Steps.{Stop, ◌>>=◌, syntax_here}
+use Rattle.flat_words.specs.Statements.{is_one_of, past_byte}
+
+-- ---- conditions: xattrs=( .. ), flags=( .. ), and flags without the word
+
+-- behind an opening parenthesis, within quotes or not, and directly behind a backslash or not: what is left after the closing
+-- one (41)
+abbrev pub parentheses_at : Bool → Bool → List ℕ → Result (List ℕ) Stop
+parentheses_at quoted behind_backslash [] = syntax_here []
+parentheses_at quoted behind_backslash (b ∷ bytes) =
+    if b == 0 || (quoted && b == 10) then syntax_here (b ∷ bytes)
+    else if b == 41 && not quoted then Ok bytes
+    else parentheses_at (if is_quote b && not behind_backslash then not quoted else quoted) (b == 92) bytes
+
+abbrev pub past_parentheses : List ℕ → Result (List ℕ) Stop
+past_parentheses bytes = past_byte 40 bytes >>= λ inside. parentheses_at false false inside
+
+-- = (61) with white around it, and parentheses
+abbrev pub past_condition : List ℕ → Result (List ℕ) Stop
+past_condition bytes = past_byte 61 (after is_white bytes) >>= λ rest. past_parentheses (after is_white rest)
+
+-- what flags are parted by, their parentheses among it
+abbrev pub parts_flags : ℕ → Bool
+parts_flags b = is_white b || is_comma b || b == 40 || b == 41
+
+-- Flags that allow what no rule allows, and flags that don't.
+abbrev pub allowing_flags : List (List ℕ)
+allowing_flags = codes "complain" ∷ codes "unconfined" ∷ codes "default_allow" ∷ codes "prompt" ∷ []
+
+abbrev pub other_flags : List (List ℕ)
+other_flags =
+    codes "enforce" ∷ codes "kill" ∷ codes "audit" ∷ codes "attach_disconnected" ∷ codes "no_attach_disconnected"
+    ∷ codes "mediate_deleted" ∷ codes "delegate_deleted" ∷ codes "chroot_relative" ∷ codes "namespace_relative"
+    ∷ codes "chroot_attach" ∷ codes "chroot_no_attach" ∷ []
+
+abbrev pub is_flag : List ℕ → Bool
+is_flag w = is_one_of allowing_flags w || is_one_of other_flags w
+
+-- a byte of a flag
+abbrev pub is_flag_byte : ℕ → Bool
+is_flag_byte b = not (parts_flags b)
+
+-- The flags of these bytes, directly behind what parts flags or not: one begins at each byte of a flag behind what parts them.
+abbrev pub flags_at : Bool → List ℕ → List (List ℕ)
+flags_at begins [] = []
+flags_at begins (b ∷ bytes) =
+    if begins && is_flag_byte b then leading is_flag_byte (b ∷ bytes) ∷ flags_at false bytes else flags_at (parts_flags b) bytes
+
+-- the flags of a list, with the word flags before it or without
+abbrev pub flags_of : List ℕ → List (List ℕ)
+flags_of bytes = flags_at true (after (λ b. not (b == 40)) bytes)
+
+-- the first flag that is not known
+abbrev pub unknown_flag : List ℕ → Option (List ℕ)
+unknown_flag bytes = find (λ w. not (is_flag w)) (flags_of bytes)

@@ -1,0 +1,10 @@
+pub mod Steps
+pub mod Stops
+pub mod Gives
+pub mod Blanks
+pub mod Words
+pub mod Letters
+pub mod Statements
+pub mod Conditions
+pub mod Assignments
+pub mod inner

@@ -1,0 +1,11 @@
+-- What counts may come to.
+use Rattle.std.specs.Prelude.{ℕ, ◌+◌, ◌≤◌}
+use Rattle.flat_words.specs.declared.statement.Unclosed.{Unclosed}
+
+-- the largest usize
+abbrev pub max_count : ℕ
+max_count = 18446744073709551615
+
+-- at most one parenthesis and one brace more is open
+abbrev pub OpensAtMostOne : Unclosed → Unclosed → Type 0
+OpensAtMostOne before next = (next.parentheses ≤ before.parentheses + 1) × (next.braces ≤ before.braces + 1)

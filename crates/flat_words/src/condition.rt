@@ -1,0 +1,151 @@
+//! Extended attributes and flags in the head of a profile.
+ghost use Rattle.std.specs.Prelude.{◌≡◌, ◌==◌, length, find, false, not, option_map};
+ghost use Rattle.rule_reader.specs.TextBytes.{is_white};
+ghost use Rattle.rule_reader.specs.ReadWords.{leading, after};
+ghost use Rattle.flat_words.specs.Conditions.{parentheses_at, past_parentheses, past_condition, parts_flags, is_flag, is_flag_byte, allowing_flags, unknown_flag};
+ghost use Rattle.flat_words.specs.Statements.{is_one_of};
+ghost use Rattle.flat_words.specs.Gives.{Gives};
+
+use crate::bytes::is_white;
+use crate::stop::{Failure, StopKind, fault_here};
+use crate::words::{is_one_of, past_byte};
+
+/// What is left after the closing parenthesis, where the opening one was read.
+fn after_inside(bytes: &[u8]) -> Result<&[u8], Failure<'_>>
+    ensures { Gives (λ x. x.now) result (parentheses_at false false bytes.now) }
+{
+    let mut rest = bytes;
+    let mut quoted = false;
+    let mut behind_backslash = false;
+    while let [byte, more @ ..] = rest {
+        match byte {
+            0 => break,
+            b'\n' if quoted => break,
+            b')' if !quoted => return Ok(more),
+            b'"' if !behind_backslash => quoted = !quoted,
+            _ => {}
+        }
+        behind_backslash = *byte == b'\\';
+        rest = more;
+    }
+    Err(fault_here(StopKind::Syntax, rest))
+}
+
+/// What is left after parentheses.
+pub fn after_parentheses(bytes: &[u8]) -> Result<&[u8], Failure<'_>>
+    ensures { Gives (λ x. x.now) result (past_parentheses bytes.now) }
+{
+    after_inside(past_byte(b'(', bytes)?)
+}
+
+/// What is left after any white.
+pub fn after_white(bytes: &[u8]) -> &[u8]
+    ensures { result.now ≡ after is_white bytes.now }
+{
+    let mut rest = bytes;
+    while let [byte, more @ ..] = rest
+        && is_white(*byte)
+    {
+        rest = more;
+    }
+    rest
+}
+
+/// What is left after `=`, with white around it, and parentheses.
+pub fn after_condition(bytes: &[u8]) -> Result<&[u8], Failure<'_>>
+    ensures { Gives (λ x. x.now) result (past_condition bytes.now) }
+{
+    let rest = past_byte(b'=', after_white(bytes))?;
+    after_parentheses(after_white(rest))
+}
+
+/// Whether the byte parts flags.
+fn parts_flags(byte: u8) -> bool
+    ensures { result ≡ parts_flags byte }
+{
+    is_white(byte) || matches!(byte, b',' | b'(' | b')')
+}
+
+/// Flags by which what no rule allows is allowed.
+const ALLOWING_FLAGS: [&str; 4] = ["complain", "unconfined", "default_allow", "prompt"];
+
+/// Flags by which that isn't so.
+const OTHER_FLAGS: [&str; 11] = [
+    "enforce",
+    "kill",
+    "audit",
+    "attach_disconnected",
+    "no_attach_disconnected",
+    "mediate_deleted",
+    "delegate_deleted",
+    "chroot_relative",
+    "namespace_relative",
+    "chroot_attach",
+    "chroot_no_attach",
+];
+
+/// Whether by the flag what no rule allows is allowed.
+pub fn is_allowing_flag(word: &[u8]) -> bool
+    ensures { result ≡ is_one_of allowing_flags word.now }
+{
+    is_one_of(&ALLOWING_FLAGS, word)
+}
+
+/// Whether the flag is known.
+fn is_flag(word: &[u8]) -> bool
+    ensures { result ≡ is_flag word.now }
+{
+    is_allowing_flag(word) || is_one_of(&OTHER_FLAGS, word)
+}
+
+/// What stands from the first opening parenthesis on.
+fn from_parenthesis(bytes: &[u8]) -> &[u8]
+    ensures { result.now ≡ after (λ b. not (b == 40)) bytes.now }
+{
+    let mut rest = bytes;
+    while let [byte, more @ ..] = rest
+        && *byte != b'('
+    {
+        rest = more;
+    }
+    rest
+}
+
+/// How many bytes of a flag stand at the front.
+fn flag_length(bytes: &[u8]) -> usize
+    ensures { result ≡ length (leading is_flag_byte bytes.now) }
+{
+    let mut length = 0;
+    while length < bytes.len() && !parts_flags(bytes[length]) {
+        length += 1;
+    }
+    length
+}
+
+/// The flag that stands at the front.
+#[tactic(auto, using(crate::proofs::Runs::leading_cut))]
+fn flag_here(bytes: &[u8]) -> &[u8]
+    ensures { result.now ≡ leading is_flag_byte bytes.now }
+{
+    bytes.split_at(flag_length(bytes)).0
+}
+
+/// The first flag of a list that is not known.
+pub fn unknown_flag(bytes: &[u8]) -> Option<&[u8]>
+    ensures { option_map (λ w. w.now) result ≡ unknown_flag bytes.now }
+{
+    let mut begins = true;
+    let mut rest = from_parenthesis(bytes);
+    while let [byte, more @ ..] = rest {
+        let parts = parts_flags(*byte);
+        if begins && !parts {
+            let flag = flag_here(rest);
+            if !is_flag(flag) {
+                return Some(flag);
+            }
+        }
+        begins = parts;
+        rest = more;
+    }
+    None
+}

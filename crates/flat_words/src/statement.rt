@@ -1,0 +1,220 @@
+//! Statements: rules that aren't about files. Where each ends.
+ghost use Rattle.std.specs.Prelude.{◌≡◌, ◌≤◌, ◌+◌, ◌∷◌, length, IfOk, IfSome};
+ghost use Rattle.flat_words.specs.inner.Counts.{max_count, OpensAtMostOne};
+ghost use Rattle.flat_words.specs.Statements.{is_statement, ends_statement, nothing_open, still, plain_step, statement_step, statement_at, past_equals, past_boolean_name, boolean_at};
+ghost use Rattle.rule_reader.specs.ReadWords.{after};
+ghost use Rattle.flat_words.specs.Statements.{is_space};
+ghost use Rattle.flat_words.specs.Gives.{Gives};
+
+use crate::bytes::{is_include, is_space, is_white};
+use crate::stop::{Failure, StopKind, fault_here};
+use crate::words::{is_one_of, letter_word, past_byte, past_word};
+
+/// The words that statements begin with (apparmor.d(5), "Format").
+const STATEMENT_WORDS: [&str; 16] = [
+    "abi",
+    "capability",
+    "network",
+    "mount",
+    "remount",
+    "umount",
+    "pivot_root",
+    "signal",
+    "ptrace",
+    "dbus",
+    "unix",
+    "set",
+    "change_profile",
+    "userns",
+    "mqueue",
+    "io_uring",
+];
+
+/// Whether a statement begins here.
+pub fn is_statement(bytes: &[u8]) -> bool
+    ensures { result ≡ is_statement bytes.now }
+{
+    is_one_of(&STATEMENT_WORDS, letter_word(bytes))
+}
+
+/// What a byte of a statement stands in.
+#[derive(Clone, Copy)]
+pub(crate) enum Within {
+    Plain,
+    /// Behind white.
+    White,
+    /// Behind a backslash.
+    Backslash,
+    Quotes,
+    /// In quotes, behind a backslash.
+    QuotedBackslash,
+    Comment,
+}
+
+/// What of a statement is open at some place.
+#[derive(Clone, Copy)]
+pub(crate) struct Unclosed {
+    parentheses: usize,
+    braces: usize,
+    within: Within,
+}
+
+impl Unclosed {
+    ghost use Rattle.std.specs.Prelude.{◌≡◌, ◌<◌};
+    ghost use Rattle.flat_words.specs.Statements.{still};
+
+    /// The same with another place of the next byte.
+    fn still(self, within: Within) -> Unclosed
+        ensures { result ≡ still self within }
+    {
+        Unclosed { within, ..self }
+    }
+}
+
+/// Whether what stands behind a comma has it end a statement.
+fn ends_statement(behind: &[u8]) -> bool
+    ensures { result ≡ ends_statement behind.now }
+{
+    match behind {
+        [] => true,
+        [byte, ..] => is_white(*byte) || matches!(byte, b'#' | b'}'),
+    }
+}
+
+/// What is open behind the first of these bytes, which stands for itself. None where it ends the statement.
+fn plain_step<'t>(
+    unclosed: Unclosed,
+    byte: u8,
+    behind: &'t [u8],
+    from: &'t [u8],
+) -> Result<Option<Unclosed>, Failure<'t>>
+    requires from { from.now ≡ byte ∷ behind.now }
+    requires fit { (unclosed.parentheses + length from.now ≤ max_count) × (unclosed.braces + length from.now ≤ max_count) }
+    ensures gives { Gives (λ x. x) result (plain_step unclosed byte behind.now) }
+    ensures few { IfOk result (λ next. IfSome next (OpensAtMostOne unclosed)) }
+{
+    let plain = unclosed.still(Within::Plain);
+    let next = match byte {
+        0 => return Err(fault_here(StopKind::Syntax, from)),
+        b'\\' => unclosed.still(Within::Backslash),
+        b'"' => unclosed.still(Within::Quotes),
+        b'(' => Unclosed {
+            parentheses: unclosed.parentheses + 1,
+            ..plain
+        },
+        b'{' => Unclosed {
+            braces: unclosed.braces + 1,
+            ..plain
+        },
+        b')' if unclosed.parentheses == 0 => return Err(fault_here(StopKind::Syntax, from)),
+        b')' => Unclosed {
+            parentheses: unclosed.parentheses - 1,
+            ..plain
+        },
+        b'}' if unclosed.braces == 0 => return Err(fault_here(StopKind::Syntax, from)),
+        b'}' => Unclosed {
+            braces: unclosed.braces - 1,
+            ..plain
+        },
+        b',' if unclosed.parentheses == 0 && unclosed.braces == 0 && ends_statement(behind) => {
+            return Ok(None);
+        }
+        _ if is_white(byte) => unclosed.still(Within::White),
+        _ => plain,
+    };
+    Ok(Some(next))
+}
+
+/// What is open behind a byte, wherever it stands, the first of the bytes `from`. None where it ends the statement.
+fn statement_step<'t>(
+    unclosed: Unclosed,
+    byte: u8,
+    behind: &'t [u8],
+    from: &'t [u8],
+) -> Result<Option<Unclosed>, Failure<'t>>
+    requires from { from.now ≡ byte ∷ behind.now }
+    requires fit { (unclosed.parentheses + length from.now ≤ max_count) × (unclosed.braces + length from.now ≤ max_count) }
+    ensures gives { Gives (λ x. x) result (statement_step unclosed byte behind.now) }
+    ensures few { IfOk result (λ next. IfSome next (OpensAtMostOne unclosed)) }
+{
+    let within = match unclosed.within {
+        Within::White if byte == b'#' => {
+            if is_include(from) {
+                return Err(fault_here(StopKind::Include, from));
+            }
+            Within::Comment
+        }
+        Within::Plain | Within::White => return plain_step(unclosed, byte, behind, from),
+        Within::Comment if byte == b'\n' => Within::White,
+        Within::Comment => Within::Comment,
+        Within::Backslash if byte != 0 => Within::Plain,
+        Within::Quotes if byte == b'"' => Within::Plain,
+        Within::Quotes | Within::QuotedBackslash if byte != 0 && byte != b'\n' => {
+            if byte == b'\\' {
+                Within::QuotedBackslash
+            } else {
+                Within::Quotes
+            }
+        }
+        _ => return Err(fault_here(StopKind::Syntax, from)),
+    };
+    Ok(Some(unclosed.still(within)))
+}
+
+/// What is left after a statement.
+pub fn after_statement(bytes: &[u8]) -> Result<&[u8], Failure<'_>>
+    ensures { Gives (λ x. x.now) result (statement_at nothing_open bytes.now) }
+{
+    let mut unclosed = Unclosed {
+        parentheses: 0,
+        braces: 0,
+        within: Within::Plain,
+    };
+    let mut rest = bytes;
+    while let [byte, behind @ ..] = rest {
+        match statement_step(unclosed, *byte, behind, rest)? {
+            Some(next) => unclosed = next,
+            None => return Ok(behind),
+        }
+        rest = behind;
+    }
+    Err(fault_here(StopKind::Syntax, rest))
+}
+
+/// What is left after space and tab.
+fn after_spaces(bytes: &[u8]) -> &[u8]
+    ensures { result.now ≡ after is_space bytes.now }
+{
+    let mut rest = bytes;
+    while let [byte, more @ ..] = rest
+        && is_space(*byte)
+    {
+        rest = more;
+    }
+    rest
+}
+
+/// What is left after `=` and the spaces before and behind it.
+fn after_equals(bytes: &[u8]) -> Result<&[u8], Failure<'_>>
+    ensures { Gives (λ x. x.now) result (past_equals bytes.now) }
+{
+    let rest = past_byte(b'=', after_spaces(bytes))?;
+    Ok(after_spaces(rest))
+}
+
+/// What is left after `NAME` or `{NAME}`.
+fn after_boolean_name(bytes: &[u8]) -> Result<&[u8], Failure<'_>>
+    ensures { Gives (λ x. x.now) result (past_boolean_name bytes.now) }
+{
+    match bytes {
+        [b'{', name @ ..] => past_byte(b'}', past_word(name)?),
+        _ => past_word(bytes),
+    }
+}
+
+/// What is left of a boolean whose `$` was read.
+pub fn after_boolean(bytes: &[u8]) -> Result<&[u8], Failure<'_>>
+    ensures { Gives (λ x. x.now) result (boolean_at bytes.now) }
+{
+    past_word(after_equals(after_boolean_name(bytes)?)?)
+}

@@ -1,0 +1,60 @@
+//! Where reading stops.
+ghost use Rattle.std.specs.Prelude.{◌≡◌, length};
+ghost use Rattle.flat_words.specs.declared.stop.Failure.TheVariants.{NoMemory};
+
+use std::alloc::{AllocError, AllocFailed};
+
+/// What is wrong with a text.
+#[derive(Clone, Copy, Debug)]
+pub enum StopKind<'t> {
+    /// The grammar doesn't go on so.
+    Syntax,
+    /// An include: the text is not flattened.
+    Include,
+    /// A word, a byte or a flag that is not supported.
+    LeftOut(&'t [u8]),
+    /// Letters that are no permissions, or none of this rule.
+    Permissions,
+}
+
+/// A fault, and how many bytes of the text are left from its place on.
+#[derive(Clone, Copy, Debug)]
+pub struct Stop<'t> {
+    pub kind: StopKind<'t>,
+    pub left: usize,
+}
+
+/// Why a part of a text was not read.
+#[derive(Drop)]
+pub enum Failure<'t> {
+    /// Memory was refused.
+    NoMemory,
+    /// The text has a fault.
+    At(Stop<'t>),
+}
+
+impl<'t> From<AllocError> for Failure<'t> {
+    ghost from_gives = { λ _ e. e ≡ NoMemory };
+
+    fn from(_error: AllocError) -> Failure<'t> {
+        Failure::NoMemory
+    }
+}
+
+impl<'t, T: Drop> From<AllocFailed<T>> for Failure<'t> {
+    ghost from_gives = { λ _ e. e ≡ NoMemory };
+
+    fn from(_error: AllocFailed<T>) -> Failure<'t> {
+        Failure::NoMemory
+    }
+}
+
+/// The fault at the first of these bytes.
+pub fn fault_here<'t>(kind: StopKind<'t>, bytes: &[u8]) -> Failure<'t>
+    ensures { result ≡ Failure.At (record { kind = kind.entry; left = length bytes.now }) }
+{
+    Failure::At(Stop {
+        kind,
+        left: bytes.len(),
+    })
+}

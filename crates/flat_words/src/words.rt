@@ -1,0 +1,191 @@
+//! Blanks and words: where each ends.
+ghost use Rattle.std.specs.Prelude.{◌≡◌, ◌<◌, length, false, [], None, IfSome, map};
+ghost use Rattle.rule_reader.specs.TextBytes.{begins, opens_blank, is_word_byte};
+ghost use Rattle.rule_reader.specs.ReadWords.{leading, word, after_word, is_word};
+ghost use Rattle.flat_words.specs.Statements.{is_one_of, past_byte, past_word};
+ghost use Rattle.flat_words.specs.Steps.{syntax};
+ghost use Rattle.flat_words.specs.Gives.{Gives};
+ghost use Rattle.flat_words.specs.Words.{blank_at, comma_ends, bare_at, quoted_at, word_end, begins_path, is_path};
+
+use crate::bytes::{is_include, is_white};
+use crate::stop::{Failure, StopKind, fault_here};
+
+/// What is left after any white and comments.
+pub fn after_blank(bytes: &[u8]) -> Result<&[u8], Failure<'_>>
+    ensures { Gives (λ x. x.now) result (blank_at false bytes.now) }
+{
+    let mut rest = bytes;
+    let mut comment = false;
+    while let [byte, more @ ..] = rest {
+        if comment {
+            comment = *byte != b'\n';
+        } else if *byte == b'#' {
+            if is_include(rest) {
+                return Err(fault_here(StopKind::Include, rest));
+            }
+            comment = true;
+        } else if !is_white(*byte) {
+            break;
+        }
+        rest = more;
+    }
+    Ok(rest)
+}
+
+/// Whether a blank of at least one byte begins here.
+pub fn begins_gap(bytes: &[u8]) -> bool
+    ensures { result ≡ begins opens_blank bytes.now }
+{
+    matches!(bytes, [byte, ..] if is_white(*byte) || *byte == b'#')
+}
+
+/// Whether what stands behind a comma has it end a bare word.
+fn comma_ends(behind: &[u8]) -> bool
+    ensures { result ≡ comma_ends behind.now }
+{
+    match behind {
+        [] => true,
+        [byte, ..] => is_white(*byte) || matches!(byte, b'"' | b',' | b'!'),
+    }
+}
+
+/// What is left after a bare word.
+fn after_bare(bytes: &[u8]) -> Result<&[u8], Failure<'_>>
+    ensures { Gives (λ x. x.now) result (bare_at false bytes.now) }
+{
+    let mut rest = bytes;
+    let mut escaped = false;
+    while let [byte, more @ ..] = rest {
+        match byte {
+            0 => return Err(fault_here(StopKind::Syntax, rest)),
+            _ if escaped => escaped = false,
+            b'"' => break,
+            b',' if comma_ends(more) => break,
+            _ if is_white(*byte) => break,
+            _ => escaped = *byte == b'\\',
+        }
+        rest = more;
+    }
+    Ok(rest)
+}
+
+/// What is left after a word in quotes, of which the first was read.
+fn after_quoted(bytes: &[u8]) -> Result<&[u8], Failure<'_>>
+    ensures { Gives (λ x. x.now) result (quoted_at false bytes.now) }
+{
+    let mut rest = bytes;
+    let mut behind_backslash = false;
+    while let [byte, more @ ..] = rest {
+        match byte {
+            0 | b'\n' => break,
+            b'"' if !behind_backslash => return Ok(more),
+            _ => behind_backslash = *byte == b'\\',
+        }
+        rest = more;
+    }
+    Err(fault_here(StopKind::Syntax, rest))
+}
+
+/// What is left after a word, in quotes or of at least one byte.
+#[tactic(auto, unfolding(crate::specs::Words::word_end))]
+pub fn after_word(bytes: &[u8]) -> Result<&[u8], Failure<'_>>
+    ensures { Gives (λ x. x.now) result (word_end bytes.now) }
+{
+    if let [b'"', inside @ ..] = bytes {
+        return after_quoted(inside);
+    }
+    let rest = after_bare(bytes)?;
+    if rest.len() == bytes.len() {
+        return Err(fault_here(StopKind::Syntax, bytes));
+    }
+    Ok(rest)
+}
+
+/// Whether a path begins here: `/` or `@{`.
+fn begins_path(bytes: &[u8]) -> bool
+    ensures { result ≡ begins_path bytes.now }
+{
+    bytes.starts_with(b"/") || bytes.starts_with(b"@{")
+}
+
+/// The same, in quotes or not.
+pub fn is_path(bytes: &[u8]) -> bool
+    ensures { result ≡ is_path bytes.now }
+{
+    match bytes {
+        [b'"', inside @ ..] => begins_path(inside),
+        _ => begins_path(bytes),
+    }
+}
+
+/// How many letters, digits and `_` stand at the front.
+fn word_length(bytes: &[u8]) -> usize
+    ensures { result ≡ length (leading is_word_byte bytes.now) }
+{
+    let mut length = 0;
+    while length < bytes.len() && (bytes[length].is_ascii_alphanumeric() || bytes[length] == b'_') {
+        length += 1;
+    }
+    length
+}
+
+/// The word that stands here, which is letters, digits and `_` of which the first is a letter, and what is left after it.
+#[tactic(auto, using(crate::proofs::Runs::leading_cut))]
+pub fn cut_word(bytes: &[u8]) -> Option<(&[u8], &[u8])>
+    ensures none { result ≡ None → word bytes.now ≡ [] }
+    ensures some { IfSome result (λ x. (x.0.now ≡ word bytes.now) × (x.1.now ≡ after_word bytes.now) × (0 < length x.0.now)) }
+{
+    match bytes {
+        [byte, ..] if byte.is_ascii_alphabetic() => Some(bytes.split_at(word_length(bytes))),
+        _ => None,
+    }
+}
+
+/// The word that stands here, which is empty where none does.
+pub fn letter_word(bytes: &[u8]) -> &[u8]
+    ensures { result.now ≡ word bytes.now }
+{
+    match cut_word(bytes) {
+        Some((word, _)) => word,
+        None => &[],
+    }
+}
+
+/// Whether the word is one of these.
+pub fn is_one_of(words: &[&str], word: &[u8]) -> bool
+    ensures { result ≡ is_one_of (map (λ known. known.now) words.now) word.now }
+{
+    for known in words {
+        if word == known.as_bytes() {
+            return true;
+        }
+    }
+    false
+}
+
+/// Whether this word stands here.
+pub fn is_word(wanted: &[u8], bytes: &[u8]) -> bool
+    ensures { result ≡ is_word wanted.now bytes.now }
+{
+    letter_word(bytes) == wanted
+}
+
+/// What is left after the word that stands here.
+pub fn past_word(bytes: &[u8]) -> Result<&[u8], Failure<'_>>
+    ensures { Gives (λ x. x.now) result (past_word bytes.now) }
+{
+    match cut_word(bytes) {
+        Some((_, rest)) => Ok(rest),
+        None => Err(fault_here(StopKind::Syntax, bytes)),
+    }
+}
+
+/// What is left after this byte.
+pub fn past_byte(byte: u8, bytes: &[u8]) -> Result<&[u8], Failure<'_>>
+    ensures { Gives (λ x. x.now) result (past_byte byte bytes.now) }
+{
+    match bytes {
+        [first, rest @ ..] if *first == byte => Ok(rest),
+        _ => Err(fault_here(StopKind::Syntax, bytes)),
+    }
+}

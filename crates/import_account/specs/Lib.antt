@@ -1,0 +1,2 @@
+pub mod Whats
+pub mod ShownTexts

@@ -1,0 +1,78 @@
+//! Profiles made of parts.
+use names::Perms;
+use profile_parts::{path_of, profile_of};
+use rule_reader::{Rule, read_path};
+use std::alloc::Global;
+use std::process::Abort;
+use std::test::Fail;
+use verdicts::RuleKind;
+
+/// A rule that allows these permissions on `/a`.
+fn rule_of(alloc: Global, letters: &[u8]) -> Result<Rule, Fail> {
+    let items = read_path(alloc, b"/a")?.ok_or("the text of a path")?;
+    let path = path_of(items).ok_or("a path")?;
+    let perms = if letters.is_empty() {
+        Perms::NONE
+    } else {
+        Perms::from_letters(letters).ok_or("permissions")?
+    };
+    Ok(Rule::new(RuleKind::Allow, perms, path))
+}
+
+/// Whether there is a profile of this name with so many rules.
+fn is_made(alloc: Global, name: &[u8], letters: &[u8], count: usize) -> Result<bool, Fail> {
+    let mut rules = Vec::new(alloc);
+    for _ in 0..count {
+        rules.push(rule_of(alloc, letters)?)?;
+    }
+    Ok(profile_of(Vec::from_slice(alloc, name)?, rules).is_some())
+}
+
+#[test]
+fn so_many_rules(rt: HostRuntime) -> Result<(), Fail> {
+    assert!(&rt; is_made(rt.alloc(), b"p", b"r", 0)?);
+    assert!(&rt; is_made(rt.alloc(), b"p", b"r", 1024)?);
+    assert!(&rt; !is_made(rt.alloc(), b"p", b"r", 1025)?);
+    Ok(())
+}
+
+#[test]
+fn some_permission(rt: HostRuntime) -> Result<(), Fail> {
+    assert!(&rt; is_made(rt.alloc(), b"p", b"rwlkm", 1)?);
+    assert!(&rt; !is_made(rt.alloc(), b"p", b"", 1)?);
+    Ok(())
+}
+
+#[test]
+fn names_of_profiles(rt: HostRuntime) -> Result<(), Fail> {
+    for (name, wanted) in [
+        (b"/usr/bin/x".as_slice(), true),
+        (b"a b{c", true),
+        (b"a\\\"b", true),
+        (b"", false),
+        (b":a", false),
+        (b"a\"b", false),
+        (b"a\\", false),
+        (b"a\nb", false),
+        (&[b'a'; 255], true),
+        (&[b'a'; 256], false),
+    ] {
+        assert!(&rt; is_made(rt.alloc(), name, b"r", 0)? == wanted, "{name:?}");
+    }
+    Ok(())
+}
+
+/// A path that doesn't begin with a slash can be read as items, and is none of a profile.
+#[test]
+fn paths_begin_with_a_slash(rt: HostRuntime) -> Result<(), Fail> {
+    for (text, wanted) in [
+        (b"/a".as_slice(), true),
+        (b"a", false),
+        (b"{/a,/b}", false),
+        (b"", false),
+    ] {
+        let items = read_path(rt.alloc(), text)?.ok_or("the text of a path")?;
+        assert!(&rt; path_of(items).is_some() == wanted, "{text:?}");
+    }
+    Ok(())
+}

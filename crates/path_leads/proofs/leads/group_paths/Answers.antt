@@ -1,0 +1,14 @@
+-- A path for each alternative, where no slash goes before the group.
+use Rattle.std.proofs.Common.{sym, ap, ◌∙◌}
+use Rattle.std.proofs.lemmas.Result.{IfOk-weaker}
+use Rattle.rule_globs.specs.Tokens.{tokens_of}
+use Rattle.path_leads.specs.inner.Readable.{all_readable}
+use Rattle.path_leads.proofs.CopyLaws.{split_leads}
+use Rattle.path_leads.proofs.leads.group_paths.Goals as goal
+
+pub returns-then-all_stand_alone : goal.returns-then-all_stand_alone
+returns-then-all_stand_alone c =
+    IfOk-weaker c.split.result _ _
+    (λ paths e. e ∙ ap all_readable (split_leads c.args.alternatives.now (tokens_of c.args.follow.now)
+    (sym c.all_give_slash.ensures ∙ c.if-all_give_slash.false) (sym c.all_stand_alone.ensures ∙ c.if-all_stand_alone.true)))
+    c.split.ensures

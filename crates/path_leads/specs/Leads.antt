@@ -1,0 +1,59 @@
+-- A path whose items begin with a group, brought to paths that begin with a slash and match the same names (our choice:
+-- AppArmor reads such a path as it is, and the grammar of profile texts wants a slash first).
+use Rattle.std.specs.Prelude.{List, [], ◌∷◌, ◌++◌, Bool, false, not, ◌&&◌, if◌then◌else◌, map, drop}
+use Rattle.std.specs.List.{list_all}
+use Rattle.rule_globs.specs.declared.items.Item.{Item, out-Item}
+use Rattle.rule_globs.specs.declared.items.Item.TheOpen.{Item-F}
+use Rattle.rule_globs.specs.Tokens.{Token, byte, opening, closing, with_commas, tokens_of}
+use Rattle.rule_reader.specs.PathTokens.{is_plain_slash}
+use Rattle.rule_reader.specs.Readable.{is_run, begins_with_run, begins_with_slash, is_path}
+
+-- the last token is of this kind
+abbrev pub ends_with : (Token → Bool) → List Token → Bool
+ends_with kind [] = false
+ends_with kind (t ∷ []) = kind t
+ends_with kind (t ∷ u ∷ tokens) = ends_with kind (u ∷ tokens)
+
+-- A slash stands first, and no run of stars directly behind it: the slash can go before the group.
+abbrev pub gives_slash : List Token → Bool
+gives_slash [] = false
+gives_slash (t ∷ tokens) = is_plain_slash t && not (begins_with_run tokens)
+
+-- the slash before the group, out of each alternative (47 is /)
+abbrev pub slash_before : List (List Token) → List Token → List Token
+slash_before alternatives follow = byte 47 ∷ opening ∷ (with_commas (map (drop 1) alternatives) ++ (closing ∷ follow))
+
+-- An alternative makes a path with what follows the group: one that begins with a slash, and at the seam neither a run of
+-- stars stands nor a slash beside another.
+abbrev pub stands_alone : List Token → List Token → Bool
+stands_alone follow alternative =
+    begins_with_slash (alternative ++ follow)
+    && (not (ends_with is_run alternative) && (not (begins_with_run follow)
+    && not (ends_with is_plain_slash alternative && begins_with_slash follow)))
+
+-- The paths of a group and what follows it: one, or else one for each alternative, or none.
+abbrev pub group_leads : List (List Token) → List Token → List (List Token)
+group_leads alternatives follow =
+    if list_all gives_slash alternatives then slash_before alternatives follow ∷ []
+    else if list_all (stands_alone follow) alternatives then map (λ alternative. alternative ++ follow) alternatives
+    else []
+
+-- a path that begins with a slash is left as it is
+abbrev pub slash_leads : List Token → List (List Token)
+slash_leads tokens = if begins_with_slash tokens then tokens ∷ [] else []
+
+-- The first item and what follows it.
+abbrev pub front_leads : Item-F Item → List Token → List Token → List (List Token)
+front_leads (Item-F.Group alternatives) tokens follow = group_leads (map (λ items. tokens_of items.items) alternatives.items) follow
+front_leads (Item-F.Byte b) tokens follow = slash_leads tokens
+front_leads Item-F.AnyByte tokens follow = slash_leads tokens
+front_leads (Item-F.Class c) tokens follow = slash_leads tokens
+front_leads (Item-F.Stars s) tokens follow = slash_leads tokens
+
+abbrev pub leads : List Item → List (List Token)
+leads [] = []
+leads (item ∷ items) = front_leads (out-Item item) (tokens_of (item ∷ items)) (tokens_of items)
+
+-- these paths, if each can be read
+abbrev pub led : List Item → List (List Token)
+led items = if list_all is_path (leads items) then leads items else []

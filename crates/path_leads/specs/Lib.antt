@@ -1,0 +1,4 @@
+pub mod Leads
+pub mod Choices
+pub mod Alike
+pub mod inner

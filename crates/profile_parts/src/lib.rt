@@ -1,0 +1,12 @@
+//! Profiles made of parts that were not read from a text: whether items are a path as the reader makes them, and a profile of a
+//! name and rules, which passes the reader's tests.
+//!
+//! The definitions are those of `rule_reader`; those in `specs/inner/` are of private contracts and proofs.
+#![tactic(auto)]
+
+mod place;
+mod profiles;
+mod walking;
+
+pub use profiles::{path_of, profile_of};
+pub use walking::is_path;

@@ -1,0 +1,12 @@
+-- The text with those texts that are still to come is the whole.
+use Rattle.std.proofs.Common.{◌≡◌, ◌≤◌, ◌∷◌, ◌++◌, drop, length}
+use Rattle.std.specs.List.{flat_map}
+use Rattle.profile_variables.specs.PathTexts.{alternative, alternatives}
+use Rattle.profile_variables.specs.Variables.{most_bytes}
+use Rattle.profile_variables.proofs.adding.add_alternatives.Given as goal
+
+abbrev pub invariant-loop-place : goal.invariant-loop-place
+invariant-loop-place l = record {
+  whole : l.text.items ++ flat_map (λ other. 44 ∷ alternative l.slash_before l.slash_behind other) (drop l.place l.list) ≡ l.fn.text.items ++ alternatives l.slash_before l.slash_behind l.list;
+  short : length l.text.items ≤ most_bytes;
+}

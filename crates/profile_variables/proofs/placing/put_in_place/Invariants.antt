@@ -1,0 +1,16 @@
+-- What the rest becomes behind the text is the whole, if there is a whole.
+use Rattle.std.proofs.Common.{◌≡◌, ◌≤◌, length}
+use Rattle.profile_variables.specs.Pieces.{pieces}
+use Rattle.profile_variables.specs.PathTexts.{text_of, path_text}
+use Rattle.profile_variables.specs.Variables.{most_bytes}
+use Rattle.profile_variables.specs.inner.Known.{known_in}
+use Rattle.profile_variables.proofs.placing.put_in_place.Given as goal
+
+abbrev pub invariant-loop-piece : goal.invariant-loop-piece
+invariant-loop-piece l = record {
+  whole : text_of (known_in l.declared l.made) l.text.items (pieces l.rest) ≡ path_text (known_in l.declared l.made) l.path;
+  short : length l.text.items ≤ most_bytes;
+}
+
+abbrev pub decreases-loop-piece : goal.decreases-loop-piece
+decreases-loop-piece l = length l.rest

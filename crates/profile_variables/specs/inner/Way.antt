@@ -1,0 +1,83 @@
+-- The way from a first variable to the one whose list is being made, while the lists on it wait for one another.
+use Rattle.std.specs.Prelude.{◌≡◌, ℕ, List, [], ◌∷◌, length, map, take, suc, ◌+◌, ◌⊎◌, IsSome, Option, Some, None, slice_get, unwrap_or, option_and_then, Bool, false, ◌==◌}
+use Rattle.std.specs.Option.{option_map_or}
+use Rattle.profile_variables.specs.Pieces.{Text}
+use Rattle.profile_variables.specs.Variables.{Variable, Known, list_at, names_needed}
+use Rattle.profile_variables.specs.inner.Known.{place_of, known_in}
+use Rattle.profile_variables.specs.declared.making.Made.{Made}
+use Rattle.profile_variables.specs.declared.making.Step.{Step}
+
+abbrev pub Lists : Type 0
+Lists = List (Option (List Text))
+
+-- how many lists are made
+abbrev pub made_count : Lists → ℕ
+made_count [] = 0
+made_count (None ∷ lists) = made_count lists
+made_count (Some list ∷ lists) = suc (made_count lists)
+
+-- What is made is right: each list that is made is that of its variable, and needs no more levels than lists are made.
+pub record IsSound (variables : List Variable) (made : Made) : Type 0 where
+  pub lists : length made.lists.items ≡ length variables
+  pub met : length made.met.items ≡ length variables
+  pub right : (name : Text) (list : List Text) → known_in variables made.lists.items name ≡ Some list
+      → list_at (made_count made.lists.items) variables name ≡ Some list
+
+-- whatever was known is known
+abbrev pub KnowsAll : Known → Known → Type 0
+KnowsAll old new = (name : Text) (list : List Text) → old name ≡ Some list → new name ≡ Some list
+
+-- each of these has a list that is known
+abbrev pub AreKnown : Known → List Text → Type 0
+AreKnown known [] = Unit {0}
+AreKnown known (name ∷ names) = IsSome (known name) × AreKnown known names
+
+-- the variable at a place
+abbrev pub variable_at : List Variable → ℕ → Variable
+variable_at variables place = unwrap_or (slice_get variables place) (record { name = []; values = [] })
+
+-- the names that it needs
+abbrev pub needed_at : List Variable → ℕ → List Text
+needed_at variables place = names_needed (variable_at variables place).values
+
+-- A variable on the way: its own list isn't made, those that its first names need are, and so many variables stand before it.
+pub record IsStep (variables : List Variable) (lists : Lists) (met : List ℕ) (before : ℕ) (step : Step) : Type 0 where
+  pub named : place_of variables (variable_at variables step.variable).name ≡ Some step.variable
+  pub unmade : slice_get lists step.variable ≡ Some None
+  pub met_at : slice_get met step.variable ≡ Some before
+  pub first_known : AreKnown (known_in variables lists) (take step.next (needed_at variables step.variable))
+
+-- the names of the variables on the way
+abbrev pub names_of : List Variable → List Step → List Text
+names_of variables steps = map (λ (step : Step). (variable_at variables step.variable).name) steps
+
+-- The steps, the last of them first, lead from the variable of the first name to that name: each waits for the next.
+abbrev pub Waits : List Variable → Lists → List ℕ → Text → List Step → Text → Type 0
+Waits variables lists met first [] name = name ≡ first
+Waits variables lists met first (step ∷ before) name =
+    IsStep variables lists met (length before) step
+    × (slice_get (needed_at variables step.variable) step.next ≡ Some name)
+    × Waits variables lists met first before (variable_at variables step.variable).name
+
+-- The same up to the last step itself. Without steps the first list is made.
+abbrev pub IsWay : List Variable → Lists → List ℕ → Text → List Step → Type 0
+IsWay variables lists met first [] = IsSome (known_in variables lists first)
+IsWay variables lists met first (step ∷ before) =
+    IsStep variables lists met (length before) step
+    × Waits variables lists met first before (variable_at variables step.variable).name
+
+-- The variable at that place stands on the way, whose first step stands first here: it does where it was met last.
+abbrev pub is_on : List ℕ → List Step → ℕ → Bool
+is_on met way place = option_map_or (λ (step : Step). step.variable == place) (option_and_then (slice_get way) (slice_get met place)) false
+
+-- A step nearer to the end: a list more is made and the way is one step shorter than it was with the step taken off; or no
+-- list more is made, and the way is one step longer.
+abbrev pub IsNearer : Lists → List Step → Lists → List Step → Type 0
+IsNearer old before new after =
+    ((made_count new ≡ made_count old + 1) × (length after ≡ length before))
+    ⊎ ((made_count new ≡ made_count old) × (length after ≡ length before + 2))
+
+-- the name of the first variable on the way that leads to that name
+abbrev pub first_name : List Variable → List Step → Text → Text
+first_name variables [] name = name
+first_name variables (step ∷ before) name = first_name variables before (variable_at variables step.variable).name

@@ -1,0 +1,30 @@
+//! The variables of AppArmor profile texts (apparmor.d(5), "Variables"): the texts that each stands for, and paths in which
+//! they are put in place. Each list of texts is made once, and none is made that is too long.
+//!
+//! To be believed are about 330 lines of definitions in `specs/`; those in `specs/inner/` are of private contracts and
+//! proofs.
+#![tactic(auto)]
+
+mod adding;
+mod declared;
+mod fault;
+mod laws;
+mod listing;
+mod lists;
+mod making;
+mod pieces;
+mod placing;
+mod refusal;
+mod slashes;
+mod texts;
+mod variables;
+
+pub use fault::ExpandFault;
+pub use laws::{
+    limits_are_of_whole_lists, one_list_or_one_problem, one_slash_stays, one_text_or_one_problem,
+    texts_are_their_pieces,
+};
+pub use lists::Lists;
+pub use slashes::one_slash;
+pub use texts::{MOST_BYTES, MOST_TEXTS};
+pub use variables::Variable;

@@ -1,0 +1,91 @@
+//! Path texts with the variables put in place.
+ghost use Rattle.std.specs.Prelude.{◌≡◌, IfOk, IfErr, OnOk};
+ghost use Rattle.profile_variables.specs.Pieces.{used_names};
+ghost use Rattle.profile_variables.specs.Faults.{Tells};
+ghost use Rattle.profile_variables.specs.PathTexts.{IsSubstituted, PathProblem};
+ghost use Rattle.profile_variables.specs.inner.Known.{known_in};
+ghost use Rattle.profile_variables.specs.inner.Way.{IsSound, AreKnown, KnowsAll};
+
+use crate::declared::Declared;
+use crate::fault::ExpandFault;
+use crate::making::Made;
+use crate::pieces::{Piece, split_piece};
+use crate::placing::put_in_place;
+use crate::variables::Variable;
+use names::NoMemory;
+use std::alloc::{AllocError, Global};
+use std::marker::Model;
+
+/// Declared variables, with the lists of texts that were made so far; each is made once. They are seen as the list of the
+/// variables.
+#[derive(Drop)]
+pub struct Lists<'t> {
+    declared: Declared<'t>,
+    made: Made,
+}
+
+impl<'t> Model for Lists<'t> {
+    ghost use Rattle.std.specs.Prelude.{List};
+    ghost use Rattle.profile_variables.specs.Variables.{Variable as DeclaredVariable};
+    ghost use Rattle.profile_variables.specs.inner.Way.{IsSound};
+
+    ghost Value = { List DeclaredVariable };
+
+    ghost view = { λ l. l.declared };
+
+    ghost invariant = { λ l. IsSound l.declared l.made };
+}
+
+impl<'t> Lists<'t> {
+    /// No list is made yet. The variables' names are all different; of two with one name the first would count.
+    pub fn new(alloc: Global, variables: Vec<Variable<'t>>) -> Result<Lists<'t>, NoMemory>
+        ensures { IfOk result (λ lists. lists ≡ variables.entry.items) }
+    {
+        match Lists::declare(alloc, variables) {
+            Ok(lists) => Ok(lists),
+            Err(_) => Err(NoMemory),
+        }
+    }
+
+    fn declare(alloc: Global, variables: Vec<Variable<'t>>) -> Result<Lists<'t>, AllocError>
+        ensures { IfOk result (λ lists. lists ≡ variables.entry.items) }
+    {
+        let declared = Declared::new(alloc, variables)?;
+        let made = Made::nothing(alloc, &declared)?;
+        Ok(Lists { declared, made })
+    }
+
+    /// The text of a path with its variables put in place, or why there is none, of all reasons the first: that of the
+    /// leftmost variable that has no list, and that the text is too long last.
+    pub fn substitute(&mut self, alloc: Global, path: &'t [u8]) -> Result<Vec<u8>, ExpandFault<'t>>
+        ensures text { IfOk result (λ text. IsSubstituted self.old path.now text.items) }
+        ensures fault { IfErr result (λ fault. Tells (PathProblem self.old path.now) fault) }
+        ensures variables { self.new ≡ self.old }
+    {
+        make_used(alloc, &self.declared, &mut self.made, path)?;
+        let text = put_in_place(alloc, &self.declared, &self.made.lists, path)?;
+        Ok(text)
+    }
+}
+
+/// Makes the list of each variable that the path uses.
+fn make_used<'t>(
+    alloc: Global,
+    declared: &Declared<'t>,
+    made: &mut Made,
+    path: &'t [u8],
+) -> Result<(), ExpandFault<'t>>
+    requires { IsSound declared.now made.old }
+    ensures sound { IsSound declared.now made.new }
+    ensures known { OnOk result (AreKnown (known_in declared.now made.new.lists.items) (used_names path.now)) }
+    ensures fault { IfErr result (λ fault. Tells (PathProblem declared.now path.now) fault) }
+{
+    let mut rest = path;
+    while let Some((piece, more)) = split_piece(rest) {
+        if let Piece::Use(name) = piece {
+            made.make(alloc, declared, name)?;
+        }
+        rest = more;
+    }
+    Ok(())
+}

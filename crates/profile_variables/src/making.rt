@@ -1,0 +1,188 @@
+//! Lists made, each once: what a list needs is made before it.
+ghost use Rattle.std.specs.Prelude.{◌≡◌, ◌<◌, ◌≤◌, ◌+◌, ℕ, List, [], ◌∷◌, length, reverse, take, IsSome, IfSome, IfOk, IfErr, OnOk, OnErr, Some, None, map, slice_get, slice_set};
+ghost use Rattle.profile_variables.specs.Variables.{list_of_values};
+ghost use Rattle.profile_variables.specs.Problems.{HasProblem};
+ghost use Rattle.profile_variables.specs.Faults.{Tells};
+ghost use Rattle.profile_variables.specs.inner.Known.{known_in};
+ghost use Rattle.profile_variables.specs.inner.Way.{IsSound, KnowsAll, AreKnown, variable_at, needed_at, IsStep, Waits, IsWay, IsNearer, is_on};
+ghost use Rattle.profile_variables.specs.inner.Gives.{Refuses};
+
+use crate::declared::Declared;
+use crate::fault::ExpandFault;
+use crate::listing::{known, list_of};
+use crate::refusal::Refusal;
+use crate::texts::Texts;
+use std::alloc::{AllocError, Global};
+
+/// The lists that are made, each at the place of its variable.
+#[derive(Drop)]
+pub(crate) struct Made {
+    pub(crate) lists: Vec<Option<Texts>>,
+    /// How many variables stood on the way when each was met last.
+    pub(crate) met: Vec<usize>,
+}
+
+/// A variable on the way to a list: its place, and how many of the names that it needs have lists.
+#[derive(Clone, Copy, Drop)]
+pub(crate) struct Step {
+    pub(crate) variable: usize,
+    pub(crate) next: usize,
+}
+
+impl Made {
+    /// No list is made yet, and no variable was met; of one that wasn't, any number may stand.
+    pub(crate) fn nothing(alloc: Global, declared: &Declared<'_>) -> Result<Made, AllocError>
+        ensures { IfOk result (λ made. IsSound declared.now made) }
+    {
+        let mut lists = Vec::new(alloc);
+        let mut met = Vec::new(alloc);
+        for place in 0..declared.len() {
+            lists.push(None)?;
+            met.push(place)?;
+        }
+        Ok(Made { lists, met })
+    }
+
+    /// Whether the variable at that place stands on the way.
+    fn is_on(&self, way: &[Step], place: usize) -> bool
+        requires { place < length self.now.met.items }
+        ensures { result ≡ is_on self.now.met.items way.now place }
+    {
+        match way.get(self.met[place]) {
+            Some(step) => step.variable == place,
+            None => false,
+        }
+    }
+
+    /// The variable of that name steps on the way, unless it isn't declared or stands there already.
+    fn enter<'t>(
+        &mut self,
+        declared: &Declared<'t>,
+        way: &mut Vec<Step>,
+        name: &'t [u8],
+    ) -> Result<(), ExpandFault<'t>>
+        ghost first: { List ℕ }
+        requires sound { IsSound declared.now self.old }
+        requires waits { Waits declared.now self.old.lists.items self.old.met.items first (reverse way.old.items) name.now }
+        requires unknown { known_in declared.now self.old.lists.items name.now ≡ None }
+        ensures sound { IsSound declared.now self.new }
+        ensures lists { self.new.lists.items ≡ self.old.lists.items }
+        ensures way { OnOk result (IsWay declared.now self.new.lists.items self.new.met.items first (reverse way.new.items)) }
+        ensures longer { OnOk result (length way.new.items ≡ length way.old.items + 1) }
+        ensures fault { IfErr result (λ fault. Tells (HasProblem declared.now [] first) fault) }
+    {
+        let Some(place) = declared.place(name) else {
+            return Err(ExpandFault::Undefined { name });
+        };
+        if self.is_on(way, place) {
+            return Err(ExpandFault::Cycle { name });
+        }
+        self.met[place] = way.len();
+        way.push(Step {
+            variable: place,
+            next: 0,
+        })?;
+        Ok(())
+    }
+
+    /// The list of the variable at that place, for which all that it needs is made.
+    fn finish(
+        &mut self,
+        alloc: Global,
+        declared: &Declared<'_>,
+        place: usize,
+    ) -> Result<(), Refusal>
+        requires within { place < length declared.now }
+        requires sound { IsSound declared.now self.old }
+        ensures made { OnOk result ((list : List (List ℕ)) × (list_of_values (known_in declared.now self.old.lists.items) (variable_at declared.now place).values ≡ Some list) × (self.new.lists.items ≡ slice_set self.old.lists.items place (Some list))) }
+        ensures same { OnErr result (self.new.lists.items ≡ self.old.lists.items) }
+        ensures refused { IfErr result (λ refusal. Refuses refusal (list_of_values (known_in declared.now self.old.lists.items) (variable_at declared.now place).values)) }
+        ensures met { self.new.met.items ≡ self.old.met.items }
+    {
+        let values = declared.variable(place).values();
+        let list = list_of(alloc, declared, &self.lists, values)?;
+        self.lists[place] = Some(list);
+        Ok(())
+    }
+}
+
+impl Made {
+    /// Makes the list of the variable of that name, unless it is made, and those that it needs.
+    pub(crate) fn make<'t>(
+        &mut self,
+        alloc: Global,
+        declared: &Declared<'t>,
+        name: &'t [u8],
+    ) -> Result<(), ExpandFault<'t>>
+        requires { IsSound declared.now self.old }
+        ensures sound { IsSound declared.now self.new }
+        ensures more { KnowsAll (known_in declared.now self.old.lists.items) (known_in declared.now self.new.lists.items) }
+        ensures known { OnOk result (IsSome (known_in declared.now self.new.lists.items name.now)) }
+        ensures fault { IfErr result (λ fault. Tells (HasProblem declared.now [] name.now) fault) }
+    {
+        if known(declared, &self.lists, name).is_some() {
+            return Ok(());
+        }
+        let mut way = Vec::new(alloc);
+        self.enter(declared, &mut way, name)?;
+        while let Some(step) = way.pop() {
+            self.advance(alloc, declared, &mut way, step)?;
+        }
+        Ok(())
+    }
+
+    /// The last step, which was taken off the way: the next variable that it needs steps on the way behind it, or its list
+    /// is made.
+    fn advance<'t>(
+        &mut self,
+        alloc: Global,
+        declared: &Declared<'t>,
+        way: &mut Vec<Step>,
+        step: Step,
+    ) -> Result<(), ExpandFault<'t>>
+        ghost first: { List ℕ }
+        requires sound { IsSound declared.now self.old }
+        requires way { IsWay declared.now self.old.lists.items self.old.met.items first (step ∷ reverse way.old.items) }
+        ensures sound { IsSound declared.now self.new }
+        ensures more { KnowsAll (known_in declared.now self.old.lists.items) (known_in declared.now self.new.lists.items) }
+        ensures way { OnOk result (IsWay declared.now self.new.lists.items self.new.met.items first (reverse way.new.items)) }
+        ensures nearer { OnOk result (IsNearer self.old.lists.items way.old.items self.new.lists.items way.new.items) }
+        ensures fault { IfErr result (λ fault. Tells (HasProblem declared.now [] first) fault) }
+    {
+        let names = declared.variable(step.variable).needed();
+        match first_missing(declared, &self.lists, names, step.next) {
+            Some((next, name)) => {
+                way.push(Step { next, ..step })?;
+                self.enter(declared, way, name)
+            }
+            None => {
+                self.finish(alloc, declared, step.variable)?;
+                Ok(())
+            }
+        }
+    }
+}
+
+/// The first of the names, from that place on, whose list isn't made, and its place.
+fn first_missing<'t>(
+    declared: &Declared<'_>,
+    lists: &[Option<Texts>],
+    names: &[&'t [u8]],
+    next: usize,
+) -> Option<(usize, &'t [u8])>
+    requires { AreKnown (known_in declared.now lists.now) (take next (map (λ name. name.now) names.now)) }
+    ensures none { result ≡ None → AreKnown (known_in declared.now lists.now) (map (λ name. name.now) names.now) }
+    ensures before { IfSome result (λ missing. AreKnown (known_in declared.now lists.now) (take missing.0 (map (λ name. name.now) names.now))) }
+    ensures at { IfSome result (λ missing. slice_get (map (λ name. name.now) names.now) missing.0 ≡ Some missing.1.now) }
+    ensures unknown { IfSome result (λ missing. known_in declared.now lists.now missing.1.now ≡ None) }
+{
+    let mut place = next;
+    while place < names.len() {
+        let name = names[place];
+        if known(declared, lists, name).is_none() {
+            return Some((place, name));
+        }
+        place += 1;
+    }
+    None
+}

@@ -1,0 +1,160 @@
+//! Lists of texts that are neither too many nor too long.
+ghost use Rattle.std.specs.Prelude.{◌≡◌, ◌<◌, ◌≤◌, ◌+◌, ◌*◌, ◌∷◌, ◌++◌, [], length, map, slice_get, IfOk, OnOk, IfSome, Some, None};
+ghost use Rattle.profile_variables.specs.Variables.{most_bytes, fitting, each_with};
+ghost use Rattle.profile_variables.specs.inner.Gives.{Gives};
+
+use crate::refusal::Refusal;
+use std::alloc::{AllocError, Global};
+use std::marker::Model;
+
+/// The most texts that a variable stands for.
+pub const MOST_TEXTS: usize = 1024;
+
+/// The most bytes that a variable's texts have in all, and that a path's text has.
+pub const MOST_BYTES: usize = 16384;
+
+/// Texts, seen as a list of lists of bytes.
+#[derive(Drop)]
+pub(crate) struct Texts {
+    texts: Vec<Vec<u8>>,
+    /// How many bytes they have in all.
+    bytes: usize,
+}
+
+impl Model for Texts {
+    ghost use Rattle.std.specs.Prelude.{◌≡◌, ℕ, ◌≤◌, List, map, length};
+    ghost use Rattle.profile_variables.specs.Variables.{most_bytes, most_texts, byte_count};
+
+    ghost Value = { List (List ℕ) };
+
+    ghost view = { λ t. map (λ text. text.items) t.texts.items };
+
+    ghost invariant = { λ t. (t.bytes ≡ byte_count (map (λ text. text.items) t.texts.items)) × (length t.texts.items ≤ most_texts) × (t.bytes ≤ most_bytes) };
+}
+
+impl Texts {
+    /// No texts.
+    pub(crate) fn none(alloc: Global) -> Texts
+        ensures { result ≡ [] }
+    {
+        Texts {
+            texts: Vec::new(alloc),
+            bytes: 0,
+        }
+    }
+
+    /// One empty text.
+    pub(crate) fn one_empty(alloc: Global) -> Result<Texts, AllocError>
+        ensures { IfOk result (λ texts. texts ≡ [] ∷ []) }
+    {
+        let mut texts = Vec::new(alloc);
+        texts.push(Vec::new(alloc))?;
+        Ok(Texts { texts, bytes: 0 })
+    }
+
+    /// How many there are.
+    pub(crate) fn len(&self) -> usize
+        ensures { result ≡ length self.now }
+    {
+        self.texts.len()
+    }
+
+    /// The text at a place.
+    pub(crate) fn text(&self, place: usize) -> &[u8]
+        requires { place < length self.now }
+        ensures { slice_get self.now place ≡ Some result.now }
+    {
+        self.texts[place].as_slice()
+    }
+
+    /// Each of these with the bytes at its end.
+    pub(crate) fn each_with_end(self, end: &[u8]) -> Result<Texts, Refusal>
+        ensures { Gives result (fitting (each_with self (end.now ∷ []))) }
+    {
+        let Texts { mut texts, bytes } = self;
+        let Some(bytes) = bytes_grown(bytes, texts.len(), end.len()) else {
+            return Err(Refusal::Nothing);
+        };
+        extend_each(&mut texts, end)?;
+        Ok(Texts { texts, bytes })
+    }
+
+    /// Each of these with each of the others at its end, the first of these with all of them first.
+    pub(crate) fn each_with(&self, alloc: Global, seconds: &Texts) -> Result<Texts, Refusal>
+        ensures { Gives result (fitting (each_with self.now seconds.now)) }
+    {
+        let count = self.texts.len() * seconds.texts.len();
+        let bytes = self.bytes * seconds.texts.len() + self.texts.len() * seconds.bytes;
+        if count > MOST_TEXTS || bytes > MOST_BYTES {
+            return Err(Refusal::Nothing);
+        }
+        let texts = product(alloc, &self.texts, &seconds.texts)?;
+        Ok(Texts { texts, bytes })
+    }
+
+    /// These and then the others.
+    pub(crate) fn append(self, more: Texts) -> Result<Texts, Refusal>
+        ensures { Gives result (fitting (self ++ more)) }
+    {
+        let count = self.texts.len() + more.texts.len();
+        let bytes = self.bytes + more.bytes;
+        if count > MOST_TEXTS || bytes > MOST_BYTES {
+            return Err(Refusal::Nothing);
+        }
+        let Texts { mut texts, .. } = self;
+        let mut others = more.texts;
+        texts.append(&mut others)?;
+        Ok(Texts { texts, bytes })
+    }
+}
+
+/// So many bytes, and so many more for each of so many texts, unless these are too many.
+fn bytes_grown(bytes: usize, count: usize, more: usize) -> Option<usize>
+    ensures some { IfSome result (λ all. (all ≡ bytes + count * more) × (all ≤ most_bytes)) }
+    ensures none { result ≡ None → most_bytes < bytes + count * more }
+{
+    let all = count.checked_mul(more)?.checked_add(bytes)?;
+    if all > MOST_BYTES { None } else { Some(all) }
+}
+
+/// The bytes at the end of each text.
+fn extend_each(texts: &mut Vec<Vec<u8>>, end: &[u8]) -> Result<(), AllocError>
+    ensures { OnOk result (map (λ text. text.items) texts.new.items ≡ map (λ text. text ++ end.now) (map (λ text. text.items) texts.old.items)) }
+{
+    for text in texts.iter_mut() {
+        text.extend_from_slice(end)?;
+    }
+    Ok(())
+}
+
+/// Each of the firsts with each of the seconds at its end, the first of them slowest.
+fn product(
+    alloc: Global,
+    firsts: &[Vec<u8>],
+    seconds: &[Vec<u8>],
+) -> Result<Vec<Vec<u8>>, AllocError>
+    ensures { IfOk result (λ texts. map (λ text. text.items) texts.items ≡ each_with (map (λ first. first.items) firsts.now) (map (λ second. second.items) seconds.now)) }
+{
+    let mut texts = Vec::new(alloc);
+    for first in firsts {
+        push_with_each(alloc, &mut texts, first, seconds)?;
+    }
+    Ok(texts)
+}
+
+/// The first text with each of the seconds at its end, behind the texts.
+fn push_with_each(
+    alloc: Global,
+    texts: &mut Vec<Vec<u8>>,
+    first: &[u8],
+    seconds: &[Vec<u8>],
+) -> Result<(), AllocError>
+    ensures { OnOk result (map (λ text. text.items) texts.new.items ≡ map (λ text. text.items) texts.old.items ++ map (λ second. first.now ++ second) (map (λ second. second.items) seconds.now)) }
+{
+    for second in seconds {
+        let mut text = Vec::from_slice(alloc, first)?;
+        text.extend_from_slice(second)?;
+        texts.push(text)?;
+    }
+    Ok(())
+}

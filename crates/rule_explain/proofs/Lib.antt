@@ -1,0 +1,5 @@
+pub mod FirstHits
+pub mod ReasonLaws
+pub mod LineLaws
+pub mod ToldLaws
+pub mod VerdictLaws

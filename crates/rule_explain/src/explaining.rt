@@ -1,0 +1,138 @@
+//! What is said of a name, and why.
+ghost use Rattle.std.specs.Prelude.{◌≡◌, ◌≤◌, ◌++◌, IfOk, codes, decimal, length, map, string_bytes};
+ghost use Rattle.rule_explain.specs.Explanations.{explanation, reason_line, reason_text, rule_told};
+ghost use Rattle.rule_explain.specs.inner.Numbers.{TellsRuleOf};
+ghost use Rattle.rule_reader.specs.Profile.{rule_value, profile_value};
+ghost use Rattle.rule_reader.specs.Spans.{profile_spans, rule_span};
+ghost use Rattle.verdicts.specs.VerdictText.{verdict_text};
+
+use crate::place::place_at;
+use crate::reason::{Reason, reason_of};
+use names::{NoMemory, Permission, Perms};
+use rule_judge::judge_slow;
+use rule_reader::{Profile, Rule};
+use rule_writer::write_rule;
+use std::alloc::Global;
+use verdicts::Verdict;
+
+/// Says what a profile makes of a name and of the permissions that are asked for it, and why: a line with the verdict, and for
+/// each permission that is asked a line with the least rule that denies it, or else that allows it, by its number, its line
+/// in the text that the profile was read from, and its text.
+#[tactic(auto, unfolding(crate::specs::Explanations::explanation))]
+pub fn explain(
+    alloc: Global,
+    text: &[u8],
+    profile: &Profile,
+    name: &[u8],
+    ask: Perms,
+) -> Result<Vec<u8>, NoMemory>
+    ensures { IfOk result (λ lines. lines.items
+        ≡ explanation text.now (profile_value profile.now).rules (profile_spans profile.now) name.now ask) }
+{
+    let mut lines = verdict_line(alloc, judge_slow(profile, name, ask))?;
+    for permission in Permission::ALL {
+        if ask.contains(permission) {
+            put_line(&mut lines, alloc, text, profile, name, permission)?;
+        }
+    }
+    Ok(lines)
+}
+
+fn verdict_line(alloc: Global, verdict: Verdict) -> Result<Vec<u8>, NoMemory>
+    ensures { IfOk result (λ line. line.items ≡ verdict_text verdict ++ codes "\n") }
+{
+    match format!(in alloc; "{verdict}\n") {
+        Ok(line) => Ok(line.into_bytes()),
+        Err(_) => Err(NoMemory),
+    }
+}
+
+/// Adds the line of a permission.
+fn put_line(
+    lines: &mut Vec<u8>,
+    alloc: Global,
+    text: &[u8],
+    profile: &Profile,
+    name: &[u8],
+    permission: Permission,
+) -> Result<(), NoMemory>
+    ensures { IfOk result (λ _. lines.new.items ≡ lines.old.items
+        ++ reason_line text.now (profile_value profile.now).rules (profile_spans profile.now) name.now permission) }
+{
+    put(lines, &[permission.letter()])?;
+    put(lines, b": ")?;
+    put_reason(
+        lines,
+        alloc,
+        text,
+        profile,
+        reason_of(profile, name, permission),
+    )?;
+    put(lines, b"\n")
+}
+
+/// Adds a reason.
+fn put_reason(
+    lines: &mut Vec<u8>,
+    alloc: Global,
+    text: &[u8],
+    profile: &Profile,
+    reason: Reason,
+) -> Result<(), NoMemory>
+    requires { TellsRuleOf reason (length (profile_value profile.now).rules) }
+    ensures { IfOk result (λ _. lines.new.items ≡ lines.old.items
+        ++ reason_text text.now (profile_value profile.now).rules (profile_spans profile.now) reason) }
+{
+    match reason {
+        Reason::Allowed { rule } => {
+            put(lines, b"allowed by ")?;
+            put_rule(lines, alloc, text, profile.rules(), rule)
+        }
+        Reason::Denied { rule } => {
+            put(lines, b"denied by ")?;
+            put_rule(lines, alloc, text, profile.rules(), rule)
+        }
+        Reason::NoRule => put(lines, b"no rule"),
+    }
+}
+
+/// Adds a rule by its number, the line where it stands, and its text.
+fn put_rule(
+    lines: &mut Vec<u8>,
+    alloc: Global,
+    text: &[u8],
+    rules: &[Rule],
+    number: u16,
+) -> Result<(), NoMemory>
+    requires some { 1 ≤ number }
+    requires most { number ≤ length rules.now }
+    ensures { IfOk result (λ _. lines.new.items ≡ lines.old.items
+        ++ rule_told text.now (map rule_value rules.now) (map rule_span rules.now) number) }
+{
+    let rule = &rules[usize::from(number) - 1];
+    let place = place_at(text, rule.span().start);
+    let front = rule_front(alloc, number, place.line)?;
+    put(lines, front.as_bytes())?;
+    put(lines, &write_rule(alloc, rule)?)
+}
+
+/// What stands before a rule's text: its number, and its line.
+fn rule_front(alloc: Global, number: u16, line: usize) -> Result<String, NoMemory>
+    ensures { IfOk result (λ front. string_bytes front
+        ≡ codes "rule " ++ (decimal number ++ (codes ", line " ++ (decimal line ++ codes ": ")))) }
+{
+    match format!(in alloc; "rule {number}, line {line}: ") {
+        Ok(front) => Ok(front),
+        Err(_) => Err(NoMemory),
+    }
+}
+
+/// Adds these bytes.
+fn put(lines: &mut Vec<u8>, bytes: &[u8]) -> Result<(), NoMemory>
+    ensures { IfOk result (λ _. lines.new.items ≡ lines.old.items ++ bytes.now) }
+{
+    match lines.extend_from_slice(bytes) {
+        Ok(()) => Ok(()),
+        Err(_) => Err(NoMemory),
+    }
+}

@@ -1,0 +1,17 @@
+//! What the rules of a text say of a name, and why: for each permission the least rule that hits, where it stands in the text
+//! and how it is written; and for a text that is refused, the line with its fault.
+//!
+//! To be believed are about 210 lines of definitions in `specs/`.
+#![tactic(auto)]
+
+mod explaining;
+mod laws;
+mod place;
+mod reason;
+mod refusal;
+
+pub use explaining::explain;
+pub use laws::{explanations_are_right, reasons_are_right, verdicts_agree_with_reasons};
+pub use place::{Place, place_at};
+pub use reason::{Reason, reason_of};
+pub use refusal::fault_lines;

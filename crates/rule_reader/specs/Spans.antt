@@ -1,0 +1,56 @@
+-- Where the rules of a text stand in it.
+use Rattle.std.specs.Prelude.{◌≡◌, ◌<◌, ◌≤◌, ℕ, zero, suc, ◌-◌, List, [], ◌∷◌, length, map, drop, Ok, Err, if◌then◌else◌}
+use Rattle.rule_reader.specs.declared.profile.Profile.{Profile}
+use Rattle.rule_reader.specs.declared.profile.Rule.{Rule}
+use Rattle.rule_reader.specs.declared.profile.Span.{Span}
+use Rattle.rule_reader.specs.Limits.{max_rules}
+use Rattle.rule_reader.specs.Profile.{RuleValue}
+use Rattle.rule_reader.specs.ReadHeader.{header_at}
+use Rattle.rule_reader.specs.ReadSteps.{◌>>=◌}
+use Rattle.rule_reader.specs.ReadWords.{blank}
+use Rattle.rule_reader.specs.Reading.{rule_at}
+use Rattle.rule_reader.specs.TextBytes.{begins, is_close_brace}
+
+-- where a rule that was read stands
+abbrev pub rule_span : Rule → Span
+rule_span rule = rule.span
+
+-- the same of a profile's rules, in their order
+abbrev pub profile_spans : Profile → List Span
+profile_spans profile = map rule_span profile.rules.items
+
+-- in a text of n bytes, from where `from` are left to where `past` are
+abbrev pub span_between : ℕ → List ℕ → List ℕ → Span
+span_between n from past = record { start = n - length from; end = n - length past }
+
+-- The rules up to the closing brace, with room for so many, or up to the first fault: where each of them stands in a text of
+-- n bytes, of which these are left. A rule is read from its first byte to its comma, and then the blank behind it.
+unfoldable pub spans_at : ℕ → ℕ → List ℕ → List Span
+spans_at n zero bytes = []
+spans_at n (suc room) bytes =
+    if begins is_close_brace bytes then []
+    else elim (rule_at bytes) [
+      | Err s ↦ []
+      | Ok first ↦ span_between n bytes first.1 ∷ elim (blank first.1) [ Err s ↦ [] | Ok from ↦ spans_at n room from ]
+    ]
+
+-- where the rules stand behind the text's header
+unfoldable pub spans_of : List ℕ → List Span
+spans_of text = elim (blank text >>= λ from. header_at from >>= λ name. blank name.1) [
+  | Err s ↦ []
+  | Ok inside ↦ spans_at (length text) max_rules inside
+]
+
+-- Read from where it stands on, the text is read as this rule, up to where it ends.
+pub record IsReadAgain (text : List ℕ) (rule : RuleValue) (span : Span) : Type 0 where
+  pub some : span.start < span.end
+  pub within : span.end ≤ length text
+  pub read : rule_at (drop span.start text) ≡ Ok (rule, drop span.end text)
+
+-- So is each of the rules, one behind another, from so many bytes on.
+abbrev pub AreReadAgain : List ℕ → ℕ → List RuleValue → List Span → Type 0
+AreReadAgain text past [] [] = Unit {0}
+AreReadAgain text past (rule ∷ rules) (span ∷ spans) =
+    (past ≤ span.start) × IsReadAgain text rule span × AreReadAgain text span.end rules spans
+AreReadAgain text past [] (span ∷ spans) = ⊥
+AreReadAgain text past (rule ∷ rules) [] = ⊥

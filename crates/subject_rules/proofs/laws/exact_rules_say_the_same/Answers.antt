@@ -1,0 +1,13 @@
+use Rattle.subject_rules.proofs.RestatedVerdicts.{allowed_by_exact, hits_by_exact}
+use Rattle.subject_rules.proofs.laws.exact_rules_say_the_same.Goals as goal
+use Rattle.verdicts.specs.declared.kind.RuleKind.TheVariants.{Allow, Deny}
+
+pub returns-clause-denied : goal.returns-clause-denied
+returns-clause-denied c unknown chosen subject rules name p = hits_by_exact unknown chosen subject rules name Deny p
+
+pub returns-clause-granted : goal.returns-clause-granted
+returns-clause-granted c unknown chosen subject rules name p = hits_by_exact unknown chosen subject rules name Allow p
+
+pub returns-clause-allowed : goal.returns-clause-allowed
+returns-clause-allowed c unknown mode chosen subject rules name ask =
+    allowed_by_exact unknown chosen subject rules name mode ask c.allowed_alone.ensures

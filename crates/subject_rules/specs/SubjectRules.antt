@@ -1,0 +1,27 @@
+-- The values of AppArmor's file rules, and what isn't known of them.
+use Rattle.std.specs.Prelude.{ℕ, Bool, List, Option}
+use Rattle.names.specs.declared.permissions.Perms.{Perms}
+use Rattle.rule_globs.specs.Tokens.{Token}
+use Rattle.subject_rules.specs.declared.subject.AppliesTo.{AppliesTo}
+use Rattle.verdicts.specs.declared.kind.RuleKind.{RuleKind}
+
+-- A path as AppArmor reads it: as some paths, any of which may take the name; or a text that it reads in its own way.
+pub data SubjectPath : Type 0 where
+  read : List (List Token) → SubjectPath
+  unread : List ℕ → SubjectPath
+
+pub record SubjectRule : Type 0 where
+  pub kind : RuleKind
+  pub applies_to : AppliesTo
+  -- of r, w, l, k and m; an execute mode with `i` counts as m
+  pub perms : Perms
+  -- the text behind `->`, where that binds link (apparmor.d(5), "Link rules")
+  pub target : Option (List ℕ)
+  pub path : SubjectPath
+
+-- What isn't known here: how AppArmor itself reads texts. What is said below is said of every way.
+pub record Unknown : Type 0 where
+  -- the text of an unread path takes the name
+  pub takes : List ℕ → List ℕ → Bool
+  -- the text of a target takes what the link would lead to
+  pub meets : List ℕ → Bool

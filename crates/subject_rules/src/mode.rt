@@ -1,0 +1,34 @@
+//! The modes of a profile.
+ghost use Rattle.std.specs.Prelude.{◌≡◌};
+ghost use Rattle.subject_rules.specs.Changes.{mode_effect};
+
+use crate::effect::{Change, Effect};
+use crate::subject::Subject;
+
+/// What a profile does with what its rules don't allow (apparmor.d(5), "Profile Mode").
+#[derive(Clone, Copy, Debug, PartialEq, Eq)]
+pub enum Mode {
+    /// It refuses it.
+    Enforcing,
+    /// It allows it, but for what a deny rule denies, as `complain` does.
+    Permissive,
+    /// It allows everything.
+    Unconfined,
+}
+
+impl Mode {
+    /// What it changes that restated rules are enforced, told for the chosen subject.
+    pub fn effect(self, chosen: Subject) -> Effect
+        ensures { result ≡ mode_effect chosen self }
+    {
+        let change = match self {
+            Mode::Enforcing => Change::Exact,
+            Mode::Permissive | Mode::Unconfined => Change::Narrower,
+        };
+        Effect {
+            chosen,
+            on_chosen: change,
+            on_other: change,
+        }
+    }
+}

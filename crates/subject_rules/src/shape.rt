@@ -1,0 +1,130 @@
+//! What of a rule decides whether it is restated, and what that changes.
+ghost use Rattle.std.specs.Prelude.{◌≡◌};
+ghost use Rattle.subject_rules.specs.Changes.{change, for_everybody, gained, left_out_change, lost, qualifier_alone, restated_change};
+ghost use Rattle.subject_rules.specs.Restating.{has_some, is_restated, loses_link, restated_perms};
+
+use crate::effect::Change;
+use crate::subject::{AppliesTo, Subject};
+use names::{Permission, Perms};
+use verdicts::RuleKind;
+
+/// A file rule but for its path and its target.
+#[derive(Clone, Copy, Debug, PartialEq, Eq)]
+pub struct RuleShape {
+    /// Whether it allows or denies.
+    pub kind: RuleKind,
+    /// To whom.
+    pub applies_to: AppliesTo,
+    /// What it holds of r, w, l, k and m. An execute mode with `i` counts as m.
+    pub perms: Perms,
+    /// Whether `->` binds link to a target.
+    pub has_target: bool,
+    /// Whether the path was read as AppArmor reads it.
+    pub is_read: bool,
+}
+
+/// The permissions of a rule that are restated: link isn't where the rule binds it to a target, since a restated rule
+/// would allow or deny every link.
+pub fn restated_perms(perms: Perms, has_target: bool) -> Perms
+    ensures { result ≡ restated_perms perms has_target }
+{
+    if has_target {
+        perms.without(Perms::NONE.with(Permission::Link))
+    } else {
+        perms
+    }
+}
+
+// Whether any permission is in the set.
+fn has_some(perms: Perms) -> bool
+    ensures { result ≡ has_some perms }
+{
+    !perms.is_empty()
+}
+
+impl RuleShape {
+    /// Whether the rule is restated for the chosen subject: it applies to it, its path was read, and a permission is left.
+    pub fn is_restated(self, chosen: Subject) -> bool
+        ensures { result ≡ is_restated chosen self }
+    {
+        self.applies_to.applies_to(chosen)
+            && self.is_read
+            && has_some(restated_perms(self.perms, self.has_target))
+    }
+
+    /// What restating the rule for the chosen subject, or leaving it out, changes for a subject.
+    pub fn change(self, chosen: Subject, subject: Subject) -> Change
+        ensures { result ≡ change chosen subject self }
+    {
+        if self.is_restated(chosen) {
+            self.restated_change(subject)
+        } else {
+            self.left_out_change(subject)
+        }
+    }
+
+    /// The rule as if its qualifier were all that can't be restated: what that changes is told apart from the rest.
+    pub fn qualifier_alone(self) -> RuleShape
+        ensures { result ≡ qualifier_alone self }
+    {
+        RuleShape {
+            has_target: false,
+            is_read: true,
+            ..self
+        }
+    }
+
+    /// The rule as if it had no qualifier: what its target changes, or a path that wasn't read, is told apart.
+    pub fn for_everybody(self) -> RuleShape
+        ensures { result ≡ for_everybody self }
+    {
+        RuleShape {
+            applies_to: AppliesTo::Everybody,
+            ..self
+        }
+    }
+
+    // What a rule that is restated changes: who it didn't apply to gains it, and link to a target is lost.
+    fn restated_change(self, subject: Subject) -> Change
+        ensures { result ≡ restated_change subject self }
+    {
+        if !self.applies_to.applies_to(subject) {
+            self.gained()
+        } else if self.has_target && self.perms.contains(Permission::Link) {
+            self.lost()
+        } else {
+            Change::Exact
+        }
+    }
+
+    // What a rule that is left out changes: who it applied to loses it, if it holds anything.
+    fn left_out_change(self, subject: Subject) -> Change
+        ensures { result ≡ left_out_change subject self }
+    {
+        if self.applies_to.applies_to(subject) && has_some(self.perms) {
+            self.lost()
+        } else {
+            Change::Exact
+        }
+    }
+
+    // What it changes that something of the rule is lost.
+    fn lost(self) -> Change
+        ensures { result ≡ lost self.kind }
+    {
+        match self.kind {
+            RuleKind::Allow => Change::Narrower,
+            RuleKind::Deny => Change::Wider,
+        }
+    }
+
+    // What it changes that the rule says more.
+    fn gained(self) -> Change
+        ensures { result ≡ gained self.kind }
+    {
+        match self.kind {
+            RuleKind::Allow => Change::Wider,
+            RuleKind::Deny => Change::Narrower,
+        }
+    }
+}

@@ -1,0 +1,113 @@
+-- What `explain` comes to: bad arguments, faults of which the text says nothing, texts that are refused, and answers.
+use Rattle.std.proofs.Common.{◌≡◌, ◌≢◌, ◌⊎◌, ℕ, List, [], ◌++◌, Option, Result, Ok, Err, refl, sym, subst, inl, inr, append_assoc, append-nil}
+use Rattle.std.specs.Prelude.{codes, flat_map, filter}
+use Rattle.names.specs.Errors.{no_memory_text}
+use Rattle.names.specs.declared.permissions.Perms.{Perms}
+use Rattle.names.specs.Permissions.{all_permissions, has}
+use Rattle.rule_explain.specs.Explanations.{explanation, reason_line}
+use Rattle.rule_explain.specs.FaultLines.{fault_lines}
+use Rattle.rule_globs.specs.PlainVerdict.{verdict}
+use Rattle.rule_reader.specs.declared.fault.ReadFault.{ReadFault}
+use Rattle.rule_reader.specs.declared.fault.ReadFault.TheVariants as reading
+use Rattle.rule_reader.specs.declared.profile.Span.{Span}
+use Rattle.rule_reader.specs.Profile.{ProfileValue}
+use Rattle.rule_reader.specs.Reading.{outcome_of}
+use Rattle.rule_reader.specs.Spans.{spans_of}
+use Rattle.verdicts.specs.VerdictText.{verdict_text}
+use Rattle.trace_report.specs.declared.status.Status.{Status}
+use Rattle.trace_report.specs.declared.status.Status.TheVariants.{BadArguments, NoMemory, Refused}
+use Rattle.trace_report.specs.declared.fault.Fault.{Fault}
+use Rattle.trace_report.specs.declared.fault.Fault.TheVariants.{Permissions, Name, Text, Compiling, Image, Input, Memory}
+use Rattle.trace_report.specs.Fault.{fault_text, IsFaultOf}
+use Rattle.trace_report.specs.Output.{Output, fault, line, refusal, whole_answer}
+use Rattle.trace_report.specs.Streams.{Ends, IsTold, Streams}
+use Rattle.trace_report.proofs.Endings.{ends_told, nothing_yet, told_alone, written}
+use Rattle.trace_commands.specs.Explain.{explain_output, explained_output, refusal_text, GoesOnFrom}
+use Rattle.trace_commands.specs.Judge.{ask_of, judge_output, verdict_output}
+
+-- ---- arguments
+
+-- bad arguments are told as such, whatever the text
+pub asked_in_vain : (perms name text : List ℕ) (f : Fault) → ask_of perms name ≡ Err (fault_text f) → (f ≡ Permissions) ⊎ (f ≡ Name) → IsFaultOf (explain_output perms name text) f
+asked_in_vain perms name text Permissions e which = rw (e, explain_output) refl
+asked_in_vain perms name text Name e which = rw (e, explain_output) refl
+asked_in_vain perms name text Input e (inl p) = cc
+asked_in_vain perms name text Input e (inr p) = cc
+asked_in_vain perms name text Memory e (inl p) = cc
+asked_in_vain perms name text Memory e (inr p) = cc
+asked_in_vain perms name text (Text f) e (inl p) = cc
+asked_in_vain perms name text (Text f) e (inr p) = cc
+asked_in_vain perms name text (Compiling f) e (inl p) = cc
+asked_in_vain perms name text (Compiling f) e (inr p) = cc
+asked_in_vain perms name text (Image f) e (inl p) = cc
+asked_in_vain perms name text (Image f) e (inr p) = cc
+
+-- good arguments aren't told as bad ones
+pub explained_status : (ask : Perms) (name text : List ℕ) (outcome : Result ProfileValue ReadFault) → (explained_output ask name text outcome).status ≢ BadArguments
+explained_status ask name text (Ok profile) = λ e. cc
+explained_status ask name text (Err f) = λ e. cc
+
+-- what is written with good arguments
+pub good_output : (perms name text : List ℕ) (ask : Perms) → ask_of perms name ≡ Ok ask → explain_output perms name text ≡ explained_output ask name text (outcome_of text)
+good_output perms name text ask e = rw (e, explain_output) refl
+
+good_arguments : (perms name text : List ℕ) (ask : Perms) → ask_of perms name ≡ Ok ask → (explain_output perms name text).status ≢ BadArguments
+good_arguments perms name text ask e = rw (good_output perms name text ask e) (explained_status ask name text (outcome_of text))
+
+-- what hides the text says only that the arguments are good
+pub unread : (perms name text : List ℕ) (ask : Perms) (f : Fault) → ask_of perms name ≡ Ok ask → (f ≡ Input) ⊎ (f ≡ Memory) → IsFaultOf (explain_output perms name text) f
+unread perms name text ask f e (inl h) = rw h (good_arguments perms name text ask e)
+unread perms name text ask f e (inr h) = rw h (good_arguments perms name text ask e)
+
+-- ---- texts
+
+-- an answer
+pub answered_so : (streams : Streams) (ask : Perms) (name text : List ℕ) (profile : ProfileValue) (spans : List Span) (here lines bytes : List ℕ) (status : Status) → outcome_of text ≡ Ok profile → spans ≡ spans_of text → here ≡ name → bytes ≡ lines
+    → lines ≡ explanation text profile.rules spans here ask → Ends streams (whole_answer bytes) status → Ends streams (explained_output ask name text (outcome_of text)) status
+answered_so streams ask name text profile spans here lines bytes status e1 e2 e3 e4 e5 h =
+    let same : explained_output ask name text (outcome_of text) ≡ whole_answer bytes = rw (e1, e4, e5, e2, e3) refl in
+    subst (λ (output : Output). Ends streams output status) (sym same) h
+
+-- want of memory
+pub forgotten : (ask : Perms) (name text : List ℕ) (answers before after : Option (List ℕ)) (status : Status) → IsTold before after no_memory_text NoMemory status
+    → Ends (told_alone answers before after) (explained_output ask name text (outcome_of text)) status
+forgotten ask name text answers before after status h = ends_told answers before after _ Memory status (explained_status ask name text (outcome_of text)) h
+
+told_whole : (answers before after : Option (List ℕ)) (output : Output) (told : List ℕ) (status : Status) → output ≡ fault told Refused → IsTold before after told Refused status → Ends (told_alone answers before after) output status
+told_whole answers before after output told status of (inl e) = rw e (nothing_yet answers output.answers)
+told_whole answers before after output told status of (inr h) = rw h.0 (written answers before after output told Refused of h.1)
+
+-- a text that is refused, or want of memory to tell where
+pub refused_so : (ask : Perms) (name text : List ℕ) (f : ReadFault) (answers before after : Option (List ℕ)) (status : Status) → f ≢ reading.NoMemory → (f ≡ reading.NoMemory) ⊎ (outcome_of text ≡ Err f)
+    → (IsTold before after (refusal_text text f) Refused status) ⊎ (IsTold before after no_memory_text NoMemory status)
+    → Ends (told_alone answers before after) (explained_output ask name text (outcome_of text)) status
+refused_so ask name text f answers before after status other (inl m) told = absurd (other m)
+refused_so ask name text f answers before after status other (inr e) (inr h) = forgotten ask name text answers before after status h
+refused_so ask name text f answers before after status other (inr e) (inl h) =
+    told_whole answers before after (explained_output ask name text (outcome_of text)) (refusal_text text f) status (rw e refl) h
+
+-- ---- beside `judge`
+
+same_faults : (one : List ℕ) → (more : List ℕ) × (one ≡ one ++ more)
+same_faults one = ([], sym (append-nil one))
+
+by_outcome : (ask : Perms) (name text : List ℕ) (outcome : Result ProfileValue ReadFault) → GoesOnFrom (verdict_output ask name outcome) (explained_output ask name text outcome)
+unfolding explanation
+by_outcome ask name text (Ok profile) =
+    let lines : List ℕ = flat_map (reason_line text profile.rules (spans_of text) name) (filter (has ask) all_permissions) in
+    record { status = refl; answers = (lines, sym (append_assoc (verdict_text (verdict profile.rules name ask)) (codes "\n") lines)); faults = same_faults [] }
+by_outcome ask name text (Err f) = record {
+  status = refl;
+  answers = same_faults [];
+  faults = (fault_lines text f ++ codes "\n", append_assoc (line (refusal f)) (fault_lines text f) (codes "\n"));
+}
+
+pub goes_on : (perms name text : List ℕ) → GoesOnFrom (judge_output perms name text) (explain_output perms name text)
+goes_on perms name text =
+    let P : Result Perms (List ℕ) → Type 0 = λ asked. GoesOnFrom
+    (elim asked [ Err told ↦ fault told BadArguments | Ok ask ↦ verdict_output ask name (outcome_of text) ])
+    (elim asked [ Err told ↦ fault told BadArguments | Ok ask ↦ explained_output ask name text (outcome_of text) ]) in
+    elim (ask_of perms name) as P [
+      | Err told ↦ record { status = refl; answers = same_faults []; faults = same_faults (line told) }
+      | Ok ask ↦ by_outcome ask name text (outcome_of text)
+    ]

@@ -1,0 +1,34 @@
+-- What `explain` writes, memory and failures of the streams aside.
+use Rattle.std.specs.Prelude.{◌≡◌, ℕ, List, ◌++◌, Result, Ok, Err}
+use Rattle.names.specs.declared.permissions.Perms.{Perms}
+use Rattle.rule_explain.specs.Explanations.{explanation}
+use Rattle.rule_explain.specs.FaultLines.{fault_lines}
+use Rattle.rule_reader.specs.declared.fault.ReadFault.{ReadFault}
+use Rattle.rule_reader.specs.Profile.{ProfileValue}
+use Rattle.rule_reader.specs.Reading.{outcome_of}
+use Rattle.rule_reader.specs.Spans.{spans_of}
+use Rattle.trace_commands.specs.Judge.{ask_of}
+use Rattle.trace_report.specs.Output.{Output, fault, line, refusal, whole_answer}
+use Rattle.trace_report.specs.declared.status.Status.TheVariants.{BadArguments, Refused}
+
+-- of a text that is refused: the line that other commands tell, too, and then where the fault stands
+abbrev pub refusal_text : List ℕ → ReadFault → List ℕ
+refusal_text text f = line (refusal f) ++ fault_lines text f
+
+-- what is said of the name by a text that was read, or why nothing is
+abbrev pub explained_output : Perms → List ℕ → List ℕ → Result ProfileValue ReadFault → Output
+explained_output ask name text (Ok profile) = whole_answer (explanation text profile.rules (spans_of text) name ask)
+explained_output ask name text (Err f) = fault (refusal_text text f) Refused
+
+-- what `explain PERMS NAME` writes on a text
+abbrev pub explain_output : List ℕ → List ℕ → List ℕ → Output
+explain_output perms name text = elim (ask_of perms name) [
+  | Err told ↦ fault told BadArguments
+  | Ok ask ↦ explained_output ask name text (outcome_of text)
+]
+
+-- the same status, and on each stream the same, and perhaps more behind it
+pub record GoesOnFrom (one other : Output) : Type 0 where
+  pub status : other.status ≡ one.status
+  pub answers : (more : List ℕ) × (other.answers ≡ one.answers ++ more)
+  pub faults : (more : List ℕ) × (other.faults ≡ one.faults ++ more)

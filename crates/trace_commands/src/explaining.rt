@@ -1,0 +1,114 @@
+//! `explain PERMS NAME`: the verdict on a name by the profile that is read, and why it is so.
+ghost use Rattle.std.specs.Prelude.{◌≡◌, ◌⊎◌, ◌++◌, ℕ, List, IsErr, IfOk, string_bytes};
+ghost use Rattle.std.specs.Io.KnownBytes.{Keeps};
+ghost use Rattle.names.specs.Errors.{no_memory_text};
+ghost use Rattle.rule_reader.specs.Reading.{outcome_of};
+ghost use Rattle.trace_commands.specs.Explain.{explain_output, explained_output, refusal_text};
+ghost use Rattle.trace_commands.specs.Judge.{ask_of};
+ghost use Rattle.trace_commands.specs.inner.Answers.{IsTextAsked};
+ghost use Rattle.trace_report.specs.Streams.{Ends, IsTextOf, IsTold};
+
+use crate::judging::{ask_of, read_all};
+use names::{NoMemory, Perms};
+use rule_explain::fault_lines;
+use rule_reader::{ReadFault, read};
+use std::alloc::Global;
+use std::io::{Read, Write};
+use trace_report::{Fault, Status, fail, write_answer};
+
+/// Reads a profile from `input` and writes to `answers` what it says of the name and the permissions that are asked, and for
+/// each of them why. A text that is refused is told on `faults` in place of that, with the line where its fault stands. The
+/// arguments are tested before anything is read.
+pub fn explain<R: Read, A: Write, F: Write>(
+    alloc: Global,
+    perms: &str,
+    name: &str,
+    input: &mut R,
+    answers: &mut A,
+    faults: &mut F,
+) -> Status
+    ensures output { (text : List ℕ) × IsTextOf (R.remaining input.old) text × Ends
+        (record {
+          answers_before = A.contents answers.old;
+          answers_after = A.contents answers.new;
+          faults_before = F.contents faults.old;
+          faults_after = F.contents faults.new;
+        })
+        (explain_output perms.now name.now text) result }
+    ensures unread { IsErr (ask_of perms.now name.now)
+        → Keeps (R.remaining input.old) (R.remaining input.new) }
+{
+    match text_asked(alloc, perms, name, input) {
+        Ok((ask, text)) => explain_text(alloc, ask, name, &text, answers, faults),
+        Err(fault) => fail(faults, fault, fault.status()),
+    }
+}
+
+/// What is asked, and the text that is left to read.
+fn text_asked<R: Read>(
+    alloc: Global,
+    perms: &str,
+    name: &str,
+    input: &mut R,
+) -> Result<(Perms, Vec<u8>), Fault>
+    ensures output { (text : List ℕ) × IsTextOf (R.remaining input.old) text
+        × IsTextAsked perms.now name.now text (explain_output perms.now name.now text) result }
+    ensures unread { IsErr (ask_of perms.now name.now)
+        → Keeps (R.remaining input.old) (R.remaining input.new) }
+{
+    let ask = ask_of(perms, name)?;
+    let text = read_all(alloc, input)?;
+    Ok((ask, text))
+}
+
+/// Explains the verdict on a name by a text, or tells where the text is refused.
+fn explain_text<A: Write, F: Write>(
+    alloc: Global,
+    ask: Perms,
+    name: &str,
+    text: &[u8],
+    answers: &mut A,
+    faults: &mut F,
+) -> Status
+    ensures { Ends
+        (record {
+          answers_before = A.contents answers.old;
+          answers_after = A.contents answers.new;
+          faults_before = F.contents faults.old;
+          faults_after = F.contents faults.new;
+        })
+        (explained_output ask name.now text.now (outcome_of text.now)) result }
+{
+    match read(alloc, text) {
+        Ok(profile) => {
+            match rule_explain::explain(alloc, text, &profile, name.as_bytes(), ask) {
+                Ok(lines) => write_answer(answers, faults, &lines),
+                Err(NoMemory) => fail(faults, NoMemory, Status::NoMemory),
+            }
+        }
+        Err(ReadFault::NoMemory) => fail(faults, NoMemory, Status::NoMemory),
+        Err(fault) => refuse(alloc, text, fault, faults),
+    }
+}
+
+/// Tells where a text is refused, and for what.
+fn refuse<F: Write>(alloc: Global, text: &[u8], fault: ReadFault, faults: &mut F) -> Status
+    ensures { IsTold (F.contents faults.old) (F.contents faults.new) (refusal_text text.now fault) Status.Refused result
+        ⊎ IsTold (F.contents faults.old) (F.contents faults.new) no_memory_text Status.NoMemory result }
+{
+    match refusal_text(alloc, text, fault) {
+        Ok(told) => fail(faults, told, Status::Refused),
+        Err(NoMemory) => fail(faults, NoMemory, Status::NoMemory),
+    }
+}
+
+fn refusal_text(alloc: Global, text: &[u8], fault: ReadFault) -> Result<String, NoMemory>
+    ensures { IfOk result (λ told. string_bytes told ≡ refusal_text text.now fault) }
+{
+    let refusal = Fault::Text(fault);
+    let lines = fault_lines(alloc, text, fault)?;
+    match format!(in alloc; "{refusal}\n{lines}") {
+        Ok(told) => Ok(told),
+        Err(_) => Err(NoMemory),
+    }
+}

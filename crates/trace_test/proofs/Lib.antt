@@ -1,0 +1,5 @@
+pub mod WordReads
+pub mod Expecting
+pub mod Outcomes
+pub mod Woven
+pub mod Plain

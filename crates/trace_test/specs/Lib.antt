@@ -1,0 +1,4 @@
+pub mod TestScript
+pub mod TestOutput
+pub mod Laws
+pub mod inner

@@ -1,0 +1,28 @@
+//! Laws that show the definitions of `specs/` sane. The functions do nothing: each stands for its contract.
+ghost use Rattle.std.specs.Prelude.{◌≡◌, ◌++◌, ℕ, List, None, codes, decimal, length, map, true};
+ghost use Rattle.std.specs.List.{list_all};
+ghost use Rattle.glob_automaton.specs.Automata.{StateLimit};
+ghost use Rattle.mediation.specs.History.{History};
+ghost use Rattle.trace_report.specs.Output.{answer};
+ghost use Rattle.trace_script.specs.RunOutput.{printed_lines};
+ghost use Rattle.trace_script.specs.Script.{Command, script_of};
+ghost use Rattle.trace_test.specs.Laws.{IsPlain, woven};
+ghost use Rattle.trace_test.specs.TestOutput.{expectations, holds, test_output};
+ghost use Rattle.trace_test.specs.TestScript.{ask, test_script};
+
+/// A script without quotes and without lines that expect anything says the same as a test as it does to `run`; where it has an end,
+/// it has no expectation.
+pub fn scripts_are_tests()
+    ensures commands { (text : List ℕ) → IsPlain text → (test_script text).commands ≡ map ask (script_of text).commands }
+    ensures stopped { (text : List ℕ) → IsPlain text → (test_script text).stopped ≡ (script_of text).stopped }
+    ensures output { (text : List ℕ) → IsPlain text → (script_of text).stopped ≡ None → (limit : StateLimit) (history : History) →
+        test_output limit history (test_script text) ≡ answer (decimal 0 ++ codes " of " ++ decimal 0 ++ codes " expectations hold") }
+{}
+
+/// Where each command is followed by a line that expects what `run` prints for it, there is an expectation for each, and all hold.
+pub fn own_answers_hold()
+    ensures count { (limit : StateLimit) (history : History) (number : ℕ) (commands : List Command) →
+        length (expectations limit history (woven number commands (printed_lines limit history commands))) ≡ length commands }
+    ensures hold { (limit : StateLimit) (history : History) (number : ℕ) (commands : List Command) →
+        list_all holds (expectations limit history (woven number commands (printed_lines limit history commands))) ≡ true }
+{}

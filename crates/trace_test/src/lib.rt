@@ -1,0 +1,18 @@
+//! Tests: scripts of changes, profiles and judged opens, with lines that expect the answer of the command before them.
+//! [`run_test`] is their engine, over any bench.
+//!
+//! To be believed are about 230 lines of definitions in `specs/`; those in `specs/inner/` are of private contracts and proofs.
+#![tactic(auto)]
+
+mod compose;
+mod laws;
+mod line;
+mod lines;
+mod progress;
+mod quotes;
+mod rows;
+mod script;
+
+pub use laws::{own_answers_hold, scripts_are_tests};
+pub use rows::{expectations_are_told, lines_are_read, quotes_are_read};
+pub use script::run_test;

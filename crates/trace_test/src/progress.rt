@@ -1,0 +1,98 @@
+//! How far a test has come: the last answer, and what became of the expectations.
+ghost use Rattle.std.specs.Prelude.{◌≤◌};
+
+use crate::compose::count_line;
+use std::alloc::Global;
+use trace_report::Status;
+use trace_script::Stop;
+
+/// How far a test has come.
+#[derive(Drop)]
+pub(crate) struct Progress {
+    /// The answer of the last command, without its line feed.
+    last: Option<Vec<u8>>,
+    /// How many expectations hold.
+    held: u64,
+    /// How many expectations there are.
+    total: u64,
+    ghost counted: { held ≤ total },
+}
+
+impl Progress {
+    ghost use Rattle.std.specs.Prelude.{◌≡◌, ◌<◌, ◌+◌, ◌^◌, ◌==◌, ℕ, List, None, codes, unwrap_or, if◌then◌else◌};
+    ghost use Rattle.mediation.specs.History.{History};
+    ghost use Rattle.trace_report.specs.Output.{line};
+    ghost use Rattle.trace_report.specs.declared.status.Status.TheVariants.{Done, Unmet};
+    ghost use Rattle.trace_script.specs.Engine.{IsText};
+    ghost use Rattle.trace_script.specs.RunOutput.{Printed};
+    ghost use Rattle.trace_test.specs.TestOutput.{count_text, is_answer};
+    ghost use Rattle.trace_test.specs.inner.Testing.{first_testing, items_of, testing, with_answer, with_one};
+
+    /// No line was read yet.
+    pub(crate) fn new() -> Progress
+        ensures { (history : History) → testing history result ≡ first_testing history }
+    {
+        Progress {
+            last: None,
+            held: 0,
+            total: 0,
+        }
+    }
+
+    /// A command was answered by this line.
+    pub(crate) fn answer(&mut self, answer: Vec<u8>)
+        ensures state { (history : History) (p : Printed) → answer.items ≡ line p.text
+            → testing p.history self.new ≡ with_answer (testing history self.old) p }
+        ensures total { self.new.total ≡ self.old.total }
+    {
+        let mut last = answer;
+        last.pop();
+        self.last = Some(last);
+    }
+
+    /// Counts one more expectation, and tells whether it holds.
+    pub(crate) fn compare(&mut self, expected: &[u8]) -> bool
+        requires { self.old.total < 2 ^ 60 }
+        ensures holds { result ≡ is_answer expected.now (items_of self.old.last) }
+        ensures state { (history : History) → testing history self.new ≡ with_one (testing history self.old) result }
+        ensures total { self.new.total ≡ self.old.total + 1 }
+    {
+        let holds = match &self.last {
+            Some(answer) => answer.as_slice() == expected,
+            None => false,
+        };
+        self.total += 1;
+        if holds {
+            self.held += 1;
+        }
+        holds
+    }
+
+    /// The last answer, as it is told.
+    pub(crate) fn last(&self) -> &[u8]
+        ensures { result.now ≡ unwrap_or (items_of self.now.last) (codes "nothing") }
+    {
+        match &self.last {
+            Some(answer) => answer.as_slice(),
+            None => b"nothing",
+        }
+    }
+
+    /// How many expectations hold, as a line.
+    pub(crate) fn count_line(&self, alloc: Global) -> Result<Vec<u8>, Stop>
+        ensures { IsText (count_text self.now.held self.now.total) result }
+    {
+        count_line(alloc, self.held, self.total)
+    }
+
+    /// How a test ends that has come to its end.
+    pub(crate) fn status(&self) -> Status
+        ensures { result ≡ (if self.now.held == self.now.total then Done else Unmet) }
+    {
+        if self.held == self.total {
+            Status::Done
+        } else {
+            Status::Unmet
+        }
+    }
+}
