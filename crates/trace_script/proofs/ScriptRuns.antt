@@ -116,7 +116,7 @@ module _ {C S : Type 0} (engine : Engine C S) (state : S) (first left a b : Opti
         running.read ++ text.0,
         text.1,
         short_of engine state first after_line (running.read ++ part) (running.read ++ text.0) running.done section before (lines_of text.0) a b
-        (Consumes-more first left after_line running.read part running.consumed consumed) few (running.ahead text.0) running.written,
+            (Consumes-more first left after_line running.read part running.consumed consumed) few (running.ahead text.0) running.written,
       )
 
   -- the reader failed, or there was no memory for a line
@@ -160,7 +160,7 @@ module _ {C S : Type 0} (engine : Engine C S) (state : S) (first left a b : Opti
         running.read ++ line,
         text_ended first left running.read line running.consumed ended,
         ahead_stopped engine state first after_line (running.read ++ line) _ now after last running.done section before line [] a b c stop
-        (Consumes-more first left after_line running.read line running.consumed consumed) few ahead running.reached running.written stopped,
+            (Consumes-more first left after_line running.read line running.consumed consumed) few ahead running.reached running.written stopped,
       )
 
   pub running_last : {T : Type 0} (after_line : Option (List ℕ)) (line : List ℕ) (c : Option (List ℕ)) (after : S) (next : SectionHere) (result : Result T Stop)
@@ -172,8 +172,8 @@ module _ {C S : Type 0} (engine : Engine C S) (state : S) (first left a b : Opti
         running.read ++ line,
         text_ended first left running.read line running.consumed ended,
         ahead_closed engine state first after_line _ after (running.done ++ more.more) f.section (before + 1) a c result (more.ahead _ running.done [] ahead)
-        (Consumes-more first left after_line running.read line running.consumed consumed) (rw to at closed)
-        (more_reached line f more after knows) (more_written line f more c appended),
+            (Consumes-more first left after_line running.read line running.consumed consumed) (rw to at closed)
+            (more_reached line f more after knows) (more_written line f more c appended),
       )
 
   pub running_end : {T : Type 0} (after_line : Option (List ℕ)) (line : List ℕ) (result : Result T Stop) → IsLineRead left after_line line (Ok End) → IsClosed section result
@@ -182,5 +182,5 @@ module _ {C S : Type 0} (engine : Engine C S) (state : S) (first left a b : Opti
     running.read ++ [],
     text_ended first left running.read [] running.consumed ended.0,
     ahead_closed engine state first after_line _ now running.done section before a b result (running.ahead [])
-    (Consumes-more first left after_line running.read [] running.consumed ended.1) closed running.reached running.written,
+        (Consumes-more first left after_line running.read [] running.consumed ended.1) closed running.reached running.written,
   )

@@ -23,11 +23,7 @@ use std::alloc::{AllocError, Global};
 use trace_report::Fault;
 
 /// Publishes the profile of a text, if it is one, and composes the answer as a line.
-pub fn policy_line<B: Bench>(
-    alloc: Global,
-    bench: &mut B,
-    text: &[u8],
-) -> Result<Vec<u8>, Stop>
+pub fn policy_line<B: Bench>(alloc: Global, bench: &mut B, text: &[u8]) -> Result<Vec<u8>, Stop>
     requires { MayChangePolicy (B.history bench.old).deeds }
     ensures line { (limit : StateLimit) → IsComposed (printed limit (B.history bench.old) (publish text.now)) (B.history bench.new) result }
     ensures few { OnOk result (policy_version (B.history bench.new) ≤ policy_version (B.history bench.old) + 1) }

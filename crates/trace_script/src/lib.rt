@@ -20,12 +20,11 @@ mod words;
 
 pub use commands::{command_line, print_line};
 pub use compose::{
-    answer_line, change_of, errno_line, joined, numbered_line, policy_line, refusal_line, version_line,
+    answer_line, change_of, errno_line, joined, numbered_line, policy_line, refusal_line,
+    version_line,
 };
 pub use laws::lines_are_the_text;
-pub use line::{
-    ChangeWords, Command, LineKind, is_comment, is_word, kind_of_words, parse_line,
-};
+pub use line::{ChangeWords, Command, LineKind, is_comment, is_word, kind_of_words, parse_line};
 pub use reading::{LineRead, read_line};
 pub use rows::{
     commands_are_answered, links_are_answered, opens_are_answered, policies_are_gathered,
