@@ -47,7 +47,7 @@ part_whats m kinds.Path = if_so m.slashes whats.Slashes ++ if_so m.pattern whats
 part_whats m kinds.Permissions =
     if_so (is_some m.letters.exec) whats.Exec ++ (if_so m.letters.append whats.Append ++ if_so m.letters.capitals whats.Capitals)
 part_whats m kinds.Arrow = if_so (not m.link && m.binds) whats.Link ++ if_so (not m.link && not m.binds) whats.Target
-part_whats m other = []
+part_whats m _ = []
 
 -- what is told of a rule of which nothing stays, in the order of its parts
 abbrev pub rule_whats : Marks → List PartValue → List What
@@ -63,4 +63,4 @@ abbrev pub part_effect : Subject → RuleShape → PartKind → Effect
 part_effect chosen shape kinds.Owner = effect chosen (qualifier_alone shape)
 part_effect chosen shape kinds.Other = effect chosen (qualifier_alone shape)
 part_effect chosen shape kinds.Arrow = effect chosen (for_everybody shape)
-part_effect chosen shape other = no_effect chosen
+part_effect chosen shape _ = no_effect chosen

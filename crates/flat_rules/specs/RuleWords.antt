@@ -31,31 +31,31 @@ has_part test parts = list_any (λ p. test p.kind) parts
 
 abbrev pub is_deny : PartKind → Bool
 is_deny kinds.Deny = true
-is_deny other = false
+is_deny _ = false
 
 abbrev pub is_owner : PartKind → Bool
 is_owner kinds.Owner = true
-is_owner other = false
+is_owner _ = false
 
 abbrev pub is_other : PartKind → Bool
 is_other kinds.Other = true
-is_other other = false
+is_other _ = false
 
 abbrev pub is_link : PartKind → Bool
 is_link kinds.Link = true
-is_link other = false
+is_link _ = false
 
 abbrev pub is_path : PartKind → Bool
 is_path kinds.Path = true
-is_path other = false
+is_path _ = false
 
 abbrev pub is_permissions : PartKind → Bool
 is_permissions kinds.Permissions = true
-is_permissions other = false
+is_permissions _ = false
 
 abbrev pub is_arrow_part : PartKind → Bool
 is_arrow_part kinds.Arrow = true
-is_arrow_part other = false
+is_arrow_part _ = false
 
 -- ---- what the rule says
 

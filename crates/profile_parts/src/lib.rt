@@ -8,5 +8,5 @@ mod place;
 mod profiles;
 mod walking;
 
-pub use profiles::{path_of, profile_of};
+pub use profiles::{is_name, path_of, profile_of};
 pub use walking::is_path;

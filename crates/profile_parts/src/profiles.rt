@@ -30,7 +30,7 @@ pub fn path_of(items: Vec<Item>) -> Option<RulePath>
 
 /// Whether the bytes may be a profile's name: 1 to 255 of them, no colon first, no byte 0 or LF, and quotes only behind a
 /// backslash, which goes with the byte behind it.
-fn is_name(name: &[u8]) -> bool
+pub fn is_name(name: &[u8]) -> bool
     ensures { result ≡ is_name name.now }
 {
     match name {
