@@ -16,6 +16,7 @@
 # make install    installs the program, the static library for C with its header, the manual page and completion for bash
 #                 below PREFIX, which is /usr/local if not given; DESTDIR is put before it. Builds what isn't built
 # make uninstall  takes away what make install with the same PREFIX and DESTDIR installed
+# make edits      tries the wrong bodies that the gate leaves out: the prover must refuse each. Takes as long as the gate
 # make help       shows this
 
 PREFIX ?= /usr/local
@@ -28,7 +29,7 @@ LIBRARY := crates/coqetwal/out/libcoqetwal.a
 LIBRARY_CRATES := coqetwal $(shell sed -n 's/^coqetwal staticlib: *//p' crates.txt)
 LIBRARY_SOURCES := crates.txt HANDLES $(filter $(addprefix crates/,$(addsuffix /%,$(LIBRARY_CRATES))),$(SOURCES))
 
-.PHONY: all run test tour bench calls embed refusals storm serve drawn install uninstall help need-rt
+.PHONY: all run test tour bench calls embed refusals storm serve drawn edits install uninstall help need-rt
 # Each recipe takes all processors, and two that prove the same crates would disturb each other.
 .NOTPARALLEL:
 
@@ -92,6 +93,9 @@ serve: need-rt
 
 drawn: need-rt
 	tools/drawn-changes
+
+edits: need-rt
+	tools/more-edits
 
 install: aa-trace $(LIBRARY)
 	@sh tools/install.sh
