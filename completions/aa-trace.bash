@@ -16,7 +16,7 @@ _aa_trace_read_words() {
             command=$word
         elif [[ -z $literal && $word == -- ]]; then
             literal=yes
-        elif [[ -z $literal && $word == --@(capacity|sessions|opens|changes) ]]; then
+        elif [[ -z $literal && $word == --@(capacity|sessions|opens|changes|profile|owner|strict) ]]; then
             given+=" $word"
         elif [[ -n $literal || $word != -?* ]]; then
             ((arguments += 1))
@@ -61,21 +61,26 @@ _aa_trace_files() {
 _aa_trace() {
     local cur=${COMP_WORDS[COMP_CWORD]} previous=${COMP_WORDS[COMP_CWORD - 1]}
     local command='' given='' literal='' arguments=0
-    local commands='judge explain run test steps storm compile check match help'
+    local commands='judge explain import run test steps storm compile check match help'
     COMPREPLY=()
     if [[ $previous == *[\<\>]* ]]; then
         _aa_trace_files "$cur"
         return
     fi
     _aa_trace_read_words
-    # The number of an option is nothing to complete. A = is a word of its own.
-    [[ $command == @(run|test|steps|storm) && ($previous == --@(capacity|sessions|opens|changes) || $previous == = || $cur == =) ]] && return
+    if [[ $command == import && $previous == --owner && $cur != = ]]; then
+        _aa_trace_words 'keep drop' "$cur"
+        return
+    fi
+    # The text of an option is nothing to complete. A = is a word of its own.
+    [[ $command == @(run|test|steps|storm|import) && ($previous == --@(capacity|sessions|opens|changes|profile|define) || $previous == = || $cur == =) ]] && return
     if [[ -z $literal && $cur == -* ]]; then
         local options='-h --help'
         case $command in
         '') options+=' --version' ;;
         run | test | steps) options+=$(_aa_trace_left --capacity) ;;
         storm) options+=$(_aa_trace_left --sessions --opens --changes) ;;
+        import) options+="$(_aa_trace_left --profile --owner --strict) --define" ;;
         judge | explain | compile | check | match) ;;
         *) return ;;
         esac

@@ -1,12 +1,14 @@
 //! What an account says of the parts of a file rule.
-ghost use Rattle.std.specs.Prelude.{◌≡◌, ◌++◌, [], ◌∷◌, IfOk};
+ghost use Rattle.std.specs.Prelude.{◌≡◌, ◌++◌, [], ◌∷◌, IfOk, option_map};
 ghost use Rattle.std.specs.List.{flat_map};
-ghost use Rattle.flat_rules.specs.RuleParts.{if_so, part_whats, part_effect, rule_whats, no_effect};
+ghost use Rattle.flat_rules.specs.RuleParts.{if_so, part_whats, part_effect, rule_whats, no_effect, has_long_slashes};
 
+use crate::words::{RuleWords, is_link_rule, may_bind_link};
 use flat_text::{Part, PartKind};
 use flat_words::Letters;
 use import_account::What;
 use names::NoMemory;
+use profile_variables::one_slash;
 use std::alloc::Global;
 use subject_rules::{Change, Effect, RuleShape, Subject};
 
@@ -37,9 +39,33 @@ fn push_if(whats: &mut Vec<What>, told: bool, what: What) -> Result<(), NoMemory
     }
 }
 
+/// Whether some run of slashes in the path becomes one.
+fn has_long_slashes(alloc: Global, path: Option<&[u8]>) -> Result<bool, NoMemory>
+    ensures { IfOk result (λ has. has ≡ has_long_slashes (option_map (λ text. text.now) path.entry)) }
+{
+    match path {
+        Some(text) => Ok(one_slash(alloc, text)?.as_slice() != text),
+        None => Ok(false),
+    }
+}
+
 impl Marks {
     ghost use Rattle.std.specs.Prelude.{◌≡◌, ◌++◌, IfOk};
-    ghost use Rattle.flat_rules.specs.RuleParts.{part_whats};
+    ghost use Rattle.flat_rules.specs.RuleParts.{part_whats, marks_of};
+
+    /// The marks of a rule of these parts, which goes because of its path or not.
+    pub fn of(alloc: Global, parts: &[Part<'_>], pattern: bool) -> Result<Marks, NoMemory>
+        ensures { IfOk result (λ marks. marks ≡ marks_of pattern parts.now) }
+    {
+        let words = RuleWords::of(parts);
+        Ok(Marks {
+            letters: words.letters,
+            slashes: has_long_slashes(alloc, words.path)?,
+            pattern,
+            link: is_link_rule(parts),
+            binds: may_bind_link(parts, words.perms),
+        })
+    }
 
     /// Adds what is told of a part of this kind.
     pub fn put(self, kind: PartKind, whats: &mut Vec<What>) -> Result<(), NoMemory>

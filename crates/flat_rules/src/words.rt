@@ -59,7 +59,7 @@ fn is_for_others(parts: &[Part<'_>]) -> bool
 }
 
 /// Whether the word `link` is there.
-fn is_link_rule(parts: &[Part<'_>]) -> bool
+pub(crate) fn is_link_rule(parts: &[Part<'_>]) -> bool
     ensures { result ≡ has_part is_link parts.now }
 {
     parts
@@ -208,7 +208,7 @@ fn perms_of(parts: &[Part<'_>], letters: Letters) -> Perms
 }
 
 /// Whether an arrow would bind link, where the rule has these permissions.
-fn may_bind_link(parts: &[Part<'_>], perms: Perms) -> bool
+pub(crate) fn may_bind_link(parts: &[Part<'_>], perms: Perms) -> bool
     requires { perms ≡ perms_of_rule parts.now }
     ensures { result ≡ may_bind_link parts.now }
 {

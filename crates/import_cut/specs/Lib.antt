@@ -1,0 +1,7 @@
+pub mod ToldValues
+pub mod Modes
+pub mod PartSpans
+pub mod CutStates
+pub mod Cutting
+pub mod Spans
+pub mod ReadRules

@@ -1,1 +1,19 @@
+//! The items of a flattened AppArmor profile text, cut into spans for one of its profiles: what of the text stays, what is
+//! blank, and what an account tells, with its effect.
+//!
+//! To be believed are about 440 lines of definitions in `specs/`.
 #![tactic(auto)]
+
+mod cut;
+mod laws;
+mod mode;
+mod reading;
+mod span;
+mod telling;
+
+pub use cut::{Cut, CutText};
+pub use laws::{blank_spans_are_blank, exact_spans_mean_exact_rules, spans_cover_the_text};
+pub use mode::{mode_of_flags, mode_of_head};
+pub use reading::{Choice, RuleReading};
+pub use span::{Span, SpanKind, Told};
+pub use telling::added_effect;

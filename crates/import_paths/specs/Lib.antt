@@ -1,0 +1,4 @@
+pub mod OneWay
+pub mod Groups
+pub mod Settled
+pub mod ImportedPaths

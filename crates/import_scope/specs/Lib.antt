@@ -1,0 +1,5 @@
+pub mod ItemWords
+pub mod Scopes
+pub mod FirstFaults
+pub mod Told
+pub mod inner

@@ -1,1 +1,22 @@
+//! A flattened AppArmor profile text gone through once: the variables that it declares, its profiles by their full names, and
+//! what is wrong with it beside its grammar.
+//!
+//! To be believed are about 240 lines of definitions in `specs/`; those in `specs/inner/` are of private contracts and proofs.
 #![tactic(auto)]
+
+mod asking;
+mod assigned;
+mod fault;
+mod head;
+mod item_words;
+mod laws;
+mod outline;
+mod scope;
+mod seen;
+
+pub use assigned::Define;
+pub use fault::{ScopeFailure, ScopeFault, ScopeFaultKind};
+pub use head::ProfileHead;
+pub use laws::texts_have_one_first_fault;
+pub use scope::{Scope, scope_of};
+pub use seen::lists_of;

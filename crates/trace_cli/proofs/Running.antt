@@ -2,7 +2,7 @@
 use Rattle.std.proofs.Common.{◌≡◌, ℕ, true, List, Option, Some, None, refl, inl, inr}
 use Rattle.std.specs.Prelude.{codes, is_some}
 use Rattle.glob_automaton.specs.Automata.{StateLimit}
-use Rattle.trace_line.specs.CommandLine.{LineValue, judge, explain, run, compile, check, match_name, steps, storm, test}
+use Rattle.trace_line.specs.CommandLine.{LineValue, judge, explain, run, compile, check, match_name, steps, storm, test, import_text}
 use Rattle.trace_cli.specs.Program.{ProgramEnds, TellsUsage}
 use Rattle.trace_commands.specs.Explain.{explain_output}
 use Rattle.trace_commands.specs.Judge.{judge_output}
@@ -40,3 +40,5 @@ memory_ends limit (Some (match_name perms name)) text left answers before after 
 memory_ends limit (Some (match_name perms name)) text left answers before after status (inr h) = inr (h.0, record { answers = keeps answers; faults = h.1 })
 memory_ends limit (Some (storm sessions opens changes)) text left answers before after status (inl e) = rw e (inl (keeps answers))
 memory_ends limit (Some (storm sessions opens changes)) text left answers before after status (inr h) = rw h.0 (keeps answers, fault.NoMemory, h.1)
+memory_ends limit (Some (import_text profile owners defines strict)) text left answers before after status told =
+    inr (record { answers = keeps answers; faults = told })

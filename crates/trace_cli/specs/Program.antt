@@ -4,13 +4,14 @@ use Rattle.std.specs.Prelude.{◌≡◌, ◌*◌, ◌⊎◌, ℕ, Bool, true, fa
 use Rattle.std.specs.Io.KnownBytes.{Keeps, Appends}
 use Rattle.event_core.specs.Machine.{Machine, first}
 use Rattle.glob_automaton.specs.Automata.{StateLimit}
-use Rattle.trace_line.specs.CommandLine.{LineValue, judge, explain, run, compile, check, match_name, steps, storm, test}
+use Rattle.trace_line.specs.CommandLine.{LineValue, judge, explain, run, compile, check, match_name, steps, storm, test, import_text}
 use Rattle.trace_commands.specs.Explain.{explain_output}
 use Rattle.trace_commands.specs.Judge.{ask_of, judge_output}
 use Rattle.trace_report.specs.Output.{line}
 use Rattle.trace_script.specs.RunOutput.{RunEnds}
 use Rattle.trace_steps.specs.StepsOutput.{StepsEnd}
 use Rattle.trace_test.specs.TestOutput.{TestEndsFrom}
+use Rattle.trace_cli.specs.Import.{ImportEnds}
 use Rattle.trace_cli.specs.Storm.{StormEnds}
 use Rattle.trace_report.specs.Streams.{Ends, EndsInOne, Streams}
 use Rattle.trace_commands.specs.Tables.{IsCompileOutput, IsCheckOutput, IsMatchOutput}
@@ -55,6 +56,8 @@ ProgramEnds limit (Some (match_name perms name)) text streams left_before left_a
     EndsInOne streams (IsMatchOutput perms name text) status ⊎ ((status ≡ NoMemory) × IsOutOfMemory streams)
 ProgramEnds limit (Some (steps capacity)) text streams left_before left_after status = StepsEndFrom limit streams left_before left_after capacity text status
 ProgramEnds limit (Some (storm sessions opens changes)) text streams left_before left_after status = StormEnds streams (sessions * opens) status
+ProgramEnds limit (Some (import_text profile owners defines strict)) text streams left_before left_after status =
+    ImportEnds profile owners defines strict text streams status
 
 -- whether the words say that nothing is to be read
 abbrev pub reads_nothing : Option LineValue → Bool
@@ -65,6 +68,7 @@ reads_nothing (Some (run capacity)) = false
 reads_nothing (Some (test capacity)) = false
 reads_nothing (Some (steps capacity)) = false
 reads_nothing (Some (storm sessions opens changes)) = true
+reads_nothing (Some (import_text profile owners defines strict)) = false
 reads_nothing (Some compile) = false
 reads_nothing (Some check) = false
 reads_nothing (Some (match_name perms name)) = is_err (ask_of perms name)

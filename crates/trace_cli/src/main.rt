@@ -9,6 +9,8 @@
 //! `aa-trace storm --sessions N --opens N --changes N` opens a file in threads beside renames and new profiles, and writes how many
 //! answers there were, and how many of them aren't justified by what was changed.
 //! `aa-trace explain PERMS NAME` writes what `judge` does, and why; where the profile is refused, it shows the line of the fault.
+//! `aa-trace import` brings a profile of the flattened AppArmor text on standard input into this program's language, and gives an
+//! account of the rest on standard error.
 //! Faults go to standard error, and the exit status is 0 for answers, 1 for an answer that a test doesn't expect, 2 for a bad command
 //! line, 3 for a refused text, profile,
 //! image or stream, or an answer of a storm that isn't justified, and 4 for want of memory, of a thread or of a seat.
@@ -16,6 +18,7 @@
 //! To be believed are about 100 lines of definitions in `specs/`.
 #![tactic(auto)]
 
+mod importing;
 mod program;
 mod script;
 mod steps;

@@ -6,6 +6,7 @@ ghost use Rattle.trace_line.specs.CommandLine.{line_of};
 ghost use Rattle.trace_cli.specs.Program.{ProgramEnds, TellsUsage, reads_nothing};
 ghost use Rattle.trace_report.specs.Streams.{IsTextOf};
 
+use crate::importing::import;
 use crate::script::run;
 use crate::steps::steps;
 use crate::storm::storm;
@@ -65,6 +66,7 @@ pub fn run_words<H: Threads + Wait + Sync, S: AsStr, R: BufRead, A: Write, F: Wr
             };
             storm(rt, alloc, &plan, answers, faults)
         }
+        Ok(Line::Import(asked)) => import(alloc, &asked, input, answers, faults),
         Err(LineFault::Usage(error)) => report_usage(alloc, faults, &error),
         Err(LineFault::NoMemory) => fail(faults, NoMemory, Status::NoMemory),
     }

@@ -6,7 +6,7 @@ use Rattle.clap.specs.Words.{App, Rule, app_of, new_app, with_rule}
 use Rattle.clap.specs.declared.builder.command.Command.{Command}
 use Rattle.clap.specs.declared.builder.command.Command.TheViews.{out-Command}
 use Rattle.trace_line.specs.CommandLine.{NumberOption}
-use Rattle.trace_line.specs.declared.line.NumberOption as declared
+use Rattle.trace_line.specs.declared.parser.NumberOption as declared
 use Rattle.trace_line.specs.inner.Parser.{number_option, number_rule, numbers_app}
 
 -- the command with the options from i on

@@ -3,10 +3,13 @@ pub mod WordKinds
 pub mod LeafWalk
 pub mod PairWalk
 pub mod Numbers
+pub mod Flags
 pub mod GivenWords
 pub mod OptionRules
+pub mod OptionEnds
 pub mod OptionWalk
 pub mod ThreeOptions
+pub mod ImportWords
 pub mod LineWalk
 pub mod CommandLine
 pub mod Building

@@ -13,14 +13,15 @@ use Rattle.clap.proofs.FaultLemmas.{stopped_fault}
 use Rattle.clap.proofs.WalkLemmas.{both, find-map}
 use Rattle.clap.specs.Faults.{built_fault, walk_fault, settle_fault, defaults_fault, check_fault, entered_fault, level_fault, turn_fault}
 use Rattle.clap.specs.declared.error.kind.ErrorKind.TheVariants.{DisplayHelp, InvalidSubcommand, MissingSubcommand, UnknownArgument}
-use Rattle.trace_line.specs.CommandLine.{CommandForm, LineValue, Arguments, arguments_of, command_named, commands, given_by, line_by, line_of, number_of, numbers, pair, pair_of}
+use Rattle.trace_line.specs.CommandLine.{Arguments, CommandForm, Given, LineValue, arguments_of, asks, command_named, commands, given_by, line_by, line_of, number_form, number_of, numbers, pair, pair_of}
 use Rattle.trace_line.specs.inner.Parser.{GivesLine, program_app}
 use Rattle.trace_line.proofs.Named.{find_made, found_name, found_passes, or_false}
 use Rattle.trace_line.proofs.WordKinds.{Kind, is_dashes, is_long, is_short, is_plain, kind_of_word}
 use Rattle.trace_line.proofs.LeafWalk.{ComesTo, Some_of, comes_as, end_of, faults_from, in_first, leaf_shape, long_is_fault, long_turn, or_else-nil, plain_turn, short_turn, some_fault, told_long, told_short, walk_at}
 use Rattle.trace_line.proofs.PairWalk.{HasPair, pair_rules, pair_walk}
-use Rattle.trace_line.proofs.OptionRules.{built_rules, is_sound}
-use Rattle.trace_line.proofs.OptionWalk.{HasGiven, numbers_walk}
+use Rattle.trace_line.proofs.OptionEnds.{EndsAs, numbers_found, texts_found}
+use Rattle.trace_line.proofs.OptionRules.{are_sound, built_rules}
+use Rattle.trace_line.proofs.OptionWalk.{options_walk}
 
 -- where a walk begins
 abbrev start : Walk
@@ -30,25 +31,60 @@ start = walk_at idle 1 false nothing_held
 
 abbrev pub rules_by : Arguments → List Rule
 rules_by (pair line) = pair_rules
-rules_by (numbers options line) = built_rules options
+rules_by (numbers options line) = built_rules (map number_form options)
+rules_by (asks options line) = built_rules options
 
 abbrev has_sound_options : Arguments → Bool
 has_sound_options (pair line) = true
-has_sound_options (numbers options line) = list_all is_sound options
+has_sound_options (numbers options line) = are_sound (map number_form options)
+has_sound_options (asks options line) = are_sound options
 
 -- a command as it is built
 abbrev pub leaf : CommandForm → Shape
 leaf command = leaf_shape command.name (rules_by command.takes)
 
+-- what clap takes of the words behind a command's name, with the line that they give, if they give one
+abbrev pub parsed_by : Arguments → List Text → Option (Option LineValue)
+parsed_by (pair line) words = option_map (λ asked. Some (line asked.0 asked.1)) (pair_of (arguments_of words))
+parsed_by (numbers options line) words = option_map (λ given. Some (line (number_of given))) (given_by (map number_form options) [] words)
+parsed_by (asks options line) words = option_map line (given_by options [] words)
+
+-- the line, where there is one
+abbrev pub flat : Option (Option LineValue) → Option LineValue
+flat None = None
+flat (Some line) = line
+
+pair_flat : (line : Text → Text → LineValue) (asked : Option (Text × Text))
+    → option_map (λ asked. line asked.0 asked.1) asked ≡ flat (option_map (λ asked. Some (line asked.0 asked.1)) asked)
+pair_flat line None = refl
+pair_flat line (Some asked) = refl
+
+given_flat : (line : Given → LineValue) (given : Option Given) → option_map line given ≡ flat (option_map (λ given. Some (line given)) given)
+given_flat line None = refl
+given_flat line (Some given) = refl
+
+asked_flat : (line : Given → Option LineValue) (given : Option Given) → option_and_then line given ≡ flat (option_map line given)
+asked_flat line None = refl
+asked_flat line (Some given) = refl
+
+line_flat : (takes : Arguments) (words : List Text) → line_by takes words ≡ flat (parsed_by takes words)
+line_flat (pair line) words = pair_flat line (pair_of (arguments_of words))
+line_flat (numbers options line) words = given_flat (λ given. line (number_of given)) (given_by (map number_form options) [] words)
+line_flat (asks options line) words = asked_flat line (given_by options [] words)
+
 -- clap reads the words behind a command's name as `line_by` says
 takes_walk : (name : Text) (takes : Arguments) → has_sound_options takes ≡ true → (words : List Text)
-    → ComesTo (GivesLine takes) (leaf_shape name (rules_by takes)) [] start words (line_by takes words)
+    → ComesTo (GivesLine takes) (leaf_shape name (rules_by takes)) [] start words (parsed_by takes words)
 takes_walk name (pair line) sound words =
-    comes_as HasPair (GivesLine (pair line)) (λ asked. line asked.0 asked.1) (leaf_shape name pair_rules) start words
+    comes_as HasPair (GivesLine (pair line)) (λ asked. Some (line asked.0 asked.1)) (leaf_shape name pair_rules) start words
     (λ rows asked h. (asked.0, asked.1, h.0, h.1, refl)) (pair_of (arguments_of words)) (pair_walk name words)
 takes_walk name (numbers options line) sound words =
-    comes_as (HasGiven options) (GivesLine (numbers options line)) (λ given. line (number_of given)) (leaf_shape name (built_rules options)) start words
-    (λ rows given h. (number_of given, h, refl)) (given_by options [] words) (numbers_walk name options sound words)
+    let forms = map number_form options in
+    comes_as (EndsAs forms) (GivesLine (numbers options line)) (λ given. Some (line (number_of given))) (leaf_shape name (built_rules forms)) start words
+    (λ rows given h. (number_of given, numbers_found options rows given sound h, refl)) (given_by forms [] words) (options_walk name forms sound words)
+takes_walk name (asks options line) sound words =
+    comes_as (EndsAs options) (GivesLine (asks options line)) line (leaf_shape name (built_rules options)) start words
+    (λ rows given h. (given, texts_found options rows given sound h, refl)) (given_by options [] words) (options_walk name options sound words)
 
 -- ---- a program with these commands, as it is built
 
@@ -68,10 +104,10 @@ program_is = refl
 abbrev is_good : CommandForm → Bool
 is_good command = not (bytes_eq command.name (codes "help")) && has_sound_options command.takes
 
--- the line by these commands, of the words behind the program's name
-abbrev line_in : List CommandForm → List Text → Option LineValue
-line_in forms [] = None
-line_in forms (name ∷ words) = option_and_then (λ command. line_by command.takes words) (command_named forms name)
+-- what clap takes by these commands, of the words behind the program's name
+abbrev parsed_in : List CommandForm → List Text → Option (Option LineValue)
+parsed_in forms [] = None
+parsed_in forms (name ∷ words) = option_and_then (λ command. parsed_by command.takes words) (command_named forms name)
 
 find_leaf : (word : Text) (forms : List CommandForm)
     → find (λ t. answers_to word (label_of t)) (map leaf forms ++ help_leaf ∷ [])
@@ -209,21 +245,21 @@ module _ (forms : List CommandForm) (good : list_all is_good forms ≡ true) whe
 
   -- ---- all the words
 
-  -- the words have no fault and their matches give the line, or there is none and they have a fault
-  abbrev pub ReadsAs : List Text → Option LineValue → Type 0
+  -- the words have no fault and their matches give the line, if there is one; or they have a fault
+  abbrev pub ReadsAs : List Text → Option (Option LineValue) → Type 0
   ReadsAs words None = faults words ≢ []
   ReadsAs words (Some line) = (faults words ≡ []) × ((command : CommandForm) × (rows : List Row) × (command_named forms command.name ≡ Some command)
       × (entered_by words ≡ Some (command.name, rows)) × GivesLine command.takes rows line)
 
-  behind_read : (command : CommandForm) → command_named forms command.name ≡ Some command → (words : List Text) (line : Option LineValue)
+  behind_read : (command : CommandForm) → command_named forms command.name ≡ Some command → (words : List Text) (line : Option (Option LineValue))
       → ComesTo (GivesLine command.takes) (leaf command) [] start words line → ReadsAs (command.name ∷ words) line
   behind_read command is words None h = rw (faults_behind command is words) h
   behind_read command is words (Some line) h =
       (faults_behind command is words ∙ h.0, (command, finished (rules_by command.takes) (end_of (leaf command) start words), is, matches_behind command is words, h.1))
 
   command_read : (command : CommandForm) → command_named forms command.name ≡ Some command → (words : List Text)
-      → ReadsAs (command.name ∷ words) (line_by command.takes words)
-  command_read command is words = behind_read command is words (line_by command.takes words) (takes_walk command.name command.takes (parts command is).1 words)
+      → ReadsAs (command.name ∷ words) (parsed_by command.takes words)
+  command_read command is words = behind_read command is words (parsed_by command.takes words) (takes_walk command.name command.takes (parts command is).1 words)
 
   other_read : (word : Text) (words : List Text) → subcommand_met names idle word ≡ None → faults (word ∷ words) ≢ []
   other_read word words none = elim (no_command word none words (kind_of_word word)) [
@@ -241,20 +277,36 @@ module _ (forms : List CommandForm) (good : list_all is_good forms ≡ true) whe
   help_or_other word words false e none = other_read word words (met_by word None none ∙ rw e refl)
 
   first_read : (word : Text) (words : List Text) (command : Option CommandForm) → command_named forms word ≡ command
-      → ReadsAs (word ∷ words) (option_and_then (λ command. line_by command.takes words) command)
+      → ReadsAs (word ∷ words) (option_and_then (λ command. parsed_by command.takes words) command)
   first_read word words None is = help_or_other word words (bytes_eq (codes "help") word) refl is
   first_read word words (Some command) is =
       let name : command.name ≡ word = found_name (λ (c : CommandForm). c.name) word forms command is in
-      subst (λ w. ReadsAs (w ∷ words) (line_by command.takes words)) name (command_read command (ap (command_named forms) name ∙ is) words)
+      subst (λ w. ReadsAs (w ∷ words) (parsed_by command.takes words)) name (command_read command (ap (command_named forms) name ∙ is) words)
 
   -- clap reads the words as the forms of the commands say
-  pub words_read : (words : List Text) → ReadsAs words (line_in forms words)
+  pub words_read : (words : List Text) → ReadsAs words (parsed_in forms words)
   unfolding walk_fault walked defaults_fault
   words_read [] = λ e. cc
   words_read (word ∷ words) = first_read word words (command_named forms word) refl
 
+-- what clap takes of the words of a command line
+abbrev pub parsed_of : List Text → Option (Option LineValue)
+parsed_of (first ∷ name ∷ words) = option_and_then (λ command. parsed_by command.takes words) (command_named commands name)
+parsed_of _ = None
+
+named_flat : (words : List Text) (command : Option CommandForm)
+    → option_and_then (λ command. line_by command.takes words) command ≡ flat (option_and_then (λ command. parsed_by command.takes words) command)
+named_flat words None = refl
+named_flat words (Some command) = line_flat command.takes words
+
+-- they are the line that they give
+pub line_parsed : (words : List Text) → line_of words ≡ flat (parsed_of words)
+line_parsed [] = refl
+line_parsed (first ∷ []) = refl
+line_parsed (first ∷ name ∷ words) = named_flat words (command_named commands name)
+
 -- clap reads the words of a command line as `line_of` says
-pub program_read : (words : List Text) → ReadsAs commands refl (drop 1 words) (line_of words)
+pub program_read : (words : List Text) → ReadsAs commands refl (drop 1 words) (parsed_of words)
 program_read [] = words_read commands refl []
 program_read (first ∷ []) = words_read commands refl []
 program_read (first ∷ name ∷ words) = words_read commands refl (name ∷ words)

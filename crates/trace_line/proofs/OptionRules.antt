@@ -1,87 +1,124 @@
--- The parser's rules of a list of options with numbers, and the rows of those that are given.
-use Rattle.std.proofs.Common.{◌≡◌, ◌∙◌, ◌&&◌, ◌||◌, ◌++◌, ℕ, Bool, cond, true, false, not, List, [], ◌∷◌, map, Option, Some, None, refl, ap, sym, append-nil}
-use Rattle.std.specs.Prelude.{if◌then◌else◌, find, fold, is_some, nat_lt, option_map, unwrap_or}
-use Rattle.std.specs.List.{list_all, list_any}
+-- The parser's rules of a list of options, and the rows of those that are given.
+use Rattle.std.proofs.Common.{◌≡◌, ◌∙◌, ◌&&◌, ◌||◌, ◌++◌, ℕ, Bool, cond, true, false, not, List, [], ◌∷◌, map, Option, Some, None, refl, ap, sym, subst, append-nil}
+use Rattle.std.specs.Prelude.{codes, if◌then◌else◌, find, is_some, nat_lt, option_map, pos, unwrap_or}
+use Rattle.std.specs.List.{filter}
 use Rattle.std.specs.Option.{option_or}
 use Rattle.std.specs.Str.{bytes_eq}
 use Rattle.std.proofs.lemmas.List.{map-append}
+use Rattle.std.proofs.lemmas.List.Elements.{filter-append}
 use Rattle.std.proofs.lemmas.List.Folds.{find-append}
 use Rattle.std.proofs.lemmas.Slice.Eq.{bytes_eq-Decides}
-use Rattle.clap.specs.Lexer.{without_minus}
-use Rattle.clap.specs.Kinds.{or_else}
-use Rattle.clap.specs.Faults.{check_fault, defaults_fault, given_default_fault, repeat_fault, use_fault, values_fault}
-use Rattle.clap.specs.Walk.{Row, Rule, Text, arg_by_id, arg_by_index, arg_by_long, arg_by_short, at_row, default_rows, has_row, more_values, one_of, reading_by, used, with_default}
-use Rattle.clap.specs.Takes.{is_given}
-use Rattle.clap.specs.declared.builder.action.ArgAction.TheVariants.{Set}
-use Rattle.clap.specs.declared.builder.value_parser.Reading.TheVariants.{WithoutMinus}
-use Rattle.clap.specs.declared.error.kind.ErrorKind.TheVariants.{ArgumentConflict, ValueValidation}
-use Rattle.clap.specs.declared.parser.matches.ValueSource.TheVariants.{CommandLine, DefaultValue}
-use Rattle.clap.proofs.WalkLemmas.{both, find-map}
-use Rattle.trace_line.specs.CommandLine.{Given, NumberOption, is_number_of, number_of, one_more, option_named, text_given}
-use Rattle.trace_line.specs.inner.Parser.{HasNumbers, number_rule}
-use Rattle.trace_line.proofs.Named.{find_made, found_passes, or_false, same_name}
-use Rattle.trace_line.proofs.Numbers.{taken_read}
-use Rattle.trace_line.proofs.LeafWalk.{IsToldOrNone, Some_of, help, help_long, in_second, leaf_shape}
+use Rattle.clap.specs.Faults.{repeat_fault, use_fault, values_fault}
+use Rattle.clap.specs.Simple.{new_rule}
+use Rattle.clap.specs.Walk.{Row, Rule, Text, arg_by_id, arg_by_index, arg_by_long, arg_by_short, has_row, more_values, reading_by, stronger, used, with_values, without}
+use Rattle.clap.specs.declared.builder.action.ArgAction.{ArgAction}
+use Rattle.clap.specs.declared.builder.action.ArgAction.TheVariants.{Append, Set, SetTrue}
+use Rattle.clap.specs.declared.builder.value_parser.Reading.{Reading}
+use Rattle.clap.specs.declared.builder.value_parser.ValueParser.{ValueParser}
+use Rattle.clap.specs.declared.builder.value_parser.ValueParser.TheVariants as vp
+use Rattle.clap.specs.declared.error.kind.ErrorKind.TheVariants.{ArgumentConflict, InvalidValue, ValueValidation, WrongNumberOfValues}
+use Rattle.clap.specs.declared.parser.matches.ValueSource.{ValueSource}
+use Rattle.clap.specs.declared.parser.matches.ValueSource.TheVariants.{CommandLine}
+use Rattle.clap.proofs.WalkLemmas.{both}
+use Rattle.trace_line.specs.CommandLine.{Given, NumberOption, OptionForm, Wants, is_number_of, many_texts, may_come, no_text, one_more, one_number, one_text, option_named, text_given, texts_given}
+use Rattle.trace_line.proofs.Named.{find_made, or_false, same_name}
+use Rattle.trace_line.proofs.LeafWalk.{IsToldOrNone, Some_of, help, help_long, in_second}
 
 -- ---- the rules
 
--- an option as it is built
-abbrev pub built_rule : NumberOption → Rule
-built_rule option = record (number_rule option) { action = Some Set; range = Some (record { start_inclusive = 1; end_inclusive = 1 }) }
+-- how many values a use has
+abbrev pub count_by : Wants → ℕ
+count_by no_text = 0
+count_by _ = 1
 
-abbrev pub built_rules : List NumberOption → List Rule
+abbrev action_by : Wants → ArgAction
+action_by many_texts = Append
+action_by no_text = SetTrue
+action_by _ = Set
+
+abbrev pub defaults_by : Wants → List Text
+defaults_by (one_number option) = option.default ∷ []
+defaults_by no_text = codes "false" ∷ []
+defaults_by _ = []
+
+abbrev missing_by : Wants → List Text
+missing_by no_text = codes "true" ∷ []
+missing_by _ = []
+
+abbrev parser_by : Wants → ValueParser
+parser_by (one_number option) = vp.Signed (pos option.least) (pos option.most)
+parser_by no_text = vp.Bool
+parser_by _ = vp.String
+
+-- an option as it is built
+abbrev pub built_rule : OptionForm → Rule
+built_rule option = record (new_rule option.name) {
+  long = Some option.name;
+  action = Some (action_by option.wants);
+  range = Some (record { start_inclusive = count_by option.wants; end_inclusive = count_by option.wants });
+  value_names = count_by option.wants;
+  defaults = defaults_by option.wants;
+  missing = missing_by option.wants;
+  parser = Some (parser_by option.wants);
+}
+
+abbrev pub built_rules : List OptionForm → List Rule
 built_rules options = map built_rule options ++ help ∷ []
 
 -- a search that passes over the options
-pass_rules : (test : Rule → Bool) → ((o : NumberOption) → test (built_rule o) ≡ false) → (options : List NumberOption)
+pass_rules : (test : Rule → Bool) → ((o : OptionForm) → test (built_rule o) ≡ false) → (options : List OptionForm)
     → find test (built_rules options) ≡ find test (help ∷ [])
 pass_rules test none [] = refl
 pass_rules test none (o ∷ options) = rw (none o) (pass_rules test none options)
 
-pub by_short : (options : List NumberOption) (x : ℕ) → arg_by_short (built_rules options) x ≡ arg_by_short (help ∷ []) x
+pub by_short : (options : List OptionForm) (x : ℕ) → arg_by_short (built_rules options) x ≡ arg_by_short (help ∷ []) x
 by_short options x = pass_rules _ (λ o. refl) options
 
-pub by_index : (options : List NumberOption) (i : ℕ) → arg_by_index (built_rules options) i ≡ None
+pub by_index : (options : List OptionForm) (i : ℕ) → arg_by_index (built_rules options) i ≡ None
 by_index options i = pass_rules _ (λ o. refl) options
 
-pub by_id : (options : List NumberOption) (name : Text) (o : NumberOption) → option_named options name ≡ Some o
+pub by_id : (options : List OptionForm) (name : Text) (o : OptionForm) → option_named options name ≡ Some o
     → arg_by_id (built_rules options) name ≡ Some (built_rule o)
 by_id options name o is = find_made built_rule _ (λ o. bytes_eq o.name name) (λ o. refl) options (help ∷ []) ∙ rw is refl
 
-pub by_long : (options : List NumberOption) (name : Text) (o : NumberOption) → option_named options name ≡ Some o
+pub by_long : (options : List OptionForm) (name : Text) (o : OptionForm) → option_named options name ≡ Some o
     → arg_by_long (built_rules options) name ≡ Some (built_rule o)
 by_long options name o is = find_made built_rule _ (λ o. bytes_eq o.name name) (λ o. or_false (bytes_eq o.name name)) options (help ∷ []) ∙ rw is refl
 
-pub no_long : (options : List NumberOption) (name : Text) → option_named options name ≡ None → IsToldOrNone (arg_by_long (built_rules options) name)
+pub no_long : (options : List OptionForm) (name : Text) → option_named options name ≡ None → IsToldOrNone (arg_by_long (built_rules options) name)
 no_long options name none =
     let same : arg_by_long (built_rules options) name ≡ arg_by_long (help ∷ []) name =
     find_made built_rule _ (λ o. bytes_eq o.name name) (λ o. or_false (bytes_eq o.name name)) options (help ∷ []) ∙ rw none refl in
     rw same (help_long name)
 
--- ---- options whose defaults are numbers of theirs
+-- ---- options of different names, whose defaults are numbers of theirs
 
-abbrev pub is_sound : NumberOption → Bool
-is_sound option = is_number_of option option.default && nat_lt option.most 4294967296
+abbrev pub is_sound : Wants → Bool
+is_sound (one_number option) = is_number_of option option.default && nat_lt option.most 4294967296
+is_sound _ = true
 
-sound_named : (options : List NumberOption) (o : NumberOption) → list_all is_sound options ≡ true → option_named options o.name ≡ Some o
-    → (is_number_of o o.default ≡ true) × (nat_lt o.most 4294967296 ≡ true)
-sound_named options o sound e = both (is_number_of o o.default) (nat_lt o.most 4294967296) (found_passes is_sound _ options o sound e)
+abbrev pub are_sound : List OptionForm → Bool
+are_sound [] = true
+are_sound (o ∷ options) = is_sound o.wants && (not (is_some (option_named options o.name)) && are_sound options)
+
+pub sound_named : (options : List OptionForm) (o : OptionForm) → are_sound options ≡ true → option_named options o.name ≡ Some o → is_sound o.wants ≡ true
+sound_named [] o sound e = absurd (cc e)
+sound_named (p ∷ options) o sound e =
+    let here = both (is_sound p.wants) (not (is_some (option_named options p.name)) && are_sound options) sound in
+    let rest = both (not (is_some (option_named options p.name))) (are_sound options) here.1 in
+    go (bytes_eq p.name o.name) here.0 (λ is. sound_named options o rest.1 is) e
+  where
+    go : (same : Bool) → is_sound p.wants ≡ true → (option_named options o.name ≡ Some o → is_sound o.wants ≡ true)
+        → cond same (Some p) (option_named options o.name) ≡ Some o → is_sound o.wants ≡ true
+    go true first behind is = let it : p ≡ o = cc is in ap (λ (x : OptionForm). is_sound x.wants) (sym it) ∙ first
+    go false first behind is = behind is
 
 -- ---- rows
 
-abbrev pub row : Text × Text → Row
-row pair = record { id = pair.0; values = pair.1 ∷ []; count = None; source = Some CommandLine; reading = WithoutMinus }
-
-abbrev pub rows_given : Given → List Row
-rows_given given = map row given
-
-abbrev default_row : Rule → List Text → Row
-default_row a values = record { id = a.id; values = values; count = None; source = Some DefaultValue; reading = reading_by a }
-
-abbrev row_named : List Row → Text → Option Row
+abbrev pub row_named : List Row → Text → Option Row
 row_named rows name = find (λ r. bytes_eq r.id name) rows
 
-found_row : (name : Text) (rows : List Row) → has_row name rows ≡ is_some (row_named rows name)
+pub found_row : (name : Text) (rows : List Row) → has_row name rows ≡ is_some (row_named rows name)
 found_row name [] = refl
 found_row name (r ∷ rows) = go (bytes_eq r.id name) (found_row name rows)
   where
@@ -89,189 +126,265 @@ found_row name (r ∷ rows) = go (bytes_eq r.id name) (found_row name rows)
     go true e = refl
     go false e = e
 
-given_row : (given : Given) (name : Text) → row_named (rows_given given) name ≡ option_map row (find (λ pair. bytes_eq pair.0 name) given)
-given_row given name = sym (find-map (λ r. bytes_eq r.id name) row given)
-
-mapped : {A B : Type 0} (f : A → B) (o : Option A) → is_some (option_map f o) ≡ is_some o
-mapped f None = refl
-mapped f (Some x) = refl
-
-pub has_given : (given : Given) (name : Text) → has_row name (rows_given given) ≡ is_some (text_given given name)
-has_given given name = found_row name (rows_given given) ∙ ap is_some (given_row given name)
-    ∙ mapped row (find (λ pair. bytes_eq pair.0 name) given) ∙ sym (mapped (λ (p : Text × Text). p.1) (find (λ pair. bytes_eq pair.0 name) given))
-
--- a change of a row that isn't there adds one
-added : (id : Text) (change : Row → List Row) (missing rows : List Row) → has_row id rows ≡ false → at_row id change missing rows ≡ rows ++ missing
-added id change missing [] e = refl
-added id change missing (r ∷ rows) e = go (bytes_eq r.id id) (λ fresh. added id change missing rows fresh) e
+-- where there is no row, none is taken out
+none_without : (id : Text) (rows : List Row) → has_row id rows ≡ false → without id rows ≡ rows
+none_without id [] e = refl
+none_without id (r ∷ rows) e = go (bytes_eq r.id id) (λ fresh. none_without id rows fresh) e
   where
-    go : (b : Bool) → (has_row id rows ≡ false → at_row id change missing rows ≡ rows ++ missing) → (b || has_row id rows) ≡ false
-        → cond b (change r ++ rows) (r ∷ at_row id change missing rows) ≡ r ∷ (rows ++ missing)
+    go : (b : Bool) → (has_row id rows ≡ false → without id rows ≡ rows) → (b || has_row id rows) ≡ false → cond b ([] ++ rows) (r ∷ without id rows) ≡ r ∷ rows
     go true behind e = absurd (cc e)
     go false behind e = ap (λ (rs : List Row). r ∷ rs) (behind e)
 
+-- the row of an id behind more values
+abbrev pub row_with : Text → Reading → ValueSource → List Text → Option Row → Row
+row_with id how s values None = record { id = id; values = values; count = None; source = Some s; reading = how }
+row_with id how s values (Some r) = record r { values = r.values ++ values; source = Some (stronger r.source s) }
+
+pub with_same : (id : Text) (how : Reading) (s : ValueSource) (values : List Text) (rows : List Row)
+    → row_named (with_values id how s values rows) id ≡ Some (row_with id how s values (row_named rows id))
+with_same id how s values [] = rw (same_name id) refl
+with_same id how s values (r ∷ rows) = go (bytes_eq r.id id) refl (with_same id how s values rows)
+  where
+    go : (b : Bool) → bytes_eq r.id id ≡ b → row_named (with_values id how s values rows) id ≡ Some (row_with id how s values (row_named rows id))
+        → row_named (cond b (more_values s values r ++ rows) (r ∷ with_values id how s values rows)) id
+        ≡ Some (row_with id how s values (cond b (Some r) (row_named rows id)))
+    go true is behind = rw is refl
+    go false is behind = rw is behind
+
+pub with_other : (id : Text) (how : Reading) (s : ValueSource) (values : List Text) (name : Text) (rows : List Row) → bytes_eq id name ≡ false
+    → row_named (with_values id how s values rows) name ≡ row_named rows name
+with_other id how s values name [] other = rw other refl
+with_other id how s values name (r ∷ rows) other = go (bytes_eq r.id id) refl (with_other id how s values name rows other)
+  where
+    go : (b : Bool) → bytes_eq r.id id ≡ b → row_named (with_values id how s values rows) name ≡ row_named rows name
+        → row_named (cond b (more_values s values r ++ rows) (r ∷ with_values id how s values rows)) name ≡ cond (bytes_eq r.id name) (Some r) (row_named rows name)
+    go true is behind =
+        let none : bytes_eq r.id name ≡ false = ap (λ (i : Text). bytes_eq i name) ((bytes_eq-Decides r.id id).0 is) ∙ other in
+        rw none refl
+    go false is behind = ap (λ (o : Option Row). cond (bytes_eq r.id name) (Some r) o) behind
+
+-- ---- what is given
+
+-- what a use of an option leaves in its row
+abbrev stored : Wants → Text → List Text
+stored no_text text = codes "true" ∷ []
+stored _ text = text ∷ []
+
+abbrev new_row : Text → Wants → List Text → Row
+new_row name wants values = row_with name (reading_by (built_rule (record { name = name; wants = wants }))) CommandLine values None
+
+abbrev pub rows_once : Text → Wants → Option Text → Option Row
+rows_once name wants said = option_map (λ text. new_row name wants (stored wants text)) said
+
+abbrev pub rows_often : Text → Wants → List Text → Option Row
+rows_often name wants [] = None
+rows_often name wants (text ∷ texts) = Some (new_row name wants (text ∷ texts))
+
+-- the row of an option by what is given
+abbrev pub row_by : Text → Wants → Given → Option Row
+row_by name many_texts given = rows_often name many_texts (texts_given given name)
+row_by name wants given = rows_once name wants (text_given given name)
+
+-- the text that is given, or stands for it, is one that the option takes
+abbrev pub is_passed : Wants → Option Text → Bool
+is_passed (one_number option) said = is_number_of option (unwrap_or said option.default)
+is_passed _ said = true
+
+-- the rows are those of what is given
+abbrev pub Are : List OptionForm → List Row → Given → Type 0
+Are options rows given = (o : OptionForm) → option_named options o.name ≡ Some o
+    → (row_named rows o.name ≡ row_by o.name o.wants given) × (is_passed o.wants (text_given given o.name) ≡ true)
+
+-- nothing is given
+no_row : (name : Text) (wants : Wants) → is_sound wants ≡ true → (None ≡ row_by name wants []) × (is_passed wants None ≡ true)
+no_row name (one_number n) sound = (refl, (both (is_number_of n n.default) (nat_lt n.most 4294967296) sound).0)
+no_row name one_text sound = (refl, refl)
+no_row name many_texts sound = (refl, refl)
+no_row name no_text sound = (refl, refl)
+
+pub none_are : (options : List OptionForm) → are_sound options ≡ true → Are options [] []
+none_are options sound o is = no_row o.name o.wants (sound_named options o sound is)
+
+-- one more is given, of this name and of others
+text_new : (given : Given) (name text : Text) → text_given given name ≡ None → text_given (given ++ (name, text) ∷ []) name ≡ Some text
+text_new given name text none =
+    rw (find-append (λ (pair : Text × Text). bytes_eq pair.0 name) given ((name, text) ∷ [])) (go (find (λ pair. bytes_eq pair.0 name) given) none)
+  where
+    go : (found : Option (Text × Text)) → option_map (λ pair. pair.1) found ≡ None
+        → option_map (λ pair. pair.1) (option_or found (find (λ (pair : Text × Text). bytes_eq pair.0 name) ((name, text) ∷ []))) ≡ Some text
+    go None e = rw (same_name name) refl
+    go (Some pair) e = absurd (cc e)
+
+text_other : (given : Given) (name text other : Text) → bytes_eq name other ≡ false → text_given (given ++ (name, text) ∷ []) other ≡ text_given given other
+text_other given name text other is =
+    rw (find-append (λ (pair : Text × Text). bytes_eq pair.0 other) given ((name, text) ∷ []), is) (go (find (λ pair. bytes_eq pair.0 other) given))
+  where
+    go : (found : Option (Text × Text)) → option_map (λ pair. pair.1) (option_or found None) ≡ option_map (λ pair. pair.1) found
+    go None = refl
+    go (Some pair) = refl
+
+texts_new : (given : Given) (name text : Text) → texts_given (given ++ (name, text) ∷ []) name ≡ texts_given given name ++ text ∷ []
+texts_new given name text =
+    rw (filter-append (λ (pair : Text × Text). bytes_eq pair.0 name) given ((name, text) ∷ []), same_name name)
+    (map-append (λ (pair : Text × Text). pair.1) (filter (λ pair. bytes_eq pair.0 name) given) ((name, text) ∷ []))
+
+texts_other : (given : Given) (name text other : Text) → bytes_eq name other ≡ false → texts_given (given ++ (name, text) ∷ []) other ≡ texts_given given other
+texts_other given name text other is =
+    rw (filter-append (λ (pair : Text × Text). bytes_eq pair.0 other) given ((name, text) ∷ []), is)
+    (ap (map (λ (pair : Text × Text). pair.1)) (append-nil (filter (λ pair. bytes_eq pair.0 other) given)))
+
+row_other : (wants : Wants) (given : Given) (name text other : Text) → bytes_eq name other ≡ false
+    → row_by other wants (given ++ (name, text) ∷ []) ≡ row_by other wants given
+row_other (one_number option) given name text other is = ap (rows_once other (one_number option)) (text_other given name text other is)
+row_other one_text given name text other is = ap (rows_once other one_text) (text_other given name text other is)
+row_other many_texts given name text other is = ap (rows_often other many_texts) (texts_other given name text other is)
+row_other no_text given name text other is = ap (rows_once other no_text) (text_other given name text other is)
+
 -- ---- one use
 
-used_once : (o : NumberOption) (text : Text) (rows : List Row) → has_row o.name rows ≡ false → used (built_rule o) (text ∷ []) rows ≡ rows ++ row (o.name, text) ∷ []
-used_once o text rows fresh =
-    let kept : at_row o.name (λ _. []) [] rows ≡ rows = added o.name (λ _. []) [] rows fresh ∙ append-nil rows in
-    rw kept (added o.name (more_values CommandLine (text ∷ [])) (row (o.name, text) ∷ []) rows fresh)
+abbrev pub reading_to : OptionForm → Reading
+reading_to o = reading_by (built_rule o)
+
+-- the rows behind one more use
+more_rows : (options : List OptionForm) (given : Given) (rows : List Row) (o : OptionForm) (text : Text) (values : List Text) → option_named options o.name ≡ Some o
+    → Are options rows given
+    → Some (row_with o.name (reading_to o) CommandLine values (row_named rows o.name)) ≡ row_by o.name o.wants (given ++ (o.name, text) ∷ [])
+    → is_passed o.wants (text_given (given ++ (o.name, text) ∷ []) o.name) ≡ true
+    → Are options (with_values o.name (reading_to o) CommandLine values rows) (given ++ (o.name, text) ∷ [])
+more_rows options given rows o text values at are row passed = λ p is. go p is (bytes_eq o.name p.name) refl
+  where
+    more : Given
+    more = given ++ (o.name, text) ∷ []
+
+    here : row_named (with_values o.name (reading_to o) CommandLine values rows) o.name ≡ row_by o.name o.wants more
+    here = with_same o.name (reading_to o) CommandLine values rows ∙ row
+
+    go : (p : OptionForm) → option_named options p.name ≡ Some p → (same : Bool) → bytes_eq o.name p.name ≡ same
+        → (row_named (with_values o.name (reading_to o) CommandLine values rows) p.name ≡ row_by p.name p.wants more)
+        × (is_passed p.wants (text_given more p.name) ≡ true)
+    go p is true same =
+        let name : o.name ≡ p.name = (bytes_eq-Decides o.name p.name).0 same in
+        let found : Some o ≡ Some p = sym at ∙ ap (option_named options) name ∙ is in
+        let it : o ≡ p = cc found in
+        subst (λ (x : OptionForm). (row_named (with_values o.name (reading_to o) CommandLine values rows) x.name ≡ row_by x.name x.wants more)
+        × (is_passed x.wants (text_given more x.name) ≡ true)) it (here, passed)
+    go p is false other = (
+      with_other o.name (reading_to o) CommandLine values p.name rows other ∙ (are p is).0 ∙ sym (row_other p.wants given o.name text p.name other),
+      ap (is_passed p.wants) (text_other given o.name text p.name other) ∙ (are p is).1,
+    )
+
+-- the values of a use
+abbrev pub said_values : Option Text → List Text
+said_values None = []
+said_values (Some text) = text ∷ []
+
+abbrev pub more_given : Given → OptionForm → Option Text → Given
+more_given given o said = given ++ (o.name, unwrap_or said []) ∷ []
 
 -- what a use comes to
-pub data Use (options : List NumberOption) (given : Given) (o : NumberOption) (text : Text) : Type 0 where
-  good : one_more options given (Some o.name) (Some text) ≡ Some (given ++ (o.name, text) ∷ []) → is_number_of o text ≡ true
-      → is_some (text_given given o.name) ≡ false → use_fault false (built_rule o) (text ∷ []) (rows_given given) ≡ []
-      → used (built_rule o) (text ∷ []) (rows_given given) ≡ rows_given (given ++ (o.name, text) ∷ []) → Use options given o text
-  bad : one_more options given (Some o.name) (Some text) ≡ None → Some_of (use_fault false (built_rule o) (text ∷ []) (rows_given given))
-      → Use options given o text
+pub data Use (options : List OptionForm) (given : Given) (rows : List Row) (o : OptionForm) (said : Option Text) : Type 0 where
+  good : one_more options given (Some o.name) said ≡ Some (more_given given o said) → use_fault false (built_rule o) (said_values said) rows ≡ []
+      → Are options (used (built_rule o) (said_values said) rows) (more_given given o said) → Use options given rows o said
+  bad : one_more options given (Some o.name) said ≡ None → Some_of (use_fault false (built_rule o) (said_values said) rows) → Use options given rows o said
 
-use_if : (options : List NumberOption) (given : Given) (o : NumberOption) (text : Text) (number again : Bool) → is_number_of o text ≡ number
-    → is_some (text_given given o.name) ≡ again → option_named options o.name ≡ Some o → Use options given o text
-use_if options given o text true false number again is =
-    let fresh : has_row o.name (rows_given given) ≡ false = has_given given o.name ∙ again in
-    good (rw (is, number, again) refl) number again (rw (fresh, number) refl) (used_once o text (rows_given given) fresh ∙ sym (map-append row given ((o.name, text) ∷ [])))
-use_if options given o text true true number again is =
-    let there : has_row o.name (rows_given given) ≡ true = has_given given o.name ∙ again in
-    bad (rw (is, number, again) refl) (rw there (ArgumentConflict, [], refl))
-use_if options given o text false again number _ is =
-    let refused : values_fault (built_rule o) (text ∷ []) ≡ ValueValidation ∷ [] = rw number refl in
-    bad (rw (is, number) refl) (in_second (repeat_fault false o.name (rows_given given)) (values_fault (built_rule o) (text ∷ [])) (ValueValidation, [], refused))
+one_more_if : (options : List OptionForm) (given : Given) (o : OptionForm) (said : Option Text) (may : Bool) → option_named options o.name ≡ Some o
+    → may_come given said o ≡ may → one_more options given (Some o.name) said ≡ (if may then Some (more_given given o said) else None)
+one_more_if options given o said may at is = rw (at, is) refl
 
-pub use_of : (options : List NumberOption) (given : Given) (o : NumberOption) (text : Text) → option_named options o.name ≡ Some o → Use options given o text
-use_of options given o text is = use_if options given o text (is_number_of o text) (is_some (text_given given o.name)) refl refl is
+module _ (options : List OptionForm) (given : Given) (rows : List Row) where
+  abbrev Comes : Text → Wants → Option Text → Type 0
+  Comes name wants said =
+      let o : OptionForm = record { name = name; wants = wants } in
+      option_named options name ≡ Some o → Are options rows given → Use options given rows o said
 
--- ---- the end
+  -- an option that is given once, and wasn't yet
+  once_rows : (name : Text) (wants : Wants) (text : Text) → option_named options name ≡ Some (record { name = name; wants = wants }) → Are options rows given
+      → ((g : Given) → row_by name wants g ≡ rows_once name wants (text_given g name)) → text_given given name ≡ None → is_passed wants (Some text) ≡ true
+      → Are options (with_values name (reading_to (record { name = name; wants = wants })) CommandLine (stored wants text) rows) (given ++ (name, text) ∷ [])
+  once_rows name wants text at are once none passed =
+      let o : OptionForm = record { name = name; wants = wants } in
+      let new : text_given (given ++ (name, text) ∷ []) name ≡ Some text = text_new given name text none in
+      let before : row_named rows name ≡ None = (are o at).0 ∙ once given ∙ ap (rows_once name wants) none in
+      more_rows options given rows o text (stored wants text) at are
+      (ap (λ (r : Option Row). Some (row_with name (reading_to o) CommandLine (stored wants text) r)) before ∙ sym (once (given ++ (name, text) ∷ []) ∙ ap (rows_once name wants) new))
+      (ap (is_passed wants) new ∙ passed)
 
--- a row stays where an argument gets its default
-kept_row : (rows : List Row) (a : Rule) (name : Text) (r : Row) → row_named rows name ≡ Some r → row_named (with_default rows a) name ≡ Some r
-kept_row rows a name r is = go (has_row a.id rows) refl
-  where
-    listed : (defaults : List Text) → has_row a.id rows ≡ false → row_named (default_rows a.id (reading_by a) defaults rows) name ≡ Some r
-    listed [] fresh = is
-    listed (v ∷ vs) fresh =
-        rw (added a.id (more_values DefaultValue (v ∷ vs)) (default_row a (v ∷ vs) ∷ []) rows fresh, find-append (λ (x : Row). bytes_eq x.id name) rows (default_row a (v ∷ vs) ∷ []), is) refl
+  rows_said : (name : Text) (wants : Wants) (said : Option Text) → is_some (rows_once name wants said) ≡ is_some said
+  rows_said name wants None = refl
+  rows_said name wants (Some text) = refl
 
-    go : (has : Bool) → has_row a.id rows ≡ has → row_named (if has then rows else default_rows a.id (reading_by a) a.defaults rows) name ≡ Some r
-    go true there = is
-    go false fresh = listed a.defaults fresh
+  -- whether it has a row
+  has_once : (name : Text) (wants : Wants) (said : Option Text) → option_named options name ≡ Some (record { name = name; wants = wants }) → Are options rows given
+      → ((g : Given) → row_by name wants g ≡ rows_once name wants (text_given g name)) → text_given given name ≡ said → has_row name rows ≡ is_some said
+  has_once name wants said at are once is =
+      found_row name rows ∙ ap is_some ((are (record { name = name; wants = wants }) at).0 ∙ once given ∙ ap (rows_once name wants) is) ∙ rows_said name wants said
 
-kept_rows : (rules : List Rule) (rows : List Row) (name : Text) (r : Row) → row_named rows name ≡ Some r → row_named (fold with_default rows rules) name ≡ Some r
-kept_rows [] rows name r is = is
-kept_rows (a ∷ rules) rows name r is = kept_rows rules (with_default rows a) name r (kept_row rows a name r is)
+  number_comes : (name : Text) (n : NumberOption) (text : Text) (number : Bool) (before : Option Text) → is_number_of n text ≡ number → text_given given name ≡ before
+      → Comes name (one_number n) (Some text)
+  number_comes name n text true None number before at are =
+      let o : OptionForm = record { name = name; wants = one_number n } in
+      let fresh : has_row name rows ≡ false = has_once name (one_number n) None at are (λ g. refl) before in
+      let after = once_rows name (one_number n) text at are (λ g. refl) before number in
+      good (one_more_if options given o (Some text) true at (rw (number, before) refl)) (rw (fresh, number) refl)
+      (subst (λ (rs : List Row). Are options (with_values name (reading_to o) CommandLine (text ∷ []) rs) (given ++ (name, text) ∷ [])) (sym (none_without name rows fresh)) after)
+  number_comes name n text true (Some said) number before at are =
+      let o : OptionForm = record { name = name; wants = one_number n } in
+      let there : has_row name rows ≡ true = has_once name (one_number n) (Some said) at are (λ g. refl) before in
+      bad (one_more_if options given o (Some text) false at (rw (number, before) refl)) (rw there (ArgumentConflict, [], refl))
+  number_comes name n text false before number is at are =
+      let o : OptionForm = record { name = name; wants = one_number n } in
+      let refused : values_fault (built_rule o) (text ∷ []) ≡ ValueValidation ∷ [] = rw number refl in
+      bad (one_more_if options given o (Some text) false at (rw number refl))
+      (in_second (repeat_fault false name rows) (values_fault (built_rule o) (text ∷ [])) (ValueValidation, [], refused))
 
--- the default of an option
-abbrev default_of : NumberOption → Row
-default_of o = default_row (built_rule o) (o.default ∷ [])
+  text_comes : (name : Text) (text : Text) (before : Option Text) → text_given given name ≡ before → Comes name one_text (Some text)
+  text_comes name text None before at are =
+      let o : OptionForm = record { name = name; wants = one_text } in
+      let fresh : has_row name rows ≡ false = has_once name one_text None at are (λ g. refl) before in
+      let after = once_rows name one_text text at are (λ g. refl) before refl in
+      good (one_more_if options given o (Some text) true at (rw before refl)) (rw fresh refl)
+      (subst (λ (rs : List Row). Are options (with_values name (reading_to o) CommandLine (text ∷ []) rs) (given ++ (name, text) ∷ [])) (sym (none_without name rows fresh)) after)
+  text_comes name text (Some said) before at are =
+      let o : OptionForm = record { name = name; wants = one_text } in
+      let there : has_row name rows ≡ true = has_once name one_text (Some said) at are (λ g. refl) before in
+      bad (one_more_if options given o (Some text) false at (rw before refl)) (rw there (ArgumentConflict, [], refl))
 
-default_added : (o : NumberOption) (rows : List Row) → has_row o.name rows ≡ false → with_default rows (built_rule o) ≡ rows ++ default_of o ∷ []
-default_added o rows fresh = rw fresh (added o.name (more_values DefaultValue (o.default ∷ [])) (default_of o ∷ []) rows fresh)
+  one_text_more : (name text : Text) (texts : List Text)
+      → Some (row_with name (reading_to (record { name = name; wants = many_texts })) CommandLine (text ∷ []) (rows_often name many_texts texts))
+      ≡ rows_often name many_texts (texts ++ text ∷ [])
+  one_text_more name text [] = refl
+  one_text_more name text (first ∷ texts) = refl
 
-none_named : (name : Text) (rows : List Row) → row_named rows name ≡ None → has_row name rows ≡ false
-none_named name rows none = found_row name rows ∙ ap is_some none
+  texts_comes : (name : Text) (text : Text) → Comes name many_texts (Some text)
+  texts_comes name text at are =
+      let o : OptionForm = record { name = name; wants = many_texts } in
+      good (one_more_if options given o (Some text) true at refl) refl
+      (more_rows options given rows o text (text ∷ []) at are
+      (ap (λ (r : Option Row). Some (row_with name (reading_to o) CommandLine (text ∷ []) r)) (are o at).0 ∙ one_text_more name text (texts_given given name)
+      ∙ sym (ap (rows_often name many_texts) (texts_new given name text))) refl)
 
--- the row of another option's default changes nothing
-other_default : (p : NumberOption) (rows : List Row) (name : Text) → bytes_eq p.name name ≡ false → row_named rows name ≡ None
-    → row_named (with_default rows (built_rule p)) name ≡ None
-other_default p rows name other none = go (has_row p.name rows) refl
-  where
-    go : (has : Bool) → has_row p.name rows ≡ has → row_named (with_default rows (built_rule p)) name ≡ None
-    go true there = rw there none
-    go false fresh = rw (default_added p rows fresh, find-append (λ (x : Row). bytes_eq x.id name) rows (default_of p ∷ []), none, other) refl
+  flag_comes : (name : Text) (before : Option Text) → text_given given name ≡ before → Comes name no_text None
+  flag_comes name None before at are =
+      let o : OptionForm = record { name = name; wants = no_text } in
+      let fresh : has_row name rows ≡ false = has_once name no_text None at are (λ g. refl) before in
+      let after = once_rows name no_text [] at are (λ g. refl) before refl in
+      good (one_more_if options given o None true at (rw before refl)) (rw fresh refl)
+      (subst (λ (rs : List Row). Are options (with_values name (reading_to o) CommandLine (codes "true" ∷ []) rs) (given ++ (name, []) ∷ [])) (sym (none_without name rows fresh)) after)
+  flag_comes name (Some said) before at are =
+      let o : OptionForm = record { name = name; wants = no_text } in
+      let there : has_row name rows ≡ true = has_once name no_text (Some said) at are (λ g. refl) before in
+      bad (one_more_if options given o None false at (rw before refl)) (rw there (ArgumentConflict, [], refl))
 
--- an option that isn't given gets its default
-default_found : (options : List NumberOption) (rows : List Row) (o : NumberOption) → option_named options o.name ≡ Some o → row_named rows o.name ≡ None
-    → row_named (fold with_default rows (built_rules options)) o.name ≡ Some (default_of o)
-default_found [] rows o e none = absurd (cc e)
-default_found (p ∷ options) rows o e none =
-    go (bytes_eq p.name o.name) refl (λ is quiet. default_found options (with_default rows (built_rule p)) o is quiet) e
-  where
-    here : p ≡ o → row_named (with_default rows (built_rule p)) o.name ≡ Some (default_of o)
-    here same = rw (same, default_added o rows (none_named o.name rows none), find-append (λ (x : Row). bytes_eq x.id o.name) rows (default_of o ∷ []), none, same_name o.name) refl
+  use_by : (name : Text) (wants : Wants) (said : Option Text) → Comes name wants said
+  use_by name (one_number n) None at are = bad (one_more_if options given (record { name = name; wants = one_number n }) None false at refl) (InvalidValue, [], refl)
+  use_by name (one_number n) (Some text) at are = number_comes name n text (is_number_of n text) (text_given given name) refl refl at are
+  use_by name one_text None at are = bad (one_more_if options given (record { name = name; wants = one_text }) None false at refl) (InvalidValue, [], refl)
+  use_by name one_text (Some text) at are = text_comes name text (text_given given name) refl at are
+  use_by name many_texts None at are = bad (one_more_if options given (record { name = name; wants = many_texts }) None false at refl) (InvalidValue, [], refl)
+  use_by name many_texts (Some text) at are = texts_comes name text at are
+  use_by name no_text None at are = flag_comes name (text_given given name) refl at are
+  use_by name no_text (Some text) at are =
+      bad (one_more_if options given (record { name = name; wants = no_text }) (Some text) false at refl) (WrongNumberOfValues, [], refl)
 
-    go : (same : Bool) → bytes_eq p.name o.name ≡ same
-        → (option_named options o.name ≡ Some o → row_named (with_default rows (built_rule p)) o.name ≡ None
-        → row_named (fold with_default (with_default rows (built_rule p)) (built_rules options)) o.name ≡ Some (default_of o))
-        → cond same (Some p) (option_named options o.name) ≡ Some o
-        → row_named (fold with_default (with_default rows (built_rule p)) (built_rules options)) o.name ≡ Some (default_of o)
-    go true same behind is = kept_rows (built_rules options) (with_default rows (built_rule p)) o.name (default_of o) (here (cc is))
-    go false other behind is = behind is (other_default p rows o.name other none)
-
--- the text of an option at the end
-abbrev pub text_of : Given → NumberOption → Text
-text_of given o = unwrap_or (text_given given o.name) o.default
-
-abbrev end_rows : List NumberOption → Given → List Row
-end_rows options given = fold with_default (rows_given given) (built_rules options)
-
-text_found : (options : List NumberOption) (given : Given) (o : NumberOption) → option_named options o.name ≡ Some o
-    → one_of o.name (end_rows options given) ≡ Some (without_minus (text_of given o))
-text_found options given o is = go (find (λ pair. bytes_eq pair.0 o.name) given) refl
-  where
-    go : (found : Option (Text × Text)) → find (λ pair. bytes_eq pair.0 o.name) given ≡ found
-        → one_of o.name (end_rows options given) ≡ Some (without_minus (unwrap_or (option_map (λ pair. pair.1) found) o.default))
-    go None e =
-        let none : row_named (rows_given given) o.name ≡ None = given_row given o.name ∙ ap (option_map row) e in
-        rw (default_found options (rows_given given) o is none) refl
-    go (Some pair) e =
-        let some : row_named (rows_given given) o.name ≡ Some (row pair) = given_row given o.name ∙ ap (option_map row) e in
-        rw (kept_rows (built_rules options) (rows_given given) o.name (row pair) some) refl
-
--- what is given, and what stands for what is not, are numbers of the options
-abbrev pub AreNumbers : List NumberOption → Given → Type 0
-AreNumbers options given = (o : NumberOption) → option_named options o.name ≡ Some o → is_number_of o (text_of given o) ≡ true
-
-pub numbers_found : (options : List NumberOption) (given : Given) → list_all is_sound options ≡ true → AreNumbers options given
-    → HasNumbers options (end_rows options given) (number_of given)
-numbers_found options given sound are o is =
-    rw (text_found options given o is) (taken_read o (text_of given o) (sound_named options o sound is).1 (are o is))
-
-pub default_numbers : (options : List NumberOption) → list_all is_sound options ≡ true → AreNumbers options []
-default_numbers options sound o is = (sound_named options o sound is).0
-
--- one more number
-pub more_numbers : (options : List NumberOption) (given : Given) (p : NumberOption) (text : Text) → option_named options p.name ≡ Some p
-    → is_number_of p text ≡ true → AreNumbers options given → AreNumbers options (given ++ (p.name, text) ∷ [])
-more_numbers options given p text at number are o is =
-    let more = find-append (λ (pair : Text × Text). bytes_eq pair.0 o.name) given ((p.name, text) ∷ []) in
-    rw more (go (find (λ pair. bytes_eq pair.0 o.name) given) (are o is))
-  where
-    last : (same : Bool) → bytes_eq p.name o.name ≡ same → is_number_of o o.default ≡ true
-        → is_number_of o (unwrap_or (option_map (λ (pair : Text × Text). pair.1) (cond same (Some (p.name, text)) None)) o.default) ≡ true
-    last true same default =
-        let name : p.name ≡ o.name = (bytes_eq-Decides p.name o.name).0 same in
-        let found : Some p ≡ Some o = sym at ∙ ap (option_named options) name ∙ is in
-        let it : p ≡ o = cc found in
-        ap (λ (x : NumberOption). is_number_of x text) (sym it) ∙ number
-    last false other default = default
-
-    go : (found : Option (Text × Text)) → is_number_of o (unwrap_or (option_map (λ (pair : Text × Text). pair.1) found) o.default) ≡ true
-        → is_number_of o (unwrap_or (option_map (λ (pair : Text × Text). pair.1) (option_or found (find (λ pair. bytes_eq pair.0 o.name) ((p.name, text) ∷ [])))) o.default)
-        ≡ true
-    go None default = last (bytes_eq p.name o.name) refl default
-    go (Some pair) before = before
-
--- no default is a fault
-no_default_fault : (options : List NumberOption) (rows : List Row) → list_all is_sound options ≡ true → defaults_fault rows (built_rules options) ≡ []
-unfolding defaults_fault
-no_default_fault [] rows sound = go (has_row help.id rows)
-  where
-    go : (has : Bool) → or_else (if has || true then [] else given_default_fault help []) [] ≡ []
-    go true = refl
-    go false = refl
-no_default_fault (o ∷ options) rows sound =
-    let each = both (is_sound o) (list_all is_sound options) sound in
-    go (has_row o.name rows) (both (is_number_of o o.default) (nat_lt o.most 4294967296) each.0).0 (no_default_fault options (with_default rows (built_rule o)) each.1)
-  where
-    go : (has : Bool) → is_number_of o o.default ≡ true → defaults_fault (with_default rows (built_rule o)) (built_rules options) ≡ []
-        → or_else (if has || false then [] else given_default_fault (built_rule o) (o.default ∷ []))
-        (defaults_fault (with_default rows (built_rule o)) (built_rules options)) ≡ []
-    go true number behind = behind
-    go false number behind = rw number behind
-
-no_required : (options : List NumberOption) (rows : List Row) → list_any (λ a. a.required && not (is_given a.id rows)) (built_rules options) ≡ false
-no_required [] rows = refl
-no_required (o ∷ options) rows = no_required options rows
-
-pub no_end_fault : (name : Text) (options : List NumberOption) (rows end : List Row) → list_all is_sound options ≡ true
-    → or_else (defaults_fault rows (built_rules options)) (check_fault (leaf_shape name (built_rules options)) end false) ≡ []
-no_end_fault name options rows end sound = rw (no_default_fault options rows sound, no_required options end) refl
+  pub use_of : (o : OptionForm) (said : Option Text) → option_named options o.name ≡ Some o → Are options rows given → Use options given rows o said
+  use_of o said at are = use_by o.name o.wants said at are

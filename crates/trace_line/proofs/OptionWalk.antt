@@ -1,7 +1,6 @@
--- What clap's walk comes to over the words behind a command that takes options with numbers.
-use Rattle.std.proofs.Common.{◌≡◌, ◌∙◌, ◌++◌, Bool, true, false, List, [], ◌∷◌, Option, Some, None, length, refl, ap, ap₂, subst, sym, inl, inr}
+-- What clap's walk comes to over the words behind a command that takes options.
+use Rattle.std.proofs.Common.{◌≡◌, ◌∙◌, Bool, true, false, List, [], ◌∷◌, Option, Some, None, length, refl, ap, ap₂, subst, sym, inl, inr}
 use Rattle.std.specs.Prelude.{codes, fold, option_and_then, slice_get}
-use Rattle.std.specs.List.{list_all}
 use Rattle.std.specs.Str.{bytes_eq, chars}
 use Rattle.clap.specs.Lexer.{long_of, name_and_value}
 use Rattle.clap.specs.Kinds.{Kinds, or_else}
@@ -11,24 +10,39 @@ use Rattle.clap.proofs.FaultLemmas.{fault_ends}
 use Rattle.clap.proofs.WalkLemmas.{bundle_ends}
 use Rattle.clap.specs.Faults.{check_fault, defaults_fault, long_fault, option_fault, settle_fault, turn_fault, use_fault, walk_fault}
 use Rattle.clap.specs.declared.error.kind.ErrorKind.TheVariants.{InvalidValue, TooManyValues, UnknownArgument}
-use Rattle.trace_line.specs.CommandLine.{Given, NumberOption, given_by, is_option, number_of, one_more, option_named}
-use Rattle.trace_line.specs.inner.Parser.{HasNumbers}
+use Rattle.trace_line.specs.CommandLine.{Given, OptionForm, Wants, given_by, is_option, is_wanted, many_texts, no_text, one_number, one_text, option_named}
 use Rattle.trace_line.proofs.Named.{found_name, same_name}
 use Rattle.trace_line.proofs.WordKinds.{IsLongWord, IsPlainWord, IsShortWord, is_dashes, is_long, is_plain, is_short, kind_of_word}
 use Rattle.trace_line.proofs.LeafWalk.{ComesTo, Some_of, end_fault, held, help_short, in_first, leaf_shape, long_is_fault, long_turn, no_names, or_else-nil, plain_turn, short_turn, step, stop, some_fault, walk_at}
-use Rattle.trace_line.proofs.GivenWords.{behind_name, joined_first, name_first, other_first, unknown_first}
-use Rattle.trace_line.proofs.OptionRules.{AreNumbers, bad, built_rule, built_rules, by_id, by_index, by_long, by_short, default_numbers, good, is_sound, more_numbers, no_end_fault, no_long, numbers_found, rows_given, use_of}
+use Rattle.trace_line.proofs.GivenWords.{alone_first, behind_name, behind_use, joined_first, name_first, other_first, unknown_first}
+use Rattle.trace_line.proofs.OptionEnds.{EndsAs, no_end_fault}
+use Rattle.trace_line.proofs.OptionRules.{Are, are_sound, bad, built_rule, built_rules, by_id, by_index, by_long, by_short, count_by, good, more_given, no_long, none_are, said_values, use_of}
 
 -- the option's name was read, with these values
 abbrev named : Text → List Text → Option (Text × List Text)
 named name values = Some (name, values)
 
--- the rows have the numbers of what is given
-abbrev pub HasGiven : List NumberOption → List Row → Given → Type 0
-HasGiven options rows given = HasNumbers options rows (number_of given)
+-- an option that wants a text has one value, and another one none
+one_value : (wants : Wants) → is_wanted wants None ≡ false → count_by wants ≡ 1
+one_value (one_number n) e = refl
+one_value one_text e = refl
+one_value many_texts e = refl
+one_value no_text e = absurd (cc e)
+
+no_value : (wants : Wants) → is_wanted wants None ≡ true → count_by wants ≡ 0
+no_value (one_number n) e = absurd (cc e)
+no_value one_text e = absurd (cc e)
+no_value many_texts e = absurd (cc e)
+no_value no_text e = refl
+
+not_wanted : (wants : Wants) (text : Text) → is_wanted wants None ≡ true → is_wanted wants (Some text) ≡ false
+not_wanted (one_number n) text e = absurd (cc e)
+not_wanted one_text text e = absurd (cc e)
+not_wanted many_texts text e = absurd (cc e)
+not_wanted no_text text e = refl
 
 -- ---- a command of this name, with these options
-module _ (name : Text) (options : List NumberOption) (sound : list_all is_sound options ≡ true) where
+module _ (name : Text) (options : List OptionForm) (sound : are_sound options ≡ true) where
   abbrev rules : List Rule
   rules = built_rules options
 
@@ -36,7 +50,7 @@ module _ (name : Text) (options : List NumberOption) (sound : list_all is_sound 
   shape = leaf_shape name rules
 
   abbrev Has : List Row → Given → Type 0
-  Has = HasGiven options
+  Has = EndsAs options
 
   abbrev Comes : Walk → List Text → Option Given → Type 0
   Comes = ComesTo Has shape []
@@ -109,25 +123,26 @@ module _ (name : Text) (options : List NumberOption) (sound : list_all is_sound 
 
   -- what is held are the options that are given
   record Holds (given : Given) (h : Held) : Type 0 where
+    rows : List Row
     quiet : settle_fault rules false h ≡ []
-    settles : settled rules h ≡ held (rows_given given) None
-    numbers : AreNumbers options given
+    settles : settled rules h ≡ held rows None
+    are : Are options rows given
 
   -- what the words come to, between two options and behind a name
   record Walks (words : List Text) : Type 0 where
     between : (given : Given) (rows : List Row) (p : Option (Text × List Text)) → Holds given (held rows p)
         → Comes (walk_at idle 1 false (held rows p)) words (given_by options given words)
-    behind : (given : Given) (o : NumberOption) → option_named options o.name ≡ Some o → AreNumbers options given
-        → Comes (walk_at (option o.name) 1 false (held (rows_given given) (named o.name []))) words (behind_name options given o.name words)
+    behind : (given : Given) (o : OptionForm) (rows : List Row) → option_named options o.name ≡ Some o → is_wanted o.wants None ≡ false → Are options rows given
+        → Comes (walk_at (option o.name) 1 false (held rows (named o.name []))) words (behind_name options given o.name words)
 
   good_end : (given : Given) (h : Held) (is_trailing : Bool) → Holds given h → Comes (walk_at idle 1 is_trailing h) [] (Some given)
   unfolding walk_fault
   good_end given h is_trailing holds =
       let faults : Kinds → Held → Kinds = λ first end. or_else first (or_else (defaults_fault end.rows rules)
       (check_fault shape (fold with_default end.rows rules) false)) in
-      let quiet : end_fault shape h ≡ [] = ap₂ faults holds.quiet holds.settles ∙ no_end_fault name options (rows_given given) (fold with_default (rows_given given) rules) sound in
-      let rows : finished rules h ≡ fold with_default (rows_given given) rules = ap (λ (end : Held). fold with_default end.rows rules) holds.settles in
-      (quiet, subst (λ found. Has found given) (sym rows) (numbers_found options given sound holds.numbers))
+      let quiet : end_fault shape h ≡ [] = ap₂ faults holds.quiet holds.settles ∙ no_end_fault name options holds.rows (fold with_default holds.rows rules) sound in
+      let rows : finished rules h ≡ fold with_default holds.rows rules = ap (λ (end : Held). fold with_default end.rows rules) holds.settles in
+      (quiet, (holds.rows, rows, holds.are))
 
   good_escaped : (given : Given) (h : Held) (words : List Text) → Holds given h
       → Comes (walk_at idle 1 true h) words (given_by options given (codes "--" ∷ words))
@@ -136,85 +151,123 @@ module _ (name : Text) (options : List NumberOption) (sound : list_all is_sound 
 
   -- ---- a name that is an option's
 
-  abbrev after_name : NumberOption → Option Text → Held → Walk
-  after_name o None h = walk_at (option o.name) 1 false (record (settled rules h) { pending = named o.name [] })
-  after_name o (Some text) h = walk_at idle 1 false (reacted rules (built_rule o) (text ∷ []) h)
+  -- a use that is whole: its faults, and the walk behind it
+  record IsWhole (h : Held) (word : Text) (o : OptionForm) (said : Option Text) : Type 0 where
+    turn : turn_fault shape [] (walk_at idle 1 false h) word
+        ≡ or_else (settle_fault rules false h) (use_fault false (built_rule o) (said_values said) (settled rules h).rows)
+    to : walked rules [] (walk_at idle 1 false h) word ≡ walk_at idle 1 false (reacted rules (built_rule o) (said_values said) h)
 
-  option_turn : (h : Held) (word : Text) (l : IsLongWord word) (o : NumberOption) (text : Option Text) → option_named options (name_and_value l.body).0 ≡ Some o
-      → (name_and_value l.body).1 ≡ text → turn_fault shape [] (walk_at idle 1 false h) word ≡ option_fault rules false (built_rule o) text h
-  option_turn h word l o None is e = rw (l.dashes, l.long, by_long options (name_and_value l.body).0 o is, e) (or_else-nil _)
-  option_turn h word l o (Some text) is e = rw (l.dashes, l.long, by_long options (name_and_value l.body).0 o is, e) (or_else-nil _)
+  module _ (h : Held) (word : Text) (l : IsLongWord word) (o : OptionForm) (is : option_named options (name_and_value l.body).0 ≡ Some o) where
+    joined_whole : (text : Text) → (name_and_value l.body).1 ≡ Some text → is_wanted o.wants None ≡ false → IsWhole h word o (Some text)
+    unfolding walked
+    joined_whole text e wanted = record {
+      turn = rw (l.dashes, l.long, by_long options (name_and_value l.body).0 o is, e, one_value o.wants wanted) (or_else-nil _);
+      to = rw (l.dashes, l.long, by_long options (name_and_value l.body).0 o is, e, one_value o.wants wanted) refl;
+    }
 
-  option_walked : (h : Held) (word : Text) (l : IsLongWord word) (o : NumberOption) (text : Option Text) → option_named options (name_and_value l.body).0 ≡ Some o
-      → (name_and_value l.body).1 ≡ text → walked rules [] (walk_at idle 1 false h) word ≡ after_name o text h
-  unfolding walked
-  option_walked h word l o None is e = rw (l.dashes, l.long, by_long options (name_and_value l.body).0 o is, e) refl
-  option_walked h word l o (Some text) is e = rw (l.dashes, l.long, by_long options (name_and_value l.body).0 o is, e) refl
+    alone_whole : (name_and_value l.body).1 ≡ None → is_wanted o.wants None ≡ true → IsWhole h word o None
+    unfolding walked
+    alone_whole e wanted = record {
+      turn = rw (l.dashes, l.long, by_long options (name_and_value l.body).0 o is, e, no_value o.wants wanted) (or_else-nil _);
+      to = rw (l.dashes, l.long, by_long options (name_and_value l.body).0 o is, e, no_value o.wants wanted) refl;
+    }
 
-  -- what the words behind one more use come to
-  abbrev behind_use : Given → NumberOption → Option Text → List Text → Option Given
-  behind_use given o text words = option_and_then (λ more. given_by options more words) (one_more options given (Some o.name) text)
+    -- a text for an option that wants none
+    text_fault : (text : Text) → (name_and_value l.body).1 ≡ Some text → is_wanted o.wants None ≡ true → Some_of (turn_fault shape [] (walk_at idle 1 false h) word)
+    text_fault text e wanted = rw (l.dashes, l.long, by_long options (name_and_value l.body).0 o is, e, no_value o.wants wanted) (TooManyValues, [], refl)
 
-  -- `--NAME=TEXT`
-  joined_comes : (given : Given) (rows : List Row) (p : Option (Text × List Text)) (word : Text) (words : List Text) (l : IsLongWord word) (o : NumberOption) (text : Text)
-      → option_named options (name_and_value l.body).0 ≡ Some o → (name_and_value l.body).1 ≡ Some text → Holds given (held rows p) → Walks words
-      → Comes (walk_at idle 1 false (held rows p)) (word ∷ words) (given_by options given (word ∷ words))
-  joined_comes given rows p word words l o text is e holds walks =
+    name_turn : (name_and_value l.body).1 ≡ None → is_wanted o.wants None ≡ false → turn_fault shape [] (walk_at idle 1 false h) word ≡ settle_fault rules false h
+    name_turn e wanted = rw (l.dashes, l.long, by_long options (name_and_value l.body).0 o is, e, one_value o.wants wanted) (or_else-nil _)
+
+    name_walked : (name_and_value l.body).1 ≡ None → is_wanted o.wants None ≡ false → walked rules [] (walk_at idle 1 false h) word
+        ≡ walk_at (option o.name) 1 false (record (settled rules h) { pending = named o.name [] })
+    unfolding walked
+    name_walked e wanted = rw (l.dashes, l.long, by_long options (name_and_value l.body).0 o is, e, one_value o.wants wanted) refl
+
+  -- behind a whole use
+  whole_comes : (given : Given) (rows : List Row) (p : Option (Text × List Text)) (word : Text) (words : List Text) (o : OptionForm) (said : Option Text)
+      → option_named options o.name ≡ Some o → IsWhole (held rows p) word o said → Holds given (held rows p) → Walks words
+      → Comes (walk_at idle 1 false (held rows p)) (word ∷ words) (behind_use options given o.name said words)
+  whole_comes given rows p word words o said at whole holds walks =
       let h : Held = held rows p in
       let w = walk_at idle 1 false h in
-      let has_name = found_name (λ (x : NumberOption). x.name) (name_and_value l.body).0 options o is in
-      let at : option_named options o.name ≡ Some o = ap (option_named options) has_name ∙ is in
-      let same : given_by options given (word ∷ words) ≡ behind_use given o (Some text) words =
-      joined_first options given word (name_and_value l.body) text words l.dashes l.long e
-      ∙ ap (λ (n : Text). option_and_then (λ more. given_by options more words) (one_more options given (Some n) (Some text))) (sym has_name) in
-      let turn : turn_fault shape [] w word ≡ or_else (settle_fault rules false h) (use_fault false (built_rule o) (text ∷ []) (settled rules h).rows) =
-      option_turn h word l o (Some text) is e in
-      let used_on : use_fault false (built_rule o) (text ∷ []) (settled rules h).rows ≡ use_fault false (built_rule o) (text ∷ []) (rows_given given) =
-      ap (λ (end : Held). use_fault false (built_rule o) (text ∷ []) end.rows) holds.settles in
-      subst (λ found. Comes w (word ∷ words) found) (sym same) (elim (use_of options given o text at) [
-        | good one number fresh quiet used_so ↦
-            let more : Given = given ++ (o.name, text) ∷ [] in
-            let no_fault : turn_fault shape [] w word ≡ [] = turn ∙ ap₂ or_else holds.quiet (used_on ∙ quiet) in
-            let next : walked rules [] w word ≡ walk_at idle 1 false (held (rows_given more) None) = option_walked h word l o (Some text) is e
-            ∙ ap (λ (end : Held). walk_at idle 1 false (held (used (built_rule o) (text ∷ []) end.rows) None)) holds.settles
-            ∙ ap (λ (end : List Row). walk_at idle 1 false (held end None)) used_so in
-            let holds_more : Holds more (held (rows_given more) None) = record { quiet = refl; settles = refl; numbers = more_numbers options given o text at number holds.numbers } in
+      let values : List Text = said_values said in
+      let used_on : use_fault false (built_rule o) values (settled rules h).rows ≡ use_fault false (built_rule o) values holds.rows =
+      ap (λ (end : Held). use_fault false (built_rule o) values end.rows) holds.settles in
+      elim (use_of options given holds.rows o said at holds.are) [
+        | good one quiet are ↦
+            let after : List Row = used (built_rule o) values holds.rows in
+            let no_fault : turn_fault shape [] w word ≡ [] = whole.turn ∙ ap₂ or_else holds.quiet (used_on ∙ quiet) in
+            let next : walked rules [] w word ≡ walk_at idle 1 false (held after None) =
+            whole.to ∙ ap (λ (end : Held). walk_at idle 1 false (held (used (built_rule o) values end.rows) None)) holds.settles in
+            let holds_more : Holds (more_given given o said) (held after None) = record { rows = after; quiet = refl; settles = refl; are = are } in
             subst (λ one. Comes w (word ∷ words) (option_and_then (λ more. given_by options more words) one)) (sym one)
-            (step Has shape w (walk_at idle 1 false (held (rows_given more) None)) word words _ no_fault next (walks.between more (rows_given more) None holds_more))
+            (step Has shape w (walk_at idle 1 false (held after None)) word words _ no_fault next (walks.between (more_given given o said) after None holds_more))
         | bad one fault ↦
-            let found : Some_of (turn_fault shape [] w word) = (fault.0, fault.1, turn ∙ ap₂ or_else holds.quiet (used_on ∙ fault.2)) in
+            let found : Some_of (turn_fault shape [] w word) = (fault.0, fault.1, whole.turn ∙ ap₂ or_else holds.quiet (used_on ∙ fault.2)) in
             subst (λ one. Comes w (word ∷ words) (option_and_then (λ more. given_by options more words) one)) (sym one) (stop Has shape w word words found)
-      ])
+      ]
 
-  -- `--NAME`
-  name_comes : (given : Given) (rows : List Row) (p : Option (Text × List Text)) (word : Text) (words : List Text) (l : IsLongWord word) (o : NumberOption)
-      → option_named options (name_and_value l.body).0 ≡ Some o → (name_and_value l.body).1 ≡ None → Holds given (held rows p) → Walks words
-      → Comes (walk_at idle 1 false (held rows p)) (word ∷ words) (given_by options given (word ∷ words))
-  name_comes given rows p word words l o is e holds walks =
-      let h : Held = held rows p in
-      let w = walk_at idle 1 false h in
-      let has_name = found_name (λ (x : NumberOption). x.name) (name_and_value l.body).0 options o is in
-      let at : option_named options o.name ≡ Some o = ap (option_named options) has_name ∙ is in
-      let same : given_by options given (word ∷ words) ≡ behind_name options given o.name words =
-      name_first options given word (name_and_value l.body) words l.dashes l.long e ∙ ap (λ (n : Text). behind_name options given n words) (sym has_name) in
-      let next : walked rules [] w word ≡ walk_at (option o.name) 1 false (held (rows_given given) (named o.name [])) = option_walked h word l o None is e
-      ∙ ap (λ (end : Held). walk_at (option o.name) 1 false (record end { pending = named o.name [] })) holds.settles in
-      subst (λ found. Comes w (word ∷ words) found) (sym same)
-      (step Has shape w (walk_at (option o.name) 1 false (held (rows_given given) (named o.name []))) word words _
-      (option_turn h word l o None is e ∙ holds.quiet) next (walks.behind given o at holds.numbers))
+  module _ (given : Given) (rows : List Row) (p : Option (Text × List Text)) (word : Text) (words : List Text) (l : IsLongWord word) (o : OptionForm)
+      (is : option_named options (name_and_value l.body).0 ≡ Some o) (holds : Holds given (held rows p)) (walks : Walks words) where
+    abbrev here : Walk
+    here = walk_at idle 1 false (held rows p)
+
+    has_name : o.name ≡ (name_and_value l.body).0
+    has_name = found_name (λ (x : OptionForm). x.name) (name_and_value l.body).0 options o is
+
+    at : option_named options o.name ≡ Some o
+    at = ap (option_named options) has_name ∙ is
+
+    -- a use that is whole
+    said_comes : (said : Option Text) → given_by options given (word ∷ words) ≡ behind_use options given (name_and_value l.body).0 said words
+        → IsWhole (held rows p) word o said → Comes here (word ∷ words) (given_by options given (word ∷ words))
+    said_comes said same whole =
+        let so : given_by options given (word ∷ words) ≡ behind_use options given o.name said words =
+        same ∙ ap (λ (n : Text). behind_use options given n said words) (sym has_name) in
+        subst (λ found. Comes here (word ∷ words) found) (sym so) (whole_comes given rows p word words o said at whole holds walks)
+
+    -- `--NAME`, which waits for a text
+    name_comes : (name_and_value l.body).1 ≡ None → is_wanted o.wants None ≡ false → Comes here (word ∷ words) (given_by options given (word ∷ words))
+    name_comes e wanted =
+        let h : Held = held rows p in
+        let same : given_by options given (word ∷ words) ≡ behind_name options given o.name words =
+        name_first options given word (name_and_value l.body) o words l.dashes l.long e is wanted
+        ∙ ap (λ (n : Text). behind_name options given n words) (sym has_name) in
+        let next : walked rules [] here word ≡ walk_at (option o.name) 1 false (held holds.rows (named o.name [])) = name_walked h word l o is e wanted
+        ∙ ap (λ (end : Held). walk_at (option o.name) 1 false (record end { pending = named o.name [] })) holds.settles in
+        subst (λ found. Comes here (word ∷ words) found) (sym same)
+        (step Has shape here (walk_at (option o.name) 1 false (held holds.rows (named o.name []))) word words _
+        (name_turn h word l o is e wanted ∙ holds.quiet) next (walks.behind given o holds.rows at wanted holds.are))
+
+    -- `--NAME=TEXT`, where no text is wanted
+    refused_comes : (text : Text) → (name_and_value l.body).1 ≡ Some text → is_wanted o.wants None ≡ true → Comes here (word ∷ words) (given_by options given (word ∷ words))
+    refused_comes text e wanted =
+        let none : given_by options given (word ∷ words) ≡ None =
+        joined_first options given word (name_and_value l.body) text words l.dashes l.long e ∙ rw (is, not_wanted o.wants text wanted) refl in
+        subst (λ found. Comes here (word ∷ words) found) (sym none) (stop Has shape here word words (text_fault (held rows p) word l o is text e wanted))
+
+    option_comes : (text : Option Text) (alone : Bool) → (name_and_value l.body).1 ≡ text → is_wanted o.wants None ≡ alone
+        → Comes here (word ∷ words) (given_by options given (word ∷ words))
+    option_comes None false e wanted = name_comes e wanted
+    option_comes None true e wanted =
+        said_comes None (alone_first options given word (name_and_value l.body) o words l.dashes l.long e is wanted) (alone_whole (held rows p) word l o is e wanted)
+    option_comes (Some text) false e wanted =
+        said_comes (Some text) (joined_first options given word (name_and_value l.body) text words l.dashes l.long e) (joined_whole (held rows p) word l o is text e wanted)
+    option_comes (Some text) true e wanted = refused_comes text e wanted
 
   -- a word of two hyphens and a name
   long_comes : (given : Given) (rows : List Row) (p : Option (Text × List Text)) (word : Text) (words : List Text) (l : IsLongWord word)
-      (found : Option NumberOption) (text : Option Text) → option_named options (name_and_value l.body).0 ≡ found → (name_and_value l.body).1 ≡ text
+      (found : Option OptionForm) → option_named options (name_and_value l.body).0 ≡ found
       → Holds given (held rows p) → Walks words → Comes (walk_at idle 1 false (held rows p)) (word ∷ words) (given_by options given (word ∷ words))
-  long_comes given rows p word words l None text is e holds walks =
+  long_comes given rows p word words l None is holds walks =
       let name : Text = (name_and_value l.body).0 in
       let none : given_by options given (word ∷ words) ≡ None = unknown_first options given word (name_and_value l.body) words l.dashes l.long is in
       subst (λ found. Comes (walk_at idle 1 false (held rows p)) (word ∷ words) found) (sym none)
       (stop Has shape (walk_at idle 1 false (held rows p)) word words (long_turn shape [] idle 1 (held rows p) word refl l
       (long_is_fault shape (arg_by_long rules name) (name_and_value l.body).1 (held rows p) (no_long options name is))))
-  long_comes given rows p word words l (Some o) None is e holds walks = name_comes given rows p word words l o is e holds walks
-  long_comes given rows p word words l (Some o) (Some text) is e holds walks = joined_comes given rows p word words l o text is e holds walks
+  long_comes given rows p word words l (Some o) is holds walks =
+      option_comes given rows p word words l o is holds walks (name_and_value l.body).1 (is_wanted o.wants None) refl refl
 
   between_comes : (word : Text) (words : List Text) → Walks words → (given : Given) (rows : List Row) (p : Option (Text × List Text))
       → Holds given (held rows p) → Comes (walk_at idle 1 false (held rows p)) (word ∷ words) (given_by options given (word ∷ words))
@@ -227,91 +280,98 @@ module _ (name : Text) (options : List NumberOption) (sound : list_all is_sound 
       elim (kind_of_word word) [
         | is_dashes e ↦ subst with (sym e)
             (step Has shape w (walk_at idle 1 true h) (codes "--") words _ (dashes_quiet idle h) (dashes_walked idle h) (good_escaped given h words holds))
-        | is_long o l ↦ long_comes given rows p word words l (option_named options (name_and_value l.body).0) (name_and_value l.body).1 refl refl holds walks
+        | is_long o l ↦ long_comes given rows p word words l (option_named options (name_and_value l.body).0) refl holds walks
         | is_short o s ↦ nothing s.long (flags_turn idle rows p word s) s.dashes
         | is_plain o h ↦ nothing h.long (plain_fault rows p word h) h.dashes
       ]
 
   -- ---- the word behind a name
 
-  abbrev waits : Given → NumberOption → Held
-  waits given o = held (rows_given given) (named o.name [])
+  abbrev waits : List Row → OptionForm → Held
+  waits rows o = held rows (named o.name [])
 
-  bad_waits : (given : Given) (o : NumberOption) → option_named options o.name ≡ Some o → IsBad (waits given o)
-  bad_waits given o at = rw (by_id options o.name o at) (InvalidValue, [], refl)
+  module _ (given : Given) (o : OptionForm) (rows : List Row) (at : option_named options o.name ≡ Some o) (wanted : is_wanted o.wants None ≡ false) where
+    one : count_by o.wants ≡ 1
+    one = one_value o.wants wanted
 
-  waiting_turn : (given : Given) (o : NumberOption) (word : Text) → option_named options o.name ≡ Some o → IsPlainWord word
-      → turn_fault shape [] (walk_at (option o.name) 1 false (waits given o)) word ≡ []
-  waiting_turn given o word at h = elim h.short [
-    | inl none ↦ rw (h.dashes, h.long, none) refl
-    | inr short ↦
-        let first : None ≡ slice_get (chars short.0) 0 = rw short.2 refl in
-        rw (h.dashes, h.long, short.1, ← fault_ends rules false (length short.0) short.0 0 (waits given o) first, ← bundle_ends rules (length short.0) short.0 0 plain (waits given o) first) refl
-  ]
+    bad_waits : IsBad (waits rows o)
+    bad_waits = rw (by_id options o.name o at, one) (InvalidValue, [], refl)
 
-  waiting_walked : (given : Given) (o : NumberOption) (word : Text) → option_named options o.name ≡ Some o → IsPlainWord word
-      → walked rules [] (walk_at (option o.name) 1 false (waits given o)) word ≡ walk_at idle 1 false (held (rows_given given) (named o.name (word ∷ [])))
-  unfolding walked
-  waiting_walked given o word at h = elim h.short [
-    | inl none ↦ rw (h.dashes, h.long, none, by_id options o.name o at, same_name o.name) refl
-    | inr short ↦
-        let first : None ≡ slice_get (chars short.0) 0 = rw short.2 refl in
-        rw (h.dashes, h.long, short.1, ← bundle_ends rules (length short.0) short.0 0 plain (waits given o) first, by_id options o.name o at, same_name o.name) refl
-  ]
+    waiting_turn : (word : Text) → IsPlainWord word → turn_fault shape [] (walk_at (option o.name) 1 false (waits rows o)) word ≡ []
+    waiting_turn word h = elim h.short [
+      | inl none ↦ rw (h.dashes, h.long, none) refl
+      | inr short ↦
+          let first : None ≡ slice_get (chars short.0) 0 = rw short.2 refl in
+          rw (h.dashes, h.long, short.1, ← fault_ends rules false (length short.0) short.0 0 (waits rows o) first, ← bundle_ends rules (length short.0) short.0 0 plain (waits rows o) first) refl
+    ]
 
-  -- a word that may be the option's text
-  text_comes : (given : Given) (o : NumberOption) (text : Text) (words : List Text) → option_named options o.name ≡ Some o → AreNumbers options given → Walks words
-      → Comes (walk_at idle 1 false (held (rows_given given) (named o.name (text ∷ [])))) words (behind_use given o (Some text) words)
-  text_comes given o text words at numbers walks =
-      let h : Held = held (rows_given given) (named o.name (text ∷ [])) in
-      let w = walk_at idle 1 false h in
-      let settles_by : settle_fault rules false h ≡ use_fault false (built_rule o) (text ∷ []) (rows_given given) = rw (by_id options o.name o at) refl in
-      let settles_to : settled rules h ≡ held (used (built_rule o) (text ∷ []) (rows_given given)) None = rw (by_id options o.name o at) refl in
-      elim (use_of options given o text at) [
-        | good one number fresh quiet used_so ↦
-            let more : Given = given ++ (o.name, text) ∷ [] in
-            let holds : Holds more h = record {
-              quiet = settles_by ∙ quiet;
-              settles = settles_to ∙ ap (λ (end : List Row). held end None) used_so;
-              numbers = more_numbers options given o text at number numbers;
-            } in
-            subst (λ one. Comes w words (option_and_then (λ more. given_by options more words) one)) (sym one) (walks.between more (rows_given given) (named o.name (text ∷ [])) holds)
-        | bad one fault ↦
-            subst (λ one. Comes w words (option_and_then (λ more. given_by options more words) one)) (sym one)
-            (bad_idle (rows_given given) (named o.name (text ∷ [])) words (fault.0, fault.1, settles_by ∙ fault.2))
-      ]
+    waiting_walked : (word : Text) → IsPlainWord word → walked rules [] (walk_at (option o.name) 1 false (waits rows o)) word
+        ≡ walk_at idle 1 false (held rows (named o.name (word ∷ [])))
+    unfolding walked
+    waiting_walked word h = elim h.short [
+      | inl none ↦ rw (h.dashes, h.long, none, by_id options o.name o at, same_name o.name, one) refl
+      | inr short ↦
+          let first : None ≡ slice_get (chars short.0) 0 = rw short.2 refl in
+          rw (h.dashes, h.long, short.1, ← bundle_ends rules (length short.0) short.0 0 plain (waits rows o) first, by_id options o.name o at, same_name o.name, one) refl
+    ]
 
-  dashes_option : is_option (codes "--") ≡ true
-  unfolding chars
-  dashes_option = refl
+    -- a word that may be the option's text
+    text_comes : (text : Text) (words : List Text) → Are options rows given → Walks words
+        → Comes (walk_at idle 1 false (held rows (named o.name (text ∷ [])))) words (behind_use options given o.name (Some text) words)
+    text_comes text words are walks =
+        let h : Held = held rows (named o.name (text ∷ [])) in
+        let w = walk_at idle 1 false h in
+        let settles_by : settle_fault rules false h ≡ use_fault false (built_rule o) (text ∷ []) rows = rw (by_id options o.name o at) refl in
+        let settles_to : settled rules h ≡ held (used (built_rule o) (text ∷ []) rows) None = rw (by_id options o.name o at) refl in
+        elim (use_of options given rows o (Some text) at are) [
+          | good one quiet are_more ↦
+              let more : Given = more_given given o (Some text) in
+              let holds : Holds more h = record {
+                rows = used (built_rule o) (text ∷ []) rows;
+                quiet = settles_by ∙ quiet;
+                settles = settles_to;
+                are = are_more;
+              } in
+              subst (λ one. Comes w words (option_and_then (λ more. given_by options more words) one)) (sym one) (walks.between more rows (named o.name (text ∷ [])) holds)
+          | bad one fault ↦
+              subst (λ one. Comes w words (option_and_then (λ more. given_by options more words) one)) (sym one)
+              (bad_idle rows (named o.name (text ∷ [])) words (fault.0, fault.1, settles_by ∙ fault.2))
+        ]
 
-  behind_comes : (word : Text) (words : List Text) → Walks words → (given : Given) (o : NumberOption) → option_named options o.name ≡ Some o
-      → AreNumbers options given → Comes (walk_at (option o.name) 1 false (waits given o)) (word ∷ words) (behind_name options given o.name (word ∷ words))
-  behind_comes word words walks given o at numbers =
-      let h : Held = waits given o in
-      let w = walk_at (option o.name) 1 false h in
-      let with : Text → Type 0 = λ word. Comes w (word ∷ words) (behind_name options given o.name (word ∷ words)) in
-      let none : (word : Text) → is_option word ≡ true → behind_name options given o.name (word ∷ words) ≡ None = λ word is. rw is refl in
-      let unread : (word : Text) → is_option word ≡ true → Comes w (word ∷ words) None → with word =
-      λ word is comes. subst (λ found. Comes w (word ∷ words) found) (sym (none word is)) comes in
-      elim (kind_of_word word) [
-        | is_dashes e ↦ subst with (sym e) (unread (codes "--") dashes_option (bad_dashes (option o.name) h words (bad_waits given o at)))
-        | is_long is l ↦ unread word is (stop Has shape w word words (bad_long (option o.name) h word l (bad_waits given o at)))
-        | is_short is s ↦ unread word is (stop Has shape w word words (flags_turn (option o.name) (rows_given given) (named o.name []) word s))
-        | is_plain is plain_word ↦
-            let next = walk_at idle 1 false (held (rows_given given) (named o.name (word ∷ []))) in
-            let same : behind_name options given o.name (word ∷ words) ≡ behind_use given o (Some word) words = rw is refl in
-            subst (λ found. Comes w (word ∷ words) found) (sym same)
-            (step Has shape w next word words _ (waiting_turn given o word at plain_word) (waiting_walked given o word at plain_word) (text_comes given o word words at numbers walks))
-      ]
+    dashes_option : is_option (codes "--") ≡ true
+    unfolding chars
+    dashes_option = refl
+
+    behind_comes : (word : Text) (words : List Text) → Walks words → Are options rows given
+        → Comes (walk_at (option o.name) 1 false (waits rows o)) (word ∷ words) (behind_name options given o.name (word ∷ words))
+    behind_comes word words walks are =
+        let h : Held = waits rows o in
+        let w = walk_at (option o.name) 1 false h in
+        let with : Text → Type 0 = λ word. Comes w (word ∷ words) (behind_name options given o.name (word ∷ words)) in
+        let none : (word : Text) → is_option word ≡ true → behind_name options given o.name (word ∷ words) ≡ None = λ word is. rw (is, at, wanted) refl in
+        let unread : (word : Text) → is_option word ≡ true → Comes w (word ∷ words) None → with word =
+        λ word is comes. subst (λ found. Comes w (word ∷ words) found) (sym (none word is)) comes in
+        elim (kind_of_word word) [
+          | is_dashes e ↦ subst with (sym e) (unread (codes "--") dashes_option (bad_dashes (option o.name) h words bad_waits))
+          | is_long is l ↦ unread word is (stop Has shape w word words (bad_long (option o.name) h word l bad_waits))
+          | is_short is s ↦ unread word is (stop Has shape w word words (flags_turn (option o.name) rows (named o.name []) word s))
+          | is_plain is plain_word ↦
+              let next = walk_at idle 1 false (held rows (named o.name (word ∷ []))) in
+              let same : behind_name options given o.name (word ∷ words) ≡ behind_use options given o.name (Some word) words = rw is refl in
+              subst (λ found. Comes w (word ∷ words) found) (sym same)
+              (step Has shape w next word words _ (waiting_turn word plain_word) (waiting_walked word plain_word) (text_comes word words are walks))
+        ]
 
   walks_of : (words : List Text) → Walks words
   walks_of [] = record {
     between = λ given rows p holds. good_end given (held rows p) false holds;
-    behind = λ given o at numbers. bad_end (option o.name) false (waits given o) (bad_waits given o at);
+    behind = λ given o rows at wanted are. bad_end (option o.name) false (waits rows o) (bad_waits given o rows at wanted);
   }
-  walks_of (word ∷ words) = record { between = between_comes word words (walks_of words); behind = behind_comes word words (walks_of words) }
+  walks_of (word ∷ words) = record {
+    between = between_comes word words (walks_of words);
+    behind = λ given o rows at wanted are. behind_comes given o rows at wanted word words (walks_of words) are;
+  }
 
   -- clap reads the words behind the command's name as `given_by` says
-  pub numbers_walk : (words : List Text) → Comes (walk_at idle 1 false nothing_held) words (given_by options [] words)
-  numbers_walk words = (walks_of words).between [] [] None (record { quiet = refl; settles = refl; numbers = default_numbers options sound })
+  pub options_walk : (words : List Text) → Comes (walk_at idle 1 false nothing_held) words (given_by options [] words)
+  options_walk words = (walks_of words).between [] [] None (record { rows = []; quiet = refl; settles = refl; are = none_are options sound })

@@ -1,9 +1,12 @@
 //! The command line of `aa-trace`: the words that it is called with, and what they ask for.
 //!
-//! To be believed are about 125 lines of definitions in `specs/`; those in `specs/inner/` are of private contracts and
+//! To be believed are about 235 lines of definitions in `specs/`; those in `specs/inner/` are of private contracts and
 //! proofs.
 #![tactic(auto)]
 
+mod import;
 mod line;
+mod parser;
 
+pub use import::{Define, ImportOptions, OwnerRules};
 pub use line::{Line, LineFault, command_line};

@@ -152,16 +152,13 @@ fn bad_arguments_of_explain(rt: HostRuntime) {
 
 #[test]
 fn explain_lines_that_are_followed(rt: HostRuntime) -> Result<(), Fail> {
-    let explain = Line::Explain {
-        perms: "rw",
-        name: "/x",
-    };
+    let explain = |perms, name| Line::Explain { perms, name };
     expect_lines(
         &rt,
         rt.alloc(),
         &[
-            ("aa-trace|explain|rw|/x", explain),
-            ("aa-trace|explain|--|rw|/x", explain),
+            ("aa-trace|explain|rw|/x", explain("rw", "/x")),
+            ("aa-trace|explain|--|rw|/x", explain("rw", "/x")),
         ],
     )
 }

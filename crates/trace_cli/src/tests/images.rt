@@ -286,10 +286,7 @@ fn images_that_cannot_be_written(rt: HostRuntime) {
 
 #[test]
 fn lines_of_the_three_commands(rt: HostRuntime) -> Result<(), Fail> {
-    let matched = Line::Match {
-        perms: "rw",
-        name: "/x",
-    };
+    let matched = |perms, name| Line::Match { perms, name };
     expect_lines(
         &rt,
         rt.alloc(),
@@ -298,8 +295,8 @@ fn lines_of_the_three_commands(rt: HostRuntime) -> Result<(), Fail> {
             ("aa-trace|compile|--", Line::Compile),
             ("aa-trace|check", Line::Check),
             ("aa-trace|check|--", Line::Check),
-            ("aa-trace|match|rw|/x", matched),
-            ("aa-trace|match|--|rw|/x", matched),
+            ("aa-trace|match|rw|/x", matched("rw", "/x")),
+            ("aa-trace|match|--|rw|/x", matched("rw", "/x")),
         ],
     )?;
     expect_usages(

@@ -1,0 +1,46 @@
+-- The head of a canonical text, and what it is read as.
+use Rattle.std.proofs.Common.{◌≡◌, ℕ, Bool, true, false, List, [], ◌∷◌, ◌++◌, Ok, refl, ◌==◌}
+use Rattle.std.specs.Prelude.{codes, ◌&&◌}
+use Rattle.rule_reader.specs.Readable.{is_name}
+use Rattle.rule_writer.proofs.CanonTexts.{name_parts}
+use Rattle.flat_text.specs.declared.part.PartKind.TheVariants as parts
+use Rattle.flat_text.specs.Parts.{PartValue}
+use Rattle.flat_text.specs.WordParts.{name_part}
+use Rattle.flat_text.specs.Headers.{profile_head, named_head, head_rest}
+use Rattle.flat_canonical.specs.CanonicalItems.{part_of, in_quotes, head_item, ends_with_backslash}
+use Rattle.flat_canonical.proofs.QuotedWords.{hidden_head, name_is_hidden}
+use Rattle.flat_canonical.proofs.PartsRead.{reading, takes_none, takes_to, reads_quoted}
+
+reads_name : (read : List PartValue) (name rest : List ℕ) → is_name name ≡ true → ends_with_backslash name ≡ false
+    → name_part parts.Name (reading read (34 ∷ (name ++ 34 ∷ rest))) ≡ Ok (reading (read ++ (part_of parts.Name (in_quotes name) ∷ [])) rest)
+reads_name read [] rest h e = absurd cc
+reads_name read (b ∷ name) rest h e =
+    let p = name_parts b name h in
+    let hidden = name_is_hidden (b ∷ name) p.2 in
+    let no = (hidden_head false b name hidden).quote in
+    let quote : (b == 34) ≡ false = not_quoted (b == 34) no in
+    rw (p.0, quote) (reads_quoted parts.Name read (b ∷ name) rest hidden e)
+  where
+    not_quoted : (t : Bool) → (t && true) ≡ false → t ≡ false
+    not_quoted true e = e
+    not_quoted false e = refl
+
+reads_brace : (read : List PartValue) (rest : List ℕ) → head_rest (reading read (123 ∷ rest)) ≡ Ok (reading (read ++ (part_of parts.Open (codes "{") ∷ [])) rest)
+unfolding head_rest
+reads_brace read rest = let none = takes_none parts.Blank read (123 ∷ rest) in rw (none, none) refl
+
+-- the head behind its name
+reads_named : (read : List PartValue) (name rest : List ℕ) → is_name name ≡ true → ends_with_backslash name ≡ false
+    → named_head (reading read (34 ∷ (name ++ 34 ∷ 32 ∷ 123 ∷ rest)))
+    ≡ Ok (reading (((read ++ (part_of parts.Name (in_quotes name) ∷ [])) ++ (part_of parts.Blank (codes " ") ∷ [])) ++ (part_of parts.Open (codes "{") ∷ [])) rest)
+unfolding named_head
+reads_named read name rest h e =
+    let named = read ++ (part_of parts.Name (in_quotes name) ∷ []) in
+    let behind = named ++ (part_of parts.Blank (codes " ") ∷ []) in
+    rw (reads_name read name (32 ∷ 123 ∷ rest) h e, takes_to parts.Blank named 32 [] (123 ∷ rest), takes_none parts.Blank behind (123 ∷ rest)) (reads_brace behind rest)
+
+pub reads_head : (name rest : List ℕ) → is_name name ≡ true → ends_with_backslash name ≡ false
+    → profile_head (reading [] (codes "profile \"" ++ (name ++ 34 ∷ 32 ∷ 123 ∷ rest))) ≡ Ok (reading (head_item name).parts rest)
+reads_head name rest h e =
+    let there = part_of parts.Profile (codes "profile") ∷ [] in
+    rw (takes_to parts.Blank there 32 [] (34 ∷ (name ++ 34 ∷ 32 ∷ 123 ∷ rest))) (reads_named (there ++ (part_of parts.Blank (codes " ") ∷ [])) name rest h e)

@@ -1,0 +1,85 @@
+-- The items of the canonical text of a profile, read as a flattened text (apparmor.d(5), "Format"), and which profiles have
+-- these: flattened texts end a word in quotes at the first quote that no backslash stands directly before.
+use Rattle.std.specs.Prelude.{◌≡◌, ℕ, List, [], ◌∷◌, ◌++◌, codes, None, Bool, false, ◌==◌}
+use Rattle.std.specs.List.{flat_map}
+use Rattle.names.specs.declared.permissions.Perms.{Perms}
+use Rattle.names.specs.Permissions.{letters}
+use Rattle.rule_globs.specs.Each.{Each}
+use Rattle.rule_globs.specs.Tokens.{Token}
+use Rattle.verdicts.specs.declared.kind.RuleKind.{RuleKind}
+use Rattle.verdicts.specs.declared.kind.RuleKind.TheVariants.{Allow, Deny}
+use Rattle.rule_reader.specs.Profile.{RuleValue, ProfileValue}
+use Rattle.rule_writer.specs.Canonical.{token_text}
+use Rattle.flat_words.specs.declared.letters.Letters.{Letters}
+use Rattle.flat_text.specs.declared.part.PartKind.{PartKind}
+use Rattle.flat_text.specs.declared.part.PartKind.TheVariants as parts
+use Rattle.flat_text.specs.declared.part.ItemKind.TheVariants as items
+use Rattle.flat_text.specs.Parts.{PartValue, ItemValue}
+
+-- the bytes of a path, as they stand within quotes
+abbrev pub path_text : List Token → List ℕ
+path_text tokens = flat_map token_text tokens
+
+-- ---- the items
+
+abbrev pub part_of : PartKind → List ℕ → PartValue
+part_of kind bytes = record { kind = kind; bytes = bytes }
+
+abbrev pub in_quotes : List ℕ → List ℕ
+in_quotes bytes = codes "\"" ++ (bytes ++ codes "\"")
+
+abbrev pub blank_item : List ℕ → ItemValue
+blank_item bytes = record { kind = items.Blank; parts = part_of parts.Blank bytes ∷ [] }
+
+-- profile "NAME" {
+abbrev pub head_item : List ℕ → ItemValue
+head_item name = record {
+  kind = items.Profile;
+  parts = part_of parts.Profile (codes "profile") ∷ part_of parts.Blank (codes " ") ∷ part_of parts.Name (in_quotes name)
+      ∷ part_of parts.Blank (codes " ") ∷ part_of parts.Open (codes "{") ∷ [];
+}
+
+-- what stands before the path
+abbrev pub qualifier_parts : RuleKind → List PartValue
+qualifier_parts Allow = []
+qualifier_parts Deny = part_of parts.Deny (codes "deny") ∷ part_of parts.Blank (codes " ") ∷ []
+
+-- "PATH" PERMISSIONS, with deny before it or not
+abbrev pub rule_item : RuleValue → ItemValue
+rule_item r = record {
+  kind = items.Rule;
+  parts = qualifier_parts r.kind ++ (part_of parts.Path (in_quotes (path_text r.items)) ∷ part_of parts.Blank (codes " ")
+      ∷ part_of parts.Permissions (letters r.perms) ∷ part_of parts.Comma (codes ",") ∷ []);
+}
+
+abbrev pub close_item : ItemValue
+close_item = record { kind = items.Close; parts = part_of parts.Close (codes "}") ∷ [] }
+
+-- What is behind the opening brace: each rule stands on a line of its own behind two spaces, and the closing brace on the last.
+abbrev pub inner_items : List RuleValue → List ItemValue
+inner_items [] = blank_item (codes "\n") ∷ close_item ∷ blank_item (codes "\n") ∷ []
+inner_items (r ∷ rules) = blank_item (codes "\n  ") ∷ rule_item r ∷ inner_items rules
+
+abbrev pub canonical_items : ProfileValue → List ItemValue
+canonical_items p = head_item p.name ∷ inner_items p.rules
+
+-- ---- words in quotes
+
+-- These bytes stand directly behind a backslash (92) or not: what stands behind them is directly behind one.
+abbrev pub behind_backslash : Bool → List ℕ → Bool
+behind_backslash before [] = before
+behind_backslash before (b ∷ bytes) = behind_backslash (b == 92) bytes
+
+abbrev pub ends_with_backslash : List ℕ → Bool
+ends_with_backslash bytes = behind_backslash false bytes
+
+-- Neither the name nor the text of a path ends with a backslash. (A backslash stands directly before each quote within.)
+pub record CanBeQuoted (p : ProfileValue) : Type 0 where
+  pub name : ends_with_backslash p.name ≡ false
+  pub paths : Each (λ (r : RuleValue). ends_with_backslash (path_text r.items) ≡ false) p.rules
+
+-- ---- letters
+
+-- what letters stand for that give these permissions and no more: no append, no exec mode, nothing in upper case
+abbrev pub plain_letters : Perms → Letters
+plain_letters perms = record { perms = perms; append = false; exec = None; two_modes = false; capitals = false }

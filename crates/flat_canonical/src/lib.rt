@@ -1,0 +1,8 @@
+//! The canonical text of a profile, read as a flattened AppArmor profile text: which items it has. A library of laws, with no code.
+//!
+//! To be believed are about 70 lines of definitions in `specs/`.
+#![tactic(auto)]
+
+mod laws;
+
+pub use laws::{canonical_letters_are_read, canonical_texts_have_their_items};

@@ -1,0 +1,9 @@
+-- Spans of a text that an account doesn't tell.
+use Rattle.import_cut.specs.declared.span.SpanKind.{SpanKind}
+use Rattle.import_cut.specs.declared.span.SpanKind.TheVariants.{Kept, Blank, Told}
+
+-- it isn't told
+abbrev pub IsUntold : SpanKind → Type 0
+IsUntold Kept = Unit {0}
+IsUntold Blank = Unit {0}
+IsUntold (Told told) = ⊥

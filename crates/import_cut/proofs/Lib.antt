@@ -1,0 +1,5 @@
+mod SpanLists
+mod CutSteps
+mod WholeCuts
+mod ToldRules
+mod ExactCuts

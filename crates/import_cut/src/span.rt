@@ -1,0 +1,65 @@
+//! Spans of a text.
+ghost use Rattle.std.specs.Prelude.{◌≡◌};
+
+use import_account::What;
+use std::marker::Model;
+use subject_rules::Effect;
+
+/// What an account tells of a span: the constructs that it is, in the order of their parts, and what it changes that they
+/// aren't there as they were.
+#[derive(Debug, Drop)]
+pub struct Told {
+    whats: Vec<What>,
+    effect: Effect,
+}
+
+impl Model for Told {
+    ghost use Rattle.import_cut.specs.ToldValues.{ToldValue};
+
+    ghost Value = { ToldValue };
+
+    ghost view = { λ t. record { whats = t.whats.items; effect = t.effect } };
+}
+
+impl Told {
+    pub(crate) fn new(whats: Vec<What>, effect: Effect) -> Told
+        ensures { result ≡ record { whats = whats.items; effect = effect } }
+    {
+        Told { whats, effect }
+    }
+
+    /// The constructs that the span is.
+    pub fn whats(&self) -> &[What]
+        ensures { result.now ≡ self.now.whats }
+    {
+        &self.whats
+    }
+
+    /// What it changes that they aren't there as they were.
+    pub fn effect(&self) -> Effect
+        ensures { result ≡ self.now.effect }
+    {
+        self.effect
+    }
+}
+
+/// What becomes of a span.
+#[derive(Debug, Drop)]
+pub enum SpanKind {
+    /// What it means stays.
+    Kept,
+    /// It is white and comments.
+    Blank,
+    /// An account tells it.
+    Told(Told),
+}
+
+/// Some bytes of a text.
+#[derive(Debug, Drop)]
+pub struct Span {
+    /// How many bytes are before the first.
+    pub start: usize,
+    /// How many bytes are before the one behind the last.
+    pub end: usize,
+    pub kind: SpanKind,
+}

@@ -1,0 +1,184 @@
+//! What becomes of a single part, and what is told of statements.
+ghost use Rattle.std.specs.Prelude.{◌≡◌, ◌++◌, ◌∷◌, [], IfOk};
+ghost use Rattle.import_cut.specs.PartSpans.{told, added_effect, what_of_statement, statement_part_whats, statement_whats, changes_profile, statement_effect, plain_kind, head_kind, rule_kind, part_kind};
+ghost use Rattle.flat_rules.specs.RuleParts.{no_effect};
+
+use crate::mode::mode_of_flags;
+use crate::reading::RuleReading;
+use crate::span::{SpanKind, Told};
+use flat_rules::part_effect;
+use flat_text::{Part, PartKind};
+use flat_words::letter_word;
+use import_account::What;
+use names::{NoMemory, Permission, Perms};
+use std::alloc::Global;
+use subject_rules::{AppliesTo, Change, Effect, RuleShape, Subject};
+use verdicts::RuleKind;
+
+/// What each part of an item is told by.
+#[derive(Clone, Copy)]
+pub(crate) enum PartTelling {
+    /// By nothing.
+    Plain,
+    /// As a part of the chosen profile's head.
+    OfHead,
+    /// As a part of a rule that stays.
+    OfRule(RuleReading),
+}
+
+/// What it changes that rules are restated which AppArmor adds to a profile with a hat or a rule `change_profile`: those by
+/// which owners may write some files in `/proc`.
+pub fn added_effect(chosen: Subject) -> Effect
+    ensures { result ≡ added_effect chosen }
+{
+    let added = RuleShape {
+        kind: RuleKind::Allow,
+        applies_to: AppliesTo::Owners,
+        perms: Perms::NONE.with(Permission::Write),
+        has_target: false,
+        is_read: true,
+    };
+    Effect::of(chosen, added)
+}
+
+/// Nothing changes.
+pub(crate) fn no_effect(chosen: Subject) -> Effect
+    ensures { result ≡ no_effect chosen }
+{
+    Effect {
+        chosen,
+        on_chosen: Change::Exact,
+        on_other: Change::Exact,
+    }
+}
+
+/// One word more.
+fn add(whats: &mut Vec<What>, what: What) -> Result<(), NoMemory>
+    ensures { IfOk result (λ _. whats.new.items ≡ whats.old.items ++ (what ∷ [])) }
+{
+    match whats.push(what) {
+        Ok(()) => Ok(()),
+        Err(_) => Err(NoMemory),
+    }
+}
+
+/// A span that is told by one word.
+pub(crate) fn told_by(alloc: Global, what: What, effect: Effect) -> Result<SpanKind, NoMemory>
+    ensures { IfOk result (λ kind. kind ≡ told (what ∷ []) effect) }
+{
+    let mut whats = Vec::new(alloc);
+    add(&mut whats, what)?;
+    Ok(SpanKind::Told(Told::new(whats, effect)))
+}
+
+/// What a statement of these bytes is told by.
+fn what_of_statement(bytes: &[u8]) -> What
+    ensures { result ≡ what_of_statement bytes.now }
+{
+    What::of_statement(letter_word(bytes)).unwrap_or(What::Boolean)
+}
+
+/// Adds what is told of a part of a statement.
+fn put_statement_part(part: &Part<'_>, whats: &mut Vec<What>) -> Result<(), NoMemory>
+    ensures { IfOk result (λ _. whats.new.items ≡ whats.old.items ++ statement_part_whats part.now.kind part.now.bytes) }
+{
+    match part.kind() {
+        PartKind::Audit => add(whats, What::Audit),
+        PartKind::Owner => add(whats, What::Owner),
+        PartKind::Other => add(whats, What::Other),
+        PartKind::Statement => add(whats, what_of_statement(part.bytes())),
+        _ => Ok(()),
+    }
+}
+
+/// What is told of a statement of these parts.
+pub(crate) fn statement_whats(alloc: Global, parts: &[Part<'_>]) -> Result<Vec<What>, NoMemory>
+    ensures { IfOk result (λ whats. whats.items ≡ statement_whats parts.now) }
+{
+    let mut whats = Vec::new(alloc);
+    for part in parts {
+        put_statement_part(part, &mut whats)?;
+    }
+    Ok(whats)
+}
+
+/// Whether a statement that is told so is a rule `change_profile`.
+pub(crate) fn changes_profile(whats: &[What]) -> bool
+    ensures { result ≡ changes_profile whats.now }
+{
+    whats
+        .iter()
+        .any(|what| matches!(*what, What::ChangeProfile))
+}
+
+/// What a statement that is told so changes: it is left out, but for the rules that it adds.
+pub(crate) fn statement_effect(chosen: Subject, whats: &[What]) -> Effect
+    ensures { result ≡ statement_effect chosen whats.now }
+{
+    if changes_profile(whats) {
+        added_effect(chosen)
+    } else {
+        no_effect(chosen)
+    }
+}
+
+/// What becomes of a part that isn't told.
+fn plain_kind(kind: PartKind) -> SpanKind
+    ensures { result ≡ plain_kind kind }
+{
+    match kind {
+        PartKind::Blank => SpanKind::Blank,
+        _ => SpanKind::Kept,
+    }
+}
+
+/// What becomes of a part of the chosen profile's head.
+fn head_kind(alloc: Global, chosen: Subject, part: &Part<'_>) -> Result<SpanKind, NoMemory>
+    ensures { IfOk result (λ kind. kind ≡ head_kind chosen part.now.kind part.now.bytes) }
+{
+    match part.kind() {
+        PartKind::Flags => {
+            let mode = mode_of_flags(part.bytes());
+            told_by(alloc, What::Flags, mode.effect(chosen))
+        }
+        PartKind::Xattrs => told_by(alloc, What::Xattrs, no_effect(chosen)),
+        PartKind::Hat => told_by(alloc, What::Implied, added_effect(chosen)),
+        other => Ok(plain_kind(other)),
+    }
+}
+
+/// What becomes of a part of a rule that stays.
+fn rule_kind(
+    alloc: Global,
+    chosen: Subject,
+    reading: RuleReading,
+    kind: PartKind,
+) -> Result<SpanKind, NoMemory>
+    ensures { IfOk result (λ span. span ≡ rule_kind chosen reading kind) }
+{
+    let mut whats = Vec::new(alloc);
+    reading.marks.put(kind, &mut whats)?;
+    if whats.is_empty() {
+        return Ok(plain_kind(kind));
+    }
+    let effect = part_effect(chosen, reading.shape, kind);
+    Ok(SpanKind::Told(Told::new(whats, effect)))
+}
+
+impl PartTelling {
+    /// What becomes of a part.
+    pub(crate) fn kind(
+        self,
+        alloc: Global,
+        chosen: Subject,
+        part: &Part<'_>,
+    ) -> Result<SpanKind, NoMemory>
+        ensures { IfOk result (λ kind. kind ≡ part_kind self chosen part.now) }
+    {
+        match self {
+            PartTelling::Plain => Ok(plain_kind(part.kind())),
+            PartTelling::OfHead => head_kind(alloc, chosen, part),
+            PartTelling::OfRule(reading) => rule_kind(alloc, chosen, reading, part.kind()),
+        }
+    }
+}

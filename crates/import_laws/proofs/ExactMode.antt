@@ -1,0 +1,240 @@
+-- Where all spans are told to be exact, so is the mode of the chosen profile.
+use Rattle.std.proofs.Common.{◌≡◌, ℕ, suc, ◌+◌, ◌-◌, ◌≤◌, ◌==◌, Bool, true, false, ◌&&◌, cond, List, [], ◌∷◌, length, refl, sym, ap, ap₂, ◌∙◌, subst, arith}
+use Rattle.std.proofs.lemmas.Bool.{eqb-true}
+use Rattle.rule_globs.specs.Each.{Each}
+use Rattle.flat_text.specs.declared.part.PartKind.{PartKind}
+use Rattle.flat_text.specs.declared.part.PartKind.TheVariants as kinds
+use Rattle.flat_text.specs.declared.part.ItemKind.{ItemKind}
+use Rattle.flat_text.specs.declared.part.ItemKind.TheVariants as items
+use Rattle.flat_text.specs.Laws.{IsPart, IsItem}
+use Rattle.flat_text.specs.Parts.{PartValue, ItemValue}
+use Rattle.import_account.specs.declared.what.What.{What}
+use Rattle.import_account.specs.declared.what.What.TheVariants as whats
+use Rattle.subject_rules.specs.declared.effect.Change.{Change}
+use Rattle.subject_rules.specs.declared.effect.Change.TheVariants.{Exact}
+use Rattle.subject_rules.specs.declared.mode.Mode.{Mode}
+use Rattle.subject_rules.specs.declared.mode.Mode.TheVariants.{Enforcing, Permissive, Unconfined}
+use Rattle.subject_rules.specs.declared.subject.Subject.{Subject}
+use Rattle.subject_rules.specs.Changes.{mode_change}
+use Rattle.import_cut.specs.declared.cut.Phase.{Phase}
+use Rattle.import_cut.specs.declared.cut.Phase.TheVariants.{Outer, Skipping, Chosen}
+use Rattle.import_cut.specs.declared.cut.Run.{Run}
+use Rattle.import_cut.specs.declared.reading.Choice.{Choice}
+use Rattle.import_cut.specs.declared.reading.RuleReading.{RuleReading}
+use Rattle.import_cut.specs.declared.span.SpanKind.{SpanKind}
+use Rattle.import_cut.specs.declared.span.SpanKind.TheVariants.{Kept}
+use Rattle.import_cut.specs.Modes.{more_permissive, part_mode, mode_with_parts, mode_of_head}
+use Rattle.import_cut.specs.PartSpans.{told, head_kind, statement_whats, statement_effect, changes_profile}
+use Rattle.import_cut.specs.CutStates.{CutState, at_start, pass, put, enter, opened, closed, with_change, passed, put_item}
+use Rattle.import_cut.specs.Cutting.{run_kind, behind_run, start_run, marked, chosen_head, outer_head, run_head, run_close, statement_item, chosen_rule, outer_item, run_item, plain_item, is_chosen, is_rule, cut_item, cut_items, cut_of, finished}
+use Rattle.import_cut.specs.ReadRules.{change_told}
+use Rattle.import_laws.specs.Imported.{mode_from, opens_profile}
+use Rattle.import_laws.proofs.SpansBefore.{Tells, before_end, before_parts, head_part, plain_part, put_cases, put_each, put_is_told}
+
+abbrev IsExact : Change → Type 0
+IsExact x = x ≡ Exact
+
+-- ---- flags
+
+part_exact : (chosen : Subject) (kind : PartKind) (bytes : List ℕ) → change_told (head_kind chosen kind bytes) ≡ Exact → mode_change (part_mode kind bytes) ≡ Exact
+part_exact chosen kinds.Flags bytes h = h
+part_exact chosen _ bytes h = refl
+
+both_exact : (mode other : Mode) → mode_change mode ≡ Exact → mode_change other ≡ Exact → mode_change (more_permissive mode other) ≡ Exact
+both_exact Enforcing other e f = f
+both_exact Permissive other e f = absurd cc
+both_exact Unconfined other e f = absurd cc
+
+put_fits : (kind : SpanKind) (s : CutState) → s.from ≤ s.at → (put kind s).from ≤ (put kind s).at
+put_fits kind s fits = put_cases (λ t. t.from ≤ t.at) kind s fits (omega arith)
+
+parts_exact : (parts : List PartValue) (s : CutState) (mode : Mode) → Each IsPart parts → s.from ≤ s.at → mode_change mode ≡ Exact
+    → Tells IsExact (put_each head_part parts s).spans → mode_change (mode_with_parts mode parts) ≡ Exact
+parts_exact [] s mode whole fits e h = e
+parts_exact (p ∷ parts) s mode whole fits e h =
+    let kind = head_part s.choice.subject p in
+    let now = pass (length p.bytes) s in
+    let some = whole.0.some in
+    let more : s.from ≤ s.at + length p.bytes = omega (arith, fits) in
+    let here = put_is_told IsExact kind now (λ same. omega (arith, some, fits, same)) (before_parts IsExact head_part parts (put kind now) h) in
+    parts_exact parts (put kind now) (more_permissive mode (part_mode p.kind p.bytes)) whole.1 (put_fits kind now more)
+    (both_exact mode (part_mode p.kind p.bytes) e (part_exact s.choice.subject p.kind p.bytes here)) h
+
+marked_fits : (kind : ItemKind) (s : CutState) → s.from ≤ s.at → (marked kind s).from ≤ (marked kind s).at
+marked_fits items.Hat s fits = fits
+marked_fits _ s fits = fits
+
+head_exact : (item : ItemValue) (s : CutState) → IsItem item → s.from ≤ s.at → Tells IsExact (chosen_head item s).spans → mode_change (mode_of_head item.parts) ≡ Exact
+unfolding chosen_head
+head_exact item s whole fits h =
+    parts_exact item.parts (opened (enter Chosen (marked item.kind s))) Enforcing whole.parts (marked_fits item.kind s fits) refl h
+
+-- ---- before the chosen profile
+
+-- no profile is open, or the outermost that is began a run
+abbrev IsBefore : Phase → ℕ → Type 0
+IsBefore Outer depth = depth ≡ 0
+IsBefore (Skipping run) depth = run.floor ≡ 0
+IsBefore Chosen depth = ⊥
+
+record Before (c : Choice) (heads : ℕ) (of : Choice) (count depth place from : ℕ) (phase : Phase) : Type 0 where
+  pub choice : of ≡ c
+  pub heads_are : count ≡ heads
+  pub fits : from ≤ place
+  pub before : IsBefore phase depth
+
+not_chosen : (phase : Phase) (depth : ℕ) (b : Bool) → IsBefore phase depth → (is_chosen phase && b) ≡ false
+not_chosen Outer depth b h = refl
+not_chosen (Skipping run) depth b h = refl
+not_chosen Chosen depth b h = absurd h
+
+behind_is_outer : (floor depth : ℕ) → floor ≡ 0 → depth ≡ 0 → IsBefore (behind_run floor) depth
+behind_is_outer floor depth e h = subst (λ (n : ℕ). IsBefore (behind_run n) depth) (sym e) h
+
+module _ (c : Choice) where
+  abbrev Is : ℕ → CutState → Type 0
+  Is heads s = Before c heads s.choice s.heads s.depth s.at s.from s.phase
+
+  passing : (heads n : ℕ) (s : CutState) → Is heads s → Is heads (pass n s)
+  passing heads n s f = let fits = f.fits in record { choice = f.choice; heads_are = f.heads_are; fits = omega arith; before = f.before }
+
+  putting : (heads : ℕ) (kind : SpanKind) (s : CutState) → Is heads s → Is heads (put kind s)
+  putting heads kind s f =
+      put_cases (λ t. Is heads t) kind s f (record { choice = f.choice; heads_are = f.heads_are; fits = omega arith; before = f.before })
+
+  putting_parts : (heads : ℕ) (each : Subject → PartValue → SpanKind) (parts : List PartValue) (s : CutState) → Is heads s → Is heads (put_each each parts s)
+  putting_parts heads each [] s f = f
+  putting_parts heads each (p ∷ parts) s f =
+      let kind = each s.choice.subject p in
+      let now = pass (length p.bytes) s in
+      putting_parts heads each parts (put kind now) (putting heads kind now (passing heads (length p.bytes) s f))
+
+  putting_item : (heads : ℕ) (kind : SpanKind) (item : ItemValue) (s : CutState) → Is heads s → Is heads (put_item kind item s)
+  putting_item heads kind item s f = putting heads kind (passed item s) (passing heads _ s f)
+
+  -- Behind an item, which is a head or not, and the chosen profile's or not: that one's mode is exact, or it is still to come.
+  abbrev Step : ℕ → ItemValue → Bool → Bool → CutState → Type 0
+  Step heads item false is t = Is heads t
+  Step heads item true false t = Is (suc heads) t
+  Step heads item true true t = Tells IsExact t.spans → mode_change (mode_of_head item.parts) ≡ Exact
+
+  run_starts : (heads : ℕ) (begun : What) (item : ItemValue) (s : CutState) → s.depth ≡ 0 → Is heads s → Is (suc heads) (start_run begun item s)
+  unfolding start_run
+  run_starts heads _ item s outer f =
+      let fits = f.fits in
+      let count = f.heads_are in
+      record { choice = f.choice; heads_are = omega (arith, count); fits = omega (arith, fits); before = outer }
+
+  same_test : (heads : ℕ) (s : CutState) → Is heads s → (s.heads == s.choice.profile) ≡ (heads == c.profile)
+  same_test heads s f = ap₂ (λ (n m : ℕ). n == m) f.heads_are (ap (λ (x : Choice). x.profile) f.choice)
+
+  outer_heads : (heads : ℕ) (item : ItemValue) (s : CutState) → IsItem item → s.depth ≡ 0 → Is heads s → Step heads item true (heads == c.profile) (outer_head item s)
+  unfolding outer_head
+  outer_heads heads item s whole outer f =
+      subst (λ (b : Bool). Step heads item true b (cond (s.heads == s.choice.profile) (chosen_head item s) (start_run (cond (s.heads == s.choice.outermost) whats.Parent whats.Profile) item s)))
+      (same_test heads s f) (at (s.heads == s.choice.profile) (cond (s.heads == s.choice.outermost) whats.Parent whats.Profile))
+    where
+      at : (b : Bool) (begun : What) → Step heads item true b (cond b (chosen_head item s) (start_run begun item s))
+      at true _ = λ h. head_exact item s whole f.fits h
+      at false begun = run_starts heads begun item s outer f
+
+  run_heads : (heads : ℕ) (run : Run) (item : ItemValue) (s : CutState) → IsItem item → s.phase ≡ Skipping run → Is heads s
+      → Step heads item true (heads == c.profile) (run_head run.what item s)
+  unfolding run_head
+  run_heads heads run item s whole is f =
+      let kind = run_kind s.choice.subject run.what in
+      subst (λ (b : Bool). Step heads item true b (cond (s.heads == s.choice.profile) (chosen_head item (put kind s)) (passed item (opened s))))
+      (same_test heads s f) (at (s.heads == s.choice.profile) kind)
+    where
+      at : (b : Bool) (kind : SpanKind) → Step heads item true b (cond b (chosen_head item (put kind s)) (passed item (opened s)))
+      at true kind = λ h. head_exact item (put kind s) whole (putting heads kind s f).fits h
+      at false kind =
+          let fits = f.fits in
+          let count = f.heads_are in
+          let floor : run.floor ≡ 0 = subst (λ (p : Phase). IsBefore p s.depth) is f.before in
+          record {
+            choice = f.choice;
+            heads_are = omega (arith, count);
+            fits = omega (arith, fits);
+            before = subst (λ (p : Phase). IsBefore p (s.depth + 1)) (sym is) floor;
+          }
+
+  run_closes : (heads : ℕ) (run : Run) (item : ItemValue) (s : CutState) → s.phase ≡ Skipping run → Is heads s → Is heads (run_close run item s)
+  unfolding run_close
+  run_closes heads run item s is f = at ((closed s).depth == run.floor) refl (run_kind s.choice.subject run.what)
+    where
+      at : (b : Bool) → ((closed s).depth == run.floor) ≡ b → (kind : SpanKind)
+          → Is heads (cond b (enter (behind_run run.floor) (put_item kind item (closed s))) (passed item (closed s)))
+      at true e kind =
+          let fits = f.fits in
+          let floor : run.floor ≡ 0 = subst (λ (p : Phase). IsBefore p s.depth) is f.before in
+          let outer : IsBefore (behind_run run.floor) (s.depth - 1) = behind_is_outer run.floor (s.depth - 1) floor (eqb-true (s.depth - 1) run.floor e ∙ floor) in
+          put_cases (λ t. Is heads (enter (behind_run run.floor) t)) kind (passed item (closed s))
+          (record { choice = f.choice; heads_are = f.heads_are; fits = omega (arith, fits); before = outer })
+          (record { choice = f.choice; heads_are = f.heads_are; fits = omega arith; before = outer })
+      at false e kind =
+          let fits = f.fits in
+          let floor : run.floor ≡ 0 = subst (λ (p : Phase). IsBefore p s.depth) is f.before in
+          record {
+            choice = f.choice;
+            heads_are = f.heads_are;
+            fits = omega (arith, fits);
+            before = subst (λ (p : Phase). IsBefore p (s.depth - 1)) (sym is) floor;
+          }
+
+  statements_go : (heads : ℕ) (item : ItemValue) (s : CutState) → Is heads s → Is heads (statement_item item s)
+  unfolding statement_item
+  statements_go heads item s f = at (changes_profile (statement_whats item.parts)) (told (statement_whats item.parts) (statement_effect s.choice.subject (statement_whats item.parts)))
+    where
+      at : (b : Bool) (kind : SpanKind) → Is heads (put_item kind item (cond b (with_change s) s))
+      at true kind = putting_item heads kind item (with_change s) (record { choice = f.choice; heads_are = f.heads_are; fits = f.fits; before = f.before })
+      at false kind = putting_item heads kind item s f
+
+  outer_steps : (kind : ItemKind) (heads : ℕ) (item : ItemValue) (s : CutState) → IsItem item → s.depth ≡ 0 → Is heads s
+      → Step heads item (opens_profile kind) (heads == c.profile) (outer_item kind item s)
+  unfolding outer_item
+  outer_steps items.Blank heads item s whole outer f = putting_parts heads plain_part item.parts s f
+  outer_steps items.Statement heads item s whole outer f = statements_go heads item s f
+  outer_steps items.Profile heads item s whole outer f = outer_heads heads item s whole outer f
+  outer_steps items.Hat heads item s whole outer f = outer_heads heads item s whole outer f
+  outer_steps _ heads item s whole outer f = putting_item heads Kept item s f
+
+  run_steps : (run : Run) (kind : ItemKind) (heads : ℕ) (item : ItemValue) (s : CutState) → IsItem item → s.phase ≡ Skipping run → Is heads s
+      → Step heads item (opens_profile kind) (heads == c.profile) (run_item run kind item s)
+  unfolding run_item
+  run_steps run items.Profile heads item s whole is f = run_heads heads run item s whole is f
+  run_steps run items.Hat heads item s whole is f = run_heads heads run item s whole is f
+  run_steps run items.Close heads item s whole is f = run_closes heads run item s is f
+  run_steps run _ heads item s whole is f = passing heads _ s f
+
+  plain_steps : (phase : Phase) (heads : ℕ) (item : ItemValue) (s : CutState) → IsItem item → s.phase ≡ phase → Is heads s
+      → Step heads item (opens_profile item.kind) (heads == c.profile) (plain_item phase item s)
+  unfolding plain_item
+  plain_steps Outer heads item s whole is f = outer_steps item.kind heads item s whole (subst (λ (p : Phase). IsBefore p s.depth) is f.before) f
+  plain_steps (Skipping run) heads item s whole is f = run_steps run item.kind heads item s whole is f
+  plain_steps Chosen heads item s whole is f = absurd (subst (λ (p : Phase). IsBefore p s.depth) is f.before)
+
+  item_steps : (reading : RuleReading) (heads : ℕ) (item : ItemValue) (s : CutState) → IsItem item → Is heads s
+      → Step heads item (opens_profile item.kind) (heads == c.profile) (cut_item reading item s)
+  item_steps reading heads item s whole f =
+      subst (λ (b : Bool). Step heads item (opens_profile item.kind) (heads == c.profile) (cond b (chosen_rule reading item s) (plain_item s.phase item s)))
+      (sym (not_chosen s.phase s.depth (is_rule item.kind) f.before)) (plain_steps s.phase heads item s whole refl f)
+
+  from_here : (reading : ItemValue → RuleReading) (items : List ItemValue) (heads : ℕ) (s : CutState) → Each IsItem items → Is heads s
+      → Tells IsExact (finished (cut_items reading items s)).spans → mode_change (mode_from c.profile heads items) ≡ Exact
+  from_here reading [] heads s whole f h = refl
+  from_here reading (item ∷ items) heads s whole f h =
+      at (opens_profile item.kind) (heads == c.profile) (item_steps (reading item) heads item s whole.0 f)
+      (λ next g. from_here reading items next (cut_item (reading item) item s) whole.1 g h)
+    where
+      at : (opens is : Bool) → Step heads item opens is (cut_item (reading item) item s)
+          → ((next : ℕ) → Is next (cut_item (reading item) item s) → mode_change (mode_from c.profile next items) ≡ Exact)
+          → mode_change (cond opens (cond is (mode_of_head item.parts) (mode_from c.profile (suc heads) items)) (mode_from c.profile heads items)) ≡ Exact
+      at false is g others = others heads g
+      at true false g others = others (suc heads) g
+      at true true g others = g (before_end IsExact reading items (cut_item (reading item) item s) h)
+
+  pub mode_is_exact : (reading : ItemValue → RuleReading) (items : List ItemValue) → Each IsItem items
+      → Tells IsExact (cut_of reading c items).spans → mode_change (mode_from c.profile 0 items) ≡ Exact
+  mode_is_exact reading items whole h =
+      from_here reading items 0 (at_start c) whole (record { choice = refl; heads_are = refl; fits = omega arith; before = refl }) h

@@ -1,0 +1,47 @@
+-- An import, and what AppArmor's own rules and mode are that it is made of.
+use Rattle.std.specs.Prelude.{◌≡◌, ℕ, suc, ◌==◌, List, [], ◌∷◌, map, slice_get, Some, None, option_map, Bool, true, false, if◌then◌else◌}
+use Rattle.flat_text.specs.declared.part.ItemKind.{ItemKind}
+use Rattle.flat_text.specs.declared.part.ItemKind.TheVariants as items
+use Rattle.flat_text.specs.Parts.{ItemValue}
+use Rattle.flat_text.specs.Texts.{ReadsItems}
+use Rattle.import_cut.specs.Modes.{mode_of_head}
+use Rattle.import_scope.specs.Scopes.{Head, at_start, behind_all}
+use Rattle.import_scope.specs.FirstFaults.{FirstFault, variables_within}
+use Rattle.profile_import.specs.declared.options.ImportOptions.{ImportOptions}
+use Rattle.profile_import.specs.FileRules.{PlacedRule}
+use Rattle.profile_import.specs.Imports.{ImportValue, chosen_number, choice_of}
+use Rattle.profile_import.specs.Restated.{all_rules, cut_for}
+use Rattle.subject_rules.specs.declared.mode.Mode.{Mode}
+use Rattle.subject_rules.specs.declared.mode.Mode.TheVariants.{Enforcing}
+use Rattle.subject_rules.specs.SubjectRules.{SubjectRule}
+
+abbrev pub opens_profile : ItemKind → Bool
+opens_profile items.Profile = true
+opens_profile items.Hat = true
+opens_profile _ = false
+
+-- the mode of the profile with this number, where so many began before
+abbrev pub mode_from : ℕ → ℕ → List ItemValue → Mode
+mode_from number heads [] = Enforcing
+mode_from number heads (item ∷ items) =
+    if opens_profile item.kind then (if heads == number then mode_of_head item.parts else mode_from number (suc heads) items)
+    else mode_from number heads items
+
+abbrev pub plain_rules : List PlacedRule → List SubjectRule
+plain_rules rules = map (λ r. r.rule) rules
+
+-- The text is imported so, and these are the chosen profile's rules, those that AppArmor adds among them, and its mode.
+pub record IsImported (options : ImportOptions) (text : List ℕ) (value : ImportValue) (rules : List SubjectRule) (mode : Mode) : Type 0 where
+  pub items : List ItemValue
+  pub number : ℕ
+  pub head : Head
+  pub read : ReadsItems text items None
+  pub faultless : FirstFault (at_start options.defines.now) items None
+  pub chosen : chosen_number (option_map (λ name. name.now) options.profile) (behind_all (at_start options.defines.now) items).profiles ≡ Some number
+  pub found : slice_get (behind_all (at_start options.defines.now) items).profiles number ≡ Some head
+  pub name : value.profile.name ≡ head.name
+  pub spans : value.spans
+      ≡ (cut_for (variables_within (behind_all (at_start options.defines.now) items).declared head.name) (choice_of options head number) items).spans
+  pub rules_are : rules
+      ≡ plain_rules (all_rules (variables_within (behind_all (at_start options.defines.now) items).declared head.name) (choice_of options head number) items)
+  pub mode_is : mode ≡ mode_from number 0 items

@@ -1,0 +1,12 @@
+//! The laws of imports: each text has one outcome; the spans are the text; what is imported can be read; and where nothing
+//! changes for the chosen subject, the imported profile allows it just what AppArmor's rules do. The functions do nothing: each
+//! stands for its contract.
+//!
+//! To be believed are about 50 lines of definitions in `specs/`, beside those of `profile_import`.
+#![tactic(auto)]
+
+mod meaning;
+mod outcomes;
+
+pub use meaning::{exact_imports_say_the_same, imports_are_restated_rules};
+pub use outcomes::{imports_can_be_read, spans_are_the_text, texts_have_one_import};

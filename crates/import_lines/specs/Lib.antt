@@ -1,0 +1,2 @@
+pub mod AccountLines
+pub mod RefusalLines

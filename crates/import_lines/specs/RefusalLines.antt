@@ -1,0 +1,24 @@
+-- The lines by which an import says that it refuses a text: the number of the refusal's kind, the place and the word if there are such, and names.
+use Rattle.std.specs.Prelude.{ℕ, List, [], ◌++◌, codes, decimal, flat_map, Option, Some, None}
+use Rattle.import_account.specs.ShownTexts.{shown_text}
+use Rattle.import_lines.specs.AccountLines.{place_text}
+use Rattle.rule_explain.specs.declared.place.Place.{Place}
+
+abbrev pub refusal_front : ℕ → List ℕ
+refusal_front number = codes "refused: import " ++ decimal number
+
+abbrev pub at_place : Option Place → List ℕ
+at_place (Some place) = codes " at " ++ place_text place
+at_place None = []
+
+abbrev pub word_told : Option (List ℕ) → List ℕ
+word_told (Some word) = codes " (" ++ (shown_text word ++ codes ")")
+word_told None = []
+
+-- each name stands on a line of its own, as it is
+abbrev pub name_line : List ℕ → List ℕ
+name_line name = codes "\n" ++ name
+
+-- `refused: import 3 at 2:1 (if)`; the last line has no end
+abbrev pub refusal_text : ℕ → Option Place → Option (List ℕ) → List (List ℕ) → List ℕ
+refusal_text number place word names = refusal_front number ++ (at_place place ++ (word_told word ++ flat_map name_line names))

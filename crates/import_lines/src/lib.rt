@@ -1,0 +1,13 @@
+//! The lines by which an import of a profile text tells what it didn't take as it stands, and why it refused.
+//!
+//! To be believed are about 40 lines of definitions in `specs/`.
+#![tactic(auto)]
+
+mod account;
+mod places;
+mod put;
+mod refusal;
+
+pub use account::push_account_line;
+pub use places::Places;
+pub use refusal::{RefusalLine, refusal_text};

@@ -1,0 +1,78 @@
+//! Places of one text, one after the other.
+ghost use Rattle.std.specs.Prelude.{◌≡◌, ◌≤◌, length};
+ghost use Rattle.rule_explain.specs.Places.{place_at};
+
+use rule_explain::Place;
+use std::marker::Model;
+
+/// Where a text begins.
+const START: Place = Place { line: 1, column: 1 };
+
+/// The places of a text's bytes. Those that are asked for in ascending order cost one pass over the text in all. To contracts
+/// it is the text.
+#[derive(Drop)]
+pub struct Places<'t> {
+    text: &'t [u8],
+    /// The byte whose place was asked for last.
+    offset: usize,
+    /// Its place.
+    place: Place,
+}
+
+impl<'t> Model for Places<'t> {
+    ghost use Rattle.std.specs.Prelude.{◌≡◌, ◌≤◌, ℕ, List, length};
+    ghost use Rattle.rule_explain.specs.Places.{place_at};
+
+    ghost Value = { List ℕ };
+
+    ghost view = { λ p. p.text.now };
+
+    ghost invariant = { λ p. (p.offset ≤ length p.text.now) × (p.place ≡ place_at p.text.now p.offset) };
+}
+
+impl<'t> Places<'t> {
+    /// Those of this text.
+    pub fn new(text: &'t [u8]) -> Places<'t>
+        ensures { result ≡ text.now }
+    {
+        Places {
+            text,
+            offset: 0,
+            place: START,
+        }
+    }
+
+    /// The place of the byte before which so many stand, or of the text's end where there are fewer.
+    pub fn place(&mut self, offset: usize) -> Place
+        ensures place { result ≡ place_at self.old offset }
+        ensures text { self.new ≡ self.old }
+    {
+        let end = offset.min(self.text.len());
+        if end < self.offset {
+            self.offset = 0;
+            self.place = START;
+        }
+        self.place = place_from(self.text, self.offset, self.place, end);
+        self.offset = end;
+        self.place
+    }
+}
+
+/// The place of a byte, by that of one at or before it.
+fn place_from(text: &[u8], start: usize, at_start: Place, end: usize) -> Place
+    requires at_start { at_start ≡ place_at text.now start }
+    requires ascending { start ≤ end }
+    requires within { end ≤ length text.now }
+    ensures { result ≡ place_at text.now end }
+{
+    let mut place = at_start;
+    for byte in &text[start..end] {
+        if *byte == b'\n' {
+            place.line += 1;
+            place.column = 1;
+        } else {
+            place.column += 1;
+        }
+    }
+    place
+}

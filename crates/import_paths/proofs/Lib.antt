@@ -1,0 +1,4 @@
+pub mod GroupLaws
+pub mod MadeItems
+pub mod Reread
+pub mod ImportLaws

@@ -1,0 +1,5 @@
+pub mod VariablePlaces
+pub mod Opened
+pub mod Extending
+pub mod FaultLaws
+pub mod Passes

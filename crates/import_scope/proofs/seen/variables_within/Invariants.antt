@@ -1,0 +1,6 @@
+-- The first variables are copied.
+use Rattle.std.proofs.Common.{◌≡◌, take}
+use Rattle.import_scope.proofs.seen.variables_within.Given as goal
+
+abbrev pub invariant-loop-variable : goal.invariant-loop-variable
+invariant-loop-variable l = l.seen.items ≡ take l.variable-index l.variables

@@ -1,0 +1,197 @@
+//! The pass over the items that declares variables, names profiles, and notes which paths are to be asked.
+ghost use Rattle.std.specs.Prelude.{◌≡◌, ◌++◌, [], reverse, IfOk, OnOk, OnErr, option_map, length};
+ghost use Rattle.std.specs.Option.{option_copied};
+ghost use Rattle.flat_text.specs.Parts.{bytes_of_parts};
+ghost use Rattle.import_scope.specs.Scopes.{ScopeState, at_start, innermost, is_assigned_wrongly, assignment_fault, name_fault, can_be_said, assigned, opened, closed, behind, head_fault};
+ghost use Rattle.import_scope.specs.Told.{fault_value};
+ghost use Rattle.import_scope.specs.inner.Outlines.{state_of, asked_of, asked_path, asks, Steps, last_state, head_stop, all_asked};
+
+use crate::assigned::{Assignments, Define};
+use crate::fault::{ScopeFailure, ScopeFault, ScopeFaultKind};
+use crate::head::ProfileHead;
+use crate::item_words::{
+    assigned_name, assigned_values, is_adding, name_place, own_name, path_bytes, path_place,
+};
+use flat_rules::content;
+use flat_text::{Item, ItemKind, Part};
+use profile_parts::is_name;
+use std::alloc::{AllocError, Global};
+
+/// A path that is to be asked: the number of its profile, the path, and how many bytes of the text stand before it.
+#[derive(Clone, Copy)]
+pub(crate) struct Asked<'t> {
+    pub(crate) profile: usize,
+    pub(crate) path: &'t [u8],
+    pub(crate) place: usize,
+}
+
+/// What the items so far declared, named and asked.
+#[derive(Drop)]
+pub(crate) struct Outline<'t> {
+    pub(crate) variables: Assignments<'t>,
+    pub(crate) profiles: Vec<ProfileHead>,
+    /// The numbers of the profiles that are open, the innermost last.
+    within: Vec<usize>,
+    pub(crate) asked: Vec<Asked<'t>>,
+    /// How many bytes they have.
+    before: usize,
+}
+
+/// Whether a profile can have the name, and is read by it again in its canonical text.
+fn can_be_said(name: &[u8]) -> bool
+    ensures { result ≡ can_be_said name.now }
+{
+    is_name(name) && !name.ends_with(b"\\")
+}
+
+impl<'t> Outline<'t> {
+    fn new(alloc: Global, defines: &[Define<'t>]) -> Result<Outline<'t>, AllocError>
+        ensures state { IfOk result (λ o. state_of o ≡ at_start defines.now) }
+        ensures asked { IfOk result (λ o. asked_of o ≡ []) }
+    {
+        Ok(Outline {
+            variables: Assignments::defined(alloc, defines)?,
+            profiles: Vec::new(alloc),
+            within: Vec::new(alloc),
+            asked: Vec::new(alloc),
+            before: 0,
+        })
+    }
+
+    /// The head of the innermost profile that is open.
+    fn innermost(&self) -> Option<&ProfileHead>
+        ensures { option_copied result ≡ innermost (state_of self.now) }
+    {
+        let number = self.within.last()?;
+        self.profiles.get(*number)
+    }
+
+    /// Whether this name may not be assigned to here.
+    fn is_assigned_wrongly(&self, adding: bool, name: &[u8]) -> bool
+        ensures { result ≡ is_assigned_wrongly (state_of self.now) adding name.now }
+    {
+        !self.profiles.is_empty()
+            || name == b"profile_name".as_slice()
+            || self.variables.has(name) != adding
+    }
+
+    fn assign(&mut self, alloc: Global, parts: &[Part<'t>]) -> Result<(), ScopeFailure>
+        ensures steps { Steps result (assignment_fault (state_of self.old) parts.now) (state_of self.old) (state_of self.new) (assigned (state_of self.old) parts.now) }
+        ensures asked { asked_of self.new ≡ asked_of self.old }
+    {
+        let name = assigned_name(parts);
+        let adding = is_adding(parts);
+        if self.is_assigned_wrongly(adding, name) {
+            return Err(ScopeFailure::At(ScopeFault {
+                kind: ScopeFaultKind::Declared,
+                place: self.before,
+            }));
+        }
+        let values = assigned_values(alloc, parts)?;
+        if adding {
+            self.variables.add(name, &values)?;
+        } else {
+            self.variables.declare(alloc, name, values)?;
+        }
+        Ok(())
+    }
+
+    fn open_profile(
+        &mut self,
+        alloc: Global,
+        is_hat: bool,
+        parts: &[Part<'t>],
+    ) -> Result<(), ScopeFailure>
+        ensures steps { Steps result (name_fault (state_of self.old) parts.now) (state_of self.old) (state_of self.new) (opened (state_of self.old) is_hat parts.now) }
+        ensures asked { asked_of self.new ≡ asked_of self.old }
+    {
+        let number = self.profiles.len();
+        let head = ProfileHead::within(alloc, self.innermost(), number, is_hat, own_name(parts))?;
+        if !can_be_said(head.name()) {
+            return match name_place(self.before, parts) {
+                Some(place) => Err(ScopeFailure::At(ScopeFault {
+                    kind: ScopeFaultKind::Name,
+                    place,
+                })),
+                None => Err(ScopeFailure::NoMemory),
+            };
+        }
+        self.profiles.push(head)?;
+        self.within.push(number)?;
+        Ok(())
+    }
+
+    fn close_profile(&mut self)
+        ensures state { state_of self.new ≡ closed (state_of self.old) }
+        ensures asked { asked_of self.new ≡ asked_of self.old }
+    {
+        self.within.pop();
+    }
+
+    /// Notes the path of a rule, if it has one.
+    fn ask(&mut self, parts: &[Part<'t>]) -> Result<(), AllocError>
+        ensures state { state_of self.new ≡ state_of self.old }
+        ensures asked { OnOk result (asked_of self.new ≡ asked_of self.old ++ asked_path (state_of self.old) parts.now) }
+        ensures same { OnErr result (asked_of self.new ≡ asked_of self.old) }
+    {
+        if self.innermost().is_none() {
+            return Ok(());
+        }
+        let Some(profile) = self.within.last().copied() else {
+            return Ok(());
+        };
+        let Some(bytes) = path_bytes(parts) else {
+            return Ok(());
+        };
+        let place = path_place(self.before, parts).ok_or(AllocError)?;
+        self.asked.push(Asked {
+            profile,
+            path: content(bytes),
+            place,
+        })?;
+        Ok(())
+    }
+
+    /// Goes past an item that has no fault of a declaration or of a name.
+    fn item(&mut self, alloc: Global, item: &Item<'t>) -> Result<(), ScopeFailure>
+        ensures steps { Steps result (head_fault item.now.kind (state_of self.old) item.now.parts) (state_of self.old) (state_of self.new) (behind (state_of self.old) item.now) }
+        ensures asked { OnOk result (asked_of self.new ≡ asked_of self.old ++ asks item.now.kind (state_of self.old) item.now.parts) }
+        ensures same { OnErr result (asked_of self.new ≡ asked_of self.old) }
+    {
+        let past = self
+            .before
+            .checked_add(item.text().len())
+            .ok_or(ScopeFailure::NoMemory)?;
+        match item.kind() {
+            ItemKind::Assignment => self.assign(alloc, item.parts())?,
+            ItemKind::Profile => self.open_profile(alloc, false, item.parts())?,
+            ItemKind::Hat => self.open_profile(alloc, true, item.parts())?,
+            ItemKind::Close => self.close_profile(),
+            ItemKind::Rule => self.ask(item.parts())?,
+            ItemKind::Blank | ItemKind::Statement => {}
+        }
+        self.before = past;
+        Ok(())
+    }
+}
+
+/// The outline of the items up to the first that has a fault of a declaration or of a name, and that fault.
+pub(crate) fn outline_of<'t>(
+    alloc: Global,
+    defines: &[Define<'t>],
+    items: &[Item<'t>],
+) -> Result<(Outline<'t>, Option<ScopeFault>), AllocError>
+    ensures state { IfOk result (λ r. state_of r.0 ≡ last_state (at_start defines.now) items.now) }
+    ensures asked { IfOk result (λ r. asked_of r.0 ≡ all_asked (at_start defines.now) items.now) }
+    ensures stop { IfOk result (λ r. option_map fault_value r.1 ≡ head_stop (at_start defines.now) items.now) }
+{
+    let mut outline = Outline::new(alloc, defines)?;
+    for item in items {
+        match outline.item(alloc, item) {
+            Ok(()) => {}
+            Err(ScopeFailure::NoMemory) => return Err(AllocError),
+            Err(ScopeFailure::At(fault)) => return Ok((outline, Some(fault))),
+        }
+    }
+    Ok((outline, None))
+}

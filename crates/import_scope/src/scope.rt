@@ -1,0 +1,57 @@
+//! The scope of a text.
+ghost use Rattle.std.specs.Prelude.{◌≡◌, IfOk, IfErr, IsTrue, Some, None};
+ghost use Rattle.rule_globs.specs.Each.{Each};
+ghost use Rattle.import_scope.specs.Scopes.{at_start, behind_all, can_be_said};
+ghost use Rattle.import_scope.specs.FirstFaults.{FirstFault};
+ghost use Rattle.import_scope.specs.Told.{TellsFault};
+
+use crate::asking::first_problem;
+use crate::assigned::Define;
+use crate::fault::ScopeFailure;
+use crate::head::ProfileHead;
+use crate::outline::{Outline, outline_of};
+use flat_text::Item;
+use profile_variables::Variable;
+use std::alloc::Global;
+
+/// The variables of a text, those that are given beforehand first, and the heads of its profiles in order.
+#[derive(Drop)]
+pub struct Scope<'t> {
+    pub variables: Vec<Variable<'t>>,
+    pub profiles: Vec<ProfileHead>,
+}
+
+/// The variables and the profiles of a text that was cut into these items, or its first fault beside its grammar.
+///
+/// The time grows as the text, each variable being found among the others by its name; and with each profile that has rules,
+/// the variables are copied, without their bytes, and those that its paths use are put in place anew.
+pub fn scope_of<'t>(
+    alloc: Global,
+    defines: &[Define<'t>],
+    items: &[Item<'t>],
+) -> Result<Scope<'t>, ScopeFailure>
+    ensures faultless { IfOk result (λ s. FirstFault (at_start defines.now) items.now None) }
+    ensures variables { IfOk result (λ s. s.variables.items ≡ (behind_all (at_start defines.now) items.now).declared) }
+    ensures profiles { IfOk result (λ s. s.profiles.items ≡ (behind_all (at_start defines.now) items.now).profiles) }
+    ensures names { IfOk result (λ s. Each (λ head. IsTrue (can_be_said head.name)) s.profiles.items) }
+    ensures fault { IfErr result (TellsFault (λ fault. FirstFault (at_start defines.now) items.now (Some fault))) }
+{
+    let (outline, stop) = outline_of(alloc, defines, items)?;
+    let Outline {
+        variables,
+        profiles,
+        asked,
+        ..
+    } = outline;
+    let variables = variables.finish(alloc)?;
+    if let Some(fault) = first_problem(alloc, &variables, &profiles, &asked)? {
+        return Err(ScopeFailure::At(fault));
+    }
+    match stop {
+        Some(fault) => Err(ScopeFailure::At(fault)),
+        None => Ok(Scope {
+            variables,
+            profiles,
+        }),
+    }
+}

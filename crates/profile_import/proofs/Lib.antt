@@ -1,0 +1,3 @@
+pub mod ExpandedTexts
+pub mod Gathers
+pub mod ToldOutcomes

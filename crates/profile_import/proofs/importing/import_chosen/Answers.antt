@@ -1,0 +1,11 @@
+use Rattle.std.proofs.Common.{sym, ◌∙◌}
+use Rattle.profile_import.proofs.ToldOutcomes.{chosen_same, tells_same}
+use Rattle.profile_import.proofs.importing.import_chosen.Goals as goal
+
+pub returns : goal.returns
+returns c =
+    let lists = rw c.deref.ensures.value at c.in_ok-lists.ensures in
+    let same = chosen_same c.args.strict c.args.name.now _ c.args.choice c.args.items.now c.in_ok-lists.lists c.in_ok-cut.cut c.in_ok-text.text.spans.items c.in_ok-text.text.changes_profile
+    c.in_ok-text.text.has_hat c.in_ok-cut.rules.items c.push_added_rules.new.rules.items lists c.in_ok-cut.ensures.cut c.in_ok-cut.ensures.rules c.in_ok-text.ensures.spans
+    c.in_ok-text.ensures.changes_profile c.in_ok-text.ensures.has_hat c.in_ok-push_added_rules.ensures in
+    tells_same _ _ c.finish-2.result same c.finish-2.ensures

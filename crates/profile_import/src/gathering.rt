@@ -1,0 +1,75 @@
+//! The rules of the chosen profile, and the spans of the text, item by item.
+ghost use Rattle.std.specs.Prelude.{◌≡◌, ◌++◌, ◌∷◌, [], IfOk, true};
+ghost use Rattle.import_cut.specs.CutStates.{at_start};
+ghost use Rattle.import_cut.specs.Cutting.{cut_item, cut_items, is_chosen_rule};
+ghost use Rattle.profile_import.specs.FileRules.{item_reading, rules_at, rules_in, subject_rule};
+ghost use Rattle.profile_import.specs.Restated.{restated_at, restated_rules};
+
+use crate::placed::{PlacedRule, push_restated};
+use crate::rule::rule_of;
+use flat_text::{Item, ItemKind};
+use import_cut::{Choice, Cut};
+use names::NoMemory;
+use profile_variables::Lists;
+use std::alloc::Global;
+use subject_rules::Subject;
+
+/// The next item, which is a rule of the chosen profile.
+fn take_rule<'a>(
+    alloc: Global,
+    chosen: Subject,
+    lists: &mut Lists<'a>,
+    cut: &mut Cut,
+    rules: &mut Vec<PlacedRule>,
+    item: &'a Item<'_>,
+) -> Result<(), NoMemory>
+    requires { is_chosen_rule item.now cut.old ≡ true }
+    ensures lists { lists.new ≡ lists.old }
+    ensures cut { IfOk result (λ _. cut.new ≡ cut_item (item_reading lists.old chosen item.now) item.now cut.old) }
+    ensures rules { IfOk result (λ _. rules.new.items
+        ≡ rules.old.items ++ restated_at chosen (record { place = cut.old.at; rule = subject_rule lists.old item.now.parts })) }
+{
+    let rule = rule_of(alloc, chosen, lists, item.parts())?;
+    let shape = rule.reading.shape;
+    push_restated(rules, cut.place(), chosen, shape, rule.paths)?;
+    cut.rule(item, rule.reading)
+}
+
+/// The next item.
+fn take_item<'a>(
+    alloc: Global,
+    chosen: Subject,
+    lists: &mut Lists<'a>,
+    cut: &mut Cut,
+    rules: &mut Vec<PlacedRule>,
+    item: &'a Item<'_>,
+) -> Result<(), NoMemory>
+    ensures lists { lists.new ≡ lists.old }
+    ensures cut { IfOk result (λ _. cut.new ≡ cut_item (item_reading lists.old chosen item.now) item.now cut.old) }
+    ensures rules { IfOk result (λ _. rules.new.items ≡ rules.old.items ++ restated_rules chosen (rules_at lists.old item.now cut.old)) }
+{
+    if cut.is_in_chosen() && matches!(item.kind(), ItemKind::Rule) {
+        take_rule(alloc, chosen, lists, cut, rules, item)
+    } else {
+        cut.item(item)
+    }
+}
+
+/// The rules of the chosen profile and the spans, where these are the variables as they are in it.
+pub(crate) fn gather<'a>(
+    alloc: Global,
+    choice: Choice,
+    lists: &mut Lists<'a>,
+    items: &'a [Item<'_>],
+) -> Result<(Cut, Vec<PlacedRule>), NoMemory>
+    ensures cut { IfOk result (λ gathered. gathered.0 ≡ cut_items (item_reading lists.old choice.subject) items.now (at_start choice)) }
+    ensures rules { IfOk result (λ gathered. gathered.1.items
+        ≡ restated_rules choice.subject (rules_in lists.old choice.subject items.now (at_start choice))) }
+{
+    let mut cut = Cut::new(alloc, choice);
+    let mut rules = Vec::new(alloc);
+    for item in items {
+        take_item(alloc, choice.subject, lists, &mut cut, &mut rules, item)?;
+    }
+    Ok((cut, rules))
+}

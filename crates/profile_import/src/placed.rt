@@ -1,0 +1,96 @@
+//! Restated rules, each with the place of what it comes from.
+ghost use Rattle.std.specs.Prelude.{◌≡◌, ◌++◌, ◌∷◌, [], IfOk, All, IsTrue};
+ghost use Rattle.rule_reader.specs.Readable.{is_path};
+ghost use Rattle.profile_import.specs.inner.Gathering.{restated_values};
+
+use names::{NoMemory, Perms};
+use rule_globs::RulePath;
+use rule_reader::Rule;
+use std::marker::Model;
+use subject_rules::{RuleShape, Subject, restated_perms};
+use verdicts::RuleKind;
+
+/// A rule, and how many bytes of the text stand before what it comes from.
+#[derive(Drop)]
+pub(crate) struct PlacedRule {
+    place: usize,
+    rule: Rule,
+}
+
+impl Model for PlacedRule {
+    ghost use Rattle.std.specs.Prelude.{IsTrue};
+    ghost use Rattle.rule_reader.specs.Profile.{rule_value};
+    ghost use Rattle.rule_reader.specs.Readable.{is_rule};
+    ghost use Rattle.profile_import.specs.Restated.{PlacedValue};
+
+    ghost Value = { PlacedValue };
+
+    ghost view = { λ p. record { place = p.place; value = rule_value p.rule } };
+
+    ghost invariant = { λ p. IsTrue (is_rule (rule_value p.rule)) };
+}
+
+impl PlacedRule {
+    ghost use Rattle.std.specs.Prelude.{◌≡◌, true, IsTrue};
+    ghost use Rattle.rule_reader.specs.Readable.{is_path, is_rule};
+    ghost use Rattle.rule_reader.specs.Profile.{rule_value};
+    ghost use Rattle.subject_rules.specs.Restating.{has_some};
+
+    /// The rule of this kind with these permissions and this path.
+    fn new(place: usize, kind: RuleKind, perms: Perms, path: RulePath) -> PlacedRule
+        requires some { has_some perms ≡ true }
+        requires readable { IsTrue (is_path path) }
+        ensures { result ≡ record { place = place; value = record { kind = kind; perms = perms; items = path } } }
+    {
+        PlacedRule {
+            place,
+            rule: Rule::new(kind, perms, path),
+        }
+    }
+
+    /// How many bytes of the text stand before what it comes from.
+    pub(crate) fn place(&self) -> usize
+        ensures { result ≡ self.now.place }
+    {
+        self.place
+    }
+
+    /// The rule itself.
+    pub(crate) fn into_rule(self) -> Rule
+        ensures value { rule_value result ≡ self.value }
+        ensures readable { IsTrue (is_rule (rule_value result)) }
+    {
+        self.rule
+    }
+}
+
+/// One rule more.
+fn push(rules: &mut Vec<PlacedRule>, rule: PlacedRule) -> Result<(), NoMemory>
+    ensures { IfOk result (λ _. rules.new.items ≡ rules.old.items ++ (rule ∷ [])) }
+{
+    match rules.push(rule) {
+        Ok(()) => Ok(()),
+        Err(_) => Err(NoMemory),
+    }
+}
+
+/// Adds what a rule is restated as for the chosen subject: a rule with each of its paths, or none.
+pub(crate) fn push_restated(
+    rules: &mut Vec<PlacedRule>,
+    place: usize,
+    chosen: Subject,
+    shape: RuleShape,
+    paths: Vec<RulePath>,
+) -> Result<(), NoMemory>
+    requires { All (λ path. IsTrue (is_path path)) paths.items }
+    ensures { IfOk result (λ _. rules.new.items ≡ rules.old.items ++ restated_values place chosen shape paths.items) }
+{
+    if !shape.is_restated(chosen) {
+        return Ok(());
+    }
+    let perms = restated_perms(shape.perms, shape.has_target);
+    for path in paths {
+        push(rules, PlacedRule::new(place, shape.kind, perms, path))?;
+    }
+    Ok(())
+}

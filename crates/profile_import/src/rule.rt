@@ -1,0 +1,62 @@
+//! Rules of the chosen profile, as they are read.
+ghost use Rattle.std.specs.Prelude.{◌≡◌, IfOk, All, IsTrue};
+ghost use Rattle.rule_reader.specs.Readable.{is_path};
+ghost use Rattle.subject_rules.specs.Restating.{shape_of, restated_paths};
+ghost use Rattle.profile_import.specs.FileRules.{goes_for_its_path, reading_of, subject_rule};
+
+use crate::texts::text_of_path;
+use flat_rules::{Marks, RuleWords};
+use flat_text::Part;
+use import_cut::RuleReading;
+use import_paths::{imported_paths, imported_paths_can_be_read};
+use names::NoMemory;
+use profile_variables::Lists;
+use rule_globs::RulePath;
+use std::alloc::Global;
+use subject_rules::{RuleShape, Subject};
+
+/// A rule: how it is told, and the paths that it is restated with.
+#[derive(Drop)]
+pub(crate) struct ChosenRule {
+    pub(crate) reading: RuleReading,
+    pub(crate) paths: Vec<RulePath>,
+}
+
+/// Whether a rule would be restated, were its path read.
+fn goes_for_its_path(chosen: Subject, shape: RuleShape) -> bool
+    ensures { result ≡ goes_for_its_path chosen shape }
+{
+    let as_read = RuleShape {
+        is_read: true,
+        ..shape
+    };
+    !shape.is_read && as_read.is_restated(chosen)
+}
+
+/// The rule of these parts.
+pub(crate) fn rule_of<'a>(
+    alloc: Global,
+    chosen: Subject,
+    lists: &mut Lists<'a>,
+    parts: &'a [Part<'_>],
+) -> Result<ChosenRule, NoMemory>
+    ensures lists { lists.new ≡ lists.old }
+    ensures reading { IfOk result (λ rule. rule.reading ≡ reading_of lists.old chosen (subject_rule lists.old parts.now) parts.now) }
+    ensures paths { IfOk result (λ rule. rule.paths.items ≡ restated_paths (subject_rule lists.old parts.now).path) }
+    ensures readable { IfOk result (λ rule. All (λ path. IsTrue (is_path path)) rule.paths.items) }
+{
+    imported_paths_can_be_read();
+    let words = RuleWords::of(parts);
+    let text = text_of_path(alloc, lists, words.path)?;
+    let paths = imported_paths(alloc, &text)?;
+    let shape = RuleShape {
+        kind: words.kind,
+        applies_to: words.applies_to,
+        perms: words.perms,
+        has_target: words.target.is_some(),
+        is_read: !paths.is_empty(),
+    };
+    let marks = Marks::of(alloc, parts, goes_for_its_path(chosen, shape))?;
+    let reading = RuleReading { shape, marks };
+    Ok(ChosenRule { reading, paths })
+}

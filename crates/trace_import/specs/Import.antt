@@ -1,0 +1,45 @@
+-- What `import` writes, memory and failures of the streams aside.
+use Rattle.std.specs.Prelude.{◌≡◌, ℕ, ◌-◌, List, [], take, drop, Result, Ok, Err, option_map}
+use Rattle.std.specs.List.{flat_map}
+use Rattle.import_cut.specs.declared.span.Span.{Span}
+use Rattle.import_cut.specs.declared.span.SpanKind.{SpanKind}
+use Rattle.import_cut.specs.declared.span.SpanKind.TheVariants.{Kept, Blank, Told}
+use Rattle.import_lines.specs.AccountLines.{account_line}
+use Rattle.import_lines.specs.RefusalLines.{refusal_text}
+use Rattle.profile_import.specs.declared.options.ImportOptions.{ImportOptions}
+use Rattle.profile_import.specs.Faults.{ImportFault, fault_number, fault_place, fault_word, fault_names}
+use Rattle.profile_import.specs.Imports.{Imports, Outcome}
+use Rattle.rule_explain.specs.Places.{place_at}
+use Rattle.rule_writer.specs.Canonical.{canonical}
+use Rattle.trace_report.specs.Output.{Output, fault}
+use Rattle.trace_report.specs.declared.status.Status.TheVariants.{Done, Refused}
+
+-- the bytes of a text from one place to another
+abbrev pub between : ℕ → ℕ → List ℕ → List ℕ
+between start end text = take (end - start) (drop start text)
+
+-- the line by which a span is told, if it is
+abbrev pub kind_line : List ℕ → ℕ → ℕ → SpanKind → List ℕ
+kind_line text start end Kept = []
+kind_line text start end Blank = []
+kind_line text start end (Told told) = account_line (place_at text start) told.whats told.effect (between start end text)
+
+abbrev pub span_line : List ℕ → Span → List ℕ
+span_line text span = kind_line text span.start span.end span.kind
+
+-- a line for each span that is told, in their order
+abbrev pub account_text : List ℕ → List Span → List ℕ
+account_text text spans = flat_map (span_line text) spans
+
+-- why a text is refused
+abbrev pub refusal_of : List ℕ → ImportFault → List ℕ
+refusal_of text f = refusal_text (fault_number f) (option_map (place_at text) (fault_place f)) (fault_word f) (fault_names f)
+
+-- the profile's canonical text, and the account; or why there is none
+abbrev pub import_output : List ℕ → Outcome → Output
+import_output text (Ok value) = record { answers = canonical value.profile; faults = account_text text value.spans; status = Done }
+import_output text (Err f) = fault (refusal_of text f) Refused
+
+-- what `import` may write on a text: that of its outcome
+abbrev pub IsImportOutput : ImportOptions → List ℕ → Output → Type 0
+IsImportOutput options text output = (outcome : Outcome) × Imports options text outcome × (output ≡ import_output text outcome)

@@ -1,0 +1,164 @@
+//! `import`: the profile that is asked for, and the account.
+ghost use Rattle.std.specs.Prelude.{◌≡◌, ◌⊎◌, ℕ, List, Ok, IfOk};
+ghost use Rattle.std.specs.Io.KnownBytes.{Appends};
+ghost use Rattle.names.specs.Errors.{no_memory_text};
+ghost use Rattle.rule_reader.specs.Profile.{profile_value};
+ghost use Rattle.rule_writer.specs.Canonical.{canonical};
+ghost use Rattle.profile_import.specs.Told.{import_value, import_fault_value};
+ghost use Rattle.trace_report.specs.Output.{line};
+ghost use Rattle.trace_report.specs.Streams.{EndsInOne, IsTextOf, IsTold};
+ghost use Rattle.trace_report.specs.declared.status.Status.TheVariants.{Done};
+ghost use Rattle.trace_import.specs.Import.{IsImportOutput, account_text, import_output, refusal_of};
+ghost use Rattle.trace_import.specs.inner.Reading.{IsTextRead};
+
+use crate::account::{account_text, refusal_of};
+use names::NoMemory;
+use profile_import::{ImportFailure, ImportFault, ImportOptions, Imported, import_profile};
+use rule_writer::write;
+use std::alloc::Global;
+use std::io::{Read, Write};
+use trace_report::{Fault, Status, fail, write_answer, write_through};
+
+/// Reads a flattened profile text from `input`, writes the profile that is asked for to `answers`, in canonical text, and then
+/// the account to `faults`. A text that is refused is told on `faults`, and nothing is written to `answers`.
+pub fn import<R: Read, A: Write, F: Write>(
+    alloc: Global,
+    options: ImportOptions<'_>,
+    input: &mut R,
+    answers: &mut A,
+    faults: &mut F,
+) -> Status
+    ensures { (text : List ℕ) × IsTextOf (R.remaining input.old) text × EndsInOne
+        (record {
+          answers_before = A.contents answers.old;
+          answers_after = A.contents answers.new;
+          faults_before = F.contents faults.old;
+          faults_after = F.contents faults.new;
+        })
+        (IsImportOutput options.entry text) result }
+{
+    match read_all(alloc, input) {
+        Ok(text) => import_text(alloc, options, &text, answers, faults),
+        Err(fault) => fail(faults, fault, fault.status()),
+    }
+}
+
+/// All that is left to read.
+fn read_all<R: Read>(alloc: Global, input: &mut R) -> Result<Vec<u8>, Fault>
+    ensures { IsTextRead (R.remaining input.old) result }
+{
+    let mut text = Vec::new(alloc);
+    input.read_to_end(&mut text)?;
+    Ok(text)
+}
+
+/// Imports a text that was read.
+fn import_text<A: Write, F: Write>(
+    alloc: Global,
+    options: ImportOptions<'_>,
+    text: &[u8],
+    answers: &mut A,
+    faults: &mut F,
+) -> Status
+    ensures { EndsInOne
+        (record {
+          answers_before = A.contents answers.old;
+          answers_after = A.contents answers.new;
+          faults_before = F.contents faults.old;
+          faults_after = F.contents faults.new;
+        })
+        (IsImportOutput options.entry text.now) result }
+{
+    match import_profile(alloc, options, text) {
+        Ok(imported) => tell(alloc, text, &imported, answers, faults),
+        Err(ImportFailure::At(fault)) => refuse(alloc, text, &fault, faults),
+        Err(ImportFailure::NoMemory) => fail(faults, NoMemory, Status::NoMemory),
+    }
+}
+
+/// Writes what was imported.
+fn tell<A: Write, F: Write>(
+    alloc: Global,
+    text: &[u8],
+    imported: &Imported,
+    answers: &mut A,
+    faults: &mut F,
+) -> Status
+    ensures { EndsInOne
+        (record {
+          answers_before = A.contents answers.old;
+          answers_after = A.contents answers.new;
+          faults_before = F.contents faults.old;
+          faults_after = F.contents faults.new;
+        })
+        (λ output. output ≡ import_output text.now (Ok (import_value imported.now))) result }
+{
+    match texts_of(alloc, text, imported) {
+        Ok((profile, account)) => write_both(answers, faults, &profile, &account),
+        Err(NoMemory) => fail(faults, NoMemory, Status::NoMemory),
+    }
+}
+
+/// The profile's canonical text, and the account.
+fn texts_of(alloc: Global, text: &[u8], imported: &Imported) -> Result<(Vec<u8>, Vec<u8>), NoMemory>
+    ensures profile { IfOk result (λ texts. texts.0.items ≡ canonical (profile_value imported.now.profile)) }
+    ensures account { IfOk result (λ texts. texts.1.items ≡ account_text text.now imported.now.spans.items) }
+{
+    let profile = write(alloc, &imported.profile)?;
+    let account = account_text(alloc, text, &imported.spans)?;
+    Ok((profile, account))
+}
+
+/// Writes the profile, and then the account. Where the former fails, a front part of it was written.
+fn write_both<A: Write, F: Write>(
+    answers: &mut A,
+    faults: &mut F,
+    profile: &[u8],
+    account: &[u8],
+) -> Status
+    ensures { EndsInOne
+        (record {
+          answers_before = A.contents answers.old;
+          answers_after = A.contents answers.new;
+          faults_before = F.contents faults.old;
+          faults_after = F.contents faults.new;
+        })
+        (λ output. output ≡ record { answers = profile.now; faults = account.now; status = Done }) result }
+{
+    match write_through(answers, profile) {
+        Ok(()) => told(faults, account, Status::Done),
+        Err(_) => fail(faults, "refused: output", Status::OutputFailed),
+    }
+}
+
+/// Writes the bytes of a message, and ends with the status.
+fn told<F: Write>(faults: &mut F, bytes: &[u8], status: Status) -> Status
+    ensures { (result ≡ Status.FaultsFailed) ⊎ ((result ≡ status) × Appends (F.contents faults.old) (F.contents faults.new) bytes.now) }
+{
+    match write_through(faults, bytes) {
+        Ok(()) => status,
+        Err(_) => Status::FaultsFailed,
+    }
+}
+
+/// Tells why a text is refused.
+fn refuse<F: Write>(alloc: Global, text: &[u8], fault: &ImportFault<'_>, faults: &mut F) -> Status
+    ensures { IsTold (F.contents faults.old) (F.contents faults.new) (refusal_of text.now (import_fault_value fault.now)) Status.Refused result
+        ⊎ IsTold (F.contents faults.old) (F.contents faults.new) no_memory_text Status.NoMemory result }
+{
+    match line_of(alloc, text, fault) {
+        Ok(line) => told(faults, &line, Status::Refused),
+        Err(NoMemory) => fail(faults, NoMemory, Status::NoMemory),
+    }
+}
+
+/// Why a text is refused, as a line.
+fn line_of(alloc: Global, text: &[u8], fault: &ImportFault<'_>) -> Result<Vec<u8>, NoMemory>
+    ensures { IfOk result (λ told. told.items ≡ line (refusal_of text.now (import_fault_value fault.now))) }
+{
+    let mut told = refusal_of(alloc, text, fault)?;
+    match told.push(b'\n') {
+        Ok(()) => Ok(told),
+        Err(_) => Err(NoMemory),
+    }
+}
