@@ -1,5 +1,5 @@
 # make            builds ./aa-trace, the proved program
-# make run        builds it, judges a name by examples/passwd.profile and by its image, runs two scripts of examples/, and tests a third
+# make run        builds it, judges a name by examples/passwd.profile and by its image, runs two scripts of examples/, tests a third, and imports a profile of AppArmor's
 # make test       the gate: every proof from nothing, must-fail edits, tests, programs
 # make bench      times on large inputs, each with the ratio to half the size or to another input, of compiled profiles, of
 #                 the loop that runs names through a table, beside the same loop in C, of names judged from C, of plans and
@@ -56,6 +56,7 @@ run: aa-trace
 	./aa-trace run < examples/move.script
 	./aa-trace run < examples/links.script
 	./aa-trace test < examples/player.test
+	./aa-trace import < examples/viewer.flat | ./aa-trace explain rw /home/me/.ssh/id_rsa
 
 test: need-rt
 	@tools/version-check

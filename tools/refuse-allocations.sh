@@ -105,6 +105,7 @@ refuse_all "$work/rules" ./aa-trace judge r /home/me/.ssh/a/id_39.pub
 refuse_all "$work/rules" ./aa-trace explain rw /home/me/.ssh/a/id_39.pub
 printf 'profile p {\n  /x ,\n}\n' >"$work/fault"
 refuse_all "$work/fault" ./aa-trace explain r /x
+refuse_all examples/viewer.flat ./aa-trace import --define X=/x
 refuse_all /dev/null ./aa-trace judge r /x
 refuse_all /dev/null ./aa-trace judge r
 refuse_all /dev/null ./aa-trace storm --sessions 2 --opens 3 --changes 2

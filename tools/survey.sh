@@ -15,7 +15,7 @@ cd "$(dirname "$0")/.."
 work=$(mktemp -d)
 trap 'rm -rf "$work"' EXIT
 
-IMPORT=${IMPORT:-}
+IMPORT=${IMPORT-./aa-trace import}
 PACKAGES=${PACKAGES:-'akonadi-server anope apparmor apparmor-profiles apparmor-profiles-extra aprx bind9 charon-systemd chrony
     clamav-daemon clamav-freshclam content-hub-testability cups-browsed cups-daemon ejabberd evince firejail fwknop-apparmor-profile
     gpsd haveged i2pd ibus-hangul inspircd ioquake3 ioquake3-server isc-dhcp-client isc-dhcp-server kea-common kea-ctrl-agent

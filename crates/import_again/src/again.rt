@@ -13,5 +13,5 @@ pub fn imports_are_imported_as_themselves()
         again.defines.now ≡ [] →
         (option_map (λ name. name.now) again.profile ≡ None ⊎ option_map (λ name. name.now) again.profile ≡ Some value.profile.name) →
         (other : ImportValue) × Imports again (canonical value.profile) (Ok other) × (other.profile ≡ value.profile)
-            × Each (λ span. IsUntold span.kind) other.spans }
+        × Each (λ span. IsUntold span.kind) other.spans }
 {}

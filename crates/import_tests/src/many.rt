@@ -22,7 +22,11 @@ fn many_rules(alloc: Global, count: usize, more: &str) -> Result<String, AllocEr
 fn one_rule_too_many(rt: HostRuntime) -> Result<(), Fail> {
     let alloc = rt.alloc();
     let text = many_rules(alloc, 1025, "")?;
-    expect_row(&rt, alloc, refused(PLAIN, text.as_str(), "refused: import 9 at 1026:1\n"))
+    expect_row(
+        &rt,
+        alloc,
+        refused(PLAIN, text.as_str(), "refused: import 9 at 1026:1\n"),
+    )
 }
 
 /// Added rules count, too: the hat stands first, and adds what is asked for the state of AppArmor.
@@ -34,7 +38,11 @@ fn added_rules_count(rt: HostRuntime) -> Result<(), Fail> {
         ..PLAIN
     };
     let text = many_rules(alloc, 1022, "hat h { }\nchange_profile,\n")?;
-    expect_row(&rt, alloc, refused(asked, text.as_str(), "refused: import 9 at 1025:1\n"))
+    expect_row(
+        &rt,
+        alloc,
+        refused(asked, text.as_str(), "refused: import 9 at 1025:1\n"),
+    )
 }
 
 /// An empty profile is imported as one.
@@ -42,5 +50,9 @@ fn added_rules_count(rt: HostRuntime) -> Result<(), Fail> {
 fn no_rules(rt: HostRuntime) -> Result<(), Fail> {
     let alloc = rt.alloc();
     let text = many_rules(alloc, 0, "")?;
-    expect_row(&rt, alloc, taken(PLAIN, text.as_str(), "profile \"p\" {\n}\n", ""))
+    expect_row(
+        &rt,
+        alloc,
+        taken(PLAIN, text.as_str(), "profile \"p\" {\n}\n", ""),
+    )
 }
