@@ -18,7 +18,7 @@ fn storm_lines_that_are_followed(rt: HostRuntime) -> Result<(), Fail> {
         opens: 1000,
         changes: 1000,
     };
-    let small = Line::Storm {
+    let small = || Line::Storm {
         sessions: 2,
         opens: 10,
         changes: 0,
@@ -30,10 +30,13 @@ fn storm_lines_that_are_followed(rt: HostRuntime) -> Result<(), Fail> {
     };
     let rows: [Row<'_>; 4] = [
         ("aa-trace|storm", usual),
-        ("aa-trace|storm|--sessions|2|--opens|10|--changes|0", small),
+        (
+            "aa-trace|storm|--sessions|2|--opens|10|--changes|0",
+            small(),
+        ),
         (
             "aa-trace|storm|--changes=0|--opens=+10|--sessions=02",
-            small,
+            small(),
         ),
         (
             "aa-trace|storm|--sessions=16|--changes|100000|--opens=100000|--",
