@@ -52,3 +52,8 @@ returns-in-Ok-Storm-clause-output g c limit =
     let text = text_of (g.R.Read.remaining c.args.input.now) in
     let ended = rw c.from.ensures at c.storm.ensures in
     (text.0, text.1, rw (c.in-Ok-Storm.ensures.ok, c.in-Ok-Storm.field-0-is) ended)
+
+pub returns-in-Ok-Import-clause-output : goal.returns-in-Ok-Import-clause-output
+returns-in-Ok-Import-clause-output g c limit =
+    let ran = c.import.ensures in
+    (ran.0, ran.1, rw (c.in-Ok-Import.ensures.ok, c.in-Ok-Import.field-0-is) ran.2)
