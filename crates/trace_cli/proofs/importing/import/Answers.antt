@@ -1,5 +1,5 @@
 -- Memory to ask with was refused, or the import is as it was asked for.
-use Rattle.std.proofs.Common.{rules, ◌≡◌, refl, inl, inr}
+use Rattle.std.proofs.Common.{rules, refl, inl, inr}
 use Rattle.trace_report.proofs.Endings.{keeps, text_of}
 use Rattle.trace_cli.proofs.importing.import.Goals as goal
 
