@@ -1,14 +1,12 @@
 //! Texts that are refused, each for its first fault.
-use crate::running::{PLAIN, expect, refused, taken};
-use import_scope::Define;
+use crate::running::{PLAIN, expect, refused};
 use profile_import::ImportOptions;
 use std::process::Abort;
 use std::test::Fail;
-use subject_rules::Subject;
 
-/// Faults of the grammar.
+/// Texts that no grammar takes.
 #[test]
-fn grammar(rt: HostRuntime) -> Result<(), Fail> {
+fn syntax(rt: HostRuntime) -> Result<(), Fail> {
     expect(
         &rt,
         rt.alloc(),
@@ -20,6 +18,28 @@ fn grammar(rt: HostRuntime) -> Result<(), Fail> {
             ),
             refused(
                 PLAIN,
+                "profile p {\n/a r\n}\n",
+                "refused: import 1 at 3:1\n",
+            ),
+            refused(PLAIN, "", "refused: import 1 at 1:1\n"),
+            refused(
+                PLAIN,
+                "profile p {\nr a,\n}\n",
+                "refused: import 1 at 2:3\n",
+            ),
+        ],
+    )
+}
+
+/// Includes are for AppArmor's own parser.
+#[test]
+fn includes(rt: HostRuntime) -> Result<(), Fail> {
+    expect(
+        &rt,
+        rt.alloc(),
+        &[
+            refused(
+                PLAIN,
                 "profile p {\n#include <x>\n}\n",
                 "refused: import 2 at 2:1\n",
             ),
@@ -28,6 +48,17 @@ fn grammar(rt: HostRuntime) -> Result<(), Fail> {
                 "profile p {\ninclude if exists <x>\n}\n",
                 "refused: import 2 at 2:1\n",
             ),
+        ],
+    )
+}
+
+/// Statements that are left out by name.
+#[test]
+fn statements(rt: HostRuntime) -> Result<(), Fail> {
+    expect(
+        &rt,
+        rt.alloc(),
+        &[
             refused(
                 PLAIN,
                 "profile p {\nif ${B} { /a r, }\n}\n",
@@ -45,9 +76,46 @@ fn grammar(rt: HostRuntime) -> Result<(), Fail> {
             ),
             refused(
                 PLAIN,
+                "profile p {\nquiet /a r,\n}\n",
+                "refused: import 3 at 2:1 (quiet)\n",
+            ),
+            refused(
+                PLAIN,
+                "profile p {\ndeny audit /a r,\n}\n",
+                "refused: import 3 at 2:6 (audit)\n",
+            ),
+        ],
+    )
+}
+
+/// Heads that are left out by name.
+#[test]
+fn heads(rt: HostRuntime) -> Result<(), Fail> {
+    expect(
+        &rt,
+        rt.alloc(),
+        &[
+            refused(
+                PLAIN,
                 "profile :ns:p { }\n",
                 "refused: import 3 at 1:9 (:)\n",
             ),
+            refused(
+                PLAIN,
+                "profile p flags=(foo) {\n/a r,\n}\n",
+                "refused: import 3 at 1:11 (foo)\n",
+            ),
+        ],
+    )
+}
+
+/// Permissions that can't be.
+#[test]
+fn permissions(rt: HostRuntime) -> Result<(), Fail> {
+    expect(
+        &rt,
+        rt.alloc(),
+        &[
             refused(
                 PLAIN,
                 "profile p {\n/a rwa,\n}\n",
@@ -57,16 +125,6 @@ fn grammar(rt: HostRuntime) -> Result<(), Fail> {
                 PLAIN,
                 "profile p {\n/a x,\n}\n",
                 "refused: import 4 at 2:4\n",
-            ),
-            refused(
-                PLAIN,
-                "profile p {\ndeny /a ix,\n}\n",
-                "refused: import 4 at 2:9\n",
-            ),
-            refused(
-                PLAIN,
-                "profile p {\ndeny file,\n}\n",
-                "refused: import 4 at 2:1\n",
             ),
             refused(
                 PLAIN,
@@ -80,32 +138,6 @@ fn grammar(rt: HostRuntime) -> Result<(), Fail> {
             ),
             refused(
                 PLAIN,
-                "profile p {\nquiet /a r,\n}\n",
-                "refused: import 3 at 2:1 (quiet)\n",
-            ),
-            refused(
-                PLAIN,
-                "profile p {\n/a r\n}\n",
-                "refused: import 1 at 3:1\n",
-            ),
-            refused(
-                PLAIN,
-                "profile p flags=(foo) {\n/a r,\n}\n",
-                "refused: import 3 at 1:11 (foo)\n",
-            ),
-            refused(PLAIN, "", "refused: import 1 at 1:1\n"),
-            refused(
-                PLAIN,
-                "profile p {\nr a,\n}\n",
-                "refused: import 1 at 2:3\n",
-            ),
-            refused(
-                PLAIN,
-                "profile p {\ndeny audit /a r,\n}\n",
-                "refused: import 3 at 2:6 (audit)\n",
-            ),
-            refused(
-                PLAIN,
                 "profile p {\nrlix /a -> /b,\n}\n",
                 "refused: import 4 at 2:1\n",
             ),
@@ -113,18 +145,34 @@ fn grammar(rt: HostRuntime) -> Result<(), Fail> {
     )
 }
 
-/// Faults of variables and of names, and of what is asked for.
+/// Denials that can't be.
 #[test]
-fn others(rt: HostRuntime) -> Result<(), Fail> {
+fn denials(rt: HostRuntime) -> Result<(), Fail> {
     expect(
         &rt,
         rt.alloc(),
         &[
             refused(
                 PLAIN,
-                "/p {\n profile c { /b r, }\n}\nprofile q { }\n",
-                "refused: import 11\n/p\n/p//c\nq\n",
+                "profile p {\ndeny /a ix,\n}\n",
+                "refused: import 4 at 2:9\n",
             ),
+            refused(
+                PLAIN,
+                "profile p {\ndeny file,\n}\n",
+                "refused: import 4 at 2:1\n",
+            ),
+        ],
+    )
+}
+
+/// Faults of variables.
+#[test]
+fn variables(rt: HostRuntime) -> Result<(), Fail> {
+    expect(
+        &rt,
+        rt.alloc(),
+        &[
             refused(
                 PLAIN,
                 "profile p {\n@{U}/a r,\n}\n",
@@ -144,6 +192,22 @@ fn others(rt: HostRuntime) -> Result<(), Fail> {
                 PLAIN,
                 "@{A}+=a\nprofile p {\n/a r,\n}\n",
                 "refused: import 7 at 1:1\n",
+            ),
+        ],
+    )
+}
+
+/// What is asked for isn't there.
+#[test]
+fn what_is_asked(rt: HostRuntime) -> Result<(), Fail> {
+    expect(
+        &rt,
+        rt.alloc(),
+        &[
+            refused(
+                PLAIN,
+                "/p {\n profile c { /b r, }\n}\nprofile q { }\n",
+                "refused: import 11\n/p\n/p//c\nq\n",
             ),
             refused(
                 ImportOptions {

@@ -1,14 +1,14 @@
 //! Texts that are imported, and the account of each.
-use crate::running::{PLAIN, expect, refused, taken};
+use crate::running::{PLAIN, expect, taken};
 use import_scope::Define;
 use profile_import::ImportOptions;
 use std::process::Abort;
 use std::test::Fail;
 use subject_rules::Subject;
 
-/// Qualifiers, permissions and arrows.
+/// Permissions, and words before a rule.
 #[test]
-fn rules(rt: HostRuntime) -> Result<(), Fail> {
+fn permissions(rt: HostRuntime) -> Result<(), Fail> {
     expect(
         &rt,
         rt.alloc(),
@@ -25,6 +25,29 @@ fn rules(rt: HostRuntime) -> Result<(), Fail> {
                 "profile \"p\" {\n  \"/a\" rw,\n}\n",
                 "2:1: audit: exact: audit\n2:13: file: exact: file\n2:18: capitals: exact: RW\n",
             ),
+            taken(
+                PLAIN,
+                "profile p {\n/a rix, /b Px -> q, /c mrpux, deny /d wx, unsafe /e Cx,\n}\n",
+                "profile \"p\" {\n  \"/a\" rm,\n  \"/c\" rm,\n  deny \"/d\" w,\n}\n",
+                "2:4: exec: exact: rix\n2:9: exec+target: exact: /b Px -> q,\n2:24: exec: exact: mrpux\n2:39: exec: exact: wx\n2:43: unsafe+exec: exact: unsafe /e Cx,\n",
+            ),
+            taken(
+                PLAIN,
+                "profile p {\n/a a, /b ra, deny /c a,\n}\n",
+                "profile \"p\" {\n  \"/b\" r,\n}\n",
+                "2:1: append: exact: /a a,\n2:10: append: exact: ra\n2:14: append: exact: deny /c a,\n",
+            ),
+        ],
+    )
+}
+
+/// Rules for owners and for others.
+#[test]
+fn owners(rt: HostRuntime) -> Result<(), Fail> {
+    expect(
+        &rt,
+        rt.alloc(),
+        &[
             taken(
                 PLAIN,
                 "profile p {\nowner /a rw,\ndeny owner /b w,\n}\n",
@@ -46,25 +69,13 @@ fn rules(rt: HostRuntime) -> Result<(), Fail> {
                 "profile \"p\" {\n}\n",
                 "2:1: other: narrower for others: other /a r,\n",
             ),
-            taken(
-                PLAIN,
-                "profile p {\n/a rix, /b Px -> q, /c mrpux, deny /d wx, unsafe /e Cx,\n}\n",
-                "profile \"p\" {\n  \"/a\" rm,\n  \"/c\" rm,\n  deny \"/d\" w,\n}\n",
-                "2:4: exec: exact: rix\n2:9: exec+target: exact: /b Px -> q,\n2:24: exec: exact: mrpux\n2:39: exec: exact: wx\n2:43: unsafe+exec: exact: unsafe /e Cx,\n",
-            ),
-            taken(
-                PLAIN,
-                "profile p {\n/a a, /b ra, deny /c a,\n}\n",
-                "profile \"p\" {\n  \"/b\" r,\n}\n",
-                "2:1: append: exact: /a a,\n2:10: append: exact: ra\n2:14: append: exact: deny /c a,\n",
-            ),
         ],
     )
 }
 
-/// Variables, and slashes beside them.
+/// Slashes beside variables.
 #[test]
-fn variables(rt: HostRuntime) -> Result<(), Fail> {
+fn slashes_beside_values(rt: HostRuntime) -> Result<(), Fail> {
     expect(
         &rt,
         rt.alloc(),
@@ -87,6 +98,17 @@ fn variables(rt: HostRuntime) -> Result<(), Fail> {
                 "profile \"p\" {\n  \"/{home/*/,r t/}x\" r,\n}\n",
                 "",
             ),
+        ],
+    )
+}
+
+/// Lists of values.
+#[test]
+fn lists(rt: HostRuntime) -> Result<(), Fail> {
+    expect(
+        &rt,
+        rt.alloc(),
+        &[
             taken(
                 PLAIN,
                 "@{M}=a b,c\nprofile p {\n/usr/lib/@{M}/x/ r, /{@{M},b}c r,\n}\n",
@@ -105,12 +127,32 @@ fn variables(rt: HostRuntime) -> Result<(), Fail> {
                 "profile \"p\" {\n  \"/*\" r,\n  \"/var/*\" r,\n}\n",
                 "3:11: pattern: narrower: @{R}* r,\n",
             ),
-            taken(
-                PLAIN,
-                "profile p {\n/a//b r, //a r, // r, ///a r,\n}\n",
-                "profile \"p\" {\n  \"/a/b\" r,\n  \"//a\" r,\n  \"//\" r,\n  \"/a\" r,\n}\n",
-                "2:1: slashes: exact: /a//b\n2:23: slashes: exact: ///a\n",
-            ),
+        ],
+    )
+}
+
+/// Runs of slashes in a path.
+#[test]
+fn runs_of_slashes(rt: HostRuntime) -> Result<(), Fail> {
+    expect(
+        &rt,
+        rt.alloc(),
+        &[taken(
+            PLAIN,
+            "profile p {\n/a//b r, //a r, // r, ///a r,\n}\n",
+            "profile \"p\" {\n  \"/a/b\" r,\n  \"//a\" r,\n  \"//\" r,\n  \"/a\" r,\n}\n",
+            "2:1: slashes: exact: /a//b\n2:23: slashes: exact: ///a\n",
+        )],
+    )
+}
+
+/// The profile's own name, and values that are given beforehand.
+#[test]
+fn given_values(rt: HostRuntime) -> Result<(), Fail> {
+    expect(
+        &rt,
+        rt.alloc(),
+        &[
             taken(
                 PLAIN,
                 "/usr/p {\n@{profile_name} r,\n}\n",
@@ -168,9 +210,9 @@ fn whole_rules(rt: HostRuntime) -> Result<(), Fail> {
     )
 }
 
-/// Hats, children, and what AppArmor adds.
+/// Changes of profile, and flags.
 #[test]
-fn profiles(rt: HostRuntime) -> Result<(), Fail> {
+fn changes_and_flags(rt: HostRuntime) -> Result<(), Fail> {
     expect(
         &rt,
         rt.alloc(),
@@ -181,6 +223,23 @@ fn profiles(rt: HostRuntime) -> Result<(), Fail> {
                 "profile \"p\" {\n  \"/proc/*/attr/apparmor/\" r,\n  \"/sys/module/apparmor/parameters/enabled\" r,\n  \"/proc/*/attr/{,apparmor/}{current,exec}\" w,\n}\n",
                 "2:1: change_profile: wider for others: change_profile -> q,\n",
             ),
+            taken(
+                PLAIN,
+                "profile p /usr/p flags=(complain, attach_disconnected) {\n/a r,\n}\n",
+                "profile \"p\" {\n  \"/a\" r,\n}\n",
+                "1:18: flags: narrower: flags=(complain, attach_disconnected)\n",
+            ),
+        ],
+    )
+}
+
+/// Hats and children.
+#[test]
+fn hats_and_children(rt: HostRuntime) -> Result<(), Fail> {
+    expect(
+        &rt,
+        rt.alloc(),
+        &[
             taken(
                 ImportOptions {
                     profile: Some(b"/p"),
@@ -208,12 +267,6 @@ fn profiles(rt: HostRuntime) -> Result<(), Fail> {
                 "profile \"/p//c\" {\n  \"/b\" r,\n}\n",
                 "1:1: parent: exact: /p {\n2:21: parent: exact: /a r, }\n",
             ),
-            taken(
-                PLAIN,
-                "profile p /usr/p flags=(complain, attach_disconnected) {\n/a r,\n}\n",
-                "profile \"p\" {\n  \"/a\" r,\n}\n",
-                "1:18: flags: narrower: flags=(complain, attach_disconnected)\n",
-            ),
         ],
     )
 }
@@ -239,12 +292,6 @@ fn paths(rt: HostRuntime) -> Result<(), Fail> {
             ),
             taken(
                 PLAIN,
-                "# top\n##included <x>\nprofile p {\n/a # r,\n r , # end\n}\n",
-                "profile \"p\" {\n  \"/a\" r,\n}\n",
-                "",
-            ),
-            taken(
-                PLAIN,
                 "profile p {\nr /a,b, r /c{d,e},\n}\n",
                 "profile \"p\" {\n  \"/a\\,b\" r,\n  \"/c{d,e}\" r,\n}\n",
                 "",
@@ -255,6 +302,32 @@ fn paths(rt: HostRuntime) -> Result<(), Fail> {
                 "profile \"p\" {\n  \"/a#b\" r,\n  \"/c=d\" r,\n  \"/e!\" r,\n}\n",
                 "",
             ),
+        ],
+    )
+}
+
+/// Comments.
+#[test]
+fn comments(rt: HostRuntime) -> Result<(), Fail> {
+    expect(
+        &rt,
+        rt.alloc(),
+        &[taken(
+            PLAIN,
+            "# top\n##included <x>\nprofile p {\n/a # r,\n r , # end\n}\n",
+            "profile \"p\" {\n  \"/a\" r,\n}\n",
+            "",
+        )],
+    )
+}
+
+/// What is asked for changes what is kept.
+#[test]
+fn subjects(rt: HostRuntime) -> Result<(), Fail> {
+    expect(
+        &rt,
+        rt.alloc(),
+        &[
             taken(
                 ImportOptions {
                     strict: true,
