@@ -68,11 +68,17 @@ _aa_trace() {
         return
     fi
     _aa_trace_read_words
-    if [[ $command == import && $previous == --owner && $cur != = ]]; then
+    # A = is a word of its own.
+    local before=${COMP_WORDS[COMP_CWORD > 1 ? COMP_CWORD - 2 : 0]}
+    if [[ $command == import && $cur == = && $previous == --owner ]]; then
+        _aa_trace_words 'keep drop' ''
+        return
+    fi
+    if [[ $command == import && ($previous == --owner || $previous == = && $before == --owner) ]]; then
         _aa_trace_words 'keep drop' "$cur"
         return
     fi
-    # The text of an option is nothing to complete. A = is a word of its own.
+    # The text of an option is nothing to complete.
     [[ $command == @(run|test|steps|storm|import) && ($previous == --@(capacity|sessions|opens|changes|profile|define) || $previous == = || $cur == =) ]] && return
     if [[ -z $literal && $cur == -* ]]; then
         local options='-h --help'

@@ -7,5 +7,5 @@
 mod shown;
 mod what;
 
-pub use shown::shown_text;
+pub use shown::{shown_byte, shown_text};
 pub use what::What;

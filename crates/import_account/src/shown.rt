@@ -18,8 +18,8 @@ fn is_white(byte: u8) -> bool
     matches!(byte, b' ' | b'\t' | b'\n' | b'\r')
 }
 
-/// A byte as it is shown.
-fn shown_byte(byte: u8) -> u8
+/// A byte as it is shown: a control byte as `?`, so that no text can drive a terminal by it.
+pub fn shown_byte(byte: u8) -> u8
     ensures { result ≡ shown_byte byte }
 {
     if byte < b' ' || byte == 127 {

@@ -1,6 +1,6 @@
 -- The lines by which an import says that it refuses a text: the number of the refusal's kind, the place and the word if there are such, and names.
-use Rattle.std.specs.Prelude.{ℕ, List, [], ◌++◌, codes, decimal, flat_map, Option, Some, None}
-use Rattle.import_account.specs.ShownTexts.{shown_text}
+use Rattle.std.specs.Prelude.{ℕ, List, [], ◌++◌, codes, decimal, flat_map, map, Option, Some, None}
+use Rattle.import_account.specs.ShownTexts.{shown_byte, shown_text}
 use Rattle.import_lines.specs.AccountLines.{place_text}
 use Rattle.rule_explain.specs.declared.place.Place.{Place}
 
@@ -15,9 +15,9 @@ abbrev pub word_told : Option (List ℕ) → List ℕ
 word_told (Some word) = codes " (" ++ (shown_text word ++ codes ")")
 word_told None = []
 
--- each name stands on a line of its own, as it is
+-- each name stands on a line of its own, but for its control bytes
 abbrev pub name_line : List ℕ → List ℕ
-name_line name = codes "\n" ++ name
+name_line name = codes "\n" ++ map shown_byte name
 
 -- `refused: import 3 at 2:1 (if)`; the last line has no end
 abbrev pub refusal_text : ℕ → Option Place → Option (List ℕ) → List (List ℕ) → List ℕ

@@ -1,9 +1,10 @@
 //! Why an import is refused.
 ghost use Rattle.std.specs.Prelude.{◌≡◌, ◌++◌, IfOk, codes, decimal, flat_map, map, option_map, string_bytes};
+ghost use Rattle.import_account.specs.ShownTexts.{shown_byte};
 ghost use Rattle.import_lines.specs.RefusalLines.{at_place, name_line, refusal_front, refusal_text, word_told};
 
 use crate::put::{put, put_place};
-use import_account::shown_text;
+use import_account::{shown_byte, shown_text};
 use names::NoMemory;
 use rule_explain::Place;
 use std::alloc::Global;
@@ -19,7 +20,7 @@ pub struct RefusalLine<'a> {
     pub word: Option<&'a [u8]>,
 }
 
-/// The text of a refusal: a line, and a line for each of the names. The last line has no end.
+/// The text of a refusal: a line, and a line for each of the names, with their control bytes as `?`. The last line has no end.
 pub fn refusal_text(
     alloc: Global,
     line: RefusalLine<'_>,
@@ -78,7 +79,17 @@ fn put_names(text: &mut Vec<u8>, names: &[&[u8]]) -> Result<(), NoMemory>
 {
     for name in names {
         put(text, b"\n")?;
-        put(text, name)?;
+        put_name(text, name)?;
+    }
+    Ok(())
+}
+
+/// Adds a name as it is shown.
+fn put_name(text: &mut Vec<u8>, name: &[u8]) -> Result<(), NoMemory>
+    ensures { IfOk result (λ _. text.new.items ≡ text.old.items ++ map shown_byte name.now) }
+{
+    for byte in name {
+        put(text, &[shown_byte(*byte)])?;
     }
     Ok(())
 }

@@ -209,6 +209,12 @@ fn what_is_asked(rt: HostRuntime) -> Result<(), Fail> {
                 "/p {\n profile c { /b r, }\n}\nprofile q { }\n",
                 "refused: import 11\n/p\n/p//c\nq\n",
             ),
+            // Names are shown without control bytes.
+            refused(
+                PLAIN,
+                "profile \"a\x1b[2Jb\" { }\nprofile c\x7f { }\n",
+                "refused: import 11\na?[2Jb\nc?\n",
+            ),
             refused(
                 ImportOptions {
                     strict: true,

@@ -40,6 +40,15 @@ own_name : line_of (codes "aa-trace" ∷ codes "import" ∷ codes "--define=prof
 unfolding chars
 own_name = refl
 
+-- a value with an open backslash at its end; and one in which the last backslash is taken
+open_value : line_of (codes "aa-trace" ∷ codes "import" ∷ codes "--define=a=b\\" ∷ []) ≡ None
+unfolding chars
+open_value = refl
+
+closed_value : line_of (codes "aa-trace" ∷ codes "import" ∷ codes "--define=a=b\\\\" ∷ []) ≡ Some (import_text None Keep ((codes "a", codes "b\\\\") ∷ []) false)
+unfolding chars
+closed_value = refl
+
 -- an argument
 argument : line_of (codes "aa-trace" ∷ codes "import" ∷ codes "x" ∷ []) ≡ None
 unfolding chars

@@ -185,9 +185,19 @@ begins_with_letter (b ∷ bytes) = is_ascii_alphabetic b
 abbrev pub is_variable : List ℕ → Bool
 is_variable text = begins_with_letter text && list_all is_name_byte text && not (bytes_eq text (codes "profile_name"))
 
+-- The last of these bytes is a backslash (92) that would take a byte behind it, whether one stands directly before them or not.
+abbrev pub ends_open : Bool → List ℕ → Bool
+ends_open escaped [] = escaped
+ends_open escaped (b ∷ bytes) = ends_open (not escaped && b == 92) bytes
+
+-- of a value: behind it stands what it would take with it in a path
+abbrev pub is_value : List ℕ → Bool
+is_value value = not (ends_open false value)
+
 -- what stands before the first `=` of VAR=VALUE, and what stands behind it
 abbrev pub define_cut : List ℕ × Option (List ℕ) → Option (List ℕ × List ℕ)
-define_cut cut = if is_variable cut.0 then option_map (λ value. (cut.0, value)) cut.1 else None
+define_cut cut =
+    option_and_then (λ value. if is_variable cut.0 && is_value value then Some (cut.0, value) else None) cut.1
 
 abbrev pub define_of : List ℕ → Option (List ℕ × List ℕ)
 define_of text = define_cut (name_and_value text)

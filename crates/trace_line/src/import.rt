@@ -1,8 +1,8 @@
 //! What is asked of an import.
-ghost use Rattle.std.specs.Prelude.{◌≡◌, IfOk, IfErr, is_some, Some, true, map, codes, option_map};
+ghost use Rattle.std.specs.Prelude.{◌≡◌, ◌&&◌, ◌==◌, not, IfOk, IfErr, is_some, Some, false, true, map, codes, option_map};
 ghost use Rattle.std.specs.List.{list_all};
 ghost use Rattle.clap.specs.Words.{found_of, rows_of};
-ghost use Rattle.trace_line.specs.CommandLine.{begins_with_letter, define_of, define_value, defines_of, import_value, is_name_byte, is_variable, owners_of};
+ghost use Rattle.trace_line.specs.CommandLine.{begins_with_letter, define_of, define_value, defines_of, ends_open, import_value, is_name_byte, is_value, is_variable, owners_of};
 ghost use Rattle.trace_line.specs.inner.Parser.{flag_read, import_read};
 
 use crate::line::LineFault;
@@ -25,7 +25,7 @@ pub enum OwnerRules {
 pub struct Define<'a> {
     /// A letter, and then letters, digits and `_`.
     pub variable: &'a str,
-    /// Any text.
+    /// Any text without a backslash at its end that takes nothing.
     pub value: &'a str,
 }
 
@@ -58,7 +58,7 @@ pub(crate) fn import_in<'a>(
     let Some(defines) = defines_of(alloc, texts)? else {
         return Err(text_fault(
             alloc,
-            "--define takes VAR=VALUE, where VAR is a letter and then letters, digits and _, and not profile_name",
+            "--define takes VAR=VALUE, where VAR is a letter and then letters, digits and _, and not profile_name, and no open backslash ends VALUE",
         ));
     };
     Ok(ImportOptions {
@@ -121,11 +121,17 @@ fn define_of<'a>(text: &'a str) -> Option<Define<'a>>
     ensures { option_map define_value result ≡ define_of text.now }
 {
     let (variable, value) = text.split_once('=')?;
-    if is_variable(variable) {
+    if may_be_defined(variable, value) {
         Some(Define { variable, value })
     } else {
         None
     }
+}
+
+fn may_be_defined(variable: &str, value: &str) -> bool
+    ensures { result ≡ (is_variable variable.now && is_value value.now) }
+{
+    is_variable(variable) && is_value(value)
 }
 
 /// The text is a letter and then letters, digits and `_`, and not `profile_name`.
@@ -134,6 +140,31 @@ fn is_variable(text: &str) -> bool
 {
     let bytes = text.as_bytes();
     begins_with_letter(bytes) && are_name_bytes(bytes) && text != "profile_name"
+}
+
+/// The text doesn't end with a backslash that would take what stands behind the variable in a path.
+fn is_value(text: &str) -> bool
+    ensures { result ≡ is_value text.now }
+{
+    !ends_open(text.as_bytes())
+}
+
+/// Whether the last of the bytes is a backslash that no other one takes.
+fn ends_open(bytes: &[u8]) -> bool
+    ensures { result ≡ ends_open false bytes.now }
+{
+    let mut escaped = false;
+    for byte in bytes {
+        escaped = escapes(escaped, *byte);
+    }
+    escaped
+}
+
+/// The byte is a backslash, and none takes it.
+fn escapes(escaped: bool, byte: u8) -> bool
+    ensures { result ≡ (not escaped && byte == 92) }
+{
+    !escaped && byte == b'\\'
 }
 
 fn begins_with_letter(bytes: &[u8]) -> bool

@@ -1,6 +1,7 @@
 //! Imports, by the words of the command line.
 use crate::tests::{
-    PASSWD, Pieces, expect_lines, expect_usages, run, run_into_failing, run_on_pieces,
+    Failing, PASSWD, Pieces, expect_lines, expect_usages, run, run_into_failing, run_on_pieces,
+    run_within,
 };
 use std::alloc::Global;
 use std::io::ErrorKind;
@@ -79,6 +80,8 @@ fn import_lines_that_are_not_followed(rt: HostRuntime) -> Result<(), Fail> {
             "aa-trace|import|--define|A",
             "aa-trace|import|--define|1=x",
             "aa-trace|import|--define|profile_name=x",
+            "aa-trace|import|--define|A=x\\",
+            "aa-trace|import|--define|A=\\\\\\",
             "aa-trace|import|--strict|--strict",
             "aa-trace|import|--strict=yes",
             "aa-trace|import|--profile",
@@ -154,6 +157,27 @@ fn imports_that_are_cut_off(rt: HostRuntime) {
             b"refused: output\n"
         )
     );
+}
+
+/// The profile stands where only its account couldn't be written, or not all of it.
+#[test]
+fn accounts_that_are_cut_off(rt: HostRuntime) {
+    let alloc = rt.alloc();
+    for (calls, written) in &[(0, ""), (1, "2:3: ")] {
+        let mut input = HOMES.as_bytes();
+        let faults = Failing::after(alloc, 5, *calls);
+        let words = ["aa-trace", "import", "--profile=p", "--define=H=/h/"];
+        let ending = run_within(
+            &rt,
+            alloc,
+            &words,
+            &mut input,
+            Failing::never(alloc),
+            faults,
+        );
+        let answers = "profile \"p\" {\n  \"/h/.x\" rw,\n}\n";
+        assert!(rt; ending.is(Status::FaultsFailed, answers.as_bytes(), written.as_bytes()));
+    }
 }
 
 #[test]
