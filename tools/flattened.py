@@ -41,10 +41,16 @@ def comment_of(body):
             at += 1
         elif byte == b'"':
             quoted = not quoted
-        elif byte == b"#" and not quoted and (at == 0 or body[at - 1:at] in (b" ", b"\t", b",", b"{", b"}")):
+        elif byte == b"#" and not quoted and begins_comment(body[:at]):
             return at
         at += 1
     return len(body)
+
+
+def begins_comment(before):
+    """A # behind these bytes of a line begins a comment: behind a word that goes on it doesn't, and a brace may be of a group."""
+    last, earlier = before[-1:], before[:-1]
+    return last in (b"", b" ", b"\t", b",") or last in (b"{", b"}") and earlier[-1:] in (b"", b" ", b"\t", b"\"")
 
 
 class Token:
