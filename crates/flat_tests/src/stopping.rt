@@ -73,6 +73,7 @@ fn outside(rt: HostRuntime) -> Result<(), Fail> {
             ("profile \"\" { }", 9, Why::Syntax, ""),
             ("profile { }", 8, Why::Syntax, ""),
             ("profile p :a { }", 10, Why::LeftOut, ":"),
+            ("profile p \":x\" {", 11, Why::LeftOut, ":"),
             ("profile p flags=(foo) { }", 10, Why::LeftOut, "foo"),
             ("profile p flags=(audit foo) { }", 10, Why::LeftOut, "foo"),
             ("profile p xattrs=(\"a {", 22, Why::Syntax, ""),

@@ -16,7 +16,7 @@ use Rattle.flat_words.specs.Blanks.{is_blank}
 use Rattle.flat_words.specs.Steps.{Stop, left_out, ◌>>=◌, fault_here, syntax_here}
 use Rattle.flat_text.specs.Readings.{Reading, taken, taken_to}
 use Rattle.flat_words.specs.Words.{is_path, is_colon}
-use Rattle.flat_text.specs.WordParts.{blank_part, gap_part, word_part, path_part, literal_part, name_part}
+use Rattle.flat_text.specs.WordParts.{blank_part, gap_part, word_part, path_part, literal_part, name_part, within_quotes}
 use Rattle.flat_words.specs.Statements.{nothing_open, statement_step, statement_at, past_word, past_byte, past_equals, is_space, boolean_at}
 use Rattle.flat_text.specs.Statements.{statement_part, boolean_part}
 use Rattle.flat_words.specs.Conditions.{past_condition, past_parentheses, unknown_flag}
@@ -74,7 +74,7 @@ attachment_goes : (s t : Reading) → attachment_part s ≡ Ok t → Goes s t
 attachment_goes s t e =
     elim (chosen (is_path s.rest) _ _ _ e) [
       | inl h ↦ (word_shortens parts.Attachment (λ b. absurd cc) s t h.1).goes
-      | inr h ↦ elim (chosen (begins is_colon s.rest) _ _ _ h.1) [
+      | inr h ↦ elim (chosen (begins is_colon (within_quotes s.rest)) _ _ _ h.1) [
         | inl g ↦ absurd (not_ok _ t g.1)
         | inr g ↦ subst (λ u. Goes s u) (ok_is s t g.1) (going_stays s)
       ]

@@ -9,7 +9,7 @@ use Rattle.flat_words.specs.Conditions.{past_parentheses, past_condition, unknow
 use Rattle.flat_words.specs.Words.{is_path, is_colon}
 use Rattle.flat_text.specs.declared.part.PartKind.TheVariants as parts
 use Rattle.flat_text.specs.Readings.{Reading, taken, taken_to}
-use Rattle.flat_text.specs.WordParts.{blank_part, word_part, name_part, literal_part}
+use Rattle.flat_text.specs.WordParts.{blank_part, word_part, name_part, literal_part, within_quotes}
 
 -- ---- conditions
 
@@ -30,11 +30,11 @@ condition_part s =
 
 -- ---- headers
 
--- an attachment, if one stands here
+-- An attachment, if one stands here. None begins with a colon, in quotes or not.
 abbrev pub attachment_part : Reading → Result Reading Stop
 attachment_part s =
     if is_path s.rest then word_part parts.Attachment s
-    else if begins is_colon s.rest then fault_here (left_out (codes ":")) s.rest
+    else if begins is_colon (within_quotes s.rest) then fault_here (left_out (codes ":")) (within_quotes s.rest)
     else Ok s
 
 -- behind the name and the attachment: at most two conditions, and the brace

@@ -1,10 +1,8 @@
 //! Assignments to variables.
 
 use crate::part::PartKind;
-use crate::reader::Reader;
-use flat_words::{
-    Failure, StopKind, after_separators, after_use, after_white, fault_here, line_ends,
-};
+use crate::reader::{Reader, failure_here};
+use flat_words::{Failure, StopKind, after_separators, after_use, after_white, line_ends};
 
 impl<'t> Reader<'t> {
     ghost use Rattle.std.specs.Prelude.{suc, length};
@@ -59,7 +57,7 @@ impl<'t> Reader<'t> {
         ensures { Gives (λ _. self.new) result (assignment_part self.old) }
     {
         let Some(rest) = after_use(self.rest()) else {
-            return Err(fault_here(StopKind::Syntax, self.rest()));
+            return Err(failure_here(StopKind::Syntax, self.rest()));
         };
         self.take_to(PartKind::Variable, rest)?;
         self.take_to(PartKind::Blank, after_white(self.rest()))?;

@@ -1,9 +1,9 @@
 //! What stands before the rules of a profile, of a child or of a hat.
 
 use crate::part::PartKind;
-use crate::reader::Reader;
+use crate::reader::{Reader, failure_here, within_quotes};
 use flat_words::{
-    Failure, StopKind, after_condition, after_parentheses, fault_here, is_path, is_word, past_word,
+    Failure, StopKind, after_condition, after_parentheses, is_path, is_word, past_word,
     unknown_flag,
 };
 
@@ -19,7 +19,7 @@ impl<'t> Reader<'t> {
         let (list, _) = bytes.split_at(bytes.len().saturating_sub(rest.len()));
         match unknown_flag(list) {
             None => self.take_to(PartKind::Flags, rest),
-            Some(word) => Err(fault_here(StopKind::LeftOut(word), bytes)),
+            Some(word) => Err(failure_here(StopKind::LeftOut(word), bytes)),
         }
     }
 
@@ -39,14 +39,15 @@ impl<'t> Reader<'t> {
         }
     }
 
-    /// An attachment, if one stands here.
+    /// An attachment, if one stands here. One that begins with a colon would be the name of a namespace.
     fn attachment(&mut self) -> Result<(), Failure<'t>>
         ensures { Gives (λ _. self.new) result (attachment_part self.old) }
     {
+        let inside = within_quotes(self.rest());
         if is_path(self.rest()) {
             self.word(PartKind::Attachment)
-        } else if self.rest().starts_with(b":") {
-            Err(fault_here(StopKind::LeftOut(b":"), self.rest()))
+        } else if inside.starts_with(b":") {
+            Err(failure_here(StopKind::LeftOut(b":"), inside))
         } else {
             Ok(())
         }

@@ -1,5 +1,5 @@
 //! The parts of an item that is being read, and the bytes that are left.
-ghost use Rattle.std.specs.Prelude.{◌≡◌, [], Ok};
+ghost use Rattle.std.specs.Prelude.{◌≡◌, [], Ok, length};
 ghost use Rattle.flat_words.specs.Gives.{Gives};
 ghost use Rattle.flat_text.specs.Readings.{taken, taken_to};
 ghost use Rattle.flat_text.specs.WordParts.{blank_part, gap_part, word_part, path_part, literal_part, name_part, within_quotes, begins_no_name};
@@ -26,7 +26,7 @@ impl<'t> Model for Reader<'t> {
 }
 
 /// What stands here, behind a quote if one does.
-fn within_quotes(bytes: &[u8]) -> &[u8]
+pub(crate) fn within_quotes(bytes: &[u8]) -> &[u8]
     ensures { result.now ≡ within_quotes bytes.now }
 {
     match bytes {
@@ -40,6 +40,13 @@ fn begins_no_name(bytes: &[u8]) -> bool
     ensures { result ≡ begins begins_no_name bytes.now }
 {
     matches!(bytes, [b'{' | b'}' | b',' | b'(', ..])
+}
+
+/// The fault at the first of these bytes, as why something was not read.
+pub(crate) fn failure_here<'t>(kind: StopKind<'t>, bytes: &[u8]) -> Failure<'t>
+    ensures { result ≡ Failure.At (record { kind = kind.entry; left = length bytes.now }) }
+{
+    Failure::At(fault_here(kind, bytes))
 }
 
 impl<'t> Reader<'t> {
@@ -102,7 +109,7 @@ impl<'t> Reader<'t> {
         if begins_gap(self.rest) {
             self.blank()
         } else {
-            Err(fault_here(StopKind::Syntax, self.rest))
+            Err(failure_here(StopKind::Syntax, self.rest))
         }
     }
 
@@ -121,7 +128,7 @@ impl<'t> Reader<'t> {
         if is_path(self.rest) {
             self.word(kind)
         } else {
-            Err(fault_here(StopKind::Syntax, within_quotes(self.rest)))
+            Err(failure_here(StopKind::Syntax, within_quotes(self.rest)))
         }
     }
 
@@ -132,7 +139,7 @@ impl<'t> Reader<'t> {
         if self.rest.starts_with(literal) {
             self.take(kind, literal.len())
         } else {
-            Err(fault_here(StopKind::Syntax, self.rest))
+            Err(failure_here(StopKind::Syntax, self.rest))
         }
     }
 
@@ -142,9 +149,9 @@ impl<'t> Reader<'t> {
     {
         let inside = within_quotes(self.rest);
         match inside {
-            [b':', ..] => Err(fault_here(StopKind::LeftOut(b":"), inside)),
-            [b'"', ..] => Err(fault_here(StopKind::Syntax, inside)),
-            _ if begins_no_name(self.rest) => Err(fault_here(StopKind::Syntax, self.rest)),
+            [b':', ..] => Err(failure_here(StopKind::LeftOut(b":"), inside)),
+            [b'"', ..] => Err(failure_here(StopKind::Syntax, inside)),
+            _ if begins_no_name(self.rest) => Err(failure_here(StopKind::Syntax, self.rest)),
             _ => self.word(kind),
         }
     }

@@ -1,13 +1,15 @@
 //! File rules, and what else begins with a rule's qualifiers.
-ghost use Rattle.std.specs.Prelude.{◌≡◌, ℕ, length};
+ghost use Rattle.std.specs.Prelude.{◌≡◌, length};
 ghost use Rattle.rule_reader.specs.TextBytes.{begins, is_arrow};
+ghost use Rattle.rule_reader.specs.ReadWords.{word};
+ghost use Rattle.flat_words.specs.Steps.{left_out};
 ghost use Rattle.flat_words.specs.Stops.{stop_value};
-ghost use Rattle.flat_text.specs.Rules.{permissions_word, word_left_out, begins_path_word};
-ghost use Rattle.flat_words.specs.Gives.{Fails, Gives};
+ghost use Rattle.flat_text.specs.Rules.{permissions_word, begins_path_word};
+ghost use Rattle.flat_words.specs.Gives.{Reads};
 ghost use Rattle.flat_text.specs.Rules.{links_and_runs};
 
 use crate::part::{ItemKind, PartKind};
-use crate::reader::Reader;
+use crate::reader::{Reader, failure_here};
 use flat_words::{
     Failure, Letters, Stop, StopKind, after_blank, after_word, fault_here, is_statement, is_word,
     letter_word, letters_of,
@@ -15,8 +17,8 @@ use flat_words::{
 use names::Permission;
 
 /// The word that stands here is not supported.
-pub(crate) fn word_left_out(bytes: &[u8]) -> Failure<'_>
-    ensures { Fails {Y = ℕ} result (word_left_out bytes.now) }
+pub(crate) fn word_left_out(bytes: &[u8]) -> Stop<'_>
+    ensures { stop_value result ≡ record { kind = left_out (word bytes.now); left = length bytes.now } }
 {
     fault_here(StopKind::LeftOut(letter_word(bytes)), bytes)
 }
@@ -33,15 +35,15 @@ fn permissions_word<'t>(
     denies: bool,
     unknown: Stop<'t>,
     bytes: &'t [u8],
-) -> Result<Letters, Failure<'t>>
-    ensures { Gives (λ x. x) result (permissions_word denies (stop_value unknown.entry) bytes.now) }
+) -> Result<Letters, Stop<'t>>
+    ensures { Reads (λ x. x) result (permissions_word denies (stop_value unknown.entry) bytes.now) }
 {
     let word = letter_word(bytes);
     if word.is_empty() {
         return Err(fault_here(StopKind::Syntax, bytes));
     }
     match letters_of(word) {
-        None => Err(Failure::At(unknown)),
+        None => Err(unknown),
         Some(letters) if letters.are_fitting(denies) => Ok(letters),
         Some(_) => Err(fault_here(StopKind::Permissions, bytes)),
     }
@@ -175,7 +177,7 @@ impl<'t> Reader<'t> {
         self.path(PartKind::Path)?;
         self.blank()?;
         if is_arrow(self.rest()) && links_and_runs(letters) {
-            return Err(fault_here(StopKind::Permissions, start));
+            return Err(failure_here(StopKind::Permissions, start));
         }
         self.rule_end()
     }
@@ -189,8 +191,8 @@ impl<'t> Reader<'t> {
         match rest {
             [b'/' | b'@' | b'"', ..] => self.path_first(denies),
             _ if !letter_word(rest).is_empty() => self.permissions_first(denies),
-            [b'{' | b'$', ..] => Err(fault_here(StopKind::LeftOut(&rest[..1]), rest)),
-            _ => Err(fault_here(StopKind::Syntax, rest)),
+            [b'{' | b'$', ..] => Err(failure_here(StopKind::LeftOut(&rest[..1]), rest)),
+            _ => Err(failure_here(StopKind::Syntax, rest)),
         }
     }
 
@@ -232,7 +234,7 @@ impl<'t> Reader<'t> {
         self.path(PartKind::Path)?;
         self.blank()?;
         if !is_arrow(self.rest()) {
-            return Err(fault_here(StopKind::Syntax, self.rest()));
+            return Err(failure_here(StopKind::Syntax, self.rest()));
         }
         self.target()?;
         self.comma()
@@ -245,7 +247,7 @@ impl<'t> Reader<'t> {
     {
         let rest = self.rest();
         if is_word(b"include", rest) {
-            return Err(fault_here(StopKind::Include, rest));
+            return Err(failure_here(StopKind::Include, rest));
         }
         if is_statement(rest) {
             self.statement()?;

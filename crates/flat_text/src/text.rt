@@ -5,10 +5,10 @@ ghost use Rattle.flat_words.specs.Stops.{stop_value};
 ghost use Rattle.flat_words.specs.Gives.{Gives};
 
 use crate::part::{Item, ItemKind, PartKind};
-use crate::reader::Reader;
+use crate::reader::{Reader, failure_here};
 use crate::rule::word_left_out;
 use flat_words::{
-    Failure, Stop, StopKind, begins_gap, fault_here, is_assignment, is_path, is_word, letter_word,
+    Failure, Stop, StopKind, begins_gap, is_assignment, is_path, is_word, letter_word,
 };
 use names::NoMemory;
 use std::alloc::Global;
@@ -64,7 +64,7 @@ impl<'t> Reader<'t> {
         let rest = self.rest();
         if is_assignment(rest) {
             if begun {
-                return Err(fault_here(StopKind::Syntax, rest));
+                return Err(failure_here(StopKind::Syntax, rest));
             }
             self.assignment()?;
             return Ok(ItemKind::Assignment);
@@ -78,7 +78,7 @@ impl<'t> Reader<'t> {
             return Ok(ItemKind::Statement);
         }
         if is_word(b"include", rest) {
-            return Err(fault_here(StopKind::Include, rest));
+            return Err(failure_here(StopKind::Include, rest));
         }
         if is_word(b"profile", rest) {
             self.profile_head()?;
@@ -89,9 +89,9 @@ impl<'t> Reader<'t> {
             return Ok(ItemKind::Statement);
         }
         if letter_word(rest).is_empty() {
-            return Err(fault_here(StopKind::Syntax, rest));
+            return Err(failure_here(StopKind::Syntax, rest));
         }
-        Err(word_left_out(rest))
+        Err(Failure::At(word_left_out(rest)))
     }
 
     /// What begins here, which is not the text's end.

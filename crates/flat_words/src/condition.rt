@@ -4,15 +4,15 @@ ghost use Rattle.rule_reader.specs.TextBytes.{is_white};
 ghost use Rattle.rule_reader.specs.ReadWords.{leading, after};
 ghost use Rattle.flat_words.specs.Conditions.{parentheses_at, past_parentheses, past_condition, parts_flags, is_flag, is_flag_byte, allowing_flags, unknown_flag};
 ghost use Rattle.flat_words.specs.Statements.{is_one_of};
-ghost use Rattle.flat_words.specs.Gives.{Gives};
+ghost use Rattle.flat_words.specs.Gives.{Reads};
 
 use crate::bytes::is_white;
-use crate::stop::{Failure, StopKind, fault_here};
+use crate::stop::{Stop, StopKind, fault_here};
 use crate::words::{is_one_of, past_byte};
 
 /// What is left after the closing parenthesis, where the opening one was read.
-fn after_inside(bytes: &[u8]) -> Result<&[u8], Failure<'_>>
-    ensures { Gives (λ x. x.now) result (parentheses_at false false bytes.now) }
+fn after_inside(bytes: &[u8]) -> Result<&[u8], Stop<'_>>
+    ensures { Reads (λ x. x.now) result (parentheses_at false false bytes.now) }
 {
     let mut rest = bytes;
     let mut quoted = false;
@@ -32,8 +32,8 @@ fn after_inside(bytes: &[u8]) -> Result<&[u8], Failure<'_>>
 }
 
 /// What is left after parentheses.
-pub fn after_parentheses(bytes: &[u8]) -> Result<&[u8], Failure<'_>>
-    ensures { Gives (λ x. x.now) result (past_parentheses bytes.now) }
+pub fn after_parentheses(bytes: &[u8]) -> Result<&[u8], Stop<'_>>
+    ensures { Reads (λ x. x.now) result (past_parentheses bytes.now) }
 {
     after_inside(past_byte(b'(', bytes)?)
 }
@@ -52,8 +52,8 @@ pub fn after_white(bytes: &[u8]) -> &[u8]
 }
 
 /// What is left after `=`, with white around it, and parentheses.
-pub fn after_condition(bytes: &[u8]) -> Result<&[u8], Failure<'_>>
-    ensures { Gives (λ x. x.now) result (past_condition bytes.now) }
+pub fn after_condition(bytes: &[u8]) -> Result<&[u8], Stop<'_>>
+    ensures { Reads (λ x. x.now) result (past_condition bytes.now) }
 {
     let rest = past_byte(b'=', after_white(bytes))?;
     after_parentheses(after_white(rest))

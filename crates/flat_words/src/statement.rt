@@ -4,10 +4,10 @@ ghost use Rattle.flat_words.specs.inner.Counts.{max_count, OpensAtMostOne};
 ghost use Rattle.flat_words.specs.Statements.{is_statement, ends_statement, nothing_open, still, plain_step, statement_step, statement_at, past_equals, past_boolean_name, boolean_at};
 ghost use Rattle.rule_reader.specs.ReadWords.{after};
 ghost use Rattle.flat_words.specs.Statements.{is_space};
-ghost use Rattle.flat_words.specs.Gives.{Gives};
+ghost use Rattle.flat_words.specs.Gives.{Reads};
 
 use crate::bytes::{is_include, is_space, is_white};
-use crate::stop::{Failure, StopKind, fault_here};
+use crate::stop::{Stop, StopKind, fault_here};
 use crate::words::{is_one_of, letter_word, past_byte, past_word};
 
 /// The words that statements begin with (apparmor.d(5), "Format").
@@ -87,10 +87,10 @@ fn plain_step<'t>(
     byte: u8,
     behind: &'t [u8],
     from: &'t [u8],
-) -> Result<Option<Unclosed>, Failure<'t>>
+) -> Result<Option<Unclosed>, Stop<'t>>
     requires from { from.now ≡ byte ∷ behind.now }
     requires fit { (unclosed.parentheses + length from.now ≤ max_count) × (unclosed.braces + length from.now ≤ max_count) }
-    ensures gives { Gives (λ x. x) result (plain_step unclosed byte behind.now) }
+    ensures gives { Reads (λ x. x) result (plain_step unclosed byte behind.now) }
     ensures few { IfOk result (λ next. IfSome next (OpensAtMostOne unclosed)) }
 {
     let plain = unclosed.still(Within::Plain);
@@ -131,10 +131,10 @@ fn statement_step<'t>(
     byte: u8,
     behind: &'t [u8],
     from: &'t [u8],
-) -> Result<Option<Unclosed>, Failure<'t>>
+) -> Result<Option<Unclosed>, Stop<'t>>
     requires from { from.now ≡ byte ∷ behind.now }
     requires fit { (unclosed.parentheses + length from.now ≤ max_count) × (unclosed.braces + length from.now ≤ max_count) }
-    ensures gives { Gives (λ x. x) result (statement_step unclosed byte behind.now) }
+    ensures gives { Reads (λ x. x) result (statement_step unclosed byte behind.now) }
     ensures few { IfOk result (λ next. IfSome next (OpensAtMostOne unclosed)) }
 {
     let within = match unclosed.within {
@@ -162,8 +162,8 @@ fn statement_step<'t>(
 }
 
 /// What is left after a statement.
-pub fn after_statement(bytes: &[u8]) -> Result<&[u8], Failure<'_>>
-    ensures { Gives (λ x. x.now) result (statement_at nothing_open bytes.now) }
+pub fn after_statement(bytes: &[u8]) -> Result<&[u8], Stop<'_>>
+    ensures { Reads (λ x. x.now) result (statement_at nothing_open bytes.now) }
 {
     let mut unclosed = Unclosed {
         parentheses: 0,
@@ -195,16 +195,16 @@ fn after_spaces(bytes: &[u8]) -> &[u8]
 }
 
 /// What is left after `=` and the spaces before and behind it.
-fn after_equals(bytes: &[u8]) -> Result<&[u8], Failure<'_>>
-    ensures { Gives (λ x. x.now) result (past_equals bytes.now) }
+fn after_equals(bytes: &[u8]) -> Result<&[u8], Stop<'_>>
+    ensures { Reads (λ x. x.now) result (past_equals bytes.now) }
 {
     let rest = past_byte(b'=', after_spaces(bytes))?;
     Ok(after_spaces(rest))
 }
 
 /// What is left after `NAME` or `{NAME}`.
-fn after_boolean_name(bytes: &[u8]) -> Result<&[u8], Failure<'_>>
-    ensures { Gives (λ x. x.now) result (past_boolean_name bytes.now) }
+fn after_boolean_name(bytes: &[u8]) -> Result<&[u8], Stop<'_>>
+    ensures { Reads (λ x. x.now) result (past_boolean_name bytes.now) }
 {
     match bytes {
         [b'{', name @ ..] => past_byte(b'}', past_word(name)?),
@@ -213,8 +213,8 @@ fn after_boolean_name(bytes: &[u8]) -> Result<&[u8], Failure<'_>>
 }
 
 /// What is left of a boolean whose `$` was read.
-pub fn after_boolean(bytes: &[u8]) -> Result<&[u8], Failure<'_>>
-    ensures { Gives (λ x. x.now) result (boolean_at bytes.now) }
+pub fn after_boolean(bytes: &[u8]) -> Result<&[u8], Stop<'_>>
+    ensures { Reads (λ x. x.now) result (boolean_at bytes.now) }
 {
     past_word(after_equals(after_boolean_name(bytes)?)?)
 }

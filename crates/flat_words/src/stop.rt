@@ -1,6 +1,6 @@
 //! Where reading stops.
 ghost use Rattle.std.specs.Prelude.{◌≡◌, length};
-ghost use Rattle.flat_words.specs.declared.stop.Failure.TheVariants.{NoMemory};
+ghost use Rattle.flat_words.specs.declared.stop.Failure.TheVariants.{NoMemory, At};
 
 use std::alloc::{AllocError, AllocFailed};
 
@@ -24,7 +24,7 @@ pub struct Stop<'t> {
     pub left: usize,
 }
 
-/// Why a part of a text was not read.
+/// Why something of a text was not read, where reading it takes memory.
 #[derive(Drop)]
 pub enum Failure<'t> {
     /// Memory was refused.
@@ -49,12 +49,20 @@ impl<'t, T: Drop> From<AllocFailed<T>> for Failure<'t> {
     }
 }
 
+impl<'t> From<Stop<'t>> for Failure<'t> {
+    ghost from_gives = { λ stop e. e ≡ At stop };
+
+    fn from(stop: Stop<'t>) -> Failure<'t> {
+        Failure::At(stop)
+    }
+}
+
 /// The fault at the first of these bytes.
-pub fn fault_here<'t>(kind: StopKind<'t>, bytes: &[u8]) -> Failure<'t>
-    ensures { result ≡ Failure.At (record { kind = kind.entry; left = length bytes.now }) }
+pub fn fault_here<'t>(kind: StopKind<'t>, bytes: &[u8]) -> Stop<'t>
+    ensures { result ≡ record { kind = kind.entry; left = length bytes.now } }
 {
-    Failure::At(Stop {
+    Stop {
         kind,
         left: bytes.len(),
-    })
+    }
 }

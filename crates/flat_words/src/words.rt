@@ -4,15 +4,15 @@ ghost use Rattle.rule_reader.specs.TextBytes.{begins, opens_blank, is_word_byte}
 ghost use Rattle.rule_reader.specs.ReadWords.{leading, word, after_word, is_word};
 ghost use Rattle.flat_words.specs.Statements.{is_one_of, past_byte, past_word};
 ghost use Rattle.flat_words.specs.Steps.{syntax};
-ghost use Rattle.flat_words.specs.Gives.{Gives};
+ghost use Rattle.flat_words.specs.Gives.{Reads};
 ghost use Rattle.flat_words.specs.Words.{blank_at, comma_ends, bare_at, quoted_at, word_end, begins_path, is_path};
 
 use crate::bytes::{is_include, is_white};
-use crate::stop::{Failure, StopKind, fault_here};
+use crate::stop::{Stop, StopKind, fault_here};
 
 /// What is left after any white and comments.
-pub fn after_blank(bytes: &[u8]) -> Result<&[u8], Failure<'_>>
-    ensures { Gives (λ x. x.now) result (blank_at false bytes.now) }
+pub fn after_blank(bytes: &[u8]) -> Result<&[u8], Stop<'_>>
+    ensures { Reads (λ x. x.now) result (blank_at false bytes.now) }
 {
     let mut rest = bytes;
     let mut comment = false;
@@ -50,8 +50,8 @@ fn comma_ends(behind: &[u8]) -> bool
 }
 
 /// What is left after a bare word.
-fn after_bare(bytes: &[u8]) -> Result<&[u8], Failure<'_>>
-    ensures { Gives (λ x. x.now) result (bare_at false bytes.now) }
+fn after_bare(bytes: &[u8]) -> Result<&[u8], Stop<'_>>
+    ensures { Reads (λ x. x.now) result (bare_at false bytes.now) }
 {
     let mut rest = bytes;
     let mut escaped = false;
@@ -70,8 +70,8 @@ fn after_bare(bytes: &[u8]) -> Result<&[u8], Failure<'_>>
 }
 
 /// What is left after a word in quotes, of which the first was read.
-fn after_quoted(bytes: &[u8]) -> Result<&[u8], Failure<'_>>
-    ensures { Gives (λ x. x.now) result (quoted_at false bytes.now) }
+fn after_quoted(bytes: &[u8]) -> Result<&[u8], Stop<'_>>
+    ensures { Reads (λ x. x.now) result (quoted_at false bytes.now) }
 {
     let mut rest = bytes;
     let mut behind_backslash = false;
@@ -88,8 +88,8 @@ fn after_quoted(bytes: &[u8]) -> Result<&[u8], Failure<'_>>
 
 /// What is left after a word, in quotes or of at least one byte.
 #[tactic(auto, unfolding(crate::specs::Words::word_end))]
-pub fn after_word(bytes: &[u8]) -> Result<&[u8], Failure<'_>>
-    ensures { Gives (λ x. x.now) result (word_end bytes.now) }
+pub fn after_word(bytes: &[u8]) -> Result<&[u8], Stop<'_>>
+    ensures { Reads (λ x. x.now) result (word_end bytes.now) }
 {
     if let [b'"', inside @ ..] = bytes {
         return after_quoted(inside);
@@ -171,8 +171,8 @@ pub fn is_word(wanted: &[u8], bytes: &[u8]) -> bool
 }
 
 /// What is left after the word that stands here.
-pub fn past_word(bytes: &[u8]) -> Result<&[u8], Failure<'_>>
-    ensures { Gives (λ x. x.now) result (past_word bytes.now) }
+pub fn past_word(bytes: &[u8]) -> Result<&[u8], Stop<'_>>
+    ensures { Reads (λ x. x.now) result (past_word bytes.now) }
 {
     match cut_word(bytes) {
         Some((_, rest)) => Ok(rest),
@@ -181,8 +181,8 @@ pub fn past_word(bytes: &[u8]) -> Result<&[u8], Failure<'_>>
 }
 
 /// What is left after this byte.
-pub fn past_byte(byte: u8, bytes: &[u8]) -> Result<&[u8], Failure<'_>>
-    ensures { Gives (λ x. x.now) result (past_byte byte bytes.now) }
+pub fn past_byte(byte: u8, bytes: &[u8]) -> Result<&[u8], Stop<'_>>
+    ensures { Reads (λ x. x.now) result (past_byte byte bytes.now) }
 {
     match bytes {
         [first, rest @ ..] if *first == byte => Ok(rest),
