@@ -1,5 +1,5 @@
 //! The items of a text, cut into spans one by one.
-ghost use Rattle.std.specs.Prelude.{◌≡◌, ◌+◌, ◌++◌, ◌∷◌, [], IfOk, true, false};
+ghost use Rattle.std.specs.Prelude.{◌≡◌, ◌≤◌, ◌+◌, ◌^◌, ◌++◌, ◌∷◌, [], IfOk, OnErr, true, false};
 ghost use Rattle.import_cut.specs.CutStates.{at_start, pass, put, enter, opened, closed, with_hat, with_change, passed, put_item, put_parts};
 ghost use Rattle.import_cut.specs.Cutting.{run_effect, run_kind, behind_run, start_run, chosen_head, outer_head, run_head, child_head, run_close, chosen_close, statement_item, outer_item, run_item, chosen_item, plain_item, is_chosen, is_chosen_rule, cut_item, finished};
 ghost use Rattle.import_cut.specs.declared.reading.RuleReading.{RuleReading};
@@ -87,7 +87,8 @@ pub struct CutText {
 
 /// There is no memory for more than can be counted.
 fn sum(one: usize, other: usize) -> Result<usize, NoMemory>
-    ensures { IfOk result (λ sum. sum ≡ one + other) }
+    ensures ok { IfOk result (λ sum. sum ≡ one + other) }
+    ensures err { OnErr result (2 ^ 64 ≤ one + other) }
 {
     one.checked_add(other).ok_or(NoMemory)
 }

@@ -1,5 +1,5 @@
 -- The first fault of a flattened text beside its grammar, in reading order.
-use Rattle.std.specs.Prelude.{◌≡◌, ℕ, ◌+◌, List, [], ◌∷◌, ◌++◌, Option, Some, None, option_map}
+use Rattle.std.specs.Prelude.{◌≡◌, ℕ, ◌+◌, List, [], ◌∷◌, Option, Some, None, option_map}
 use Rattle.flat_text.specs.declared.part.ItemKind.{ItemKind}
 use Rattle.flat_text.specs.declared.part.ItemKind.TheVariants as items
 use Rattle.flat_text.specs.Parts.{PartValue, ItemValue}
@@ -10,9 +10,9 @@ use Rattle.profile_variables.specs.Variables.{Variable}
 use Rattle.import_scope.specs.ItemWords.{bytes_before}
 use Rattle.import_scope.specs.Scopes.{ScopeState, Fault, in_path, profile_name, innermost, behind, head_fault}
 
--- the variables as they are in a profile of that full name: these, and profile_name
+-- the variables as they are in a profile of that full name: profile_name, and then these
 abbrev pub variables_within : List Variable → List ℕ → List Variable
-variables_within variables name = variables ++ (record { name = profile_name; values = name ∷ [] } ∷ [])
+variables_within variables name = record { name = profile_name; values = name ∷ [] } ∷ variables
 
 -- a rule's path, the variables that are known to it, and how many bytes of the text stand before it
 pub record Question : Type 0 where

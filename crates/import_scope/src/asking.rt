@@ -1,5 +1,6 @@
 //! The pass over the paths that are asked.
-ghost use Rattle.std.specs.Prelude.{◌≡◌, IfOk, IfSome, map, option_map};
+ghost use Rattle.std.specs.Prelude.{◌≡◌, List, IfOk, OnOk, map, option_map};
+ghost use Rattle.profile_variables.specs.Variables.{Variable as DeclaredVariable};
 ghost use Rattle.import_scope.specs.FirstFaults.{variables_within};
 ghost use Rattle.import_scope.specs.Told.{fault_value};
 ghost use Rattle.import_scope.specs.inner.Outlines.{asked_value};
@@ -29,29 +30,41 @@ fn name_at(profiles: &[ProfileHead], number: usize) -> &[u8]
     }
 }
 
-/// The variables as they are in the profile of that number: those that are held, if they are held for it.
-fn seen_in<'a>(
-    alloc: Global,
-    variables: &'a [Variable<'_>],
-    profiles: &'a [ProfileHead],
-    number: usize,
-    held: Option<Seen<'a>>,
-) -> Result<Seen<'a>, AllocError>
-    requires { IfSome held (λ s. s.lists ≡ variables_within variables.now (name_at profiles.now s.profile)) }
-    ensures profile { IfOk result (λ s. s.profile ≡ number) }
-    ensures lists { IfOk result (λ s. s.lists ≡ variables_within variables.now (name_at profiles.now number)) }
-{
-    if let Some(seen) = held {
-        if seen.profile == number {
-            return Ok(seen);
+impl<'a> Seen<'a> {
+    /// As they are in the first profile.
+    fn at_first(
+        alloc: Global,
+        variables: &'a [Variable<'_>],
+        profiles: &'a [ProfileHead],
+    ) -> Result<Seen<'a>, AllocError>
+        ensures { IfOk result (λ s. s.lists ≡ variables_within variables.now (name_at profiles.now s.profile)) }
+    {
+        match lists_of(alloc, variables, name_at(profiles, 0)) {
+            Ok(lists) => Ok(Seen { profile: 0, lists }),
+            Err(_) => Err(AllocError),
         }
     }
-    match lists_of(alloc, variables, name_at(profiles, number)) {
-        Ok(lists) => Ok(Seen {
-            profile: number,
-            lists,
-        }),
-        Err(_) => Err(AllocError),
+
+    /// Makes of them what they are in the profile of that number.
+    fn go_to(
+        &mut self,
+        alloc: Global,
+        profiles: &'a [ProfileHead],
+        number: usize,
+    ) -> Result<(), AllocError>
+        ensures profile { OnOk result (self.new.profile ≡ number) }
+        ensures lists { OnOk result ((variables : List DeclaredVariable) → self.old.lists ≡ variables_within variables (name_at profiles.now self.old.profile) → self.new.lists ≡ variables_within variables (name_at profiles.now number)) }
+    {
+        if self.profile == number {
+            return Ok(());
+        }
+        match self.lists.set_first(alloc, name_at(profiles, number)) {
+            Ok(()) => {
+                self.profile = number;
+                Ok(())
+            }
+            Err(_) => Err(AllocError),
+        }
     }
 }
 
@@ -81,8 +94,8 @@ fn fault_of<'a>(
 
 /// The first fault of the paths, in the order in which they are asked.
 ///
-/// The lists of one profile are held at a time. So where a profile's rules go on behind a child, its lists are made again:
-/// in all at most twice as many as there are profiles.
+/// The variables are copied once, and each list is made once, but for those that need `profile_name`: they are made again
+/// where a path that needs them stands in another profile than the one that was asked before it.
 pub(crate) fn first_problem<'a>(
     alloc: Global,
     variables: &'a [Variable<'_>],
@@ -91,13 +104,12 @@ pub(crate) fn first_problem<'a>(
 ) -> Result<Option<ScopeFault>, AllocError>
     ensures { IfOk result (λ fault. FirstProblem variables.now profiles.now (map asked_value asked.now) (option_map fault_value fault)) }
 {
-    let mut held = None;
+    let mut seen = Seen::at_first(alloc, variables, profiles)?;
     for question in asked {
-        let mut seen = seen_in(alloc, variables, profiles, question.profile, held)?;
+        seen.go_to(alloc, profiles, question.profile)?;
         if let Some(fault) = fault_of(alloc, &mut seen.lists, *question)? {
             return Ok(Some(fault));
         }
-        held = Some(seen);
     }
     Ok(None)
 }

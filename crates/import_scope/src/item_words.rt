@@ -1,5 +1,5 @@
 //! What the parts of an item say.
-ghost use Rattle.std.specs.Prelude.{◌≡◌, ◌+◌, option_map, IfOk, IfSome, map};
+ghost use Rattle.std.specs.Prelude.{◌≡◌, ◌≤◌, ◌+◌, ◌^◌, option_map, IfOk, IfSome, None, map};
 ghost use Rattle.flat_rules.specs.RuleWords.{first_bytes, is_path};
 ghost use Rattle.import_scope.specs.ItemWords.{is_variable, is_name_part, bytes_at, bytes_before, variable_name, assigned_name, assigned_values, is_adding, own_name, before_name};
 
@@ -94,7 +94,8 @@ pub(crate) fn own_name<'t>(parts: &[Part<'t>]) -> &'t [u8]
 
 /// Where that name begins, in an item that stands behind so many bytes, if that can be counted.
 pub(crate) fn name_place(before: usize, parts: &[Part<'_>]) -> Option<usize>
-    ensures { IfSome result (λ place. place ≡ before + before_name parts.now) }
+    ensures some { IfSome result (λ place. place ≡ before + before_name parts.now) }
+    ensures none { result ≡ None → 2 ^ 64 ≤ before + before_name parts.now }
 {
     let word = name_part_place(before, parts)?;
     match name_bytes(parts) {
@@ -105,7 +106,8 @@ pub(crate) fn name_place(before: usize, parts: &[Part<'_>]) -> Option<usize>
 
 /// Where the word that names a profile begins.
 fn name_part_place(before: usize, parts: &[Part<'_>]) -> Option<usize>
-    ensures { IfSome result (λ place. place ≡ before + bytes_before is_name_part parts.now) }
+    ensures some { IfSome result (λ place. place ≡ before + bytes_before is_name_part parts.now) }
+    ensures none { result ≡ None → 2 ^ 64 ≤ before + bytes_before is_name_part parts.now }
 {
     let mut place = before;
     for part in parts {
@@ -119,7 +121,8 @@ fn name_part_place(before: usize, parts: &[Part<'_>]) -> Option<usize>
 
 /// Where a rule's path begins, in an item that stands behind so many bytes, if that can be counted.
 pub(crate) fn path_place(before: usize, parts: &[Part<'_>]) -> Option<usize>
-    ensures { IfSome result (λ place. place ≡ before + bytes_before is_path parts.now) }
+    ensures some { IfSome result (λ place. place ≡ before + bytes_before is_path parts.now) }
+    ensures none { result ≡ None → 2 ^ 64 ≤ before + bytes_before is_path parts.now }
 {
     let mut place = before;
     for part in parts {

@@ -23,8 +23,8 @@ pub struct Scope<'t> {
 
 /// The variables and the profiles of a text that was cut into these items, or its first fault beside its grammar.
 ///
-/// The time grows as the text, each variable being found among the others by its name; and with each profile that has rules,
-/// the variables are copied, without their bytes, and those that its paths use are put in place anew.
+/// The time grows as the text, each variable being found among the others by its name, and as the lists that the paths need:
+/// each is made once, but those that need `profile_name` in each profile anew.
 pub fn scope_of<'t>(
     alloc: Global,
     defines: &[Define<'t>],

@@ -40,14 +40,15 @@ fn variables_within<'a>(
     ensures { IfOk result (λ seen. seen.items ≡ variables_within variables.now full_name.now) }
 {
     let mut seen = Vec::new(alloc);
+    seen.push(profile_name(alloc, full_name)?)?;
     for variable in variables {
         seen.push(copied(alloc, variable)?)?;
     }
-    seen.push(profile_name(alloc, full_name)?)?;
     Ok(seen)
 }
 
-/// The variables as they are in a profile of that full name, with no list made yet: these, and `profile_name` behind them.
+/// The variables as they are in a profile of that full name, with no list made yet: `profile_name`, and then these. So
+/// `set_first` makes of them what they are in another profile.
 ///
 /// They are copied, without the bytes of their values.
 pub fn lists_of<'a>(

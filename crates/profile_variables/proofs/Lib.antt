@@ -7,6 +7,7 @@ pub mod Gets
 pub mod KnownLists
 pub mod WaySteps
 pub mod WayMade
+pub mod FirstValue
 pub mod WayShort
 pub mod AddingSteps
 pub mod PathSteps

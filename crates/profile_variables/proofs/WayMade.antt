@@ -27,10 +27,10 @@ count_few (Some x ∷ lists) = let h = count_few lists in omega (arith, h)
 -- ---- what is known once the list at a place is made
 
 module _ (lists : Lists) (place : ℕ) (made : List Text) (unmade : slice_get lists place ≡ Some None) where
-  at_itself : list_made (set lists place (Some made)) place ≡ Some made
+  pub at_itself : list_made (set lists place (Some made)) place ≡ Some made
   at_itself = ap (option_and_then (λ (list : Option (List Text)). list)) (get_set_same lists place (Some made) (get_within lists place None unmade))
 
-  at_other : (other : ℕ) → other ≢ place → list_made (set lists place (Some made)) other ≡ list_made lists other
+  pub at_other : (other : ℕ) → other ≢ place → list_made (set lists place (Some made)) other ≡ list_made lists other
   at_other other apart = ap (option_and_then (λ (list : Option (List Text)). list)) (get_set_other lists place other (Some made) apart)
 
   none_at_itself : list_made lists place ≡ None
@@ -51,22 +51,20 @@ module _ (lists : Lists) (place : ℕ) (made : List Text) (unmade : slice_get li
   new_or_old (Some other) list e =
       ⊎_elim (λ same. let new : Some made ≡ Some list = sym (ap (list_made (set lists place (Some made))) same ∙ at_itself) ∙ e in inl (ap Some same, cc)) (λ apart. inr (sym (at_other other apart) ∙ e)) (cases_eq other place)
 
-  this_list : (variables : List Variable) (name : Text) (list : List Text) → ((n : Text) (l : List Text) → known_in variables lists n ≡ Some l → list_at (made_count lists) variables n ≡ Some l)
+  this_list : (variables : List Variable) (n : ℕ) (name : Text) (list : List Text) → KnowsAll (known_in variables lists) (list_at n variables)
       → list_of_values (known_in variables lists) (variable_at variables place).values ≡ Some made
-      → place_of variables name ≡ Some place → made ≡ list → list_at (suc (made_count lists)) variables name ≡ Some list
+      → place_of variables name ≡ Some place → made ≡ list → list_at (suc n) variables name ≡ Some list
   unfolding list_at
-  this_list variables name list right is stands same =
-      and_both (list_of_values (list_at (made_count lists) variables)) (values_of variables name) (variable_at variables place).values list (stands_at variables name place stands).valued
-      (more_listed (known_in variables lists) (list_at (made_count lists) variables) right (variable_at variables place).values list (is ∙ ap Some same))
+  this_list variables n name list right is stands same =
+      and_both (list_of_values (list_at n variables)) (values_of variables name) (variable_at variables place).values list (stands_at variables name place stands).valued
+      (more_listed (known_in variables lists) (list_at n variables) right (variable_at variables place).values list (is ∙ ap Some same))
 
   -- the new list is the variable's
-  pub right_still : (variables : List Variable) → ((name : Text) (list : List Text) → known_in variables lists name ≡ Some list → list_at (made_count lists) variables name ≡ Some list)
+  pub right_still : (variables : List Variable) (n : ℕ) → KnowsAll (known_in variables lists) (list_at n variables)
       → list_of_values (known_in variables lists) (variable_at variables place).values ≡ Some made
-      → (name : Text) (list : List Text) → known_in variables (set lists place (Some made)) name ≡ Some list → list_at (made_count (set lists place (Some made))) variables name ≡ Some list
-  right_still variables right is name list e =
-      let P : ℕ → Type 0 = λ n. list_at n variables name ≡ Some list in
-      subst P (sym (count_made lists place made unmade))
-      (⊎_elim (λ new. this_list variables name list right is new.0 new.1) (λ old. one_level variables (made_count lists) name list (right name list old)) (new_or_old (place_of variables name) list e))
+      → KnowsAll (known_in variables (set lists place (Some made))) (list_at (suc n) variables)
+  right_still variables n right is name list e =
+      ⊎_elim (λ new. this_list variables n name list right is new.0 new.1) (λ old. one_level variables n name list (right name list old)) (new_or_old (place_of variables name) list e)
 
   -- ---- who waits, waits still
 
@@ -117,15 +115,15 @@ no_list variables known c right values all none n (Some list) e =
     alike known (list_at (c + n) variables) values (agree_known known (list_at (c + n) variables) (λ name l k. levels variables n c (c + n) (omega arith) name l (right name l k)) (names_needed values) all) in
     absurd cc
 
-pub too_long_first : (variables : List Variable) (lists : Lists) (met : List ℕ) (first : Text) → ((name : Text) (list : List Text) → known_in variables lists name ≡ Some list → list_at (made_count lists) variables name ≡ Some list)
+pub too_long_first : (variables : List Variable) (lists : Lists) (met : List ℕ) (first : Text) (n : ℕ) → KnowsAll (known_in variables lists) (list_at n variables)
     → (before : List Step) (step : Step) → IsStep variables lists met (length before) step → Waits variables lists met first before (variable_at variables step.variable).name
     → AreKnown (known_in variables lists) (needed_at variables step.variable) → list_of_values (known_in variables lists) (variable_at variables step.variable).values ≡ None
     → HasProblem variables [] first too_long
-too_long_first variables lists met first right before step is waits all none =
+too_long_first variables lists met first n right before step is waits all none =
     let here = (variable_at variables step.variable).name in
     let values = (variable_at variables step.variable).values in
-    lifted variables lists met first (made_count lists) right before here too_long waits
+    lifted variables lists met first n right before here too_long waits
     (Long (names_of variables before) here values (stands_at variables here step.variable is.named).valued
     (apart variables lists met first before here step.variable (length before) waits is.met_at (omega arith) here is.named)
-    (are_listed variables (known_in variables lists) (made_count lists) right (names_needed values) all)
-    (λ n. no_list variables (known_in variables lists) (made_count lists) right values all none n (list_of_values (list_at n variables) values) refl))
+    (are_listed variables (known_in variables lists) n right (names_needed values) all)
+    (λ k. no_list variables (known_in variables lists) n right values all none k (list_of_values (list_at k variables) values) refl))

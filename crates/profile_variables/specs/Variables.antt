@@ -75,3 +75,8 @@ HasList variables name list = (n : ℕ) × (list_at n variables name ≡ Some li
 -- the names that the values of a variable use, in reading order
 abbrev pub names_needed : List Text → List Text
 names_needed values = flat_map used_names values
+
+-- the variables, of which the first has this value alone
+abbrev pub with_first_value : List Variable → Text → List Variable
+with_first_value [] value = []
+with_first_value (v ∷ variables) value = record { name = v.name; values = value ∷ [] } ∷ variables

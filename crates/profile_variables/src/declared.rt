@@ -1,11 +1,13 @@
 //! Declared variables, found by their names.
-ghost use Rattle.std.specs.Prelude.{◌≡◌, ◌<◌, ℕ, List, length, IfOk, slice_get, Some};
+ghost use Rattle.std.specs.Prelude.{◌≡◌, ◌<◌, ℕ, List, length, IfOk, OnOk, OnErr, slice_get, Some};
 ghost use Rattle.std.specs.BTreeMap.{get_by};
 ghost use Rattle.std.specs.Cmp.Lexicographic.{slice_cmp};
 ghost use Rattle.std.specs.Ordering.{nat_cmp};
+ghost use Rattle.profile_variables.specs.Variables.{with_first_value};
 ghost use Rattle.profile_variables.specs.inner.Known.{place_of};
 
 use crate::variables::Variable;
+use names::NoMemory;
 use std::alloc::{AllocError, Global};
 use std::collections::BTreeMap;
 use std::marker::Model;
@@ -41,6 +43,18 @@ impl<'t> Declared<'t> {
     {
         let places = places_of(alloc, &variables)?;
         Ok(Declared { variables, places })
+    }
+
+    /// The first has this value alone.
+    pub(crate) fn set_first(&mut self, alloc: Global, value: &'t [u8]) -> Result<(), NoMemory>
+        ensures first { OnOk result (self.new ≡ with_first_value self.old value.now) }
+        ensures same { OnErr result (self.new ≡ self.old) }
+    {
+        if self.variables.is_empty() {
+            return Ok(());
+        }
+        self.variables[0] = Variable::of_one(alloc, self.variables[0].name(), value)?;
+        Ok(())
     }
 
     /// How many there are.

@@ -1,6 +1,7 @@
 //! Path texts with the variables put in place.
-ghost use Rattle.std.specs.Prelude.{◌≡◌, IfOk, IfErr, OnOk};
+ghost use Rattle.std.specs.Prelude.{◌≡◌, IfOk, IfErr, OnOk, OnErr};
 ghost use Rattle.profile_variables.specs.Pieces.{used_names};
+ghost use Rattle.profile_variables.specs.Variables.{with_first_value};
 ghost use Rattle.profile_variables.specs.Faults.{Tells};
 ghost use Rattle.profile_variables.specs.PathTexts.{IsSubstituted, PathProblem};
 ghost use Rattle.profile_variables.specs.inner.Known.{known_in};
@@ -53,6 +54,18 @@ impl<'t> Lists<'t> {
         let declared = Declared::new(alloc, variables)?;
         let made = Made::nothing(alloc, &declared)?;
         Ok(Lists { declared, made })
+    }
+
+    /// The first variable has this value alone; its name stays. The lists that don't need it are kept.
+    ///
+    /// This takes as many steps as lists that need it were made since it was set last, and as the value has bytes.
+    pub fn set_first(&mut self, alloc: Global, value: &'t [u8]) -> Result<(), NoMemory>
+        ensures first { OnOk result (self.new ≡ with_first_value self.old value.now) }
+        ensures same { OnErr result (self.new ≡ self.old) }
+    {
+        self.declared.set_first(alloc, value)?;
+        self.made.forget_first();
+        Ok(())
     }
 
     /// The text of a path with its variables put in place, or why there is none, of all reasons the first: that of the

@@ -1,10 +1,11 @@
 //! Lists made, each once: what a list needs is made before it.
-ghost use Rattle.std.specs.Prelude.{◌≡◌, ◌<◌, ◌≤◌, ◌+◌, ℕ, List, [], ◌∷◌, length, reverse, take, IsSome, IfSome, IfOk, IfErr, OnOk, OnErr, Some, None, map, slice_get, slice_set};
-ghost use Rattle.profile_variables.specs.Variables.{list_of_values};
+ghost use Rattle.std.specs.Prelude.{◌≡◌, ◌<◌, ◌≤◌, ◌+◌, ℕ, List, [], ◌∷◌, false, length, reverse, take, IsSome, IfSome, IfOk, IfErr, OnOk, OnErr, Some, None, map, slice_get, slice_set};
+ghost use Rattle.std.specs.List.{list_any};
+ghost use Rattle.profile_variables.specs.Variables.{Variable as DeclaredVariable, list_of_values, with_first_value};
 ghost use Rattle.profile_variables.specs.Problems.{HasProblem};
 ghost use Rattle.profile_variables.specs.Faults.{Tells};
-ghost use Rattle.profile_variables.specs.inner.Known.{known_in};
-ghost use Rattle.profile_variables.specs.inner.Way.{IsSound, KnowsAll, AreKnown, variable_at, needed_at, IsStep, Waits, IsWay, IsNearer, is_on};
+ghost use Rattle.profile_variables.specs.inner.Known.{known_in, is_marked, is_named_marked};
+ghost use Rattle.profile_variables.specs.inner.Way.{IsSound, KnowsAll, AreKnown, variable_at, needed_at, IsFree, IsStep, Waits, IsWay, IsNearer, is_on};
 ghost use Rattle.profile_variables.specs.inner.Gives.{Refuses};
 
 use crate::declared::Declared;
@@ -20,6 +21,10 @@ pub(crate) struct Made {
     pub(crate) lists: Vec<Option<Texts>>,
     /// How many variables stood on the way when each was met last.
     pub(crate) met: Vec<usize>,
+    /// Of each list that is made, whether it needs the first variable; of the others either may stand.
+    pub(crate) needs_first: Vec<bool>,
+    /// The places of those that do.
+    pub(crate) needing_first: Vec<usize>,
 }
 
 /// A variable on the way to a list: its place, and how many of the names that it needs have lists.
@@ -36,11 +41,18 @@ impl Made {
     {
         let mut lists = Vec::new(alloc);
         let mut met = Vec::new(alloc);
+        let mut needs_first = Vec::new(alloc);
         for place in 0..declared.len() {
             lists.push(None)?;
             met.push(place)?;
+            needs_first.push(false)?;
         }
-        Ok(Made { lists, met })
+        Ok(Made {
+            lists,
+            met,
+            needs_first,
+            needing_first: Vec::new(alloc),
+        })
     }
 
     /// Whether the variable at that place stands on the way.
@@ -85,6 +97,23 @@ impl Made {
         Ok(())
     }
 
+    /// Marks the place of a list that is to be made, if it needs the first variable.
+    fn mark(&mut self, declared: &Declared<'_>, place: usize) -> Result<(), AllocError>
+        requires within { place < length declared.now }
+        requires sound { IsSound declared.now self.old }
+        ensures sound { IsSound declared.now self.new }
+        ensures lists { self.new.lists.items ≡ self.old.lists.items }
+        ensures met { self.new.met.items ≡ self.old.met.items }
+        ensures free { OnOk result (is_marked self.new.needs_first.items place ≡ false → IsFree declared.now self.new.needs_first.items place) }
+    {
+        let needed = declared.variable(place).needed();
+        if place == 0 || is_one_marked(declared, &self.needs_first, needed) {
+            self.needing_first.push(place)?;
+            self.needs_first[place] = true;
+        }
+        Ok(())
+    }
+
     /// The list of the variable at that place, for which all that it needs is made.
     fn finish(
         &mut self,
@@ -94,15 +123,30 @@ impl Made {
     ) -> Result<(), Refusal>
         requires within { place < length declared.now }
         requires sound { IsSound declared.now self.old }
-        ensures made { OnOk result ((list : List (List ℕ)) × (list_of_values (known_in declared.now self.old.lists.items) (variable_at declared.now place).values ≡ Some list) × (self.new.lists.items ≡ slice_set self.old.lists.items place (Some list))) }
+        requires unmade { slice_get self.old.lists.items place ≡ Some None }
+        requires known { AreKnown (known_in declared.now self.old.lists.items) (needed_at declared.now place) }
+        ensures sound { IsSound declared.now self.new }
+        ensures made { OnOk result ((list : List (List ℕ)) × (self.new.lists.items ≡ slice_set self.old.lists.items place (Some list))) }
         ensures same { OnErr result (self.new.lists.items ≡ self.old.lists.items) }
         ensures refused { IfErr result (λ refusal. Refuses refusal (list_of_values (known_in declared.now self.old.lists.items) (variable_at declared.now place).values)) }
         ensures met { self.new.met.items ≡ self.old.met.items }
     {
         let values = declared.variable(place).values();
         let list = list_of(alloc, declared, &self.lists, values)?;
+        self.mark(declared, place)?;
         self.lists[place] = Some(list);
         Ok(())
+    }
+
+    /// Forgets the lists that need the first variable.
+    pub(crate) fn forget_first(&mut self)
+        requires { (variables : List DeclaredVariable) × IsSound variables self.old }
+        ensures { (variables : List DeclaredVariable) → IsSound variables self.old → (value : List ℕ) → IsSound (with_first_value variables value) self.new }
+    {
+        while let Some(place) = self.needing_first.pop() {
+            self.lists[place] = None;
+            self.needs_first[place] = false;
+        }
     }
 }
 
@@ -185,4 +229,26 @@ fn first_missing<'t>(
         place += 1;
     }
     None
+}
+
+/// Whether one of the names is marked.
+fn is_one_marked(declared: &Declared<'_>, marks: &[bool], names: &[&[u8]]) -> bool
+    ensures { result ≡ list_any (is_named_marked declared.now marks.now) (map (λ name. name.now) names.now) }
+{
+    for name in names {
+        if is_marked(declared, marks, name) {
+            return true;
+        }
+    }
+    false
+}
+
+/// Whether the variable of that name is marked.
+fn is_marked(declared: &Declared<'_>, marks: &[bool], name: &[u8]) -> bool
+    ensures { result ≡ is_named_marked declared.now marks.now name.now }
+{
+    match declared.place(name) {
+        Some(place) => matches!(marks.get(place), Some(true)),
+        None => false,
+    }
 }

@@ -72,6 +72,9 @@ impl Texts {
         ensures { Gives result (fitting (each_with self (end.now ∷ []))) }
     {
         let Texts { mut texts, bytes } = self;
+        if end.is_empty() {
+            return Ok(Texts { texts, bytes });
+        }
         let Some(bytes) = bytes_grown(bytes, texts.len(), end.len()) else {
             return Err(Refusal::Nothing);
         };

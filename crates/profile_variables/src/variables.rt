@@ -1,5 +1,5 @@
 //! Declared variables.
-ghost use Rattle.std.specs.Prelude.{◌≡◌, ◌++◌, ℕ, List, map, IfOk, OnOk};
+ghost use Rattle.std.specs.Prelude.{◌≡◌, ◌++◌, ◌∷◌, [], ℕ, List, map, IfOk, OnOk};
 ghost use Rattle.profile_variables.specs.Pieces.{used_names};
 ghost use Rattle.profile_variables.specs.Variables.{names_needed};
 
@@ -43,6 +43,21 @@ impl<'t> Variable<'t> {
                 values,
                 needed,
             }),
+            Err(_) => Err(NoMemory),
+        }
+    }
+
+    /// A variable of that name with this value alone.
+    pub(crate) fn of_one(
+        alloc: Global,
+        name: &'t [u8],
+        value: &'t [u8],
+    ) -> Result<Variable<'t>, NoMemory>
+        ensures { IfOk result (λ v. v ≡ record { name = name.now; values = value.now ∷ [] }) }
+    {
+        let mut values = Vec::new(alloc);
+        match values.push(value) {
+            Ok(()) => Variable::new(alloc, name, values),
             Err(_) => Err(NoMemory),
         }
     }

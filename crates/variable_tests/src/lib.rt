@@ -5,6 +5,8 @@
 #[cfg(test)]
 mod expanding;
 #[cfg(test)]
+mod first;
+#[cfg(test)]
 mod limits;
 #[cfg(test)]
 mod outcomes;

@@ -1,9 +1,10 @@
 -- The way from a first variable to the one whose list is being made, while the lists on it wait for one another.
-use Rattle.std.specs.Prelude.{◌≡◌, ℕ, List, [], ◌∷◌, length, map, take, suc, ◌+◌, ◌⊎◌, IsSome, Option, Some, None, slice_get, unwrap_or, option_and_then, Bool, false, ◌==◌}
+use Rattle.std.specs.Prelude.{◌≡◌, ◌≢◌, ◌<◌, ℕ, List, [], ◌∷◌, length, map, take, suc, ◌+◌, ◌⊎◌, IsSome, Option, Some, None, slice_get, unwrap_or, option_and_then, Bool, true, false, ◌==◌, Contains}
+use Rattle.std.specs.List.{list_any}
 use Rattle.std.specs.Option.{option_map_or}
 use Rattle.profile_variables.specs.Pieces.{Text}
-use Rattle.profile_variables.specs.Variables.{Variable, Known, list_at, names_needed}
-use Rattle.profile_variables.specs.inner.Known.{place_of, known_in}
+use Rattle.profile_variables.specs.Variables.{Variable, Known, list_at, names_needed, with_first_value}
+use Rattle.profile_variables.specs.inner.Known.{place_of, known_in, is_marked, is_named_marked, free_in}
 use Rattle.profile_variables.specs.declared.making.Made.{Made}
 use Rattle.profile_variables.specs.declared.making.Step.{Step}
 
@@ -16,16 +17,21 @@ made_count [] = 0
 made_count (None ∷ lists) = made_count lists
 made_count (Some list ∷ lists) = suc (made_count lists)
 
--- What is made is right: each list that is made is that of its variable, and needs no more levels than lists are made.
-pub record IsSound (variables : List Variable) (made : Made) : Type 0 where
-  pub lists : length made.lists.items ≡ length variables
-  pub met : length made.met.items ≡ length variables
-  pub right : (name : Text) (list : List Text) → known_in variables made.lists.items name ≡ Some list
-      → list_at (made_count made.lists.items) variables name ≡ Some list
-
 -- whatever was known is known
 abbrev pub KnowsAll : Known → Known → Type 0
 KnowsAll old new = (name : Text) (list : List Text) → old name ≡ Some list → new name ≡ Some list
+
+-- What is made is right: each list that is made is that of its variable, which needs no more than so many levels of variables;
+-- one whose place isn't marked is so whatever value the first variable has; and places that are marked are noted.
+pub record IsSound (variables : List Variable) (made : Made) : Type 0 where
+  pub lists : length made.lists.items ≡ length variables
+  pub met : length made.met.items ≡ length variables
+  pub marks : length made.needs_first.items ≡ length variables
+  pub levels : ℕ
+  pub right : KnowsAll (known_in variables made.lists.items) (list_at levels variables)
+  pub free : (value : Text) → KnowsAll (free_in variables made.lists.items made.needs_first.items) (list_at levels (with_first_value variables value))
+  pub noted : (place : ℕ) → is_marked made.needs_first.items place ≡ true → Contains made.needing_first.items place
+  pub within : (place : ℕ) → Contains made.needing_first.items place → place < length variables
 
 -- each of these has a list that is known
 abbrev pub AreKnown : Known → List Text → Type 0
@@ -39,6 +45,10 @@ variable_at variables place = unwrap_or (slice_get variables place) (record { na
 -- the names that it needs
 abbrev pub needed_at : List Variable → ℕ → List Text
 needed_at variables place = names_needed (variable_at variables place).values
+
+-- the list of the variable at that place doesn't need the first variable: it isn't the first, and none that it needs is marked
+abbrev pub IsFree : List Variable → List Bool → ℕ → Type 0
+IsFree variables marks place = (place ≢ 0) × (list_any (is_named_marked variables marks) (needed_at variables place) ≡ false)
 
 -- A variable on the way: its own list isn't made, those that its first names need are, and so many variables stand before it.
 pub record IsStep (variables : List Variable) (lists : Lists) (met : List ℕ) (before : ℕ) (step : Step) : Type 0 where

@@ -31,7 +31,7 @@ returns-in-Some c =
     let i = c.loop-question.question-index in
     let low : i < length asked = omega arith in
     let a : Asked = get_or asked i nobody in
-    let h : Answers (question_at variables profiles (asked_value a)) (Some (fault_value c.in-Some.fault)) = of_question variables c.in_ok-seen.seen.lists profiles a c.in_ok-fault.field-0 (Some c.in-Some.fault) c.in_ok-seen.ensures.lists c.in-Some.is c.in_ok-fault.ensures.fault in
+    let h : Answers (question_at variables profiles (asked_value a)) (Some (fault_value c.in-Some.fault)) = of_question variables c.go_to.new.self.lists profiles a c.in_ok-fault.field-0 (Some c.in-Some.fault) (c.in_ok-go_to.ensures.lists variables c.loop-question.invariant.seen) c.in-Some.is c.in_ok-fault.ensures.fault in
     c.loop-question.invariant.so_far (Some (fault_value c.in-Some.fault)) (fault_here variables profiles asked i nobody low (fault_value c.in-Some.fault) h)
 
 pub loop-question-preserved : goal.loop-question-preserved
@@ -43,9 +43,9 @@ loop-question-preserved c =
     let i = c.loop-question.question-index in
     let low : i < length asked = omega arith in
     let a : Asked = get_or asked i nobody in
-    let h : Answers (question_at variables profiles (asked_value a)) None = of_question variables c.in_ok-seen.seen.lists profiles a c.in_ok-fault.field-0 None c.in_ok-seen.ensures.lists c.in_default.is c.in_ok-fault.ensures.fault in
+    let h : Answers (question_at variables profiles (asked_value a)) None = of_question variables c.go_to.new.self.lists profiles a c.in_ok-fault.field-0 None (c.in_ok-go_to.ensures.lists variables c.loop-question.invariant.seen) c.in_default.is c.in_ok-fault.ensures.fault in
     record {
-      held = c.in_ok-fault.ensures.lists ∙ c.in_ok-seen.ensures.lists ∙ ap (λ (n : ℕ). variables_within variables (name_at profiles n)) (sym c.in_ok-seen.ensures.profile);
+      seen = c.in_ok-fault.ensures.lists ∙ c.in_ok-go_to.ensures.lists variables c.loop-question.invariant.seen ∙ ap (λ (n : ℕ). variables_within variables (name_at profiles n)) (sym c.in_ok-go_to.ensures.profile);
       so_far = λ end r. c.loop-question.invariant.so_far end (answered_here variables profiles asked i nobody low end h r);
     }
 

@@ -5,7 +5,7 @@ use Rattle.profile_variables.specs.Problems.{HasProblem}
 use Rattle.profile_variables.specs.PathTexts.{PathProblem, OfUse}
 use Rattle.profile_variables.specs.inner.CodePieces.{piece_value}
 use Rattle.profile_variables.specs.inner.Known.{known_in}
-use Rattle.profile_variables.specs.inner.Way.{AreKnown, made_count}
+use Rattle.profile_variables.specs.inner.Way.{AreKnown}
 use Rattle.profile_variables.proofs.PieceSteps.{no_pieces}
 use Rattle.profile_variables.proofs.KnownLists.{are_listed, are_known_more, known_and_one}
 use Rattle.profile_variables.proofs.PathSteps.{tells_more}
@@ -26,7 +26,7 @@ returns-in_err-make-clause-fault c =
     let p = err_from_is_err_and c.from_residual.result c.from_residual.ensures.1 in
     rw (p.1, p.2)
     (tells_more (HasProblem variables [] name) (PathProblem variables path) c.in_err-make.field-0.0
-    (λ problem h. OfUse before.0 (used_names c.in-Some.more.now) name problem (before.1 ∙ ap (λ (x : List Text). before.0 ++ x) used) (are_listed variables (known_in variables made.lists.items) (made_count made.lists.items) c.loop-piece.invariant.sound.right before.0 before.2) h)
+    (λ problem h. OfUse before.0 (used_names c.in-Some.more.now) name problem (before.1 ∙ ap (λ (x : List Text). before.0 ++ x) used) (are_listed variables (known_in variables made.lists.items) c.loop-piece.invariant.sound.levels c.loop-piece.invariant.sound.right before.0 before.2) h)
     c.in_err-make.ensures.fault)
 
 pub loop-piece-preserved-in_ok-make : goal.loop-piece-preserved-in_ok-make

@@ -6,7 +6,6 @@ use Rattle.profile_variables.specs.PathTexts.{path_text, IsSubstituted, PathProb
 use Rattle.profile_variables.specs.Faults.{Tells}
 use Rattle.profile_variables.specs.inner.Gives.{fault_of}
 use Rattle.profile_variables.specs.inner.Known.{known_in}
-use Rattle.profile_variables.specs.inner.Way.{made_count}
 use Rattle.profile_variables.proofs.PathSteps.{text_more, told_of_text}
 use Rattle.profile_variables.proofs.lists.Lists.substitute.Goals as goal
 
@@ -15,7 +14,7 @@ returns-clause-text c =
     let variables = c.self.inside.declared in
     let made = c.make_used.new.made in
     let path = c.args.path.now in
-    let n = made_count made.lists.items in
+    let n = c.in_ok-make_used.ensures.sound.levels in
     let is = ap (λ lists. path_text (known_in variables lists) path) (sym c.deref.ensures.value) ∙ c.in_ok-text.ensures.text in
     subst (λ (vs : List Variable). IsSubstituted vs path c.in_ok-text.text.items) c.self.view_is
     (record {
@@ -29,7 +28,7 @@ returns-in_err-text-clause-fault c =
     let variables = c.self.inside.declared in
     let made = c.make_used.new.made in
     let path = c.args.path.now in
-    let n = made_count made.lists.items in
+    let n = c.in_ok-make_used.ensures.sound.levels in
     let p = err_from_is_err_and c.from_residual-in_err-text.result c.from_residual-in_err-text.ensures.1 in
     rw (p.1, p.2)
     (subst (λ (vs : List Variable). Tells (PathProblem vs path) (fault_of c.in_err-text.field-0.0)) c.self.view_is

@@ -1,9 +1,7 @@
-use Rattle.std.proofs.Common.{◌≡◌, List, [], length, reverse, set, Option, Some, None, refl, sym, ap, ◌∙◌, subst, inl, arith}
+use Rattle.std.proofs.Common.{◌≡◌, [], reverse, set, Option, Some, None, refl, sym, ap, ◌∙◌, subst, inl, arith}
 use Rattle.std.specs.Prelude.{unwrap_or}
-use Rattle.std.proofs.lemmas.List.{length-set}
 use Rattle.std.proofs.lemmas.Result.{err_from_is_err_and}
-use Rattle.profile_variables.specs.Pieces.{Text}
-use Rattle.profile_variables.specs.Variables.{Variable, list_at, list_of_values, names_needed}
+use Rattle.profile_variables.specs.Variables.{Variable, list_of_values, names_needed}
 use Rattle.profile_variables.specs.Problems.{Problem, HasProblem, too_long}
 use Rattle.profile_variables.specs.Faults.{Tells}
 use Rattle.profile_variables.specs.declared.refusal.Refusal.{Refusal}
@@ -11,7 +9,7 @@ use Rattle.profile_variables.specs.declared.refusal.Refusal.TheVariants.{Nothing
 use Rattle.profile_variables.specs.inner.Gives.{Refuses, fault_of}
 use Rattle.profile_variables.specs.inner.Known.{known_in}
 use Rattle.profile_variables.specs.inner.Way.{Lists, KnowsAll, AreKnown, variable_at, needed_at, made_count, IsWay}
-use Rattle.profile_variables.proofs.WayMade.{count_made, known_stays, right_still, step_off, too_long_first}
+use Rattle.profile_variables.proofs.WayMade.{count_made, known_stays, step_off, too_long_first}
 use Rattle.profile_variables.proofs.making.Made.advance.Goals as goal
 
 -- what a refusal tells
@@ -31,28 +29,15 @@ returns-in_err-finish-in-None-clause-fault g c =
     let p = err_from_is_err_and c.from_residual-in_err-finish-in-None.result c.from_residual-in_err-finish-in-None.ensures.1 in
     rw (p.1, p.2)
     (told (HasProblem variables [] g.first) c.in_err-finish-in-None.field-0.0 (list_of_values (known_in variables made.lists.items) (variable_at variables place).values)
-    (too_long_first variables made.lists.items made.met.items g.first c.requires.0.right (reverse c.args.way.now.items) c.args.step c.requires.1.0 c.requires.1.1 all)
+    (too_long_first variables made.lists.items made.met.items g.first c.requires.0.levels c.requires.0.right (reverse c.args.way.now.items) c.args.step c.requires.1.0 c.requires.1.1 all)
     c.in_err-finish-in-None.ensures.refused)
-
-pub returns-in_ok-finish-in-None-clause-sound : goal.returns-in_ok-finish-in-None-clause-sound
-returns-in_ok-finish-in-None-clause-sound g c =
-    let variables = c.args.declared.now in
-    let old = c.args.self.now.lists.items in
-    let made = c.in_ok-finish-in-None.ensures.made in
-    record {
-      lists = ap length made.2 ∙ length-set old c.args.step.variable (Some made.0) ∙ c.requires.0.lists;
-      met = ap length c.in_ok-finish-in-None.ensures.met ∙ c.requires.0.met;
-      right =
-          subst (λ (lists : Lists). (name : Text) (list : List Text) → known_in variables lists name ≡ Some list → list_at (made_count lists) variables name ≡ Some list) (sym made.2)
-          (right_still old c.args.step.variable made.0 c.requires.1.0.unmade variables c.requires.0.right made.1);
-    }
 
 pub returns-in_ok-finish-in-None-clause-more : goal.returns-in_ok-finish-in-None-clause-more
 returns-in_ok-finish-in-None-clause-more g c =
     let variables = c.args.declared.now in
     let old = c.args.self.now.lists.items in
     let made = c.in_ok-finish-in-None.ensures.made in
-    subst (λ (lists : Lists). KnowsAll (known_in variables old) (known_in variables lists)) (sym made.2) (known_stays old c.args.step.variable made.0 c.requires.1.0.unmade variables)
+    subst (λ (lists : Lists). KnowsAll (known_in variables old) (known_in variables lists)) (sym made.1) (known_stays old c.args.step.variable made.0 c.requires.1.0.unmade variables)
 
 pub returns-in_ok-finish-in-None-clause-way : goal.returns-in_ok-finish-in-None-clause-way
 returns-in_ok-finish-in-None-clause-way g c =
@@ -60,7 +45,7 @@ returns-in_ok-finish-in-None-clause-way g c =
     let old = c.args.self.now.lists.items in
     let before = reverse c.args.way.now.items in
     let made = c.in_ok-finish-in-None.ensures.made in
-    subst (λ (lists : Lists). IsWay variables lists c.finish.new.self.met.items g.first before) (sym made.2)
+    subst (λ (lists : Lists). IsWay variables lists c.finish.new.self.met.items g.first before) (sym made.1)
     (subst (λ met. IsWay variables (set old c.args.step.variable (Some made.0)) met g.first before) (sym c.in_ok-finish-in-None.ensures.met)
     (step_off old c.args.step.variable made.0 c.requires.1.0.unmade variables c.args.self.now.met.items g.first before c.requires.1.0.met_at c.requires.1.0.named c.requires.1.1))
 
@@ -68,4 +53,4 @@ pub returns-in_ok-finish-in-None-clause-nearer : goal.returns-in_ok-finish-in-No
 returns-in_ok-finish-in-None-clause-nearer g c =
     let old = c.args.self.now.lists.items in
     let made = c.in_ok-finish-in-None.ensures.made in
-    inl (ap made_count made.2 ∙ count_made old c.args.step.variable made.0 c.requires.1.0.unmade ∙ omega arith, refl)
+    inl (ap made_count made.1 ∙ count_made old c.args.step.variable made.0 c.requires.1.0.unmade ∙ omega arith, refl)

@@ -1,7 +1,7 @@
 use Rattle.std.proofs.Common.{◌≡◌, true, false, reverse, slice_set, sym, ap, ◌∙◌, subst, arith}
 use Rattle.std.specs.Prelude.{is_some}
 use Rattle.profile_variables.specs.Problems.{undefined, cycle, Undeclared, Met}
-use Rattle.profile_variables.specs.inner.Way.{names_of, made_count, is_on, IsWay}
+use Rattle.profile_variables.specs.inner.Way.{names_of, is_on, IsWay}
 use Rattle.profile_variables.proofs.KnownLists.{stands_at, stands_nowhere}
 use Rattle.profile_variables.proofs.WaySteps.{lifted, on_way, entered, pushed}
 use Rattle.profile_variables.proofs.making.Made.enter.Goals as goal
@@ -12,7 +12,7 @@ returns-in_default-clause-fault g c =
     let made = c.args.self.now in
     let way = reverse c.args.way.now.items in
     let name = c.args.name.now in
-    lifted variables made.lists.items made.met.items g.first (made_count made.lists.items) c.requires.0.right way name (undefined name) c.requires.1.0
+    lifted variables made.lists.items made.met.items g.first c.requires.0.levels c.requires.0.right way name (undefined name) c.requires.1.0
     (Undeclared (names_of variables way) name (stands_nowhere variables name (sym c.place.ensures ∙ c.in_default.is)))
 
 pub is_on-requires : goal.is_on-requires
@@ -28,7 +28,7 @@ returns-then-is_on-clause-fault g c =
     let name = c.args.name.now in
     let stands = sym c.place.ensures ∙ c.in-Some.is in
     let on : is_on made.met.items c.args.way.now.items c.in-Some.place ≡ true = ap (λ w. is_on made.met.items w c.in-Some.place) (sym c.deref.ensures.value) ∙ sym c.is_on.ensures ∙ c.if-is_on.true in
-    lifted variables made.lists.items made.met.items g.first (made_count made.lists.items) c.requires.0.right way name (cycle name) c.requires.1.0
+    lifted variables made.lists.items made.met.items g.first c.requires.0.levels c.requires.0.right way name (cycle name) c.requires.1.0
     (Met (names_of variables way) name (ap is_some (stands_at variables name c.in-Some.place stands).valued) (on_way variables made.met.items c.args.way.now.items name c.in-Some.place stands on))
 
 pub index_mut-requires : goal.index_mut-requires

@@ -1,11 +1,13 @@
 -- There is room for so many variables, and nothing is made.
-use Rattle.std.proofs.Common.{◌≡◌, ℕ, length, None}
-use Rattle.profile_variables.specs.inner.Known.{list_made}
+use Rattle.std.proofs.Common.{◌≡◌, ℕ, false, length, None}
+use Rattle.profile_variables.specs.inner.Known.{list_made, is_marked}
 use Rattle.profile_variables.proofs.making.Made.nothing.Given as goal
 
 abbrev pub invariant-loop-place : goal.invariant-loop-place
 invariant-loop-place l = record {
   lists : length l.lists.items ≡ l.place;
   met : length l.met.items ≡ l.place;
+  marks : length l.needs_first.items ≡ l.place;
   nothing : (k : ℕ) → list_made l.lists.items k ≡ None;
+  unmarked : (k : ℕ) → is_marked l.needs_first.items k ≡ false;
 }

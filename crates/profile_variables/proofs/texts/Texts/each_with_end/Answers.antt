@@ -1,4 +1,5 @@
-use Rattle.std.proofs.Common.{List, arith, ◌≡◌, ◌≤◌, ◌++◌, ◌∷◌, [], length, map, refl, ap, sym, ◌∙◌}
+use Rattle.std.proofs.Common.{List, arith, ◌≡◌, ◌≤◌, ◌++◌, ◌∷◌, [], length, map, refl, ap, sym, ◌∙◌, append-nil}
+use Rattle.std.proofs.lemmas.Bool.{eqb-true}
 use Rattle.std.proofs.lemmas.List.{length-map}
 use Rattle.profile_variables.specs.Pieces.{Text}
 use Rattle.profile_variables.specs.Variables.{byte_count, each_with, most_texts}
@@ -18,8 +19,8 @@ few old new end h is =
     let e = ap length is in
     omega (arith, a, b, d, e)
 
-pub invariant_of-result : goal.invariant_of-result
-invariant_of-result c =
+pub invariant_of-result-2 : goal.invariant_of-result-2
+invariant_of-result-2 c =
     let old = c.self.inside.texts.items in
     let new = c.extend_each.new.texts.items in (
       ended_bytes (items old) (items new) c.args.end.now c.self.inside.bytes c.len.result c.in-Some.bytes c.in-Some.ensures.some.0 c.self.invariant.0 (seen_length old (items old) c.len.result refl (omega arith)) c.in_ok-extend_each.ensures,
@@ -30,7 +31,20 @@ invariant_of-result c =
 pub returns : goal.returns
 returns c =
     let new = c.extend_each.new.texts.items in
-    let h : c.in-Some.bytes ≡ byte_count (items new) = (invariant_of-result c).0 in
+    let h : c.in-Some.bytes ≡ byte_count (items new) = (invariant_of-result-2 c).0 in
     made (each_with c.args.self (c.args.end.now ∷ [])) new
     (c.in_ok-extend_each.ensures ∙ ap (map (λ (text : Text). text ++ c.args.end.now)) c.self.view_is ∙ sym (each_with_one c.args.self c.args.end.now))
-    (invariant_of-result c).1 (omega (arith, h, c.in-Some.ensures.some.1))
+    (invariant_of-result-2 c).1 (omega (arith, h, c.in-Some.ensures.some.1))
+
+with_nothing : (firsts : List Text) (end : Text) → length end ≡ 0 → map (λ (first : Text). first ++ end) firsts ≡ firsts
+with_nothing [] end none = refl
+with_nothing (first ∷ firsts) [] none = ap (λ (x : Text). x ∷ map (λ (y : Text). y ++ []) firsts) (append-nil first) ∙ ap (λ (xs : List Text). first ∷ xs) (with_nothing firsts [] none)
+with_nothing (first ∷ firsts) (b ∷ end) none = absurd (omega (arith, none))
+
+pub returns-then-is_empty : goal.returns-then-is_empty
+returns-then-is_empty c =
+    let end = c.args.end.now in
+    let none : length end ≡ 0 = eqb-true (length end) 0 (sym c.is_empty.ensures ∙ c.if-is_empty.true) in
+    let h : c.self.inside.bytes ≡ byte_count (items c.self.inside.texts.items) = c.self.invariant.0 in
+    made (each_with c.args.self (end ∷ [])) c.self.inside.texts.items
+    (c.self.view_is ∙ sym (each_with_one c.args.self end ∙ with_nothing c.args.self end none)) c.self.invariant.1 (omega (arith, h, c.self.invariant.2))
