@@ -21,6 +21,7 @@ use Rattle.import_cut.specs.Cutting.{cut_item, cut_items, cut_of, is_chosen_rule
 use Rattle.import_cut.specs.ReadRules.{IsReadRule}
 use Rattle.profile_import.specs.AddedRules.{added_at, added_rules}
 use Rattle.profile_import.specs.FileRules.{PlacedRule, item_reading, rules_at, rules_in, subject_rule}
+use Rattle.profile_import.proofs.ToldShapes.{told_change}
 use Rattle.import_laws.specs.Imported.{plain_rules}
 use Rattle.import_laws.proofs.EachAdded.{each_of_both, of_each_added}
 use Rattle.import_laws.proofs.SpansBefore.{Tells}
@@ -68,7 +69,8 @@ module _ (R : Change → Type 0) (exact : R Exact) (variables : List Variable) (
         here : (b : Bool) → is_chosen_rule item (cut_items reading before (at_start choice)) ≡ b
             → Each IsTold (cond b (record { place = (cut_items reading before (at_start choice)).at; rule = subject_rule variables item.parts } ∷ []) [])
         here true e = (
-          law before items item (record { written = whole.0; chosen = e; reads = record { perms = refl; target = refl; marks = refl } }) h,
+          subst R (told_change choice.subject choice.subject (shape_of (subject_rule variables item.parts)))
+              (law before items item (record { written = whole.0; chosen = e; reads = record { perms = refl; target = refl; marks = refl } }) h),
           tt,
         )
         here false e = tt

@@ -1,7 +1,7 @@
 mod EachAdded
-mod ExactMode
 mod ExactRules
 mod Opened
 mod Readable
 mod RestatedLists
 mod SpansBefore
+mod ToldMode

@@ -6,7 +6,7 @@ ghost use Rattle.rule_globs.specs.Verdict.{IsVerdict};
 ghost use Rattle.import_cut.specs.ReadRules.{change_told};
 ghost use Rattle.profile_import.specs.declared.options.ImportOptions.{ImportOptions};
 ghost use Rattle.profile_import.specs.Imports.{ImportValue, Imports};
-ghost use Rattle.subject_rules.specs.declared.effect.Change.TheVariants.{Exact, Wider};
+ghost use Rattle.subject_rules.specs.declared.effect.Change.TheVariants.{Exact, Wider, Narrower};
 ghost use Rattle.subject_rules.specs.declared.mode.Mode.{Mode};
 ghost use Rattle.subject_rules.specs.Judging.{IsAllowedTo};
 ghost use Rattle.subject_rules.specs.Restating.{restated_all};
@@ -19,6 +19,7 @@ use import_cut::exact_spans_mean_exact_rules;
 use import_scope::texts_have_one_first_fault;
 use subject_rules::{
     chosen_subject_gains_nothing, exact_rules_say_the_same, narrower_rules_allow_no_more,
+    wider_rules_allow_no_less,
 };
 
 /// What is imported of a text are its chosen profile's rules, restated for the chosen subject.
@@ -34,8 +35,8 @@ pub fn imports_are_restated_rules()
 }
 
 /// Where no span is told to change something for the chosen subject, the imported profile allows it just what the rules of the
-/// text allow; and where none is told to be wider, it allows nothing that they don't. That holds however AppArmor reads what isn't
-/// read here.
+/// text allow, in their mode; where none is told to be wider, it allows nothing that they don't; and where none is told to be
+/// narrower, it allows all that they do. That holds however AppArmor reads what isn't read here.
 pub fn exact_imports_say_the_same()
     ensures exact { (options : ImportOptions) (text : List ℕ) (value : ImportValue) (rules : List SubjectRule) (mode : Mode) →
         Imports options text (Ok value) → IsImported options text value rules mode →
@@ -47,6 +48,11 @@ pub fn exact_imports_say_the_same()
         Each (λ span. change_told span.kind ≢ Wider) value.spans →
         (unknown : Unknown) (name : List ℕ) (ask : Perms) →
         IsVerdict value.profile.rules name ask Allowed → IsAllowedTo unknown mode options.subject rules name ask }
+    ensures wider { (options : ImportOptions) (text : List ℕ) (value : ImportValue) (rules : List SubjectRule) (mode : Mode) →
+        Imports options text (Ok value) → IsImported options text value rules mode →
+        Each (λ span. change_told span.kind ≢ Narrower) value.spans →
+        (unknown : Unknown) (name : List ℕ) (ask : Perms) →
+        IsAllowedTo unknown mode options.subject rules name ask → IsVerdict value.profile.rules name ask Allowed }
 {
     imports_are_restated_rules();
     items_are_the_text();
@@ -54,4 +60,5 @@ pub fn exact_imports_say_the_same()
     chosen_subject_gains_nothing();
     exact_rules_say_the_same();
     narrower_rules_allow_no_more();
+    wider_rules_allow_no_less();
 }

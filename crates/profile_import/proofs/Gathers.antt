@@ -1,13 +1,11 @@
 -- What is gathered item by item, and rules as they are restated.
 use Rattle.std.proofs.Common.{◌≡◌, ℕ, Bool, true, false, List, [], ◌∷◌, ◌++◌, map, Result, Ok, Err, IfOk, refl, sym, ap, ◌∙◌, cond, codes}
-use Rattle.std.specs.List.{flat_map}
 use Rattle.std.proofs.lemmas.List.{map-append, append-nil, append_assoc}
 use Rattle.std.proofs.lemmas.Grind.{flat_map-append}
 use Rattle.rule_globs.specs.Tokens.{Token}
-use Rattle.subject_rules.specs.declared.shape.RuleShape.{RuleShape}
 use Rattle.subject_rules.specs.declared.subject.Subject.{Subject}
 use Rattle.subject_rules.specs.SubjectRules.{SubjectRule}
-use Rattle.subject_rules.specs.Restating.{is_restated, shape_of, restated, restated_paths, with_path}
+use Rattle.subject_rules.specs.Restating.{is_restated, shape_of, restated_paths, with_path}
 use Rattle.names.specs.declared.permissions.Permission.TheVariants.{Read}
 use Rattle.names.specs.declared.permissions.Perms.{Perms}
 use Rattle.names.specs.Permissions.{only}

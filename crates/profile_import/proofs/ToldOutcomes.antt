@@ -1,5 +1,6 @@
 -- Outcomes that are told.
-use Rattle.std.proofs.Common.{◌≡◌, ℕ, Bool, List, ◌++◌, Option, Result, Ok, Err, ap, ◌∙◌}
+use Rattle.std.proofs.Common.{◌≡◌, ℕ, Bool, List, ◌++◌, Option, Result, Ok, Err, sym, ap, ◌∙◌, subst}
+use Rattle.std.specs.Result.{IsErrAnd}
 use Rattle.flat_text.specs.Parts.{ItemValue}
 use Rattle.import_cut.specs.declared.reading.Choice.{Choice}
 use Rattle.import_cut.specs.declared.span.Span.{Span}
@@ -11,7 +12,7 @@ use Rattle.profile_import.specs.FileRules.{item_reading, rules_in}
 use Rattle.profile_import.specs.Restated.{PlacedValue, cut_for, restated_rules}
 use Rattle.profile_import.proofs.Gathers.{all_restated}
 use Rattle.profile_import.specs.Imports.{Outcome, counted_outcome, chosen_outcome}
-use Rattle.profile_import.specs.Told.{Tells}
+use Rattle.profile_import.specs.Told.{Fails, Tells}
 use Rattle.profile_import.specs.declared.importing.Imported.{Imported}
 use Rattle.profile_import.specs.declared.fault.ImportFailure.{ImportFailure}
 use Rattle.profile_import.specs.declared.fault.ImportFailure.TheVariants as failures
@@ -25,6 +26,12 @@ pub tells_each : {P Q : Outcome → Type 0} (r : Result Imported ImportFailure) 
 tells_each (Ok imported) f h = f _ h
 tells_each (Err (failures.At fault)) f h = f _ h
 tells_each (Err failures.NoMemory) f h = tt
+
+-- a failure that is passed on
+pub tells_passed : (one : Outcome) (r : Result Imported ImportFailure) (failure : ImportFailure) → IsErrAnd r (λ told. told ≡ failure)
+    → Fails (λ fault. Err fault ≡ one) failure → Tells (λ outcome. outcome ≡ one) r
+tells_passed one (Ok imported) failure is h = absurd is
+tells_passed one (Err told) failure is h = subst (Fails (λ fault. Err fault ≡ one)) (sym is) h
 
 -- the chosen profile's outcome, by what was gathered
 pub chosen_same : (strict : Bool) (name : List ℕ) (variables : List Variable) (choice : Choice) (items : List ItemValue) (lists : List Variable) (cut : CutState)

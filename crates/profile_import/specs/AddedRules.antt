@@ -1,6 +1,6 @@
 -- The rules that AppArmor's parser (3.0.8) adds to a profile that may be changed by the task itself, as its compiled tables have
 -- them: all are for owners. With a rule change_profile, or a hat or a child, three: two files to read, and one to write.
-use Rattle.std.specs.Prelude.{ℕ, List, [], ◌∷◌, ◌++◌, map, codes, Option, Some, None, nat_le, if◌then◌else◌}
+use Rattle.std.specs.Prelude.{ℕ, List, [], ◌∷◌, ◌++◌, codes, Option, Some, None, nat_le, if◌then◌else◌}
 use Rattle.names.specs.declared.permissions.Permission.TheVariants.{Read, Write}
 use Rattle.names.specs.declared.permissions.Perms.{Perms}
 use Rattle.names.specs.Permissions.{only}

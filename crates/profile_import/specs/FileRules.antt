@@ -1,5 +1,5 @@
 -- The file rules of a profile in a flattened text, each with its subject, and how they are told (apparmor.d(5), "Format").
-use Rattle.std.specs.Prelude.{ℕ, List, [], ◌∷◌, ◌++◌, length, codes, Option, Some, None, Bool, true, not, ◌&&◌, ◌==◌, if◌then◌else◌}
+use Rattle.std.specs.Prelude.{ℕ, List, [], ◌∷◌, ◌++◌, length, codes, Some, None, Bool, true, not, ◌&&◌, ◌==◌, if◌then◌else◌}
 use Rattle.flat_text.specs.Parts.{PartValue, ItemValue}
 use Rattle.flat_rules.specs.RuleWords.{kind_of, applies_to_of, perms_of_rule, path_of, target_of}
 use Rattle.flat_rules.specs.RuleParts.{marks_of}
@@ -47,10 +47,14 @@ subject_rule variables parts = record {
 abbrev pub goes_for_its_path : Subject → RuleShape → Bool
 goes_for_its_path chosen shape = not shape.is_read && is_restated chosen (record shape { is_read = true })
 
+-- A rule that wouldn't be restated anyway is told alike, whether its path is read or not: so nobody has to look at that path.
+abbrev pub told_shape : Subject → RuleShape → RuleShape
+told_shape chosen shape = record shape { is_read = not (goes_for_its_path chosen shape) }
+
 -- how such a rule is told
 abbrev pub reading_of : List Variable → Subject → SubjectRule → List PartValue → RuleReading
 reading_of variables chosen rule parts = record {
-  shape = shape_of rule;
+  shape = told_shape chosen (shape_of rule);
   marks = marks_of (goes_for_its_path chosen (shape_of rule)) parts;
 }
 

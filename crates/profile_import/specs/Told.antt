@@ -1,5 +1,5 @@
 -- Faults and imports as code tells them, and as the definitions do.
-use Rattle.std.specs.Prelude.{◌≡◌, ℕ, List, map, Result, Ok, Err}
+use Rattle.std.specs.Prelude.{map, Result, Ok, Err}
 use Rattle.rule_reader.specs.Profile.{profile_value}
 use Rattle.profile_import.specs.declared.fault.ImportFault as told
 use Rattle.profile_import.specs.declared.fault.ImportFault.TheVariants.{Syntax, Include, LeftOut, Permissions, Undefined, Cycle, Declared, Name, TooManyRules, TooLong, Which, NotExact}

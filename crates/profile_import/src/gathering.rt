@@ -1,11 +1,14 @@
 //! The rules of the chosen profile, and the spans of the text, item by item.
-ghost use Rattle.std.specs.Prelude.{◌≡◌, ◌++◌, ◌∷◌, [], IfOk, true};
+ghost use Rattle.std.specs.Prelude.{◌≡◌, ◌++◌, ◌∷◌, [], IfErr, IfOk, true};
 ghost use Rattle.import_cut.specs.CutStates.{at_start};
 ghost use Rattle.import_cut.specs.Cutting.{cut_item, cut_items, is_chosen_rule};
 ghost use Rattle.profile_import.specs.FileRules.{item_reading, rules_at, rules_in, subject_rule};
 ghost use Rattle.profile_import.specs.Restated.{restated_at, restated_rules};
+ghost use Rattle.profile_import.specs.Told.{Fails};
+ghost use Rattle.profile_import.specs.inner.Gathering.{AreTooMany};
 
-use crate::placed::{PlacedRule, push_restated};
+use crate::fault::{ImportFailure, ImportFault};
+use crate::placed::{PlacedRule, one_too_many, push_restated};
 use crate::rule::rule_of;
 use flat_text::{Item, ItemKind};
 use import_cut::{Choice, Cut};
@@ -55,21 +58,27 @@ fn take_item<'a>(
     }
 }
 
-/// The rules of the chosen profile and the spans, where these are the variables as they are in it.
-pub(crate) fn gather<'a>(
+/// The rules of the chosen profile and the spans, where these are the variables as they are in it. With the first rule that is one
+/// too many it ends: what is behind that one changes nothing.
+pub(crate) fn gather<'a, 't>(
     alloc: Global,
     choice: Choice,
     lists: &mut Lists<'a>,
     items: &'a [Item<'_>],
-) -> Result<(Cut, Vec<PlacedRule>), NoMemory>
+) -> Result<(Cut, Vec<PlacedRule>), ImportFailure<'t>>
     ensures cut { IfOk result (λ gathered. gathered.0 ≡ cut_items (item_reading lists.old choice.subject) items.now (at_start choice)) }
     ensures rules { IfOk result (λ gathered. gathered.1.items
         ≡ restated_rules choice.subject (rules_in lists.old choice.subject items.now (at_start choice))) }
+    ensures too_many { IfErr result (λ failure. Fails (AreTooMany
+        (restated_rules choice.subject (rules_in lists.old choice.subject items.now (at_start choice)))) failure) }
 {
     let mut cut = Cut::new(alloc, choice);
     let mut rules = Vec::new(alloc);
     for item in items {
         take_item(alloc, choice.subject, lists, &mut cut, &mut rules, item)?;
+        if let Some(place) = one_too_many(&rules) {
+            return Err(ImportFailure::At(ImportFault::TooManyRules { place }));
+        }
     }
     Ok((cut, rules))
 }

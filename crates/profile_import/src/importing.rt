@@ -17,7 +17,7 @@ use crate::choosing::{chosen_number, names_of};
 use crate::fault::{ImportFailure, ImportFault};
 use crate::gathering::gather;
 use crate::options::ImportOptions;
-use crate::placed::PlacedRule;
+use crate::placed::{PlacedRule, one_too_many};
 use flat_text::{Item, read_items};
 use flat_words::{Stop, StopKind};
 use import_cut::{Choice, Span, SpanKind};
@@ -28,9 +28,6 @@ use names::NoMemory;
 use rule_reader::{Profile, Rule};
 use std::alloc::Global;
 use subject_rules::Change;
-
-/// The most rules of a profile.
-const MAX_RULES: usize = 1024;
 
 /// An imported profile, and the spans of the text that it was imported from: what of it is kept, blank, or told.
 #[derive(Drop)]
@@ -85,8 +82,7 @@ fn finish<'t>(
     requires { IsTrue (can_be_said name.now) }
     ensures { Tells (λ outcome. outcome ≡ counted_outcome strict name.now spans.items placed.items) result }
 {
-    if let Some(rule) = placed.get(MAX_RULES) {
-        let place = rule.place();
+    if let Some(place) = one_too_many(&placed) {
         return Err(ImportFailure::At(ImportFault::TooManyRules { place }));
     }
     if strict {
@@ -216,7 +212,8 @@ fn import_read<'t>(
 /// each once it was read whole, or where reading stops; then for the profile that is asked for, for too many rules, and where
 /// something changes that is not to.
 ///
-/// The time grows as the text, what is imported, and the lists of the variables in each profile whose rules use them.
+/// The time grows as the text, what is imported, and the lists of the variables in each profile whose rules use them. Of a profile
+/// with too many rules those are made up to the first that is one too many, with all paths of the rule that it comes from.
 pub fn import_profile<'t>(
     alloc: Global,
     options: ImportOptions<'t>,

@@ -1,7 +1,7 @@
 //! Restated rules, each with the place of what it comes from.
 ghost use Rattle.std.specs.Prelude.{◌≡◌, ◌++◌, ◌∷◌, [], IfOk, All, IsTrue};
 ghost use Rattle.rule_reader.specs.Readable.{is_path};
-ghost use Rattle.profile_import.specs.inner.Gathering.{restated_values};
+ghost use Rattle.profile_import.specs.inner.Gathering.{one_too_many, restated_values};
 
 use names::{NoMemory, Perms};
 use rule_globs::RulePath;
@@ -9,6 +9,9 @@ use rule_reader::Rule;
 use std::marker::Model;
 use subject_rules::{RuleShape, Subject, restated_perms};
 use verdicts::RuleKind;
+
+/// The most rules of a profile.
+const MAX_RULES: usize = 1024;
 
 /// A rule, and how many bytes of the text stand before what it comes from.
 #[derive(Drop)]
@@ -62,6 +65,13 @@ impl PlacedRule {
     {
         self.rule
     }
+}
+
+/// Where the rule stands that is one too many, if there is one.
+pub(crate) fn one_too_many(rules: &[PlacedRule]) -> Option<usize>
+    ensures { result ≡ one_too_many rules.now }
+{
+    rules.get(MAX_RULES).map(|rule| rule.place())
 }
 
 /// One rule more.

@@ -1,8 +1,8 @@
 //! Rules of the chosen profile, as they are read.
 ghost use Rattle.std.specs.Prelude.{◌≡◌, IfOk, All, IsTrue};
 ghost use Rattle.rule_reader.specs.Readable.{is_path};
-ghost use Rattle.subject_rules.specs.Restating.{shape_of, restated_paths};
-ghost use Rattle.profile_import.specs.FileRules.{goes_for_its_path, reading_of, subject_rule};
+ghost use Rattle.profile_import.specs.FileRules.{reading_of, subject_rule};
+ghost use Rattle.profile_import.specs.inner.Gathering.{paths_looked_at};
 
 use crate::texts::text_of_path;
 use flat_rules::{Marks, RuleWords};
@@ -22,18 +22,7 @@ pub(crate) struct ChosenRule {
     pub(crate) paths: Vec<RulePath>,
 }
 
-/// Whether a rule would be restated, were its path read.
-fn goes_for_its_path(chosen: Subject, shape: RuleShape) -> bool
-    ensures { result ≡ goes_for_its_path chosen shape }
-{
-    let as_read = RuleShape {
-        is_read: true,
-        ..shape
-    };
-    !shape.is_read && as_read.is_restated(chosen)
-}
-
-/// The rule of these parts.
+/// The rule of these parts. Where it isn't restated anyway, its path isn't looked at.
 pub(crate) fn rule_of<'a>(
     alloc: Global,
     chosen: Subject,
@@ -42,21 +31,34 @@ pub(crate) fn rule_of<'a>(
 ) -> Result<ChosenRule, NoMemory>
     ensures lists { lists.new ≡ lists.old }
     ensures reading { IfOk result (λ rule. rule.reading ≡ reading_of lists.old chosen (subject_rule lists.old parts.now) parts.now) }
-    ensures paths { IfOk result (λ rule. rule.paths.items ≡ restated_paths (subject_rule lists.old parts.now).path) }
+    ensures paths { IfOk result (λ rule. rule.paths.items ≡ paths_looked_at chosen (subject_rule lists.old parts.now)) }
     ensures readable { IfOk result (λ rule. All (λ path. IsTrue (is_path path)) rule.paths.items) }
 {
     imported_paths_can_be_read();
     let words = RuleWords::of(parts);
-    let text = text_of_path(alloc, lists, words.path)?;
-    let paths = imported_paths(alloc, &text)?;
-    let shape = RuleShape {
+    let as_read = RuleShape {
         kind: words.kind,
         applies_to: words.applies_to,
         perms: words.perms,
         has_target: words.target.is_some(),
-        is_read: !paths.is_empty(),
+        is_read: true,
     };
-    let marks = Marks::of(alloc, parts, goes_for_its_path(chosen, shape))?;
+    if !as_read.is_restated(chosen) {
+        let marks = Marks::of(alloc, parts, false)?;
+        let reading = RuleReading {
+            shape: as_read,
+            marks,
+        };
+        let paths = Vec::new(alloc);
+        return Ok(ChosenRule { reading, paths });
+    }
+    let text = text_of_path(alloc, lists, words.path)?;
+    let paths = imported_paths(alloc, &text)?;
+    let shape = RuleShape {
+        is_read: !paths.is_empty(),
+        ..as_read
+    };
+    let marks = Marks::of(alloc, parts, paths.is_empty())?;
     let reading = RuleReading { shape, marks };
     Ok(ChosenRule { reading, paths })
 }

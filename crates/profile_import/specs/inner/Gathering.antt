@@ -1,11 +1,14 @@
--- A rule as it is restated, by its shape and its paths.
-use Rattle.std.specs.Prelude.{ℕ, List, [], map, Option, Some, None, if◌then◌else◌}
+-- A rule as it is restated, by its shape and its paths; and more rules than a profile may have.
+use Rattle.std.specs.Prelude.{◌≡◌, ℕ, List, [], map, slice_get, Option, Some, None, option_map, true, if◌then◌else◌}
+use Rattle.rule_reader.specs.Limits.{max_rules}
 use Rattle.profile_variables.specs.Variables.{Variable}
 use Rattle.rule_globs.specs.Tokens.{Token}
 use Rattle.subject_rules.specs.declared.shape.RuleShape.{RuleShape}
 use Rattle.subject_rules.specs.declared.subject.Subject.{Subject}
-use Rattle.subject_rules.specs.Restating.{is_restated, restated_perms}
+use Rattle.subject_rules.specs.Restating.{is_restated, restated_paths, restated_perms, shape_of}
+use Rattle.subject_rules.specs.SubjectRules.{SubjectRule}
 use Rattle.profile_import.specs.Expanded.{expanded}
+use Rattle.profile_import.specs.Faults.{ImportFault, too_many_rules}
 use Rattle.profile_import.specs.FileRules.{every_file}
 use Rattle.profile_import.specs.Restated.{PlacedValue}
 
@@ -22,3 +25,16 @@ placed_value place shape path = record {
 
 abbrev pub restated_values : ℕ → Subject → RuleShape → List (List Token) → List PlacedValue
 restated_values place chosen shape paths = if is_restated chosen shape then map (placed_value place shape) paths else []
+
+-- the paths that are looked at: those of a rule that is restated, if they are read
+abbrev pub paths_looked_at : Subject → SubjectRule → List (List Token)
+paths_looked_at chosen rule =
+    if is_restated chosen (record (shape_of rule) { is_read = true }) then restated_paths rule.path else []
+
+-- where the rule stands that is one too many
+abbrev pub one_too_many : List PlacedValue → Option ℕ
+one_too_many rules = option_map (λ rule. rule.place) (slice_get rules max_rules)
+
+-- these rules are too many, and that is the fault
+abbrev pub AreTooMany : List PlacedValue → ImportFault → Type 0
+AreTooMany rules fault = option_map too_many_rules (one_too_many rules) ≡ Some fault

@@ -1,7 +1,3 @@
-use Rattle.std.proofs.Common.{◌++◌, List, codes, sym, ap, ◌∙◌}
-use Rattle.names.specs.declared.permissions.Perms.{Perms}
-use Rattle.profile_import.specs.AddedRules.{added_at}
-use Rattle.profile_import.specs.Restated.{PlacedValue, restated_at}
 use Rattle.profile_import.proofs.Gathers.{queried, then_so}
 use Rattle.profile_import.proofs.added.push_queries.Goals as goal
 

@@ -1,10 +1,11 @@
-use Rattle.std.proofs.Common.{◌++◌, ℕ, List, sym, ap, ◌∙◌}
+use Rattle.std.proofs.Common.{◌++◌, ℕ, List, ap, ◌∙◌}
 use Rattle.import_cut.specs.declared.reading.RuleReading.{RuleReading}
 use Rattle.rule_globs.specs.Tokens.{Token}
 use Rattle.subject_rules.specs.Restating.{shape_of}
-use Rattle.profile_import.specs.FileRules.{subject_rule}
+use Rattle.profile_import.specs.FileRules.{subject_rule, told_shape}
 use Rattle.profile_import.specs.inner.Gathering.{restated_values}
-use Rattle.profile_import.proofs.Gathers.{always, restated_by_shape}
+use Rattle.profile_import.proofs.Gathers.{always}
+use Rattle.profile_import.proofs.ToldShapes.{looked_at}
 use Rattle.profile_import.proofs.gathering.take_rule.Goals as goal
 
 pub returns-clause-rules : goal.returns-clause-rules
@@ -16,6 +17,6 @@ returns-clause-rules c =
     let paths = rw c.parts.ensures at c.in_ok-rule.ensures.paths in
     let same = ap (λ (place : ℕ). restated_values place chosen read.reading.shape read.paths.items) c.place.ensures
     ∙ ap (λ (reading : RuleReading). restated_values c.args.cut.now.at chosen reading.shape read.paths.items) reading
-    ∙ ap (λ (paths : List (List Token)). restated_values c.args.cut.now.at chosen (shape_of said) paths) paths
-    ∙ sym (restated_by_shape chosen (record { place = c.args.cut.now.at; rule = said })) in
+    ∙ ap (λ (paths : List (List Token)). restated_values c.args.cut.now.at chosen (told_shape chosen (shape_of said)) paths) paths
+    ∙ looked_at chosen (record { place = c.args.cut.now.at; rule = said }) in
     always c.rule.result (c.in_ok-push_restated.ensures ∙ ap (λ l. c.args.rules.now.items ++ l) same)

@@ -1,4 +1,4 @@
-use Rattle.std.proofs.Common.{◌≡◌, List, suc, subst, All, IsTrue, rules, arith}
+use Rattle.std.proofs.Common.{List, suc, subst, All, IsTrue, rules, arith}
 use Rattle.rule_globs.specs.Tokens.{Token}
 use Rattle.rule_reader.specs.Readable.{is_path}
 use Rattle.profile_import.proofs.Gathers.{pushed_more}

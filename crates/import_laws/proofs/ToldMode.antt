@@ -1,4 +1,4 @@
--- Where all spans are told to be exact, so is the mode of the chosen profile.
+-- What is so of the changes that all spans are told to make is so of that of the chosen profile's mode.
 use Rattle.std.proofs.Common.{◌≡◌, ℕ, suc, ◌+◌, ◌-◌, ◌≤◌, ◌==◌, Bool, true, false, ◌&&◌, cond, List, [], ◌∷◌, length, refl, sym, ap, ap₂, ◌∙◌, subst, arith}
 use Rattle.std.proofs.lemmas.Bool.{eqb-true}
 use Rattle.rule_globs.specs.Each.{Each}
@@ -31,43 +31,43 @@ use Rattle.import_cut.specs.ReadRules.{change_told}
 use Rattle.import_laws.specs.Imported.{mode_from, opens_profile}
 use Rattle.import_laws.proofs.SpansBefore.{Tells, before_end, before_parts, head_part, plain_part, put_cases, put_each, put_is_told}
 
-abbrev IsExact : Change → Type 0
-IsExact x = x ≡ Exact
-
--- ---- flags
-
-part_exact : (chosen : Subject) (kind : PartKind) (bytes : List ℕ) → change_told (head_kind chosen kind bytes) ≡ Exact → mode_change (part_mode kind bytes) ≡ Exact
-part_exact chosen kinds.Flags bytes h = h
-part_exact chosen _ bytes h = refl
-
-both_exact : (mode other : Mode) → mode_change mode ≡ Exact → mode_change other ≡ Exact → mode_change (more_permissive mode other) ≡ Exact
-both_exact Enforcing other e f = f
-both_exact Permissive other e f = absurd cc
-both_exact Unconfined other e f = absurd cc
-
 put_fits : (kind : SpanKind) (s : CutState) → s.from ≤ s.at → (put kind s).from ≤ (put kind s).at
 put_fits kind s fits = put_cases (λ t. t.from ≤ t.at) kind s fits (omega arith)
-
-parts_exact : (parts : List PartValue) (s : CutState) (mode : Mode) → Each IsPart parts → s.from ≤ s.at → mode_change mode ≡ Exact
-    → Tells IsExact (put_each head_part parts s).spans → mode_change (mode_with_parts mode parts) ≡ Exact
-parts_exact [] s mode whole fits e h = e
-parts_exact (p ∷ parts) s mode whole fits e h =
-    let kind = head_part s.choice.subject p in
-    let now = pass (length p.bytes) s in
-    let some = whole.0.some in
-    let more : s.from ≤ s.at + length p.bytes = omega (arith, fits) in
-    let here = put_is_told IsExact kind now (λ same. omega (arith, some, fits, same)) (before_parts IsExact head_part parts (put kind now) h) in
-    parts_exact parts (put kind now) (more_permissive mode (part_mode p.kind p.bytes)) whole.1 (put_fits kind now more)
-    (both_exact mode (part_mode p.kind p.bytes) e (part_exact s.choice.subject p.kind p.bytes here)) h
 
 marked_fits : (kind : ItemKind) (s : CutState) → s.from ≤ s.at → (marked kind s).from ≤ (marked kind s).at
 marked_fits items.Hat s fits = fits
 marked_fits _ s fits = fits
 
-head_exact : (item : ItemValue) (s : CutState) → IsItem item → s.from ≤ s.at → Tells IsExact (chosen_head item s).spans → mode_change (mode_of_head item.parts) ≡ Exact
-unfolding chosen_head
-head_exact item s whole fits h =
-    parts_exact item.parts (opened (enter Chosen (marked item.kind s))) Enforcing whole.parts (marked_fits item.kind s fits) refl h
+-- ---- flags
+
+module _ (R : Change → Type 0) (exact : R Exact) where
+  part_told : (chosen : Subject) (kind : PartKind) (bytes : List ℕ) → R (change_told (head_kind chosen kind bytes)) → R (mode_change (part_mode kind bytes))
+  part_told chosen kinds.Flags bytes h = h
+  part_told chosen _ bytes h = exact
+
+  both_told : (mode other : Mode) → R (mode_change mode) → R (mode_change other) → R (mode_change (more_permissive mode other))
+  both_told Enforcing other e f = f
+  both_told Permissive Enforcing e f = e
+  both_told Permissive Permissive e f = f
+  both_told Permissive Unconfined e f = f
+  both_told Unconfined other e f = e
+
+  parts_told : (parts : List PartValue) (s : CutState) (mode : Mode) → Each IsPart parts → s.from ≤ s.at → R (mode_change mode)
+      → Tells R (put_each head_part parts s).spans → R (mode_change (mode_with_parts mode parts))
+  parts_told [] s mode whole fits e h = e
+  parts_told (p ∷ parts) s mode whole fits e h =
+      let kind = head_part s.choice.subject p in
+      let now = pass (length p.bytes) s in
+      let some = whole.0.some in
+      let more : s.from ≤ s.at + length p.bytes = omega (arith, fits) in
+      let here = put_is_told R kind now (λ same. omega (arith, some, fits, same)) (before_parts R head_part parts (put kind now) h) in
+      parts_told parts (put kind now) (more_permissive mode (part_mode p.kind p.bytes)) whole.1 (put_fits kind now more)
+      (both_told mode (part_mode p.kind p.bytes) e (part_told s.choice.subject p.kind p.bytes here)) h
+
+  head_told : (item : ItemValue) (s : CutState) → IsItem item → s.from ≤ s.at → Tells R (chosen_head item s).spans → R (mode_change (mode_of_head item.parts))
+  unfolding chosen_head
+  head_told item s whole fits h =
+      parts_told item.parts (opened (enter Chosen (marked item.kind s))) Enforcing whole.parts (marked_fits item.kind s fits) exact h
 
 -- ---- before the chosen profile
 
@@ -91,7 +91,7 @@ not_chosen Chosen depth b h = absurd h
 behind_is_outer : (floor depth : ℕ) → floor ≡ 0 → depth ≡ 0 → IsBefore (behind_run floor) depth
 behind_is_outer floor depth e h = subst (λ (n : ℕ). IsBefore (behind_run n) depth) (sym e) h
 
-module _ (c : Choice) where
+module _ (R : Change → Type 0) (exact : R Exact) (c : Choice) where
   abbrev Is : ℕ → CutState → Type 0
   Is heads s = Before c heads s.choice s.heads s.depth s.at s.from s.phase
 
@@ -116,7 +116,7 @@ module _ (c : Choice) where
   abbrev Step : ℕ → ItemValue → Bool → Bool → CutState → Type 0
   Step heads item false is t = Is heads t
   Step heads item true false t = Is (suc heads) t
-  Step heads item true true t = Tells IsExact t.spans → mode_change (mode_of_head item.parts) ≡ Exact
+  Step heads item true true t = Tells R t.spans → R (mode_change (mode_of_head item.parts))
 
   run_starts : (heads : ℕ) (begun : What) (item : ItemValue) (s : CutState) → s.depth ≡ 0 → Is heads s → Is (suc heads) (start_run begun item s)
   unfolding start_run
@@ -135,7 +135,7 @@ module _ (c : Choice) where
       (same_test heads s f) (at (s.heads == s.choice.profile) (cond (s.heads == s.choice.outermost) whats.Parent whats.Profile))
     where
       at : (b : Bool) (begun : What) → Step heads item true b (cond b (chosen_head item s) (start_run begun item s))
-      at true _ = λ h. head_exact item s whole f.fits h
+      at true _ = λ h. head_told R exact item s whole f.fits h
       at false begun = run_starts heads begun item s outer f
 
   run_heads : (heads : ℕ) (run : Run) (item : ItemValue) (s : CutState) → IsItem item → s.phase ≡ Skipping run → Is heads s
@@ -147,7 +147,7 @@ module _ (c : Choice) where
       (same_test heads s f) (at (s.heads == s.choice.profile) kind)
     where
       at : (b : Bool) (kind : SpanKind) → Step heads item true b (cond b (chosen_head item (put kind s)) (passed item (opened s)))
-      at true kind = λ h. head_exact item (put kind s) whole (putting heads kind s f).fits h
+      at true kind = λ h. head_told R exact item (put kind s) whole (putting heads kind s f).fits h
       at false kind =
           let fits = f.fits in
           let count = f.heads_are in
@@ -221,20 +221,20 @@ module _ (c : Choice) where
       (sym (not_chosen s.phase s.depth (is_rule item.kind) f.before)) (plain_steps s.phase heads item s whole refl f)
 
   from_here : (reading : ItemValue → RuleReading) (items : List ItemValue) (heads : ℕ) (s : CutState) → Each IsItem items → Is heads s
-      → Tells IsExact (finished (cut_items reading items s)).spans → mode_change (mode_from c.profile heads items) ≡ Exact
-  from_here reading [] heads s whole f h = refl
+      → Tells R (finished (cut_items reading items s)).spans → R (mode_change (mode_from c.profile heads items))
+  from_here reading [] heads s whole f h = exact
   from_here reading (item ∷ items) heads s whole f h =
       at (opens_profile item.kind) (heads == c.profile) (item_steps (reading item) heads item s whole.0 f)
       (λ next g. from_here reading items next (cut_item (reading item) item s) whole.1 g h)
     where
       at : (opens is : Bool) → Step heads item opens is (cut_item (reading item) item s)
-          → ((next : ℕ) → Is next (cut_item (reading item) item s) → mode_change (mode_from c.profile next items) ≡ Exact)
-          → mode_change (cond opens (cond is (mode_of_head item.parts) (mode_from c.profile (suc heads) items)) (mode_from c.profile heads items)) ≡ Exact
+          → ((next : ℕ) → Is next (cut_item (reading item) item s) → R (mode_change (mode_from c.profile next items)))
+          → R (mode_change (cond opens (cond is (mode_of_head item.parts) (mode_from c.profile (suc heads) items)) (mode_from c.profile heads items)))
       at false is g others = others heads g
       at true false g others = others (suc heads) g
-      at true true g others = g (before_end IsExact reading items (cut_item (reading item) item s) h)
+      at true true g others = g (before_end R reading items (cut_item (reading item) item s) h)
 
-  pub mode_is_exact : (reading : ItemValue → RuleReading) (items : List ItemValue) → Each IsItem items
-      → Tells IsExact (cut_of reading c items).spans → mode_change (mode_from c.profile 0 items) ≡ Exact
-  mode_is_exact reading items whole h =
+  pub mode_told : (reading : ItemValue → RuleReading) (items : List ItemValue) → Each IsItem items
+      → Tells R (cut_of reading c items).spans → R (mode_change (mode_from c.profile 0 items))
+  mode_told reading items whole h =
       from_here reading items 0 (at_start c) whole (record { choice = refl; heads_are = refl; fits = omega arith; before = refl }) h

@@ -1,0 +1,87 @@
+-- A rule that wouldn't be restated anyway, told as if its path were read: nothing else of it is told otherwise.
+use Rattle.std.proofs.Common.{◌≡◌, ℕ, Bool, true, false, not, ◌&&◌, cond, List, [], ◌∷◌, map, length, Option, Some, None, is_some, refl, sym, ap, ◌∙◌}
+use Rattle.std.specs.Prelude.{option_map}
+use Rattle.std.proofs.Math.Dec.{eqb-suc-zero}
+use Rattle.rule_globs.specs.Tokens.{Token}
+use Rattle.flat_rules.specs.RuleWords.{path_of}
+use Rattle.flat_text.specs.Parts.{PartValue}
+use Rattle.import_paths.specs.ImportedPaths.{imported_paths}
+use Rattle.profile_variables.specs.Variables.{Variable}
+use Rattle.subject_rules.specs.declared.shape.RuleShape.{RuleShape}
+use Rattle.subject_rules.specs.declared.subject.Subject.{Subject}
+use Rattle.subject_rules.specs.Changes.{change, restated_change, left_out_change}
+use Rattle.subject_rules.specs.Restating.{has_some, is_restated, restated_paths, restated_perms, shape_of}
+use Rattle.subject_rules.specs.SubjectRules.{SubjectRule, read, unread}
+use Rattle.subject_rules.specs.Subjects.{applies_to}
+use Rattle.profile_import.specs.Expanded.{expanded}
+use Rattle.profile_import.specs.FileRules.{PlacedRule, every_file, path_as, rule_text, subject_path, told_shape}
+use Rattle.profile_import.specs.Restated.{restated_at}
+use Rattle.profile_import.specs.inner.Gathering.{paths_looked_at, placed_value, restated_values, text_of_path}
+use Rattle.profile_import.proofs.Gathers.{restated_by_shape}
+
+abbrev some_left : RuleShape → Bool
+some_left shape = has_some (restated_perms shape.perms shape.has_target)
+
+-- it is restated, or not, as before
+pub told_is_restated : (chosen : Subject) (shape : RuleShape) → is_restated chosen (told_shape chosen shape) ≡ is_restated chosen shape
+told_is_restated chosen shape = at (applies_to shape.applies_to chosen) shape.is_read (some_left shape)
+  where
+    at : (a r l : Bool) → (a && not (not r && (a && true && l)) && l) ≡ (a && r && l)
+    at true true l = refl
+    at true false true = refl
+    at true false false = refl
+    at false r l = refl
+
+-- and changes for a subject what it did
+pub told_change : (chosen subject : Subject) (shape : RuleShape) → change chosen subject (told_shape chosen shape) ≡ change chosen subject shape
+told_change chosen subject shape =
+    ap (λ (b : Bool). cond b (restated_change subject shape) (left_out_change subject shape)) (told_is_restated chosen shape)
+
+-- by whether it applies, is read, and has some permission left
+looked_by : (place : ℕ) (shape : RuleShape) (a read l : Bool) (paths : List (List Token))
+    → cond (a && not (not read && (a && true && l)) && l) (map (placed_value place shape) (cond (a && true && l) paths [])) []
+    ≡ cond (a && read && l) (map (placed_value place shape) paths) []
+looked_by place shape true true true paths = refl
+looked_by place shape true true false paths = refl
+looked_by place shape true false true paths = refl
+looked_by place shape true false false paths = refl
+looked_by place shape false _ l paths = refl
+
+-- the paths that are looked at are those that it is restated with
+pub looked_at : (chosen : Subject) (r : PlacedRule)
+    → restated_values r.place chosen (told_shape chosen (shape_of r.rule)) (paths_looked_at chosen r.rule) ≡ restated_at chosen r
+looked_at chosen r =
+    let shape = shape_of r.rule in
+    looked_by r.place shape (applies_to shape.applies_to chosen) shape.is_read (some_left shape) (restated_paths r.rule.path)
+    ∙ sym (restated_by_shape chosen r)
+
+-- ---- a rule as code reads it
+
+pub some_kept : {A B : Type 0} (f : A → B) (o : Option A) → is_some (option_map f o) ≡ is_some o
+some_kept f None = refl
+some_kept f (Some x) = refl
+
+-- where it would be restated, were its path read, the paths that are looked at are all of them
+pub when_looked : (chosen : Subject) (rule : SubjectRule) (shape : RuleShape) (is : Bool) (paths : List (List Token))
+    → shape.kind ≡ rule.kind → shape.applies_to ≡ rule.applies_to → shape.perms ≡ rule.perms → shape.has_target ≡ is_some rule.target → shape.is_read ≡ true
+    → is ≡ is_restated chosen shape → is ≡ true → paths ≡ restated_paths rule.path → paths ≡ paths_looked_at chosen rule
+when_looked chosen rule shape is paths kind to perms target whole e stays h =
+    let same : shape ≡ record (shape_of rule) { is_read = true } =
+    λ i. record { kind = kind i; applies_to = to i; perms = perms i; has_target = target i; is_read = whole i } in
+    h ∙ ap (λ (b : Bool). cond b (restated_paths rule.path) []) (sym stays ∙ e ∙ ap (is_restated chosen) same)
+
+-- the text of its path, as code makes it
+text_by : (variables : List Variable) (path : Option (List ℕ)) → text_of_path variables path ≡ elim path [ None ↦ every_file | Some path ↦ expanded variables path ]
+text_by variables None = refl
+text_by variables (Some path) = refl
+
+as_they_are : (text : List ℕ) (paths : List (List Token)) → paths ≡ restated_paths (path_as text paths)
+as_they_are text [] = refl
+as_they_are text (path ∷ paths) = ap (λ (b : Bool). restated_paths (cond b (unread text) (read (path ∷ paths)))) (sym (eqb-suc-zero (length paths)))
+
+pub paths_of_text : (variables : List Variable) (parts : List PartValue) (path : Option (List ℕ)) (text : List ℕ) (paths : List (List Token))
+    → path ≡ path_of parts → text ≡ text_of_path variables path → paths ≡ imported_paths text
+    → paths ≡ restated_paths (subject_path (rule_text variables parts))
+paths_of_text variables parts path text paths e f h =
+    let same = f ∙ ap (text_of_path variables) e ∙ text_by variables (path_of parts) in
+    h ∙ ap imported_paths same ∙ as_they_are (rule_text variables parts) (imported_paths (rule_text variables parts))
