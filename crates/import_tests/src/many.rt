@@ -24,11 +24,11 @@ fn many_rules(alloc: Global, count: usize, more: &str) -> Result<String, AllocEr
     Ok(text)
 }
 
-/// A variable that is led to 511 long paths, and below it a profile with so many times this line.
+/// A variable that is led to 16 long paths, and below it a profile with so many times this line.
 fn many_paths(alloc: Global, count: usize, line: &str) -> Result<String, AllocError> {
     let mut text = String::new(alloc);
     text.push_str("@{A} = \"{")?;
-    push_times(&mut text, 510, ",")?;
+    push_times(&mut text, 15, ",")?;
     text.push_str("}/")?;
     push_times(&mut text, 500, "x")?;
     text.push_str("\"\nprofile p {\n")?;
@@ -85,7 +85,7 @@ fn paths_count(rt: HostRuntime) -> Result<(), Fail> {
     expect_row(
         &rt,
         alloc,
-        refused(PLAIN, text.as_str(), "refused: import 9 at 5:1\n"),
+        refused(PLAIN, text.as_str(), "refused: import 9 at 67:1\n"),
     )
 }
 

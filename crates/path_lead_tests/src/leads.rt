@@ -72,6 +72,12 @@ fn path_for_each_alternative(rt: HostRuntime) -> Result<(), Fail> {
                 b"{/*a,/b/}c",
                 b"profile \"p\" {\n  \"/*ac\" r,\n  \"/b/c\" r,\n}\n",
             ),
+            // The most alternatives that become paths, and one more.
+            (
+                b"{,,,,,,,,,,,,,,,/a}/b",
+                b"profile \"p\" {\n  \"/b\" r,\n  \"/b\" r,\n  \"/b\" r,\n  \"/b\" r,\n  \"/b\" r,\n  \"/b\" r,\n  \"/b\" r,\n  \"/b\" r,\n  \"/b\" r,\n  \"/b\" r,\n  \"/b\" r,\n  \"/b\" r,\n  \"/b\" r,\n  \"/b\" r,\n  \"/b\" r,\n  \"/a/b\" r,\n}\n",
+            ),
+            (b"{,,,,,,,,,,,,,,,,/a}/b", b"profile \"p\" {\n}\n"),
         ],
     )
 }

@@ -11,7 +11,7 @@ use Rattle.rule_globs.specs.declared.items.Item.{Item}
 use Rattle.rule_globs.specs.declared.items.Item.TheVariants as v
 use Rattle.rule_globs.proofs.TokenItems.{tokens-Byte, tokens-Group, full-Byte, full-Group, some_full}
 use Rattle.rule_writer.proofs.CanonWrites.{items_parts}
-use Rattle.path_leads.specs.Leads.{gives_slash, slash_before, stands_alone, group_leads}
+use Rattle.path_leads.specs.Leads.{can_be_split, gives_slash, slash_before, group_leads}
 
 pub same_tokens : (copies alternatives : Vec (Vec Item Global) Global) → items_parts copies.items ≡ items_parts alternatives.items →
     tokens (v.Group copies) ≡ tokens (v.Group alternatives)
@@ -67,12 +67,12 @@ split_row [] follow = refl
 split_row (a ∷ alternatives) follow = ap (λ l. (tokens_of a.items ++ follow) ∷ l) (split_row alternatives follow)
 
 pub split_leads : (alternatives : List (Vec Item Global)) (follow : List Token) → list_all gives_slash (items_parts alternatives) ≡ false →
-    list_all (stands_alone follow) (items_parts alternatives) ≡ true →
+    can_be_split (items_parts alternatives) follow ≡ true →
     map (λ items. tokens_of items.items ++ follow) alternatives ≡ group_leads (items_parts alternatives) follow
 split_leads alternatives follow none all =
     let made = map (λ alternative. alternative ++ follow) (items_parts alternatives) in
     split_row alternatives follow
-    ∙ sym (ap (λ b. if b then slash_before (items_parts alternatives) follow ∷ [] else if list_all (stands_alone follow) (items_parts alternatives) then made else []) none
+    ∙ sym (ap (λ b. if b then slash_before (items_parts alternatives) follow ∷ [] else if can_be_split (items_parts alternatives) follow then made else []) none
     ∙ ap (λ b. if b then made else []) all)
 
 -- ---- what a path begins with

@@ -11,7 +11,7 @@ use Rattle.rule_globs.specs.declared.items.Item.TheVariants.{rolls-Byte, rolls-A
 use Rattle.rule_globs.proofs.TokenItems.{EachWithin, item_induction, alternatives_row, tokens-Group, full-Group}
 use Rattle.rule_reader.specs.PathTokens.{is_plain_slash}
 use Rattle.rule_reader.specs.Readable.{is_run, begins_with_run, begins_with_slash, are_tokens, is_path}
-use Rattle.path_leads.specs.Leads.{ends_with, gives_slash, slash_before, stands_alone, group_leads, slash_leads, front_leads, leads, led}
+use Rattle.path_leads.specs.Leads.{can_be_split, ends_with, gives_slash, slash_before, stands_alone, group_leads, slash_leads, front_leads, leads, led}
 use Rattle.path_leads.proofs.Stays.{slash_after, Stay, ItemStays, at_closing, at_between, row_stays, each_stays, all_stay, flag_free}
 use Rattle.path_leads.proofs.SameNames.{parts_of, opened, slash_row}
 
@@ -155,12 +155,12 @@ group_path alternatives follow some h few =
     let long : length (row ++ (closing ∷ follow)) ≡ length row + suc (length follow) = length-append row (closing ∷ follow) in
     let end = (row_stays alternatives (each_within alternatives) 0 0 follow follow (omega arith) h).rest in
     let made = with_commas (map (drop 1) (parts_of alternatives)) in
-    chosen (list_all gives_slash (parts_of alternatives)) (list_all (stands_alone follow) (parts_of alternatives))
+    chosen (list_all gives_slash (parts_of alternatives)) (can_be_split (parts_of alternatives) follow)
     (slash_before (parts_of alternatives) follow ∷ []) (map (λ alternative. alternative ++ follow) (parts_of alternatives))
     (λ gives. ap (λ b. b && true) (path_by (slash_before (parts_of alternatives) follow) refl
     (omega (arith, bare_length alternatives gives some, length-append made (closing ∷ follow)))
     (all_bare alternatives follow gives end h)))
-    (λ alone. all_alone alternatives follow alone end h (omega arith))
+    (λ can. all_alone alternatives follow (and_parts (nat_le (length (parts_of alternatives)) 16) (list_all (stands_alone follow) (parts_of alternatives)) can).1 end h (omega arith))
 
 -- ---- by the variant of the first item
 

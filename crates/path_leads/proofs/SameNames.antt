@@ -17,7 +17,7 @@ use Rattle.rule_globs.proofs.TokenItems.{item_induction, tokens-Byte, tokens-Any
 use Rattle.rule_globs.proofs.TokenLaws.{in_front, in_front-end, items_stand, each_item, same_pattern}
 use Rattle.rule_reader.specs.Readable.{begins_with_slash, begins_with_run, is_path}
 use Rattle.rule_reader.specs.PathTokens.{is_plain_slash}
-use Rattle.path_leads.specs.Leads.{gives_slash, slash_before, stands_alone, group_leads, slash_leads, front_leads, leads, led}
+use Rattle.path_leads.specs.Leads.{can_be_split, gives_slash, slash_before, stands_alone, group_leads, slash_leads, front_leads, leads, led}
 
 -- ---- patterns that take the same names
 
@@ -264,7 +264,7 @@ group_same alternatives follow full some =
     let made = group_leads (parts_of alternatives.items) (tokens_of follow) in
     chained (meaning_of (v.Group alternatives ∷ follow)) g (alt_all (map pattern_of made))
     (same_if (meaning_of (v.Group alternatives ∷ follow)) g (ap (λ m. cat m (meaning_of follow)) (meaning-Group alternatives)))
-    (chosen g (list_all gives_slash (parts_of alternatives.items)) (list_all (stands_alone (tokens_of follow)) (parts_of alternatives.items))
+    (chosen g (list_all gives_slash (parts_of alternatives.items)) (can_be_split (parts_of alternatives.items) (tokens_of follow))
     (slash_before (parts_of alternatives.items) (tokens_of follow) ∷ []) (map (λ alternative. alternative ++ tokens_of follow) (parts_of alternatives.items))
     (λ h. before_same alternatives.items follow h few within.1 parts.1)
     (split_same alternatives.items follow within.1 parts.1) some)

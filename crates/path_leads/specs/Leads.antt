@@ -1,6 +1,6 @@
 -- A path whose items begin with a group, brought to paths that begin with a slash and match the same names (our choice:
 -- AppArmor reads such a path as it is, and the grammar of profile texts wants a slash first).
-use Rattle.std.specs.Prelude.{List, [], ◌∷◌, ◌++◌, Bool, false, not, ◌&&◌, if◌then◌else◌, map, drop}
+use Rattle.std.specs.Prelude.{List, [], ◌∷◌, ◌++◌, Bool, false, not, ◌&&◌, if◌then◌else◌, length, map, drop, nat_le}
 use Rattle.std.specs.List.{list_all}
 use Rattle.rule_globs.specs.declared.items.Item.{Item, out-Item}
 use Rattle.rule_globs.specs.declared.items.Item.TheOpen.{Item-F}
@@ -31,11 +31,15 @@ stands_alone follow alternative =
     && (not (ends_with is_run alternative) && (not (begins_with_run follow)
     && not (ends_with is_plain_slash alternative && begins_with_slash follow)))
 
+-- Each alternative makes such a path. There are not many of them, since what follows the group is copied for each.
+abbrev pub can_be_split : List (List Token) → List Token → Bool
+can_be_split alternatives follow = nat_le (length alternatives) 16 && list_all (stands_alone follow) alternatives
+
 -- The paths of a group and what follows it: one, or else one for each alternative, or none.
 abbrev pub group_leads : List (List Token) → List Token → List (List Token)
 group_leads alternatives follow =
     if list_all gives_slash alternatives then slash_before alternatives follow ∷ []
-    else if list_all (stands_alone follow) alternatives then map (λ alternative. alternative ++ follow) alternatives
+    else if can_be_split alternatives follow then map (λ alternative. alternative ++ follow) alternatives
     else []
 
 -- a path that begins with a slash is left as it is

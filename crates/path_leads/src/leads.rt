@@ -3,7 +3,7 @@ ghost use Rattle.std.specs.Prelude.{◌≡◌, ◌<◌, ◌∷◌, ◌++◌, [],
 ghost use Rattle.std.specs.List.{list_all};
 ghost use Rattle.rule_globs.specs.Tokens.{tokens_of, all_full};
 ghost use Rattle.rule_reader.specs.Readable.{is_path};
-ghost use Rattle.path_leads.specs.Leads.{gives_slash, stands_alone, slash_before, group_leads, slash_leads, led};
+ghost use Rattle.path_leads.specs.Leads.{can_be_split, gives_slash, stands_alone, slash_before, group_leads, slash_leads, led};
 ghost use Rattle.path_leads.specs.inner.Readable.{all_readable};
 
 use crate::copies::{put, put_copies, put_list};
@@ -12,6 +12,9 @@ use names::NoMemory;
 use profile_parts::path_of;
 use rule_globs::{Item, RulePath};
 use std::alloc::Global;
+
+/// The most paths that one is brought to. What follows the group is copied for each of them.
+const MOST_PATHS: usize = 16;
 
 fn all_give_slash(alternatives: &[Vec<Item>]) -> bool
     ensures { result ≡ list_all gives_slash (map (λ items. tokens_of items.items) alternatives.now) }
@@ -33,6 +36,13 @@ fn all_stand_alone(follow: &[Item], alternatives: &[Vec<Item>]) -> bool
         }
     }
     true
+}
+
+/// Whether each alternative makes a path with what follows the group, and they aren't too many.
+fn can_be_split(alternatives: &[Vec<Item>], follow: &[Item]) -> bool
+    ensures { result ≡ can_be_split (map (λ items. tokens_of items.items) alternatives.now) (tokens_of follow.now) }
+{
+    alternatives.len() <= MOST_PATHS && all_stand_alone(follow, alternatives)
 }
 
 /// The alternatives without their slashes.
@@ -132,7 +142,7 @@ fn group_paths(
 {
     if all_give_slash(alternatives) {
         one_path(alloc, slash_before(alloc, alternatives, follow)?)
-    } else if all_stand_alone(follow, alternatives) {
+    } else if can_be_split(alternatives, follow) {
         split(alloc, alternatives, follow)
     } else {
         Ok(Vec::new(alloc))
@@ -155,10 +165,10 @@ fn slash_path(alloc: Global, items: &[Item]) -> Result<Vec<RulePath>, NoMemory>
 /// The paths that begin with a slash, and match together the names that a path with these items matches
 /// ([`led_paths_take_the_same`](crate::led_paths_take_the_same)): the path itself where it begins with a slash; where it begins
 /// with a group whose alternatives all begin with a slash, and none with a slash and a run of stars, one path with the slash
-/// before the group; else one path for each alternative, where each then begins with a slash and the seam makes neither a run
-/// of stars nor `//`. None where it is otherwise, and where a path that was made can't be read.
+/// before the group; else one path for each alternative, where these are 16 at most, each then begins with a slash and the seam
+/// makes neither a run of stars nor `//`. None where it is otherwise, and where a path that was made can't be read.
 ///
-/// The time grows as what is answered.
+/// The time grows as the items of the path.
 pub fn led(alloc: Global, items: &[Item]) -> Result<Vec<RulePath>, NoMemory>
     requires { IsTrue (all_full items.now) }
     ensures { IfOk result (λ paths. paths.items ≡ led items.now) }

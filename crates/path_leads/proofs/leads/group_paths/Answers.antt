@@ -6,9 +6,9 @@ use Rattle.path_leads.specs.inner.Readable.{all_readable}
 use Rattle.path_leads.proofs.CopyLaws.{split_leads}
 use Rattle.path_leads.proofs.leads.group_paths.Goals as goal
 
-pub returns-then-all_stand_alone : goal.returns-then-all_stand_alone
-returns-then-all_stand_alone c =
+pub returns-then-can_be_split : goal.returns-then-can_be_split
+returns-then-can_be_split c =
     IfOk-weaker c.split.result _ _
     (λ paths e. e ∙ ap all_readable (split_leads c.args.alternatives.now (tokens_of c.args.follow.now)
-    (sym c.all_give_slash.ensures ∙ c.if-all_give_slash.false) (sym c.all_stand_alone.ensures ∙ c.if-all_stand_alone.true)))
+    (sym c.all_give_slash.ensures ∙ c.if-all_give_slash.false) (sym c.can_be_split.ensures ∙ c.if-can_be_split.true)))
     c.split.ensures
