@@ -1,6 +1,6 @@
 -- What a text's states are, and why it has none.
 use Rattle.std.specs.Prelude.{◌≡◌, ◌⊎◌, ℕ, List}
-use Rattle.rule_reader.specs.Profile.{ProfileValue}
+use Rattle.rule_profile.specs.Profile.{ProfileValue}
 use Rattle.rule_reader.specs.Grammar.{ReadsAs}
 use Rattle.rule_reader.specs.ReadFaults.{FaultsAs}
 use Rattle.rule_reader.specs.declared.fault.ReadFault.TheVariants as read

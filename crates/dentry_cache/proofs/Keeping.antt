@@ -14,7 +14,7 @@ use Rattle.directory_tree.specs.Apply.{Changed, apply, apply_counted, has_room, 
 use Rattle.directory_tree.proofs.Basics.{ok_inj, err_is_ok}
 use Rattle.directory_tree.proofs.Changes.{tree_after_well}
 use Rattle.path_lookup.specs.World.{World}
-use Rattle.plain_tree.proofs.Held.{after_more}
+use Rattle.directory_tree.proofs.OneMore.{after_more}
 use Rattle.tree_row.specs.Slots.{slot_at}
 use Rattle.tree_row.specs.Rows.{Encodes, row_length}
 use Rattle.tree_row.specs.Worlds.{spot_at, EncodesWorld, SeesBy}

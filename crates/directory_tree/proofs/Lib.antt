@@ -23,3 +23,5 @@ pub mod Accepted
 pub mod Fronts
 pub mod Renamed
 pub mod Histories
+pub mod OneMore
+pub mod Rooms

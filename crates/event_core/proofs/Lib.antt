@@ -1,4 +1,3 @@
-pub mod Rooms
 pub mod Ruled
 pub mod Runs
 pub mod Calls

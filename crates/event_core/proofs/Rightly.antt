@@ -24,7 +24,7 @@ use Rattle.event_core.specs.Takes.{Takes}
 use Rattle.event_core.specs.Runs.{Legal}
 use Rattle.event_core.specs.Rule.{view_of, KeepsRule}
 use Rattle.event_core.specs.Right.{Span, Happened, IsTreeVersion, IsPolicyVersion, IsCount, IsRight}
-use Rattle.event_core.proofs.Rooms.{roomy_after}
+use Rattle.directory_tree.proofs.Rooms.{roomy_after}
 use Rattle.event_core.proofs.Ruled.{first_kept, fits_at}
 use Rattle.event_core.proofs.Runs.{by_steps}
 use Rattle.event_core.proofs.Calls.{IsCall, AreCalls, Rechecked, Unpolled, takes_calls}

@@ -1,7 +1,7 @@
 -- The head of a canonical text, and what it is read as.
 use Rattle.std.proofs.Common.{◌≡◌, ℕ, Bool, true, false, List, [], ◌∷◌, ◌++◌, Ok, refl, ◌==◌}
 use Rattle.std.specs.Prelude.{codes, ◌&&◌}
-use Rattle.rule_reader.specs.Readable.{is_name}
+use Rattle.rule_profile.specs.Readable.{is_name}
 use Rattle.rule_writer.proofs.CanonTexts.{name_parts}
 use Rattle.flat_text.specs.declared.part.PartKind.TheVariants as parts
 use Rattle.flat_text.specs.Parts.{PartValue}

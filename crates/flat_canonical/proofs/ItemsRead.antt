@@ -7,8 +7,8 @@ use Rattle.names.specs.Permissions.{letters}
 use Rattle.rule_globs.specs.Each.{Each}
 use Rattle.verdicts.specs.declared.kind.RuleKind.{RuleKind}
 use Rattle.verdicts.specs.declared.kind.RuleKind.TheVariants.{Allow, Deny}
-use Rattle.rule_reader.specs.Profile.{RuleValue, ProfileValue}
-use Rattle.rule_reader.specs.Readable.{is_rule, is_profile}
+use Rattle.rule_profile.specs.Profile.{RuleValue, ProfileValue}
+use Rattle.rule_profile.specs.Readable.{is_rule, is_profile}
 use Rattle.rule_reader.specs.TextBytes.{begins, opens_blank}
 use Rattle.rule_writer.specs.Canonical.{qualifier_text, kind_text, rule_line, canonical}
 use Rattle.rule_writer.proofs.CanonTexts.{profile_parts}

@@ -5,8 +5,8 @@ use Rattle.std.specs.List.{list_all, flat_map}
 use Rattle.std.proofs.lemmas.Bool.{and_parts, not-true, eqb-true}
 use Rattle.rule_globs.specs.declared.items.ByteRange.{ByteRange}
 use Rattle.rule_globs.specs.Tokens.{Token, byte, any_byte, bracket, stars, opening, between, closing}
-use Rattle.rule_reader.specs.PathTokens.{depth_behind, is_plain_slash}
-use Rattle.rule_reader.specs.Readable.{can_stand, are_name_bytes, is_range, is_token, are_tokens}
+use Rattle.rule_profile.specs.PathTokens.{depth_behind, is_plain_slash}
+use Rattle.rule_profile.specs.Readable.{can_stand, are_name_bytes, is_range, is_token, are_tokens}
 use Rattle.rule_writer.specs.Canonical.{escaped_among, range_text, token_text}
 use Rattle.rule_writer.proofs.CanonCells.{stands, is_special}
 use Rattle.flat_words.specs.Words.{quoted_at, word_end}

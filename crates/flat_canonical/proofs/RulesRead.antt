@@ -8,8 +8,8 @@ use Rattle.names.specs.Permissions.{has, letters, all_permissions}
 use Rattle.rule_globs.specs.Tokens.{Token, byte, any_byte, bracket, stars, opening, between, closing}
 use Rattle.verdicts.specs.declared.kind.RuleKind.{RuleKind}
 use Rattle.verdicts.specs.declared.kind.RuleKind.TheVariants.{Allow, Deny}
-use Rattle.rule_reader.specs.Profile.{RuleValue}
-use Rattle.rule_reader.specs.Readable as readable
+use Rattle.rule_profile.specs.Profile.{RuleValue}
+use Rattle.rule_profile.specs.Readable as readable
 use Rattle.rule_reader.specs.ReadWords.{word}
 use Rattle.rule_reader.specs.TextBytes.{begins, opens_blank}
 use Rattle.rule_writer.specs.Canonical.{qualifier_text}

@@ -8,7 +8,7 @@ use Rattle.rule_globs.specs.Each.{Each}
 use Rattle.rule_globs.specs.Tokens.{Token}
 use Rattle.verdicts.specs.declared.kind.RuleKind.{RuleKind}
 use Rattle.verdicts.specs.declared.kind.RuleKind.TheVariants.{Allow, Deny}
-use Rattle.rule_reader.specs.Profile.{RuleValue, ProfileValue}
+use Rattle.rule_profile.specs.Profile.{RuleValue, ProfileValue}
 use Rattle.rule_writer.specs.Canonical.{token_text}
 use Rattle.flat_words.specs.declared.letters.Letters.{Letters}
 use Rattle.flat_text.specs.declared.part.PartKind.{PartKind}

@@ -2,8 +2,8 @@
 ghost use Rattle.std.specs.Prelude.{◌≡◌, IsTrue, Some, None};
 ghost use Rattle.names.specs.declared.permissions.Perms.{Perms};
 ghost use Rattle.names.specs.Permissions.{letters};
-ghost use Rattle.rule_reader.specs.Profile.{ProfileValue};
-ghost use Rattle.rule_reader.specs.Readable.{is_profile};
+ghost use Rattle.rule_profile.specs.Profile.{ProfileValue};
+ghost use Rattle.rule_profile.specs.Readable.{is_profile};
 ghost use Rattle.rule_writer.specs.Canonical.{canonical};
 ghost use Rattle.flat_words.specs.Letters.{letters_of};
 ghost use Rattle.flat_text.specs.Texts.{ReadsItems};

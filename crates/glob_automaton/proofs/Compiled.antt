@@ -6,7 +6,7 @@ use Rattle.std.specs.Result.{IsErrAnd}
 use Rattle.names.specs.declared.permissions.Permission.{Permission}
 use Rattle.names.specs.Permissions.{has}
 use Rattle.rule_globs.specs.Glob.{Glob, places}
-use Rattle.rule_reader.specs.Profile.{RuleValue, pattern}
+use Rattle.rule_profile.specs.Profile.{RuleValue, pattern}
 use Rattle.rule_globs.specs.Verdict.{Hits, IsRuleAt}
 use Rattle.verdicts.specs.declared.kind.RuleKind.{RuleKind}
 use Rattle.verdicts.specs.declared.kind.RuleKind.TheVariants.{Allow, Deny}

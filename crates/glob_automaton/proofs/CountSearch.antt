@@ -2,7 +2,7 @@
 use Rattle.std.proofs.Common.{◌≢◌, ℕ, ◌+◌, ◌<◌, ◌≤◌, Bool, IsTrue, ◌↔◌, ◌⊎◌, inl, inr, ⊎_elim, List, [], length, slice_index_or, subst, arith}
 use Rattle.std.proofs.lemmas.Bool.{cases_lt}
 use Rattle.std.proofs.lemmas.List.Elements.{All-nil}
-use Rattle.rule_reader.specs.Profile.{RuleValue}
+use Rattle.rule_profile.specs.Profile.{RuleValue}
 use Rattle.glob_automaton.specs.Automata.{StateLimit, most_sets}
 use Rattle.glob_automaton.specs.Sets.{SameSet, NoneLive, IsPrefixOfName, AreDifferent, AreMoreThan}
 use Rattle.glob_automaton.proofs.CountedPrefixes.{AreAll, all_counted}

@@ -1,7 +1,7 @@
 -- Where no byte leads to a new set, each prefix of a name has a set that is counted.
 use Rattle.std.proofs.Common.{ℕ, suc, ◌<◌, inl, inr, ⊎_elim, List, [], ◌∷◌, ◌++◌, slice_index_or, All, append_assoc, append-nil, sym, subst, arith}
 use Rattle.std.proofs.lemmas.List.Elements.{All-head, All-tail}
-use Rattle.rule_reader.specs.Profile.{RuleValue}
+use Rattle.rule_profile.specs.Profile.{RuleValue}
 use Rattle.glob_automaton.specs.Sets.{SameSet, IsPrefixOfName, AreDifferent}
 use Rattle.glob_automaton.proofs.LiveByParts.{LeftFirst}
 use Rattle.glob_automaton.proofs.LiveNumbers.{LiveAfterByte}

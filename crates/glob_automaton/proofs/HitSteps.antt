@@ -7,7 +7,7 @@ use Rattle.names.specs.declared.permissions.Permission.TheVariants.{Read, Write,
 use Rattle.names.specs.declared.permissions.Perms.{Perms}
 use Rattle.names.specs.Permissions.{has}
 use Rattle.rule_globs.specs.Glob.{Takes}
-use Rattle.rule_reader.specs.Profile.{RuleValue, pattern}
+use Rattle.rule_profile.specs.Profile.{RuleValue, pattern}
 use Rattle.rule_globs.specs.Verdict.{IsRuleAt, Hits}
 use Rattle.verdicts.specs.declared.kind.RuleKind.{RuleKind}
 use Rattle.verdicts.specs.declared.kind.RuleKind.TheVariants.{Allow, Deny}

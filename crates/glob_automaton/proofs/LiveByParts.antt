@@ -2,7 +2,7 @@
 use Rattle.std.proofs.Common.{ℕ, ◌↔◌, List}
 use Rattle.rule_globs.specs.Glob.{Glob, LiveOrEnd}
 use Rattle.rule_globs.specs.LiveSteps.{IsLeftFirst}
-use Rattle.rule_reader.specs.Profile.{RuleValue, pattern}
+use Rattle.rule_profile.specs.Profile.{RuleValue, pattern}
 use Rattle.rule_globs.specs.Verdict.{IsRuleAt}
 use Rattle.glob_automaton.specs.Sets.{IsLive, SameSet, NoneLive}
 

@@ -4,7 +4,7 @@ use Rattle.std.specs.List.{Contains}
 use Rattle.std.proofs.lemmas.Option.{slice_get_cases}
 use Rattle.rule_globs.specs.Glob.{Glob, LiveOrEnd, places}
 use Rattle.rule_globs.specs.Follow.{Starts, TakesAt, Goes}
-use Rattle.rule_reader.specs.Profile.{RuleValue, pattern}
+use Rattle.rule_profile.specs.Profile.{RuleValue, pattern}
 use Rattle.glob_automaton.specs.declared.chart.Chart.{Chart}
 use Rattle.glob_automaton.specs.declared.chart.ChartRule.{ChartRule}
 use Rattle.glob_automaton.specs.inner.Building.{IsStartOf, IsStepOf, IsReached, begins, goes_on}

@@ -5,7 +5,7 @@ use Rattle.std.proofs.lemmas.Bool.{cases_lt}
 use Rattle.std.proofs.lemmas.Option.{none-some, same_Some, slice_get_cases}
 use Rattle.rule_globs.specs.Glob.{Glob, empty, one, run, cat, none, alt, fits, Takes, places, Live, LiveOrEnd}
 use Rattle.rule_globs.specs.PlainVerdict.{takes}
-use Rattle.rule_reader.specs.Profile.{RuleValue, pattern}
+use Rattle.rule_profile.specs.Profile.{RuleValue, pattern}
 use Rattle.rule_globs.specs.Verdict.{IsRuleAt}
 use Rattle.glob_automaton.specs.Sets.{SameSet, NoneLive}
 use Rattle.glob_automaton.proofs.Deciding.{Decided, decided_test, decided_by, decided_both, decided_either, decided_not, decided_same, decided_equal, decided_empty, decided_behind, decided_pairs, decided_cut}

@@ -6,8 +6,8 @@ use Rattle.std.proofs.lemmas.List.Elements.{All-nil, All-push}
 use Rattle.std.proofs.lemmas.Option.{none-some, same_Some}
 use Rattle.names.specs.Permissions.{has, all_permissions}
 use Rattle.rule_globs.specs.Glob.{LiveOrEnd}
-use Rattle.rule_reader.specs.Profile.{RuleValue, ProfileValue, pattern}
-use Rattle.rule_reader.specs.Readable.{begins_with_slash, are_tokens, is_path, is_rule, is_name, is_profile}
+use Rattle.rule_profile.specs.Profile.{RuleValue, ProfileValue, pattern}
+use Rattle.rule_profile.specs.Readable.{begins_with_slash, are_tokens, is_path, is_rule, is_name, is_profile}
 use Rattle.rule_globs.specs.Tokens.{Token, pattern_of}
 use Rattle.glob_automaton.specs.declared.chart.Chart.{Chart}
 use Rattle.glob_automaton.specs.declared.chart.ChartRule.{ChartRule}

@@ -4,7 +4,7 @@ use Rattle.std.proofs.lemmas.Bool.{and_parts}
 use Rattle.names.specs.Paths.{is_slash}
 use Rattle.rule_globs.specs.Glob.{Glob, empty, one, run, cat, none, alt, ByteSet, exactly, fits, contains, Takes, places, Live, LiveOrEnd}
 use Rattle.rule_globs.specs.Follow.{Numbers, Starts, TakesAt, Goes}
-use Rattle.rule_reader.specs.Readable.{begins_with_slash}
+use Rattle.rule_profile.specs.Readable.{begins_with_slash}
 use Rattle.rule_globs.specs.Tokens.{Token, byte, any_byte, bracket, stars, opening, between, closing, pattern_of}
 
 -- what is live where a pattern begins is a place of it, or is live behind it

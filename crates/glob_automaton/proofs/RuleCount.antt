@@ -2,7 +2,7 @@
 use Rattle.std.proofs.Common.{◌≡◌, ℕ, ◌+◌, ◌≤◌, List, [], ◌∷◌, length, refl, map, take, arith}
 use Rattle.std.proofs.lemmas.List.{length-map, length-take-le}
 use Rattle.rule_globs.specs.Glob.{places}
-use Rattle.rule_reader.specs.Profile.{RuleValue, pattern}
+use Rattle.rule_profile.specs.Profile.{RuleValue, pattern}
 use Rattle.glob_automaton.specs.declared.chart.Chart.{Chart}
 use Rattle.glob_automaton.specs.declared.chart.ChartRule.{ChartRule}
 use Rattle.glob_automaton.specs.inner.Drawing.{HasRules}

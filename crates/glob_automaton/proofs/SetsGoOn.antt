@@ -1,7 +1,7 @@
 -- Same sets, and how they go on: what is live after one byte more is given by the set before it.
 use Rattle.std.proofs.Common.{◌≡◌, ℕ, List, [], ◌∷◌, ◌++◌, subst}
 use Rattle.rule_globs.specs.Glob.{Glob, LiveOrEnd}
-use Rattle.rule_reader.specs.Profile.{RuleValue, pattern}
+use Rattle.rule_profile.specs.Profile.{RuleValue, pattern}
 use Rattle.glob_automaton.specs.Sets.{SameSet, NoneLive}
 use Rattle.glob_automaton.proofs.LiveByParts.{LeftFirst, IsLiveByParts, SameByParts, NoneByParts, same_by_parts, none_by_parts}
 use Rattle.glob_automaton.proofs.LiveNumbers.{LiveAfterByte}

@@ -1,7 +1,7 @@
 -- An automaton as tables: a row of 256 targets and a record for each state.
 use Rattle.std.specs.Prelude.{◌≡◌, ◌↔◌, ◌⊎◌, ℕ, Bool, IsTrue, ◌<◌, ◌≤◌, List, [], ◌∷◌, length, Some, slice_get, slice_index_or}
 use Rattle.names.specs.Bytes.{are_bytes}
-use Rattle.rule_reader.specs.Profile.{RuleValue}
+use Rattle.rule_profile.specs.Profile.{RuleValue}
 use Rattle.verdicts.specs.declared.record.Record.{Record}
 use Rattle.glob_automaton.specs.declared.fault.CompileFault.{CompileFault}
 use Rattle.glob_automaton.specs.declared.fault.CompileFault.TheVariants.{TooManyStates, NoMemory}

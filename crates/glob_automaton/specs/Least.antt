@@ -1,7 +1,7 @@
 -- The least hits of a name, for each permission (apparmor.d(5), "Rule Qualifiers").
 use Rattle.std.specs.Prelude.{ℕ, List}
 use Rattle.names.specs.declared.permissions.Permission.{Permission}
-use Rattle.rule_reader.specs.Profile.{RuleValue}
+use Rattle.rule_profile.specs.Profile.{RuleValue}
 use Rattle.rule_globs.specs.Verdict.{Hits}
 use Rattle.verdicts.specs.Least.{IsLeastOrNone, hits_of}
 use Rattle.verdicts.specs.declared.kind.RuleKind.TheVariants.{Allow, Deny}

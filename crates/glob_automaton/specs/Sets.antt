@@ -1,7 +1,7 @@
 -- The sets of live places of a profile's rules, and how many different ones the prefixes of names have.
 use Rattle.std.specs.Prelude.{◌≡◌, ◌↔◌, ℕ, ◌+◌, ◌<◌, ◌≤◌, List, [], ◌∷◌, length, All, slice_index_or}
 use Rattle.rule_globs.specs.LiveSteps.{IsLeftFirst}
-use Rattle.rule_reader.specs.Profile.{RuleValue, pattern}
+use Rattle.rule_profile.specs.Profile.{RuleValue, pattern}
 use Rattle.rule_globs.specs.Verdict.{IsRuleAt}
 
 -- The place p of the rule with number n is live after the bytes: some steps with these bytes leave it first. Rules are

@@ -3,13 +3,13 @@
 ghost use Rattle.std.specs.Prelude.{◌≡◌, ◌≤◌, ◌++◌, ◌∷◌, [], IfOk, OnOk, length};
 ghost use Rattle.rule_globs.specs.Glob.{ByteSet, one, run};
 ghost use Rattle.rule_globs.specs.Meaning.{meaning, meaning_of, stars_glob, alternatives_meaning};
-ghost use Rattle.rule_reader.specs.Profile.{profile_value, rule_value};
+ghost use Rattle.rule_profile.specs.Profile.{profile_value, rule_value};
 ghost use Rattle.glob_automaton.specs.inner.Chart.{takes_byte};
 ghost use Rattle.glob_automaton.specs.inner.Drawing.{IsReady, IsDrawn, IsPartOfChart, HasOneMore, IsChartOf, IsKnown, TakesSet};
 
 use names::Perms;
 use rule_globs::{Class, Item, Stars};
-use rule_reader::{Profile, Rule};
+use rule_profile::{Profile, Rule};
 use std::alloc::{AllocError, Global};
 use verdicts::RuleKind;
 

@@ -1,6 +1,6 @@
 //! From a profile to its automaton.
 ghost use Rattle.std.specs.Prelude.{◌≡◌, ◌<◌, ◌≤◌, List, ℕ, length, IfOk, IfErr};
-ghost use Rattle.rule_reader.specs.Profile.{profile_value};
+ghost use Rattle.rule_profile.specs.Profile.{profile_value};
 ghost use Rattle.glob_automaton.specs.Automata.{IsAutomatonOf, IsCompileFault};
 
 use crate::automaton::Dfa;
@@ -8,7 +8,7 @@ use crate::building::build;
 use crate::chart::Chart;
 use crate::fault::CompileFault;
 use rule_globs::{live_is_left_first, live_places_go_on};
-use rule_reader::Profile;
+use rule_profile::Profile;
 use std::alloc::Global;
 use verdicts::records_are_their_hits;
 

@@ -1,7 +1,7 @@
 //! Laws of least hits and of the count of states.
 ghost use Rattle.std.specs.Prelude.{◌≡◌, ◌↔◌, ◌<◌, List, ℕ};
 ghost use Rattle.names.specs.declared.permissions.Perms.{Perms};
-ghost use Rattle.rule_reader.specs.Profile.{RuleValue};
+ghost use Rattle.rule_profile.specs.Profile.{RuleValue};
 ghost use Rattle.rule_globs.specs.Verdict.{IsVerdict};
 ghost use Rattle.verdicts.specs.declared.verdict.Verdict.{Verdict};
 ghost use Rattle.verdicts.specs.declared.record.Record.{Record};

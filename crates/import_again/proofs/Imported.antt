@@ -8,8 +8,8 @@ use Rattle.std.proofs.lemmas.List.{length-map}
 use Rattle.rule_globs.specs.Each.{Each}
 use Rattle.rule_globs.specs.Rules.{RuleValue, ProfileValue}
 use Rattle.rule_globs.specs.Tokens.{Token}
-use Rattle.rule_reader.specs.Limits.{max_rules}
-use Rattle.rule_reader.specs.Readable.{is_path}
+use Rattle.rule_profile.specs.Limits.{max_rules}
+use Rattle.rule_profile.specs.Readable.{is_path}
 use Rattle.flat_text.specs.Parts.{ItemValue}
 use Rattle.flat_words.specs.Steps.{Stop}
 use Rattle.import_cut.specs.CutStates.{CutState, at_start}

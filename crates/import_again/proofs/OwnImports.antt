@@ -9,8 +9,8 @@ use Rattle.std.proofs.lemmas.Slice.Eq.{bytes_eq-Decides}
 use Rattle.names.specs.Permissions.{has, all_permissions}
 use Rattle.rule_globs.specs.Each.{Each}
 use Rattle.rule_globs.specs.Rules.{RuleValue, ProfileValue}
-use Rattle.rule_reader.specs.Limits.{max_rules}
-use Rattle.rule_reader.specs.Readable.{is_name, is_path, is_rule, is_profile}
+use Rattle.rule_profile.specs.Limits.{max_rules}
+use Rattle.rule_profile.specs.Readable.{is_name, is_path, is_rule, is_profile}
 use Rattle.rule_writer.specs.Canonical.{canonical}
 use Rattle.flat_canonical.specs.CanonicalItems.{path_text, canonical_items, ends_with_backslash, CanBeQuoted}
 use Rattle.flat_canonical.proofs.ItemsRead.{reads_canonical}

@@ -9,7 +9,7 @@ use Rattle.import_scope.specs.Scopes as scopes
 use Rattle.import_scope.specs.Scopes.{Head, ScopeState, at_start, behind_all}
 use Rattle.import_scope.specs.FirstFaults.{FirstFault, variables_within}
 use Rattle.profile_variables.specs.Variables.{Variable}
-use Rattle.rule_reader.specs.Limits.{max_rules}
+use Rattle.rule_profile.specs.Limits.{max_rules}
 use Rattle.profile_import.specs.declared.options.ImportOptions.{ImportOptions}
 use Rattle.profile_import.specs.Faults.{which, too_many_rules, not_exact}
 use Rattle.profile_import.specs.Restated.{PlacedValue, cut_for, all_rules, restated_rules}

@@ -6,7 +6,7 @@ use Rattle.std.proofs.lemmas.Bool.{and_parts, and_from}
 use Rattle.std.proofs.lemmas.List.Folds.{list_all-append}
 use Rattle.rule_globs.specs.Each.{Each}
 use Rattle.rule_globs.specs.Tokens.{Token}
-use Rattle.rule_reader.specs.Readable.{is_name, is_path, is_rule}
+use Rattle.rule_profile.specs.Readable.{is_name, is_path, is_rule}
 use Rattle.flat_text.specs.Parts.{ItemValue}
 use Rattle.subject_rules.specs.declared.subject.Subject.{Subject}
 use Rattle.subject_rules.specs.Restating.{has_some, is_restated, is_read, restated, restated_all, restated_paths, restated_perms, shape_of, with_path}

@@ -2,7 +2,7 @@
 ghost use Rattle.std.specs.Prelude.{◌≡◌, ℕ, List, Ok, length, IsTrue};
 ghost use Rattle.rule_globs.specs.Each.{Each};
 ghost use Rattle.rule_reader.specs.Grammar.{ReadsAs};
-ghost use Rattle.rule_reader.specs.Readable.{is_profile};
+ghost use Rattle.rule_profile.specs.Readable.{is_profile};
 ghost use Rattle.rule_writer.specs.Canonical.{canonical};
 ghost use Rattle.import_cut.specs.Spans.{Covers, IsRight};
 ghost use Rattle.profile_import.specs.declared.options.ImportOptions.{ImportOptions};

@@ -11,7 +11,7 @@ use Rattle.rule_globs.specs.declared.items.Item.{Item, Item-F, out-Item, out-rol
 use Rattle.rule_globs.specs.declared.items.Item.TheVariants as v
 use Rattle.rule_globs.specs.declared.items.Item.TheVariants.{rolls-Byte, rolls-AnyByte, rolls-Class, rolls-Stars, rolls-Group}
 use Rattle.rule_globs.proofs.TokenItems.{EachWithin, item_induction, alternatives_row, tokens-Byte, tokens-AnyByte, tokens-Class, tokens-Stars, tokens-Group, full-Group}
-use Rattle.rule_reader.specs.Readable.{is_path}
+use Rattle.rule_profile.specs.Readable.{is_path}
 use Rattle.path_leads.specs.Choices.{node_chooses, chooses, all_choose}
 use Rattle.path_leads.specs.Leads.{group_leads, slash_leads, front_leads, leads, led}
 use Rattle.path_leads.proofs.ChoiceLaws.{chooses-Group}

@@ -11,8 +11,8 @@ use Rattle.rule_globs.specs.declared.items.Stars.{Stars}
 use Rattle.rule_globs.specs.declared.items.Item.{Item}
 use Rattle.rule_globs.specs.declared.items.Item.TheVariants as v
 use Rattle.rule_globs.proofs.TokenItems.{alternatives_row, tokens-Byte, tokens-AnyByte, tokens-Class, tokens-Stars, tokens-Group, full-Byte, full-AnyByte, full-Class, full-Stars, full-Group}
-use Rattle.rule_reader.specs.PathTokens.{is_plain_slash}
-use Rattle.rule_reader.specs.Readable.{is_token, are_tokens}
+use Rattle.rule_profile.specs.PathTokens.{is_plain_slash}
+use Rattle.rule_profile.specs.Readable.{is_token, are_tokens}
 use Rattle.path_leads.proofs.Ends.{some_tokens}
 
 -- a vector of these

@@ -5,7 +5,7 @@ use Rattle.std.proofs.lemmas.Bool.{eqb-true}
 use Rattle.rule_globs.specs.Tokens.{Token, byte, any_byte, bracket, stars, opening, between, closing}
 use Rattle.rule_reader.specs.GrammarPaths.{WrittenItem, print_items, items_mean, is_plain_slash_item}
 use Rattle.rule_reader.specs.PathText.{whole_tokens, text_tokens}
-use Rattle.rule_reader.specs.Readable.{begins_with_slash, are_tokens, is_path}
+use Rattle.rule_profile.specs.Readable.{begins_with_slash, are_tokens, is_path}
 use Rattle.rule_reader.specs.ReadPaths.{tokens_at, path_in, path_at}
 use Rattle.rule_reader.specs.ReadSteps.{◌>>=◌, syntax}
 use Rattle.rule_reader.specs.ReadWords.{literal}

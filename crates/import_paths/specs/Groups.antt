@@ -3,8 +3,8 @@
 use Rattle.std.specs.Prelude.{ℕ, zero, List, [], ◌∷◌, Bool, true, false, ◌&&◌, if◌then◌else◌, drop}
 use Rattle.std.specs.List.{list_all}
 use Rattle.rule_globs.specs.Tokens.{Token, byte, any_byte, bracket, stars, opening, between, closing}
-use Rattle.rule_reader.specs.PathTokens.{depth_behind}
-use Rattle.rule_reader.specs.Readable.{is_path}
+use Rattle.rule_profile.specs.PathTokens.{depth_behind}
+use Rattle.rule_profile.specs.Readable.{is_path}
 use Rattle.path_leads.specs.Leads.{group_leads, slash_leads}
 
 -- ---- choices

@@ -5,7 +5,7 @@ ghost use Rattle.rule_globs.specs.Meaning.{alt_all};
 ghost use Rattle.rule_globs.specs.Tokens.{Token, pattern_of, tokens_of, all_full};
 ghost use Rattle.rule_globs.specs.declared.items.Item.{Item};
 ghost use Rattle.rule_reader.specs.PathText.{text_tokens};
-ghost use Rattle.rule_reader.specs.Readable.{is_path};
+ghost use Rattle.rule_profile.specs.Readable.{is_path};
 ghost use Rattle.path_leads.specs.Choices.{all_choose};
 ghost use Rattle.path_leads.specs.Leads.{led};
 ghost use Rattle.profile_variables.specs.Slashes.{one_slash};

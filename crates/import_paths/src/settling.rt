@@ -10,7 +10,7 @@ use names::{NoMemory, Perms};
 use path_leads::groups_have_alternatives;
 use profile_variables::{MOST_BYTES, one_slash};
 use rule_globs::{Item, RulePath};
-use rule_reader::Rule;
+use rule_profile::Rule;
 use rule_writer::write_rule;
 use std::alloc::Global;
 use verdicts::RuleKind;

@@ -1,7 +1,7 @@
 -- What a flattened text has declared and opened so far (apparmor.d(5), "Variables" and "Format"), item by item.
 use Rattle.std.specs.Prelude.{ℕ, ◌+◌, ◌==◌, List, [], ◌∷◌, ◌++◌, length, drop, codes, bytes_eq, slice_get, not, ◌||◌, Option, Some, None, option_and_then, Bool, true, false, if◌then◌else◌, ◌&&◌, nat_eq}
 use Rattle.std.specs.List.{list_any, ends_with}
-use Rattle.rule_reader.specs.Readable.{is_name}
+use Rattle.rule_profile.specs.Readable.{is_name}
 use Rattle.flat_text.specs.declared.part.ItemKind.{ItemKind}
 use Rattle.flat_text.specs.declared.part.ItemKind.TheVariants as items
 use Rattle.flat_text.specs.Parts.{PartValue, ItemValue, bytes_of_parts}

@@ -8,7 +8,7 @@ use Rattle.glob_automaton.specs.Least.{IsLeastRecord}
 use Rattle.verdicts.specs.Records.{IsTold}
 use Rattle.matcher.specs.Telling.{TellsLeastHits, TellsVerdicts}
 use Rattle.rule_globs.specs.PlainVerdict.{verdict}
-use Rattle.rule_reader.specs.Profile.{RuleValue}
+use Rattle.rule_profile.specs.Profile.{RuleValue}
 use Rattle.rule_globs.specs.Verdict.{IsVerdict}
 use Rattle.verdicts.specs.declared.verdict.Verdict.{Verdict}
 use Rattle.table_image.specs.Packing.{IsTableOf}

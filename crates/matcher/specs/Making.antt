@@ -6,7 +6,7 @@ use Rattle.glob_automaton.specs.declared.fault.CompileFault.{CompileFault}
 use Rattle.glob_automaton.specs.declared.fault.CompileFault.TheVariants as compiling
 use Rattle.matcher.specs.declared.fault.MakeFault.{MakeFault}
 use Rattle.matcher.specs.declared.fault.MakeFault.TheVariants.{TooManyStates, NoMemory}
-use Rattle.rule_reader.specs.Profile.{RuleValue}
+use Rattle.rule_profile.specs.Profile.{RuleValue}
 
 -- the number by which a fault is told
 abbrev pub fault_number : MakeFault → ℕ

@@ -3,7 +3,7 @@ use Rattle.std.specs.Prelude.{List}
 use Rattle.matcher.specs.declared.compiled.CompiledProfile.{CompiledProfile}
 use Rattle.matcher.specs.declared.profiles.AnyProfile.{AnyProfile}
 use Rattle.matcher.specs.declared.profiles.AnyProfile.TheVariants.{Compiled, Loaded}
-use Rattle.rule_reader.specs.Profile.{RuleValue, profile_value}
+use Rattle.rule_profile.specs.Profile.{RuleValue, profile_value}
 use Rattle.tables.specs.Tables.{Table}
 
 abbrev pub rules_of : CompiledProfile → List RuleValue

@@ -7,7 +7,7 @@ use Rattle.names.specs.Bytes.{are_bytes}
 use Rattle.verdicts.specs.declared.record.Record.{Record}
 use Rattle.names.specs.declared.permissions.Perms.{Perms}
 use Rattle.rule_globs.specs.PlainVerdict.{verdict}
-use Rattle.rule_reader.specs.Profile.{RuleValue}
+use Rattle.rule_profile.specs.Profile.{RuleValue}
 use Rattle.verdicts.specs.declared.verdict.Verdict.{Verdict}
 use Rattle.tables.specs.Tables.{StaysDead, Table, record_after, record_of}
 

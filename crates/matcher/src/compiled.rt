@@ -6,13 +6,13 @@ ghost use Rattle.glob_automaton.specs.Sets.{AreMoreThan};
 ghost use Rattle.verdicts.specs.contracts.record.Record as record_code;
 ghost use Rattle.matcher.specs.Making.{IsMakeFault};
 ghost use Rattle.matcher.specs.Telling.{IsDeadAtZero, IsTableOfRules, TellsLeastHits};
-ghost use Rattle.rule_reader.specs.Profile.{profile_value};
+ghost use Rattle.rule_profile.specs.Profile.{profile_value};
 ghost use Rattle.tables.specs.Bounds.{InBounds};
 ghost use Rattle.tables.specs.Tables.{table_value};
 
 use crate::fault::MakeFault;
 use glob_automaton::{compile, names_have_one_least_record};
-use rule_reader::Profile;
+use rule_profile::Profile;
 use std::alloc::Global;
 use table_image::pack;
 use table_verifier::{VerifiedTable, verify};

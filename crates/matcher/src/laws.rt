@@ -1,7 +1,7 @@
 //! Laws of tables of rules.
 ghost use Rattle.std.specs.Prelude.{List};
 ghost use Rattle.matcher.specs.Telling.{TellsLeastHits, TellsVerdicts};
-ghost use Rattle.rule_reader.specs.Profile.{RuleValue};
+ghost use Rattle.rule_profile.specs.Profile.{RuleValue};
 ghost use Rattle.tables.specs.Tables.{Table};
 
 use glob_automaton::{least_hits_tell_the_verdict, names_have_one_least_record};

@@ -14,7 +14,7 @@ use Rattle.mediation.specs.Judge.{Judge, by_rules, by_table, verdict_by}
 use Rattle.mediation.specs.Told.{told}
 use Rattle.mediation.specs.inner.Telling.{Tells}
 use Rattle.rule_judge.specs.Linking.{is_allowed}
-use Rattle.rule_reader.specs.Profile.{RuleValue}
+use Rattle.rule_profile.specs.Profile.{RuleValue}
 use Rattle.verdicts.specs.declared.verdict.Verdict.{Verdict}
 use Rattle.verdicts.specs.declared.verdict.Verdict.TheVariants.{Denied, NoRule, Allowed}
 use Rattle.tables.specs.Tables.{Table, record_after}

@@ -1,7 +1,7 @@
 -- The published profiles, by what was done to them.
 use Rattle.std.specs.Prelude.{ℕ, List, [], ◌∷◌, Option, Some, None, bytes_eq, if◌then◌else◌}
 use Rattle.mediation.specs.Judge.{Judge, by_rules}
-use Rattle.rule_reader.specs.Profile.{ProfileValue}
+use Rattle.rule_profile.specs.Profile.{ProfileValue}
 
 -- one change of what is published
 pub data Deed : Type 0 where

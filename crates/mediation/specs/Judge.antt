@@ -5,7 +5,7 @@ use Rattle.names.specs.Permissions.{set_of, only}
 use Rattle.names.specs.declared.permissions.Perms.{Perms}
 use Rattle.rule_judge.specs.Linking.{is_allowed}
 use Rattle.rule_globs.specs.PlainVerdict.{verdict}
-use Rattle.rule_reader.specs.Profile.{RuleValue}
+use Rattle.rule_profile.specs.Profile.{RuleValue}
 use Rattle.verdicts.specs.declared.verdict.Verdict.{Verdict}
 use Rattle.tables.specs.Tables.{Table, record_after}
 use Rattle.mediation.specs.Told.{told}

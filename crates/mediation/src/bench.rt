@@ -8,13 +8,13 @@ ghost use Rattle.mediation.specs.Deeds.{published_rules, removed};
 ghost use Rattle.mediation.specs.History.{History, MayChangePolicy, with_change, with_deed, tree_version, policy_version, open_answer, link_answer, after_link};
 ghost use Rattle.mediation.specs.Linking.{IsMade};
 ghost use Rattle.directory_tree.specs.Plain.{outcome, Refused};
-ghost use Rattle.rule_reader.specs.Profile.{profile_value};
+ghost use Rattle.rule_profile.specs.Profile.{profile_value};
 
 use crate::answer::{Answer, LinkAnswer};
 use directory_tree::Change;
 use matcher::MakeFault;
 use names::{Errno, NoMemory, Perms};
-use rule_reader::Profile;
+use rule_profile::Profile;
 
 /// A tree, and the profiles that are published.
 pub trait Bench {

@@ -7,7 +7,7 @@ ghost use Rattle.matcher.specs.Telling.{TellsLeastHits};
 ghost use Rattle.mediation.specs.Judge.{by_rules, by_table, verdict_by};
 ghost use Rattle.mediation.specs.Told.{told};
 ghost use Rattle.names.specs.declared.permissions.Perms.{Perms};
-ghost use Rattle.rule_reader.specs.Profile.{RuleValue};
+ghost use Rattle.rule_profile.specs.Profile.{RuleValue};
 ghost use Rattle.verdicts.specs.declared.verdict.Verdict.{Verdict};
 ghost use Rattle.tables.specs.Tables.{Table};
 

@@ -3,3 +3,4 @@ pub mod PathLaws
 pub mod Positions
 pub mod PermsLaws
 pub mod PermsTests
+pub mod ByteKeys

@@ -2,7 +2,8 @@
 use names::Perms;
 use path_leads::{groups_have_alternatives, led};
 use profile_parts::profile_of;
-use rule_reader::{Rule, read_path};
+use rule_profile::Rule;
+use rule_reader::read_path;
 use rule_text::write;
 use std::alloc::Global;
 use std::process::Abort;

@@ -1,7 +1,8 @@
 //! Profiles made of parts.
 use names::Perms;
 use profile_parts::{path_of, profile_of};
-use rule_reader::{Rule, read_path};
+use rule_profile::Rule;
+use rule_reader::read_path;
 use std::alloc::Global;
 use std::process::Abort;
 use std::test::Fail;

@@ -5,8 +5,8 @@ use Rattle.rule_globs.specs.declared.items.Item.{Item}
 use Rattle.rule_globs.specs.declared.items.Item.TheVariants as v
 use Rattle.rule_globs.proofs.TokenItems.{item_induction, alternatives_row, tokens-Byte, tokens-AnyByte, tokens-Class, tokens-Stars, tokens-Group}
 use Rattle.rule_globs.specs.declared.items.Stars.{Stars}
-use Rattle.rule_reader.specs.PathTokens.{is_plain_slash}
-use Rattle.rule_reader.specs.Readable.{is_run, begins_with_slash}
+use Rattle.rule_profile.specs.PathTokens.{is_plain_slash}
+use Rattle.rule_profile.specs.Readable.{is_run, begins_with_slash}
 use Rattle.path_leads.specs.Leads.{ends_with}
 
 -- each item has a token

@@ -9,8 +9,8 @@ use Rattle.rule_globs.specs.declared.items.Item.{Item, Item-F, out-Item, out-rol
 use Rattle.rule_globs.specs.declared.items.Item.TheVariants as v
 use Rattle.rule_globs.specs.declared.items.Item.TheVariants.{rolls-Byte, rolls-AnyByte, rolls-Class, rolls-Stars, rolls-Group}
 use Rattle.rule_globs.proofs.TokenItems.{EachWithin, item_induction, alternatives_row, tokens-Group, full-Group}
-use Rattle.rule_reader.specs.PathTokens.{is_plain_slash}
-use Rattle.rule_reader.specs.Readable.{is_run, begins_with_run, begins_with_slash, are_tokens, is_path}
+use Rattle.rule_profile.specs.PathTokens.{is_plain_slash}
+use Rattle.rule_profile.specs.Readable.{is_run, begins_with_run, begins_with_slash, are_tokens, is_path}
 use Rattle.path_leads.specs.Leads.{can_be_split, ends_with, gives_slash, slash_before, stands_alone, group_leads, slash_leads, front_leads, leads, led}
 use Rattle.path_leads.proofs.Stays.{slash_after, Stay, ItemStays, at_closing, at_between, row_stays, each_stays, all_stay, flag_free}
 use Rattle.path_leads.proofs.SameNames.{parts_of, opened, slash_row}

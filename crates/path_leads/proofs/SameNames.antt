@@ -15,8 +15,8 @@ use Rattle.rule_globs.specs.declared.items.Item.TheVariants.{rolls-Byte, rolls-A
 use Rattle.rule_globs.proofs.MeaningLaws.{meaning-Byte, meaning-Group}
 use Rattle.rule_globs.proofs.TokenItems.{item_induction, tokens-Byte, tokens-AnyByte, tokens-Class, tokens-Stars, tokens-Group, full-Group}
 use Rattle.rule_globs.proofs.TokenLaws.{in_front, in_front-end, items_stand, each_item, same_pattern}
-use Rattle.rule_reader.specs.Readable.{begins_with_slash, begins_with_run, is_path}
-use Rattle.rule_reader.specs.PathTokens.{is_plain_slash}
+use Rattle.rule_profile.specs.Readable.{begins_with_slash, begins_with_run, is_path}
+use Rattle.rule_profile.specs.PathTokens.{is_plain_slash}
 use Rattle.path_leads.specs.Leads.{can_be_split, gives_slash, slash_before, stands_alone, group_leads, slash_leads, front_leads, leads, led}
 
 -- ---- patterns that take the same names

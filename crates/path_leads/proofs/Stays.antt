@@ -7,8 +7,8 @@ use Rattle.rule_globs.specs.Each.{Each}
 use Rattle.rule_globs.specs.Tokens.{Token, byte, any_byte, bracket, stars, opening, between, closing, tokens, tokens_of}
 use Rattle.rule_globs.specs.declared.items.Item.{Item}
 use Rattle.rule_globs.proofs.TokenItems.{EachWithin, item_induction, alternatives_row, tokens-Byte, tokens-AnyByte, tokens-Class, tokens-Stars, tokens-Group}
-use Rattle.rule_reader.specs.PathTokens.{is_plain_slash, slash_or_end_behind}
-use Rattle.rule_reader.specs.Readable.{is_run, begins_with_run, is_token, are_tokens}
+use Rattle.rule_profile.specs.PathTokens.{is_plain_slash, slash_or_end_behind}
+use Rattle.rule_profile.specs.Readable.{is_run, begins_with_run, is_token, are_tokens}
 use Rattle.path_leads.specs.Leads.{ends_with}
 use Rattle.path_leads.proofs.Ends.{some_tokens, ends-append}
 

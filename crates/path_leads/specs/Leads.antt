@@ -5,8 +5,8 @@ use Rattle.std.specs.List.{list_all}
 use Rattle.rule_globs.specs.declared.items.Item.{Item, out-Item}
 use Rattle.rule_globs.specs.declared.items.Item.TheOpen.{Item-F}
 use Rattle.rule_globs.specs.Tokens.{Token, byte, opening, closing, with_commas, tokens_of}
-use Rattle.rule_reader.specs.PathTokens.{is_plain_slash}
-use Rattle.rule_reader.specs.Readable.{is_run, begins_with_run, begins_with_slash, is_path}
+use Rattle.rule_profile.specs.PathTokens.{is_plain_slash}
+use Rattle.rule_profile.specs.Readable.{is_run, begins_with_run, begins_with_slash, is_path}
 
 -- the last token is of this kind
 abbrev pub ends_with : (Token → Bool) → List Token → Bool

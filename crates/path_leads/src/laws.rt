@@ -4,8 +4,8 @@ ghost use Rattle.rule_globs.specs.Glob.{Takes};
 ghost use Rattle.rule_globs.specs.Meaning.{meaning_of, alt_all};
 ghost use Rattle.rule_globs.specs.Tokens.{tokens_of, pattern_of, all_full};
 ghost use Rattle.rule_globs.specs.declared.items.Item.{Item};
-ghost use Rattle.rule_reader.specs.Limits.{max_items};
-ghost use Rattle.rule_reader.specs.Readable.{are_tokens, is_path};
+ghost use Rattle.rule_profile.specs.Limits.{max_items};
+ghost use Rattle.rule_profile.specs.Readable.{are_tokens, is_path};
 ghost use Rattle.path_leads.specs.Leads.{leads, led};
 
 /// Where the items of a path stand as reading leaves them, no path that it is led to is lost for not being readable.

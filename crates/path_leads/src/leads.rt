@@ -2,7 +2,7 @@
 ghost use Rattle.std.specs.Prelude.{◌≡◌, ◌<◌, ◌∷◌, ◌++◌, [], IfOk, IsTrue, map, drop, length, ◌&&◌, if◌then◌else◌};
 ghost use Rattle.std.specs.List.{list_all};
 ghost use Rattle.rule_globs.specs.Tokens.{tokens_of, all_full};
-ghost use Rattle.rule_reader.specs.Readable.{is_path};
+ghost use Rattle.rule_profile.specs.Readable.{is_path};
 ghost use Rattle.path_leads.specs.Leads.{can_be_split, gives_slash, stands_alone, slash_before, group_leads, slash_leads, led};
 ghost use Rattle.path_leads.specs.inner.Readable.{all_readable};
 

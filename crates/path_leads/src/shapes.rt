@@ -1,8 +1,8 @@
 //! What items begin and end with.
 ghost use Rattle.std.specs.Prelude.{◌≡◌, ◌++◌};
 ghost use Rattle.rule_globs.specs.Tokens.{tokens, tokens_of};
-ghost use Rattle.rule_reader.specs.PathTokens.{is_plain_slash};
-ghost use Rattle.rule_reader.specs.Readable.{is_run, begins_with_run, begins_with_slash};
+ghost use Rattle.rule_profile.specs.PathTokens.{is_plain_slash};
+ghost use Rattle.rule_profile.specs.Readable.{is_run, begins_with_run, begins_with_slash};
 ghost use Rattle.path_leads.specs.Leads.{ends_with, gives_slash, stands_alone};
 
 use rule_globs::Item;

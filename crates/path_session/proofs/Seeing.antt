@@ -10,7 +10,7 @@ use Rattle.row_rule.specs.Row.{Agrees}
 use Rattle.dentry_cache.specs.Models.{Walk}
 use Rattle.dentry_cache.specs.Told.{SeesAfter}
 use Rattle.justification.specs.Versions.{IsTreeAt}
-use Rattle.event_core.proofs.Rooms.{roomy_after}
+use Rattle.directory_tree.proofs.Rooms.{roomy_after}
 
 -- the tree of all changes is that of their number
 pub tree_at : (capacity : ℕ) (changes : List Change) (version : ℕ) (t : Tree) → version ≡ length changes → tree_after capacity changes ≡ Ok t → IsTreeAt changes version t

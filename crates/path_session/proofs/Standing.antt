@@ -6,7 +6,7 @@ use Rattle.directory_tree.specs.declared.change.Change.{Change}
 use Rattle.directory_tree.specs.Tree.{Tree, root_alone}
 use Rattle.directory_tree.specs.Apply.{Changed, tree_after}
 use Rattle.directory_tree.specs.Plain.{Plain, tree_of, changed, outcome, Accepted, Refused}
-use Rattle.plain_tree.proofs.Held.{after_more}
+use Rattle.directory_tree.proofs.OneMore.{after_more}
 use Rattle.tree_row.specs.Worlds.{SeesBy}
 use Rattle.dentry_cache.specs.Models.{Held, Makes, Hinders, SeesHistory, Accepts, Refuses}
 use Rattle.path_session.specs.Standing.{plain_of}

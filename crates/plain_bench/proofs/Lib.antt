@@ -1,2 +1,1 @@
-pub mod LinkJudging
 pub mod OneWorld

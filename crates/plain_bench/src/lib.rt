@@ -13,5 +13,5 @@ mod working;
 
 pub use bench::{PlainBench, TreeBench};
 pub use mediation::{Answer, Bench, LinkAnswer};
+pub use policy_map::replacement;
 pub use tree::BenchTree;
-pub use working::replacement;

@@ -1,17 +1,14 @@
 //! What is done on a bench.
 ghost use Rattle.std.specs.Prelude.{◌≡◌, ◌≤◌, ℕ, List, IfOk, IfErr, OnOk, OnErr, IsOk, Ok, Err, length, take, ⊤};
 ghost use Rattle.mediation.specs.Answers.{link_answered};
-ghost use Rattle.mediation.specs.Deeds.{published_rules};
 ghost use Rattle.mediation.specs.History.{new_history};
 ghost use Rattle.mediation.specs.Judging.{link_of};
 ghost use Rattle.mediation.specs.Linking.{link_judged, answer_by_verdict};
-ghost use Rattle.mediation.specs.PolicyChanges.{deed_of};
 ghost use Rattle.mediation.specs.Profiles.{judge_of};
 ghost use Rattle.directory_tree.specs.declared.change.Change.TheVariants.{Link};
 ghost use Rattle.directory_tree.specs.Plain.{outcome};
 ghost use Rattle.plain_bench.specs.BenchHistory.{history_of};
 ghost use Rattle.plain_bench.specs.inner.Settling.{settled};
-ghost use Rattle.rule_reader.specs.Profile.{profile_value};
 
 use crate::bench::TreeBench;
 use crate::tree::BenchTree;
@@ -20,11 +17,10 @@ use matcher::{AnyProfile, CompiledProfile, MakeFault, PolicyChange};
 use mediation::{Answer, Bench, JudgedLink, LinkAnswer};
 use names::{Errno, NoMemory, Path, Perms};
 use path_lookup::{NAME_ROOM, Scratch};
-use policy_map::Policy;
+use policy_map::{Policy, replacement};
 use rule_judge::LinkVerdict;
-use rule_reader::Profile;
+use rule_profile::Profile;
 use std::alloc::Global;
-use std::sync::Arc;
 
 impl<T: BenchTree> TreeBench<T> {
     /// The root alone, with room for so many entries, and no profile.
@@ -101,19 +97,6 @@ fn settle<T: BenchTree>(
             tree_version: tree.version(),
             policy_version,
         }),
-    }
-}
-
-/// The change that publishes a profile under its own name.
-pub fn replacement(alloc: Global, compiled: CompiledProfile) -> Result<PolicyChange, NoMemory>
-    ensures { IfOk result (λ change. deed_of change ≡ published_rules (profile_value compiled.profile)) }
-{
-    let Ok(name) = Vec::from_slice(alloc, compiled.profile().name()) else {
-        return Err(NoMemory);
-    };
-    match Arc::new(alloc, AnyProfile::Compiled(compiled)) {
-        Ok(profile) => Ok(PolicyChange::Replace(name, profile)),
-        Err(_) => Err(NoMemory),
     }
 }
 

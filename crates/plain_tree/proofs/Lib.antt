@@ -1,4 +1,4 @@
-pub mod ByteKeys
+pub mod EmptyKeys
 pub mod Mirrors
 pub mod Held
 pub mod Carried

@@ -9,5 +9,7 @@
 mod deeds;
 mod policy;
 mod profiles;
+mod replacing;
 
 pub use policy::Policy;
+pub use replacing::replacement;

@@ -6,7 +6,7 @@ use Rattle.import_cut.specs.declared.reading.Choice.{Choice}
 use Rattle.import_cut.specs.declared.span.Span.{Span}
 use Rattle.import_cut.specs.CutStates.{at_start}
 use Rattle.profile_variables.specs.Variables.{Variable}
-use Rattle.rule_reader.specs.Limits.{max_rules}
+use Rattle.rule_profile.specs.Limits.{max_rules}
 use Rattle.profile_import.specs.AddedRules.{added_rules}
 use Rattle.profile_import.specs.Faults.{ImportFault, too_many_rules}
 use Rattle.profile_import.specs.FileRules.{rules_in}

@@ -12,7 +12,7 @@ use Rattle.import_scope.specs.Scopes.{Head, ScopeState, at_start, behind_all}
 use Rattle.import_scope.specs.FirstFaults.{FirstFault, variables_within}
 use Rattle.profile_variables.specs.Variables.{Variable}
 use Rattle.rule_globs.specs.Rules.{ProfileValue}
-use Rattle.rule_reader.specs.Limits.{max_rules}
+use Rattle.rule_profile.specs.Limits.{max_rules}
 use Rattle.subject_rules.specs.declared.effect.Change.TheVariants.{Exact, Wider, Narrower}
 use Rattle.subject_rules.specs.declared.effect.Change.{Change}
 use Rattle.profile_import.specs.declared.options.ImportOptions.{ImportOptions}

@@ -1,6 +1,6 @@
 -- Faults and imports as code tells them, and as the definitions do.
 use Rattle.std.specs.Prelude.{map, Result, Ok, Err}
-use Rattle.rule_reader.specs.Profile.{profile_value}
+use Rattle.rule_profile.specs.Profile.{profile_value}
 use Rattle.profile_import.specs.declared.fault.ImportFault as told
 use Rattle.profile_import.specs.declared.fault.ImportFault.TheVariants.{Syntax, Include, LeftOut, Permissions, Undefined, Cycle, Declared, Name, TooManyRules, TooLong, Which, NotExact}
 use Rattle.profile_import.specs.declared.fault.ImportFailure.{ImportFailure}

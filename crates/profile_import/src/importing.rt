@@ -6,8 +6,8 @@ ghost use Rattle.flat_words.specs.Stops.{stop_value};
 ghost use Rattle.import_scope.specs.Scopes.{Fault, ScopeState, at_start, can_be_said};
 ghost use Rattle.import_scope.specs.Told.{fault_value};
 ghost use Rattle.import_scope.specs.FirstFaults.{FirstFault, variables_within};
-ghost use Rattle.rule_reader.specs.Readable.{is_rule};
-ghost use Rattle.rule_reader.specs.Rules.{rule_value};
+ghost use Rattle.rule_profile.specs.Readable.{is_rule};
+ghost use Rattle.rule_profile.specs.Rules.{rule_value};
 ghost use Rattle.profile_import.specs.Faults.{scope_fault, stop_fault, which};
 ghost use Rattle.profile_import.specs.Imports.{Imports, changes_something, first_change, counted_outcome, chosen_outcome, items_outcome, read_outcome};
 ghost use Rattle.profile_import.specs.Told.{Fails, Tells, import_fault_value};
@@ -25,7 +25,7 @@ use import_scope::{
     ProfileHead, Scope, ScopeFailure, ScopeFault, ScopeFaultKind, lists_of, scope_of,
 };
 use names::NoMemory;
-use rule_reader::{Profile, Rule};
+use rule_profile::{Profile, Rule};
 use std::alloc::Global;
 use subject_rules::Change;
 

@@ -1,11 +1,11 @@
 //! Restated rules, each with the place of what it comes from.
 ghost use Rattle.std.specs.Prelude.{◌≡◌, ◌++◌, ◌∷◌, [], IfOk, All, IsTrue};
-ghost use Rattle.rule_reader.specs.Readable.{is_path};
+ghost use Rattle.rule_profile.specs.Readable.{is_path};
 ghost use Rattle.profile_import.specs.inner.Gathering.{one_too_many, restated_values};
 
 use names::{NoMemory, Perms};
 use rule_globs::RulePath;
-use rule_reader::Rule;
+use rule_profile::Rule;
 use std::marker::Model;
 use subject_rules::{RuleShape, Subject, restated_perms};
 use verdicts::RuleKind;
@@ -22,8 +22,8 @@ pub(crate) struct PlacedRule {
 
 impl Model for PlacedRule {
     ghost use Rattle.std.specs.Prelude.{IsTrue};
-    ghost use Rattle.rule_reader.specs.Profile.{rule_value};
-    ghost use Rattle.rule_reader.specs.Readable.{is_rule};
+    ghost use Rattle.rule_profile.specs.Profile.{rule_value};
+    ghost use Rattle.rule_profile.specs.Readable.{is_rule};
     ghost use Rattle.profile_import.specs.Restated.{PlacedValue};
 
     ghost Value = { PlacedValue };
@@ -35,8 +35,8 @@ impl Model for PlacedRule {
 
 impl PlacedRule {
     ghost use Rattle.std.specs.Prelude.{◌≡◌, true, IsTrue};
-    ghost use Rattle.rule_reader.specs.Readable.{is_path, is_rule};
-    ghost use Rattle.rule_reader.specs.Profile.{rule_value};
+    ghost use Rattle.rule_profile.specs.Readable.{is_path, is_rule};
+    ghost use Rattle.rule_profile.specs.Profile.{rule_value};
     ghost use Rattle.subject_rules.specs.Restating.{has_some};
 
     /// The rule of this kind with these permissions and this path.

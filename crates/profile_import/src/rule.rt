@@ -1,6 +1,6 @@
 //! Rules of the chosen profile, as they are read.
 ghost use Rattle.std.specs.Prelude.{◌≡◌, IfOk, All, IsTrue};
-ghost use Rattle.rule_reader.specs.Readable.{is_path};
+ghost use Rattle.rule_profile.specs.Readable.{is_path};
 ghost use Rattle.profile_import.specs.FileRules.{reading_of, subject_rule};
 ghost use Rattle.profile_import.specs.inner.Gathering.{paths_looked_at};
 

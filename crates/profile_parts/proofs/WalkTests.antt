@@ -5,9 +5,9 @@ use Rattle.std.proofs.lemmas.Bool.Decides.{nat_tests}
 use Rattle.std.specs.List.{list_all}
 use Rattle.rule_globs.specs.Glob.{is_slash}
 use Rattle.rule_globs.specs.Tokens.{Token, byte, any_byte, bracket, stars, opening, between, closing}
-use Rattle.rule_reader.specs.PathTokens.{slash_or_end_behind}
-use Rattle.rule_reader.specs.Limits.{max_items}
-use Rattle.rule_reader.specs.Readable.{can_stand, is_range, begins_with_run, begins_with_slash, are_tokens, is_path}
+use Rattle.rule_profile.specs.PathTokens.{slash_or_end_behind}
+use Rattle.rule_profile.specs.Limits.{max_items}
+use Rattle.rule_profile.specs.Readable.{can_stand, is_range, begins_with_run, begins_with_slash, are_tokens, is_path}
 use Rattle.profile_parts.specs.declared.place.Place.{Place}
 use Rattle.profile_parts.specs.declared.place.Wanted.{Wanted}
 use Rattle.profile_parts.specs.declared.place.Wanted.TheVariants.{FirstSlash, Anything, NoRun, SlashOrEnd, Other}

@@ -1,7 +1,7 @@
 //! A place between two tokens of a path, and what one token more makes of it.
 ghost use Rattle.std.specs.Prelude.{◌≡◌, List, Option};
 ghost use Rattle.rule_globs.specs.Tokens.{byte as byte_token, any_byte, bracket, stars as stars_token, opening, between, closing};
-ghost use Rattle.rule_reader.specs.Readable.{can_stand, is_range};
+ghost use Rattle.rule_profile.specs.Readable.{can_stand, is_range};
 ghost use Rattle.std.specs.List.{list_all};
 ghost use Rattle.profile_parts.specs.inner.Walking.{can_begin, can_end, is_end, passed, step};
 

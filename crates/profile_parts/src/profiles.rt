@@ -3,13 +3,13 @@ ghost use Rattle.std.specs.Prelude.{◌≡◌, map, Some, None, IsTrue, false, M
 ghost use Rattle.std.specs.List.{list_all, list_any};
 ghost use Rattle.names.specs.Permissions.{has, all_permissions};
 ghost use Rattle.rule_globs.specs.Tokens.{tokens_of, all_full};
-ghost use Rattle.rule_reader.specs.Profile.{rule_value, profile_value};
-ghost use Rattle.rule_reader.specs.Readable.{is_path, is_rule, is_name, are_name_bytes, is_profile};
+ghost use Rattle.rule_profile.specs.Profile.{rule_value, profile_value};
+ghost use Rattle.rule_profile.specs.Readable.{is_path, is_rule, is_name, are_name_bytes, is_profile};
 
 use crate::walking::is_path;
 use names::{Permission, Perms};
 use rule_globs::{Item, RulePath};
-use rule_reader::{Profile, Rule};
+use rule_profile::{Profile, Rule};
 
 /// The most bytes of a profile's name.
 const MAX_NAME: usize = 255;

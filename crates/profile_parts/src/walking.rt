@@ -1,7 +1,7 @@
 //! The tests of a path's items, in one pass.
 ghost use Rattle.std.specs.Prelude.{◌≡◌, map};
 ghost use Rattle.rule_globs.specs.Tokens.{tokens, tokens_of, with_commas};
-ghost use Rattle.rule_reader.specs.Readable.{is_path};
+ghost use Rattle.rule_profile.specs.Readable.{is_path};
 ghost use Rattle.profile_parts.specs.inner.Walking.{walk};
 
 use crate::place::{Place, Wanted};

@@ -5,7 +5,7 @@ use Rattle.std.proofs.MapsCrossing as maps
 use Rattle.left_right.proofs.reader.Reader.TheSendSync as reader
 use Rattle.left_right.proofs.writer.Writer.TheSendSync as writer
 use Rattle.rule_globs.proofs.items.Item.TheLaws.TheKnot as items
-use Rattle.rule_reader.specs.contracts.profile.Profile as profile
+use Rattle.rule_profile.specs.contracts.profile.Profile as profile
 use Rattle.matcher.specs.contracts.profiles.AnyProfile as any
 use Rattle.matcher.specs.contracts.profiles.PolicyChange as change
 use Rattle.matcher.specs.contracts.compiled.CompiledProfile as compiled

@@ -1,6 +1,5 @@
 pub mod PieceSteps
 pub mod TextLists
-pub mod ByteKeys
 pub mod Places
 pub mod PlaceSteps
 pub mod Gets

@@ -16,7 +16,7 @@ use Rattle.directory_tree.specs.Apply.{apply, apply_counted, has_room, max_chang
 use Rattle.directory_tree.proofs.Basics.{ok_inj, err_is_ok, none_is_some, true_is_false}
 use Rattle.directory_tree.proofs.Changes.{tree_after_well}
 use Rattle.path_lookup.specs.World.{World}
-use Rattle.plain_tree.proofs.Held.{after_more}
+use Rattle.directory_tree.proofs.OneMore.{after_more}
 use Rattle.tree_row.specs.Slots.{slot_at}
 use Rattle.tree_row.specs.Worlds.{spot_at, EncodesWorld}
 use Rattle.tree_row.specs.OpeningRow.{opening_row}

@@ -6,8 +6,8 @@ use Rattle.std.proofs.lemmas.List.{get_or-map}
 use Rattle.std.proofs.lemmas.List.Sums.{position_or_len_is}
 use Rattle.names.specs.Permissions.{set_of}
 use Rattle.rule_globs.specs.Rules.{RuleValue}
-use Rattle.rule_reader.specs.declared.profile.Rule.{Rule}
-use Rattle.rule_reader.specs.Profile.{rule_value}
+use Rattle.rule_profile.specs.declared.profile.Rule.{Rule}
+use Rattle.rule_profile.specs.Profile.{rule_value}
 use Rattle.verdicts.specs.declared.kind.RuleKind.TheVariants.{Allow}
 
 -- a rule that says nothing, which stands where there is none

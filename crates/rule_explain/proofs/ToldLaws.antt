@@ -6,12 +6,13 @@ use Rattle.std.specs.Option.{option_map_or}
 use Rattle.std.proofs.lemmas.Bool.{and_parts}
 use Rattle.std.proofs.lemmas.Option.{get_or_from_slice_get, slice_get-map, slice_get_read}
 use Rattle.names.specs.declared.permissions.Permission.{Permission}
-use Rattle.rule_reader.specs.declared.profile.Rule.{Rule}
-use Rattle.rule_reader.specs.declared.profile.Span.{Span}
-use Rattle.rule_reader.specs.Profile.{RuleValue, rule_value}
-use Rattle.rule_reader.specs.Readable.{is_rule}
+use Rattle.rule_profile.specs.declared.profile.Rule.{Rule}
+use Rattle.rule_profile.specs.declared.profile.Span.{Span}
+use Rattle.rule_profile.specs.Profile.{RuleValue, rule_value}
+use Rattle.rule_profile.specs.Readable.{is_rule}
 use Rattle.rule_reader.specs.Reading.{rule_at}
-use Rattle.rule_reader.specs.Spans.{AreReadAgain, IsReadAgain, rule_span, spans_of}
+use Rattle.rule_profile.specs.RuleSpans.{rule_span}
+use Rattle.rule_reader.specs.Spans.{AreReadAgain, IsReadAgain, spans_of}
 use Rattle.rule_writer.specs.Canonical.{rule_text}
 use Rattle.rule_explain.specs.declared.reason.Reason.{Reason}
 use Rattle.rule_explain.specs.declared.reason.Reason.TheVariants.{Allowed, Denied, NoRule}

@@ -5,8 +5,8 @@ use Rattle.names.specs.declared.permissions.Permission.{Permission}
 use Rattle.names.specs.declared.permissions.Perms.{Perms}
 use Rattle.names.specs.Permissions.{all_permissions, has, letter}
 use Rattle.rule_globs.specs.PlainVerdict.{verdict}
-use Rattle.rule_reader.specs.declared.profile.Span.{Span}
-use Rattle.rule_reader.specs.Profile.{RuleValue}
+use Rattle.rule_profile.specs.declared.profile.Span.{Span}
+use Rattle.rule_profile.specs.Profile.{RuleValue}
 use Rattle.rule_writer.specs.Canonical.{rule_text}
 use Rattle.verdicts.specs.VerdictText.{verdict_text}
 use Rattle.rule_explain.specs.declared.reason.Reason.{Reason}

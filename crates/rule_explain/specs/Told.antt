@@ -2,8 +2,8 @@
 use Rattle.std.specs.Prelude.{◌≡◌, ℕ, List, ◌++◌, Ok}
 use Rattle.names.specs.declared.permissions.Permission.{Permission}
 use Rattle.rule_globs.specs.Verdict.{IsRuleAt}
-use Rattle.rule_reader.specs.declared.profile.Span.{Span}
-use Rattle.rule_reader.specs.Profile.{RuleValue}
+use Rattle.rule_profile.specs.declared.profile.Span.{Span}
+use Rattle.rule_profile.specs.Profile.{RuleValue}
 use Rattle.rule_reader.specs.Reading.{rule_at}
 use Rattle.rule_reader.specs.Spans.{IsReadAgain, spans_of}
 use Rattle.rule_explain.specs.declared.reason.Reason.{Reason}

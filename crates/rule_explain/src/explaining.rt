@@ -2,15 +2,15 @@
 ghost use Rattle.std.specs.Prelude.{◌≡◌, ◌≤◌, ◌++◌, IfOk, codes, decimal, length, map, string_bytes};
 ghost use Rattle.rule_explain.specs.Explanations.{explanation, reason_line, reason_text, rule_told};
 ghost use Rattle.rule_explain.specs.inner.Numbers.{TellsRuleOf};
-ghost use Rattle.rule_reader.specs.Profile.{rule_value, profile_value};
-ghost use Rattle.rule_reader.specs.Spans.{profile_spans, rule_span};
+ghost use Rattle.rule_profile.specs.Profile.{rule_value, profile_value};
+ghost use Rattle.rule_profile.specs.RuleSpans.{profile_spans, rule_span};
 ghost use Rattle.verdicts.specs.VerdictText.{verdict_text};
 
 use crate::place::place_at;
 use crate::reason::{Reason, reason_of};
 use names::{NoMemory, Permission, Perms};
 use rule_judge::judge_slow;
-use rule_reader::{Profile, Rule};
+use rule_profile::{Profile, Rule};
 use rule_writer::write_rule;
 use std::alloc::Global;
 use verdicts::Verdict;

@@ -3,7 +3,7 @@ ghost use Rattle.std.specs.Prelude.{◌≡◌, ℕ, List, Ok};
 ghost use Rattle.names.specs.declared.permissions.Permission.{Permission};
 ghost use Rattle.names.specs.declared.permissions.Perms.{Perms};
 ghost use Rattle.rule_globs.specs.PlainVerdict.{verdict};
-ghost use Rattle.rule_reader.specs.Profile.{RuleValue, ProfileValue};
+ghost use Rattle.rule_profile.specs.Profile.{RuleValue, ProfileValue};
 ghost use Rattle.rule_reader.specs.Reading.{outcome_of};
 ghost use Rattle.rule_explain.specs.Reasons.{reason, IsReason};
 ghost use Rattle.rule_explain.specs.Told.{IsRightlyTold};

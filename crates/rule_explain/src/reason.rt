@@ -1,12 +1,12 @@
 //! Why a permission is allowed to a name, or not.
 ghost use Rattle.std.specs.Prelude.{◌≡◌, List, option_map, position, map};
-ghost use Rattle.rule_reader.specs.Profile.{rule_value, profile_value};
+ghost use Rattle.rule_profile.specs.Profile.{rule_value, profile_value};
 ghost use Rattle.rule_explain.specs.Reasons.{first_hit, hits, reason, IsReason};
 
 use crate::laws::reasons_are_right;
 use names::Permission;
 use rule_globs::takes_by_cuts;
-use rule_reader::{Profile, Rule};
+use rule_profile::{Profile, Rule};
 use verdicts::RuleKind;
 
 /// Why a permission is allowed to a name or not, by the rules that hold it and take the name. Rules are counted from 1 in the

@@ -12,7 +12,7 @@ use Rattle.rule_judge.specs.Linking.{is_allowed, allowed, extra, widening, link_
 use Rattle.rule_judge.specs.declared.linking.LinkVerdict.TheVariants.{Refused, Wider, Fine}
 use Rattle.verdicts.specs.declared.verdict.Verdict.{Verdict}
 use Rattle.verdicts.specs.declared.verdict.Verdict.TheVariants.{Denied, NoRule, Allowed}
-use Rattle.rule_reader.specs.Profile.{RuleValue}
+use Rattle.rule_profile.specs.Profile.{RuleValue}
 use Rattle.rule_globs.specs.PlainVerdict.{verdict}
 use Rattle.rule_globs.specs.Verdict.{IsVerdict, IsAllowed}
 use Rattle.names.proofs.PermsLaws.{has-set_of, found, one_found}

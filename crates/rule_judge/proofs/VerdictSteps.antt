@@ -6,10 +6,10 @@ use Rattle.names.specs.declared.permissions.Permission.{Permission}
 use Rattle.names.specs.declared.permissions.Perms.{Perms}
 use Rattle.names.specs.Permissions.{has, set_of}
 use Rattle.rule_globs.specs.Glob.{Takes}
-use Rattle.rule_reader.specs.Profile.{RuleValue, pattern, rule_value}
+use Rattle.rule_profile.specs.Profile.{RuleValue, pattern, rule_value}
 use Rattle.rule_globs.specs.Verdict.{IsRuleAt, Hits, Denies, IsLeast, IsMissing}
 use Rattle.rule_globs.specs.inner.RuleHits.{HitsSome}
-use Rattle.rule_reader.specs.declared.profile.Rule.{Rule}
+use Rattle.rule_profile.specs.declared.profile.Rule.{Rule}
 use Rattle.verdicts.specs.declared.kind.RuleKind.{RuleKind}
 use Rattle.verdicts.specs.declared.kind.RuleKind.TheVariants.{Allow, Deny}
 use Rattle.names.proofs.PermsLaws.{has-set_of}

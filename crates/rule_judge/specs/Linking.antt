@@ -6,7 +6,7 @@ use Rattle.names.specs.declared.permissions.Permission.{Permission}
 use Rattle.names.specs.declared.permissions.Permission.TheVariants.{Link}
 use Rattle.names.specs.declared.permissions.Perms.{Perms}
 use Rattle.names.specs.Permissions.{has, set_of, only, with_permission, all_permissions, letters}
-use Rattle.rule_reader.specs.Profile.{RuleValue}
+use Rattle.rule_profile.specs.Profile.{RuleValue}
 use Rattle.rule_globs.specs.PlainVerdict.{verdict}
 use Rattle.verdicts.specs.VerdictText.{verdict_text}
 use Rattle.rule_judge.specs.declared.linking.LinkVerdict.{LinkVerdict}

@@ -1,12 +1,12 @@
 ghost use Rattle.std.specs.Prelude.{◌≡◌, ◌↔◌, IsTrue};
-ghost use Rattle.rule_reader.specs.Profile.{rule_value, profile_value};
+ghost use Rattle.rule_profile.specs.Profile.{rule_value, profile_value};
 ghost use Rattle.rule_globs.specs.inner.RuleHits.{HitsSome};
 ghost use Rattle.rule_globs.specs.Verdict.{IsVerdict};
 ghost use Rattle.rule_globs.specs.PlainVerdict.{verdict};
 
 use names::Perms;
 use rule_globs::one_verdict_is_right;
-use rule_reader::{Profile, Rule};
+use rule_profile::{Profile, Rule};
 use verdicts::{RuleKind, Verdict};
 
 /// Whether the rule matches the name and holds something that is asked.

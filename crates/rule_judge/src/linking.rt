@@ -5,7 +5,7 @@ ghost use Rattle.names.specs.declared.permissions.Perms.{Perms};
 ghost use Rattle.names.specs.Permissions.{has, only};
 ghost use Rattle.rule_judge.specs.Linking.{allowed, is_allowed, widening, link_verdict, link_verdict_text, IsSubset};
 ghost use Rattle.rule_globs.specs.PlainVerdict.{verdict};
-ghost use Rattle.rule_reader.specs.Profile.{RuleValue, profile_value};
+ghost use Rattle.rule_profile.specs.Profile.{RuleValue, profile_value};
 ghost use Rattle.rule_globs.specs.Verdict.{IsAllowed};
 ghost use Rattle.verdicts.specs.declared.verdict.Verdict.{Verdict};
 ghost use Rattle.verdicts.specs.declared.verdict.Verdict.TheVariants.{Allowed};
@@ -13,7 +13,7 @@ ghost use Rattle.verdicts.specs.declared.verdict.Verdict.TheVariants.{Allowed};
 use crate::judging::judge_slow;
 use names::{Permission, Perms, permissions_are_numbered};
 use rule_globs::one_verdict_is_right;
-use rule_reader::Profile;
+use rule_profile::Profile;
 use std::fmt;
 use verdicts::Verdict;
 

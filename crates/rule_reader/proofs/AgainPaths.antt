@@ -1,5 +1,5 @@
 -- A path that is written is read so again.
-use Rattle.rule_reader.specs.PathTokens.{is_plain_slash}
+use Rattle.rule_profile.specs.PathTokens.{is_plain_slash}
 use Rattle.std.proofs.Common.{◌≡◌, ℕ, zero, suc, ◌-◌, ◌≤◌, ◌<◌, Bool, true, false, eqb, List, [], ◌∷◌, ◌++◌, length, drop, Option, Ok, refl, sym, ap, subst, ◌∙◌, append_assoc, inl, inr, ◌==◌, arith}
 use Rattle.std.specs.Prelude.{◌||◌, ◌&&◌, not}
 use Rattle.std.specs.Char.{is_ascii_alphanumeric}

@@ -10,7 +10,7 @@ use Rattle.names.specs.Permissions.{is_letter, perms_of, set_of, letter}
 use Rattle.verdicts.specs.declared.kind.RuleKind.{RuleKind}
 use Rattle.verdicts.specs.declared.kind.RuleKind.TheVariants.{Allow, Deny}
 use Rattle.rule_globs.specs.Glob.{is_slash}
-use Rattle.rule_reader.specs.Profile.{RuleValue}
+use Rattle.rule_profile.specs.Profile.{RuleValue}
 use Rattle.rule_reader.specs.ReadWords.{blank, gap, word, after_word}
 use Rattle.rule_reader.specs.ReadPaths.{comma_ends, path_at}
 use Rattle.rule_reader.specs.Reading.{perms_at, perms_behind, qualifier_at, start_at, comma_at, body_at, rule_at, rules_at}

@@ -1,6 +1,6 @@
 -- What is written in the grammar is read, as what it means.
 use Rattle.std.proofs.Common.{◌≡◌, ℕ, List, [], ◌∷◌, ◌++◌, Ok, refl, ap, ◌∙◌}
-use Rattle.rule_reader.specs.Profile.{RuleValue, ProfileValue}
+use Rattle.rule_profile.specs.Profile.{RuleValue, ProfileValue}
 use Rattle.rule_reader.specs.ReadWords.{blank}
 use Rattle.rule_reader.specs.ReadHeader.{header_at}
 use Rattle.rule_reader.specs.Reading.{rules_at, text_at}

@@ -1,5 +1,5 @@
 -- What a tree of the grammar means passes the test of the profiles that can be read.
-use Rattle.rule_reader.specs.PathTokens.{slash_or_end_behind, depth_behind, is_plain_slash}
+use Rattle.rule_profile.specs.PathTokens.{slash_or_end_behind, depth_behind, is_plain_slash}
 use Rattle.std.proofs.Common.{IsTrue, ◌≡◌, ℕ, suc, ◌≤◌, Bool, true, false, cond, ltb, leb, List, [], ◌∷◌, length, Option, Some, None, refl, sym, ap, subst, ◌∙◌, ◌==◌, arith, inl, inr}
 use Rattle.std.specs.Prelude.{◌&&◌, ◌||◌, not, option_map}
 use Rattle.std.specs.List.{list_all, list_any}
@@ -12,9 +12,9 @@ use Rattle.rule_reader.specs.GrammarPaths.{members, IsClassCell, IsBegun, Writte
 use Rattle.rule_globs.specs.Glob.{range, single}
 use Rattle.rule_reader.specs.GrammarWords.{Cell, plain, escaped, print_cells, byte_of, is_plain, may_stand, IsNameCell, IsFirst, BeginsWithSlash}
 use Rattle.rule_globs.specs.Each.{Each}
-use Rattle.rule_reader.specs.Profile.{ProfileValue}
-use Rattle.rule_reader.specs.Readable as readable
-use Rattle.rule_reader.specs.Readable.{can_stand, are_name_bytes, is_name, is_range, is_path, is_rule, is_profile}
+use Rattle.rule_profile.specs.Profile.{ProfileValue}
+use Rattle.rule_profile.specs.Readable as readable
+use Rattle.rule_profile.specs.Readable.{can_stand, are_name_bytes, is_name, is_range, is_path, is_rule, is_profile}
 use Rattle.rule_globs.specs.Tokens.{Token, stars}
 use Rattle.rule_reader.specs.TextBytes.{is_white, is_star, is_escapable}
 use Rattle.names.proofs.PermsLaws.{has-set_of, found, one_found}

@@ -14,7 +14,7 @@ use Rattle.rule_globs.specs.Glob.{is_slash}
 use Rattle.rule_reader.specs.ReadSteps.{◌>>=◌, goes_on, fault_with_left, syntax}
 use Rattle.rule_reader.specs.ReadClasses.{class_byte, with_member, is_reversed, at_end, members_at, class_at}
 use Rattle.rule_reader.specs.ReadPaths.{path_ends, escaped_at, goes_on_at, slash_or_end, token_at, braces_behind, all_closed, tokens_at, path_in, path_at}
-use Rattle.rule_reader.specs.PathTokens.{is_plain_slash}
+use Rattle.rule_profile.specs.PathTokens.{is_plain_slash}
 use Rattle.rule_reader.specs.ReadWords.{after}
 use Rattle.rule_reader.specs.TextBytes.{begins, is_white, is_quote, is_comma, is_star, is_open_brace, is_close_brace}
 use Rattle.rule_globs.specs.Tokens.{Token, byte, any_byte, bracket, stars, opening, between, closing}

@@ -11,7 +11,7 @@ use Rattle.verdicts.specs.declared.kind.RuleKind.TheVariants.{Allow, Deny}
 use Rattle.rule_reader.specs.declared.reading.local_fault.FaultKind.TheVariants as kinds
 use Rattle.rule_reader.specs.declared.reading.local_fault.LocalFault.{LocalFault}
 use Rattle.rule_globs.specs.Glob.{is_slash}
-use Rattle.rule_reader.specs.Profile.{RuleValue, ProfileValue}
+use Rattle.rule_profile.specs.Profile.{RuleValue, ProfileValue}
 use Rattle.rule_reader.specs.ReadFaults.{Refused, IsSettled}
 use Rattle.rule_reader.specs.ReadHeader.{header_at}
 use Rattle.rule_reader.specs.ReadPaths.{path_at, path_in}

@@ -5,7 +5,7 @@ use Rattle.rule_reader.specs.declared.fault.ReadFault.TheVariants as faults
 use Rattle.rule_reader.specs.declared.reading.local_fault.LocalFault.{LocalFault}
 use Rattle.rule_reader.specs.declared.reading.local_fault.FaultKind.{FaultKind}
 use Rattle.rule_reader.specs.declared.reading.local_fault.FaultKind.TheVariants as kinds
-use Rattle.rule_reader.specs.Profile.{ProfileValue}
+use Rattle.rule_profile.specs.Profile.{ProfileValue}
 use Rattle.rule_reader.specs.declared.reading.local_fault.Failure.{Failure}
 use Rattle.rule_reader.specs.declared.reading.local_fault.Failure.TheVariants as failures
 use Rattle.rule_reader.specs.ReadSteps.{fault_at, fault_of}

@@ -2,7 +2,7 @@
 use Rattle.std.proofs.Common.{◌≡◌, ℕ, List, [], false, true, Ok, subst}
 use Rattle.rule_globs.specs.Tokens.{Token}
 use Rattle.rule_reader.specs.ReadPaths.{tokens_at}
-use Rattle.rule_reader.specs.Readable.{are_tokens}
+use Rattle.rule_profile.specs.Readable.{are_tokens}
 use Rattle.rule_reader.proofs.CanonTrees.{items_are_tokens}
 use Rattle.rule_reader.proofs.TakePaths.{tokens_take}
 

@@ -3,12 +3,12 @@ use Rattle.std.proofs.Common.{◌≡◌, ℕ, zero, suc, ◌-◌, ◌+◌, ◌<�
 use Rattle.std.specs.Prelude.{codes}
 use Rattle.std.proofs.lemmas.List.{length-append}
 use Rattle.std.proofs.Math.Seq.{drop-append_seam}
-use Rattle.rule_reader.specs.declared.profile.Span.{Span}
+use Rattle.rule_profile.specs.declared.profile.Span.{Span}
 use Rattle.rule_reader.specs.declared.reading.local_fault.LocalFault.{LocalFault}
 use Rattle.rule_reader.specs.declared.reading.local_fault.FaultKind.TheVariants as kinds
 use Rattle.rule_reader.specs.Grammar.{print_header}
 use Rattle.rule_reader.specs.GrammarWords.{print_blank}
-use Rattle.rule_reader.specs.Profile.{RuleValue, ProfileValue}
+use Rattle.rule_profile.specs.Profile.{RuleValue, ProfileValue}
 use Rattle.rule_reader.specs.ReadHeader.{header_at}
 use Rattle.rule_reader.specs.ReadSteps.{◌>>=◌, fault_here}
 use Rattle.rule_reader.specs.ReadWords.{blank}

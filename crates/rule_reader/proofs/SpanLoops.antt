@@ -1,13 +1,14 @@
 -- Where rules stand, one after the other, as a loop reads them.
 use Rattle.std.proofs.Common.{◌≡◌, ℕ, zero, suc, ◌-◌, ◌+◌, ◌<◌, List, [], ◌∷◌, ◌++◌, length, map, Ok, refl, sym, ◌∙◌, append_assoc, append-nil, arith}
 use Rattle.std.proofs.lemmas.List.{length-append, map_push}
-use Rattle.rule_reader.specs.declared.profile.Rule.{Rule}
-use Rattle.rule_reader.specs.declared.profile.Span.{Span}
-use Rattle.rule_reader.specs.Profile.{rule_value}
+use Rattle.rule_profile.specs.declared.profile.Rule.{Rule}
+use Rattle.rule_profile.specs.declared.profile.Span.{Span}
+use Rattle.rule_profile.specs.Profile.{rule_value}
 use Rattle.rule_reader.specs.ReadHeader.{header_at}
 use Rattle.rule_reader.specs.ReadWords.{blank}
 use Rattle.rule_reader.specs.Reading.{rule_at}
-use Rattle.rule_reader.specs.Spans.{rule_span, span_between, spans_at, spans_of}
+use Rattle.rule_profile.specs.RuleSpans.{rule_span}
+use Rattle.rule_reader.specs.Spans.{span_between, spans_at, spans_of}
 use Rattle.rule_reader.proofs.ReadLoops.{closing, nothing, just, is_closing, not_closing}
 
 -- no rule stands before the closing brace

@@ -1,5 +1,5 @@
 -- Paths: what is read is written so.
-use Rattle.rule_reader.specs.PathTokens.{is_plain_slash}
+use Rattle.rule_profile.specs.PathTokens.{is_plain_slash}
 use Rattle.std.proofs.Common.{◌≡◌, ℕ, zero, suc, ◌≤◌, ◌<◌, Bool, true, false, cond, eqb, List, [], ◌∷◌, ◌++◌, length, drop, Result, Ok, refl, sym, ap, subst, ◌∙◌, append_assoc, ◌⊎◌, inl, inr, ◌==◌, arith, length-drop}
 use Rattle.std.specs.Prelude.{◌||◌, ◌&&◌, not, nat_eq, nat_le, codes}
 use Rattle.std.specs.Char.{is_ascii_alphanumeric}

@@ -4,7 +4,7 @@ use Rattle.std.specs.Prelude.{codes}
 use Rattle.rule_reader.specs.declared.reading.local_fault.LocalFault.{LocalFault}
 use Rattle.rule_reader.specs.Grammar.{print_header, print_rules, print_text, ReadsAs}
 use Rattle.rule_reader.specs.GrammarWords.{print_blank, print_last}
-use Rattle.rule_reader.specs.Profile.{RuleValue, ProfileValue}
+use Rattle.rule_profile.specs.Profile.{RuleValue, ProfileValue}
 use Rattle.rule_reader.specs.ReadHeader.{header_at}
 use Rattle.rule_reader.specs.ReadSteps.{◌>>=◌}
 use Rattle.rule_reader.specs.ReadWords.{blank}

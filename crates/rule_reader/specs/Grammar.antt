@@ -7,8 +7,8 @@ use Rattle.verdicts.specs.declared.kind.RuleKind.TheVariants.{Allow, Deny}
 use Rattle.rule_reader.specs.GrammarPaths.{WrittenPath, print_path, IsPath, path_means}
 use Rattle.rule_reader.specs.GrammarWords.{Piece, print_blank, IsBlank, IsGap, Stands, print_last, IsLast, WrittenName, print_name, name_means, IsWrittenName, IsNameCell, IsFirst, BeginsWithSlash}
 use Rattle.rule_globs.specs.Each.{Each}
-use Rattle.rule_reader.specs.Limits.{max_rules}
-use Rattle.rule_reader.specs.Profile.{RuleValue, ProfileValue}
+use Rattle.rule_profile.specs.Limits.{max_rules}
+use Rattle.rule_profile.specs.Profile.{RuleValue, ProfileValue}
 use Rattle.rule_reader.specs.TextBytes.{begins, ends_behind_comma}
 
 -- ---- rules (apparmor.d(5), "Access Modes")

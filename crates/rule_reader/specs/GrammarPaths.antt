@@ -5,8 +5,8 @@ use Rattle.rule_globs.specs.declared.items.ByteRange.{ByteRange}
 use Rattle.rule_globs.specs.Glob.{range, single}
 use Rattle.rule_reader.specs.GrammarWords.{Cell, plain, escaped, print_cell, print_cells, byte_of, is_plain, may_stand, in_quotes}
 use Rattle.rule_globs.specs.Each.{Each}
-use Rattle.rule_reader.specs.Limits.{max_items, max_depth}
-use Rattle.rule_reader.specs.PathTokens.{is_plain_slash, slash_or_end_behind, depth_behind}
+use Rattle.rule_profile.specs.Limits.{max_items, max_depth}
+use Rattle.rule_profile.specs.PathTokens.{is_plain_slash, slash_or_end_behind, depth_behind}
 use Rattle.rule_reader.specs.TextBytes.{is_quote, is_open_brace, is_star, ends_behind_comma, is_escapable}
 use Rattle.rule_globs.specs.Tokens.{Token, byte, any_byte, bracket, stars, opening, between, closing}
 

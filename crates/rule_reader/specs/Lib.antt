@@ -1,10 +1,6 @@
-pub mod Limits
-pub mod Rules
-pub mod Profile
 pub mod FaultNumber
 pub mod FaultText
 pub mod TextBytes
-pub mod PathTokens
 pub mod ReadSteps
 pub mod ReadWords
 pub mod ReadHeader
@@ -16,6 +12,5 @@ pub mod Spans
 pub mod GrammarWords
 pub mod GrammarPaths
 pub mod Grammar
-pub mod Readable
 pub mod ReadFaults
 pub mod inner

@@ -2,7 +2,7 @@
 use Rattle.std.specs.Prelude.{ℕ, List, [], ◌++◌, length, codes, Result, Ok, Err, Option, Some, None, true, false, ◌==◌, if◌then◌else◌}
 use Rattle.rule_globs.specs.Tokens.{Token}
 use Rattle.rule_reader.specs.declared.reading.local_fault.LocalFault.{LocalFault}
-use Rattle.rule_reader.specs.Limits.{max_items}
+use Rattle.rule_profile.specs.Limits.{max_items}
 use Rattle.rule_reader.specs.ReadPaths.{tokens_at}
 
 -- what was read, where the closing quote alone is left

@@ -1,7 +1,7 @@
 -- The fault at which reading from left to right stops.
 use Rattle.std.specs.Prelude.{◌≡◌, ℕ, ◌⊎◌, List, Err, true}
 use Rattle.rule_reader.specs.declared.fault.ReadFault.{ReadFault}
-use Rattle.rule_reader.specs.Profile.{ProfileValue}
+use Rattle.rule_profile.specs.Profile.{ProfileValue}
 use Rattle.rule_reader.specs.Grammar.{ReadsAs}
 use Rattle.rule_reader.specs.declared.reading.local_fault.LocalFault.{LocalFault}
 use Rattle.rule_reader.specs.Reading.{text_at, outcome_of}

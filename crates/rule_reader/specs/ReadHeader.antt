@@ -4,7 +4,7 @@ use Rattle.std.specs.List.{starts_with}
 use Rattle.rule_reader.specs.declared.reading.local_fault.FaultKind.TheVariants as kinds
 use Rattle.rule_reader.specs.declared.reading.local_fault.LocalFault.{LocalFault}
 use Rattle.rule_globs.specs.Glob.{is_slash}
-use Rattle.rule_reader.specs.Limits.{max_name}
+use Rattle.rule_profile.specs.Limits.{max_name}
 use Rattle.rule_reader.specs.ReadSteps.{◌>>=◌, fault_here, syntax}
 use Rattle.rule_reader.specs.TextBytes.{begins, is_quote, is_comma, is_hash, is_open_brace, is_close_brace}
 use Rattle.rule_reader.specs.ReadWords.{gap, word, after_word, is_word, word_left_out, name_in, quoted_name}

@@ -7,8 +7,8 @@ use Rattle.rule_reader.specs.declared.reading.local_fault.LocalFault.{LocalFault
 use Rattle.rule_globs.specs.Glob.{is_slash}
 use Rattle.rule_reader.specs.ReadClasses.{class_at}
 use Rattle.rule_reader.specs.ReadSteps.{◌>>=◌, fault_here, fault_with_left, syntax}
-use Rattle.rule_reader.specs.Limits.{max_items, max_depth}
-use Rattle.rule_reader.specs.PathTokens.{is_plain_slash}
+use Rattle.rule_profile.specs.Limits.{max_items, max_depth}
+use Rattle.rule_profile.specs.PathTokens.{is_plain_slash}
 use Rattle.rule_reader.specs.ReadWords.{after, literal}
 use Rattle.rule_reader.specs.TextBytes.{begins, is_white, is_quote, is_comma, is_star, is_open_brace, is_close_brace, ends_behind_comma}
 use Rattle.rule_globs.specs.Tokens.{Token, byte, any_byte, bracket, stars, opening, between, closing}

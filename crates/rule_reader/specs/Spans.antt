@@ -1,23 +1,13 @@
 -- Where the rules of a text stand in it.
-use Rattle.std.specs.Prelude.{◌≡◌, ◌<◌, ◌≤◌, ℕ, zero, suc, ◌-◌, List, [], ◌∷◌, length, map, drop, Ok, Err, if◌then◌else◌}
-use Rattle.rule_reader.specs.declared.profile.Profile.{Profile}
-use Rattle.rule_reader.specs.declared.profile.Rule.{Rule}
-use Rattle.rule_reader.specs.declared.profile.Span.{Span}
-use Rattle.rule_reader.specs.Limits.{max_rules}
-use Rattle.rule_reader.specs.Profile.{RuleValue}
+use Rattle.std.specs.Prelude.{◌≡◌, ◌<◌, ◌≤◌, ℕ, zero, suc, ◌-◌, List, [], ◌∷◌, length, drop, Ok, Err, if◌then◌else◌}
+use Rattle.rule_profile.specs.declared.profile.Span.{Span}
+use Rattle.rule_profile.specs.Limits.{max_rules}
+use Rattle.rule_profile.specs.Profile.{RuleValue}
 use Rattle.rule_reader.specs.ReadHeader.{header_at}
 use Rattle.rule_reader.specs.ReadSteps.{◌>>=◌}
 use Rattle.rule_reader.specs.ReadWords.{blank}
 use Rattle.rule_reader.specs.Reading.{rule_at}
 use Rattle.rule_reader.specs.TextBytes.{begins, is_close_brace}
-
--- where a rule that was read stands
-abbrev pub rule_span : Rule → Span
-rule_span rule = rule.span
-
--- the same of a profile's rules, in their order
-abbrev pub profile_spans : Profile → List Span
-profile_spans profile = map rule_span profile.rules.items
 
 -- in a text of n bytes, from where `from` are left to where `past` are
 abbrev pub span_between : ℕ → List ℕ → List ℕ → Span

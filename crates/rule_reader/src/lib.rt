@@ -8,11 +8,10 @@
 #![tactic(auto)]
 
 mod fault;
-mod profile;
 mod reading;
 
 pub use fault::ReadFault;
-pub use profile::{Profile, Rule, Span};
 pub use reading::{
     one_outcome, profiles_can_be_read, read, read_path, settled_faults_stay, spans_are_read_again,
 };
+pub use rule_profile::{Profile, Rule, Span};

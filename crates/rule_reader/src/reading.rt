@@ -1,11 +1,12 @@
 //! Reading a profile text, from left to right.
 ghost use Rattle.std.specs.Prelude.{◌≡◌, ◌⊎◌, IfOk, IfErr, MatchResult, Ok, Err};
-ghost use Rattle.rule_reader.specs.Profile.{ProfileValue, profile_value};
+ghost use Rattle.rule_profile.specs.Profile.{ProfileValue, profile_value};
 ghost use Rattle.rule_reader.specs.Grammar.{ReadsAs};
 ghost use Rattle.rule_reader.specs.ReadSteps.{fault_of};
 ghost use Rattle.rule_reader.specs.Reading.{outcome_of};
 ghost use Rattle.rule_reader.specs.ReadFaults.{FaultsAs};
-ghost use Rattle.rule_reader.specs.Spans.{profile_spans, spans_of};
+ghost use Rattle.rule_profile.specs.RuleSpans.{profile_spans};
+ghost use Rattle.rule_reader.specs.Spans.{spans_of};
 
 mod builder;
 mod bytes;
@@ -22,9 +23,9 @@ mod words;
 use self::local_fault::{Failure, FaultKind, LocalFault};
 use self::text::text_of;
 use crate::fault::ReadFault;
-use crate::profile::Profile;
 pub use laws::{one_outcome, profiles_can_be_read, settled_faults_stay, spans_are_read_again};
 pub use path::read_path;
+use rule_profile::Profile;
 use std::alloc::Global;
 
 /// The fault that a local fault is of a text of so many bytes.

@@ -1,8 +1,8 @@
 -- Which profiles can be read, and their canonical texts.
 use Rattle.std.proofs.Common.{◌≡◌, ℕ, ◌↔◌, List, IsTrue, subst, sym}
 use Rattle.rule_reader.specs.Grammar.{ReadsAs}
-use Rattle.rule_reader.specs.Profile.{ProfileValue}
-use Rattle.rule_reader.specs.Readable.{is_profile}
+use Rattle.rule_profile.specs.Profile.{ProfileValue}
+use Rattle.rule_profile.specs.Readable.{is_profile}
 use Rattle.rule_writer.specs.Canonical.{canonical, CanBeRead}
 use Rattle.rule_writer.proofs.CanonTexts.{canonical_read}
 

@@ -7,7 +7,7 @@ use Rattle.rule_writer.specs.Canonical.{escaped_among}
 use Rattle.rule_reader.specs.GrammarPaths.{IsItem, IsClassCell, cell}
 use Rattle.rule_reader.specs.GrammarWords.{Cell, plain, escaped, print_cell, print_cells, byte_of, is_plain, IsNameCell}
 use Rattle.rule_globs.specs.Each.{Each}
-use Rattle.rule_reader.specs.Readable.{can_stand, are_name_bytes}
+use Rattle.rule_profile.specs.Readable.{can_stand, are_name_bytes}
 use Rattle.rule_reader.specs.TextBytes.{is_escapable}
 
 -- ---- bytes that are among the special ones, or not

@@ -8,7 +8,7 @@ use Rattle.rule_reader.specs.GrammarPaths.{members, WrittenClass, print_class, I
 use Rattle.rule_globs.specs.Glob.{range, single}
 use Rattle.rule_reader.specs.GrammarWords.{Cell, plain, print_cell, print_cells, byte_of, is_plain}
 use Rattle.rule_globs.specs.Each.{Each}
-use Rattle.rule_reader.specs.Readable.{can_stand, is_range}
+use Rattle.rule_profile.specs.Readable.{can_stand, is_range}
 use Rattle.rule_globs.specs.Tokens.{bracket}
 use Rattle.rule_globs.specs.declared.items.ByteRange.{ByteRange}
 use Rattle.rule_writer.proofs.CanonCells.{class_cell, class_cell_valid, class_cell_no_dash, class_cell_no_caret, print_cell_among, byte_of_cell}

@@ -1,5 +1,5 @@
 -- The items of a path in a canonical text.
-use Rattle.rule_reader.specs.PathTokens.{slash_or_end_behind, depth_behind, is_plain_slash}
+use Rattle.rule_profile.specs.PathTokens.{slash_or_end_behind, depth_behind, is_plain_slash}
 use Rattle.std.proofs.Common.{◌≡◌, ℕ, suc, ◌≤◌, Bool, true, false, leb, List, [], ◌∷◌, ◌++◌, length, map, refl, sym, ap, subst, ◌∙◌, arith}
 use Rattle.std.specs.Prelude.{◌&&◌, not, codes}
 use Rattle.std.specs.List.{flat_map}
@@ -7,7 +7,7 @@ use Rattle.std.proofs.lemmas.Bool.{eqb-true, and_parts, leb-true, ltb-true, not-
 use Rattle.rule_writer.specs.Canonical.{token_text}
 use Rattle.rule_globs.specs.Glob.{is_slash}
 use Rattle.rule_reader.specs.GrammarPaths.{WrittenItem, cell, question, star, two_stars, class, open_brace, comma, close_brace, print_item, print_items, first_byte, next_is, IsItem, depth_behind_item, AreItems, is_plain_slash_item, slash_or_end_behind_item, item_means, items_mean, WrittenPath, IsAbsolute, IsPath, path_means}
-use Rattle.rule_reader.specs.Readable as readable
+use Rattle.rule_profile.specs.Readable as readable
 use Rattle.rule_reader.specs.TextBytes.{is_star}
 use Rattle.rule_globs.specs.Tokens.{Token, byte, any_byte, bracket, stars, opening, between, closing}
 use Rattle.rule_writer.proofs.CanonCells.{path_cell, path_cell_valid, path_cell_no_star, print_cell_among, byte_of_cell}

@@ -6,8 +6,8 @@ use Rattle.names.specs.Permissions.{letters}
 use Rattle.verdicts.specs.declared.kind.RuleKind.TheVariants.{Allow, Deny}
 use Rattle.rule_reader.specs.Grammar.{print_qualifier, print_rule}
 use Rattle.rule_reader.specs.GrammarPaths.{print_items}
-use Rattle.rule_reader.specs.Profile.{RuleValue}
-use Rattle.rule_reader.specs.Readable.{is_rule}
+use Rattle.rule_profile.specs.Profile.{RuleValue}
+use Rattle.rule_profile.specs.Readable.{is_rule}
 use Rattle.rule_reader.specs.Reading.{rule_at}
 use Rattle.rule_reader.proofs.AgainRules.{rule_again}
 use Rattle.rule_writer.specs.Canonical.{token_text, kind_text, qualifier_text, rule_line, rule_text}

@@ -10,8 +10,8 @@ use Rattle.rule_writer.specs.Canonical.{token_text, kind_text, rule_line, canoni
 use Rattle.rule_reader.specs.Grammar.{Qualifier, none, deny, print_qualifier, IsQualifier, kind_of, IsWord, WrittenRule, print_rule, IsRule, rule_means, print_rules, AreRules, rules_mean, behind_rule, named, WrittenText, print_text, IsText, text_means, ReadsAs}
 use Rattle.rule_reader.specs.GrammarPaths.{print_items, path_means}
 use Rattle.rule_reader.specs.GrammarWords.{Piece, white, print_blank, IsBlank, Cell, plain, escaped, print_cells, WrittenName, IsWrittenName, IsFirst}
-use Rattle.rule_reader.specs.Profile.{RuleValue, ProfileValue}
-use Rattle.rule_reader.specs.Readable.{are_name_bytes, is_name, is_path, is_rule, is_profile}
+use Rattle.rule_profile.specs.Profile.{RuleValue, ProfileValue}
+use Rattle.rule_profile.specs.Readable.{are_name_bytes, is_name, is_path, is_rule, is_profile}
 use Rattle.verdicts.specs.declared.kind.RuleKind.{RuleKind}
 use Rattle.verdicts.specs.declared.kind.RuleKind.TheVariants.{Allow, Deny}
 use Rattle.rule_writer.proofs.CanonCells.{name_cells, name_cells_are}

@@ -1,8 +1,8 @@
 //! Laws of canonical texts. The functions do nothing: each stands for its contract.
 ghost use Rattle.std.specs.Prelude.{◌≡◌, ◌↔◌, ◌++◌, ℕ, List, Ok, IsTrue, codes};
 ghost use Rattle.rule_reader.specs.Grammar.{ReadsAs};
-ghost use Rattle.rule_reader.specs.Profile.{RuleValue, ProfileValue};
-ghost use Rattle.rule_reader.specs.Readable.{is_profile, is_rule};
+ghost use Rattle.rule_profile.specs.Profile.{RuleValue, ProfileValue};
+ghost use Rattle.rule_profile.specs.Readable.{is_profile, is_rule};
 ghost use Rattle.rule_reader.specs.Reading.{rule_at};
 ghost use Rattle.rule_writer.specs.Canonical.{canonical, rule_line, rule_text, CanBeRead};
 

@@ -4,12 +4,13 @@ ghost use Rattle.std.specs.List.{flat_map};
 ghost use Rattle.names.specs.Permissions.{letters};
 ghost use Rattle.rule_writer.specs.Canonical.{escaped_among, range_text, token_text, rule_line, rule_text, canonical};
 ghost use Rattle.rule_reader.specs.Grammar.{ReadsAs};
-ghost use Rattle.rule_reader.specs.Profile.{rule_value, profile_value};
+ghost use Rattle.rule_profile.specs.Profile.{rule_value, profile_value};
 ghost use Rattle.rule_globs.specs.Tokens.{bracket, stars as stars_token, tokens, tokens_of, with_commas};
 
 use names::{NoMemory, Permission, Perms};
 use rule_globs::{ByteRange, Class, Item, Stars};
-use rule_reader::{Profile, Rule, profiles_can_be_read};
+use rule_profile::{Profile, Rule};
+use rule_reader::profiles_can_be_read;
 use std::alloc::Global;
 use verdicts::RuleKind;
 

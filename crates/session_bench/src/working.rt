@@ -11,8 +11,8 @@ use matcher::{CompiledProfile, MakeFault, PolicyChange};
 use mediation::{Answer, Bench, LinkAnswer};
 use names::{Errno, NoMemory, Perms};
 use path_session::Session;
-use plain_bench::replacement;
-use rule_reader::Profile;
+use policy_map::replacement;
+use rule_profile::Profile;
 use std::sync::Wait;
 
 /// Opens by the profile of this name from now on, where another one is selected.

@@ -9,8 +9,8 @@ use Rattle.rule_explain.specs.FaultLines.{fault_lines}
 use Rattle.rule_globs.specs.PlainVerdict.{verdict}
 use Rattle.rule_reader.specs.declared.fault.ReadFault.{ReadFault}
 use Rattle.rule_reader.specs.declared.fault.ReadFault.TheVariants as reading
-use Rattle.rule_reader.specs.declared.profile.Span.{Span}
-use Rattle.rule_reader.specs.Profile.{ProfileValue}
+use Rattle.rule_profile.specs.declared.profile.Span.{Span}
+use Rattle.rule_profile.specs.Profile.{ProfileValue}
 use Rattle.rule_reader.specs.Reading.{outcome_of}
 use Rattle.rule_reader.specs.Spans.{spans_of}
 use Rattle.verdicts.specs.VerdictText.{verdict_text}

@@ -8,7 +8,7 @@ use Rattle.table_verifier.specs.Loading.{IsLoaded, IsLoadFault}
 use Rattle.matcher.specs.Telling.{TellsLeastHits, TellsVerdicts}
 use Rattle.names.specs.declared.permissions.Perms.{Perms}
 use Rattle.rule_globs.specs.PlainVerdict.{verdict}
-use Rattle.rule_reader.specs.Profile.{ProfileValue, RuleValue}
+use Rattle.rule_profile.specs.Profile.{ProfileValue, RuleValue}
 use Rattle.verdicts.specs.declared.verdict.Verdict.{Verdict}
 use Rattle.tables.specs.Bounds.{InBounds, IsFirstFault}
 use Rattle.tables.specs.Images.{IsFirstImageFault, IsImageOf}

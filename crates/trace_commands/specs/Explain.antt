@@ -4,7 +4,7 @@ use Rattle.names.specs.declared.permissions.Perms.{Perms}
 use Rattle.rule_explain.specs.Explanations.{explanation}
 use Rattle.rule_explain.specs.FaultLines.{fault_lines}
 use Rattle.rule_reader.specs.declared.fault.ReadFault.{ReadFault}
-use Rattle.rule_reader.specs.Profile.{ProfileValue}
+use Rattle.rule_profile.specs.Profile.{ProfileValue}
 use Rattle.rule_reader.specs.Reading.{outcome_of}
 use Rattle.rule_reader.specs.Spans.{spans_of}
 use Rattle.trace_commands.specs.Judge.{ask_of}

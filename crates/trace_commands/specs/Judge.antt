@@ -4,7 +4,7 @@ use Rattle.names.specs.declared.permissions.Perms.{Perms}
 use Rattle.names.specs.Permissions.{perms_of}
 use Rattle.rule_reader.specs.declared.fault.ReadFault.{ReadFault}
 use Rattle.rule_globs.specs.PlainVerdict.{verdict}
-use Rattle.rule_reader.specs.Profile.{ProfileValue}
+use Rattle.rule_profile.specs.Profile.{ProfileValue}
 use Rattle.rule_reader.specs.Reading.{outcome_of}
 use Rattle.verdicts.specs.VerdictText.{verdict_text}
 use Rattle.trace_report.specs.declared.status.Status.TheVariants.{BadArguments, Refused}

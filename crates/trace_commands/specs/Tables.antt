@@ -8,7 +8,7 @@ use Rattle.verdicts.specs.declared.record.Record.{Record}
 use Rattle.table_verifier.specs.Loading.{IsLoaded, IsLoadFault}
 use Rattle.matcher.specs.Telling.{IsTableOfRules}
 use Rattle.names.specs.declared.permissions.Perms.{Perms}
-use Rattle.rule_reader.specs.Profile.{ProfileValue}
+use Rattle.rule_profile.specs.Profile.{ProfileValue}
 use Rattle.rule_reader.specs.Reading.{outcome_of}
 use Rattle.verdicts.specs.VerdictText.{verdict_text}
 use Rattle.rule_reader.specs.declared.fault.ReadFault.{ReadFault}

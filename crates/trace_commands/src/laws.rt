@@ -3,7 +3,7 @@ ghost use Rattle.std.specs.Prelude.{◌≡◌, ◌⊎◌, ◌++◌, ◌∷◌, [
 ghost use Rattle.names.specs.Bytes.{are_bytes};
 ghost use Rattle.names.specs.declared.permissions.Perms.{Perms};
 ghost use Rattle.rule_globs.specs.PlainVerdict.{verdict};
-ghost use Rattle.rule_reader.specs.Profile.{ProfileValue};
+ghost use Rattle.rule_profile.specs.Profile.{ProfileValue};
 ghost use Rattle.trace_report.specs.Output.{Output, whole_answer};
 ghost use Rattle.trace_commands.specs.Explain.{explain_output, GoesOnFrom};
 ghost use Rattle.trace_commands.specs.Judge.{judge_output};

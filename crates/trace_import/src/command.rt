@@ -2,7 +2,7 @@
 ghost use Rattle.std.specs.Prelude.{◌≡◌, ◌⊎◌, ℕ, List, Ok, IfOk};
 ghost use Rattle.std.specs.Io.KnownBytes.{Appends};
 ghost use Rattle.names.specs.Errors.{no_memory_text};
-ghost use Rattle.rule_reader.specs.Profile.{profile_value};
+ghost use Rattle.rule_profile.specs.Profile.{profile_value};
 ghost use Rattle.rule_writer.specs.Canonical.{canonical};
 ghost use Rattle.profile_import.specs.Told.{import_value, import_fault_value};
 ghost use Rattle.trace_report.specs.Output.{line};

@@ -7,7 +7,7 @@ use Rattle.names.specs.Errors.{errno_text}
 use Rattle.directory_tree.specs.declared.change.Change.{Change}
 use Rattle.directory_tree.specs.Apply.{Changed}
 use Rattle.directory_tree.specs.Plain.{outcome}
-use Rattle.rule_reader.specs.Profile.{ProfileValue}
+use Rattle.rule_profile.specs.Profile.{ProfileValue}
 use Rattle.trace_script.specs.declared.stop.Stop.{Stop}
 use Rattle.trace_script.specs.declared.stop.Stop.TheVariants.{NoCommand, Input, TooLong, Memory, Output}
 use Rattle.trace_script.specs.Engine.{IsComposed, IsPut}

@@ -4,7 +4,7 @@ use Rattle.std.proofs.lemmas.Bool.{cases_Bool}
 use mathlib.Core.Logic.{⊎_elim}
 use Rattle.glob_automaton.specs.Automata.{StateLimit, most_sets}
 use Rattle.glob_automaton.specs.Sets.{AreMoreThan}
-use Rattle.rule_reader.specs.Profile.{RuleValue, ProfileValue}
+use Rattle.rule_profile.specs.Profile.{RuleValue, ProfileValue}
 use Rattle.trace_script.specs.declared.stop.Stop.{Stop}
 use Rattle.trace_script.specs.Engine.{IsComposed, IsText}
 use Rattle.trace_report.specs.Output.{line}

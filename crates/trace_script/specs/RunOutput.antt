@@ -14,7 +14,7 @@ use Rattle.directory_tree.specs.declared.change.Change.TheVariants as tree
 use Rattle.directory_tree.specs.Plain.{outcome}
 use Rattle.directory_tree.specs.Apply.{and_then}
 use Rattle.rule_reader.specs.declared.fault.ReadFault.{ReadFault}
-use Rattle.rule_reader.specs.Profile.{ProfileValue}
+use Rattle.rule_profile.specs.Profile.{ProfileValue}
 use Rattle.rule_reader.specs.Reading.{outcome_of}
 use Rattle.trace_report.specs.declared.status.Status.{Status}
 use Rattle.trace_report.specs.declared.status.Status.TheVariants.{Done, Unmet, BadArguments, Refused, InputFailed, OutputFailed, FaultsFailed, NoMemory}

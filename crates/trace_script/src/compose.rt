@@ -5,7 +5,7 @@ ghost use Rattle.trace_script.specs.AnswerText.{answered_text, versions_text};
 ghost use Rattle.trace_script.specs.Engine.{IsComposed, IsText};
 ghost use Rattle.glob_automaton.specs.Automata.{StateLimit};
 ghost use Rattle.names.specs.Errors.{errno_text};
-ghost use Rattle.rule_reader.specs.Profile.{profile_value};
+ghost use Rattle.rule_profile.specs.Profile.{profile_value};
 ghost use Rattle.trace_report.specs.Fault.{fault_text};
 ghost use Rattle.trace_script.specs.LineValues.{change_words};
 ghost use Rattle.mediation.specs.History.{MayChangePolicy, policy_version};
@@ -18,7 +18,8 @@ use directory_tree::{Change, LinkBytes};
 use matcher::MakeFault;
 use mediation::{Answer, Bench, LinkAnswer};
 use names::{Errno, Path, Perms};
-use rule_reader::{Profile, ReadFault, read};
+use rule_profile::Profile;
+use rule_reader::{ReadFault, read};
 use std::alloc::{AllocError, Global};
 use trace_report::Fault;
 

@@ -6,7 +6,7 @@ ghost use Rattle.names.specs.declared.errors.Errno.TheVariants.{ENOENT, EEXIST, 
 ghost use Rattle.names.specs.Errors.{errno_text};
 ghost use Rattle.mediation.specs.History.{History, new_history, policy_version, with_deed};
 ghost use Rattle.trace_script.specs.RunOutput.{policy_printed, printed_lines, run_lines};
-ghost use Rattle.rule_reader.specs.Profile.{ProfileValue};
+ghost use Rattle.rule_profile.specs.Profile.{ProfileValue};
 ghost use Rattle.mediation.specs.Deeds.{published_rules};
 ghost use Rattle.trace_script.specs.Rows.{allow_rule};
 ghost use Rattle.trace_script.specs.Script.{script_of, publish, remove};

@@ -9,7 +9,7 @@ use Rattle.matcher.specs.Making.{IsMakeFault}
 use Rattle.mediation.specs.Deeds.{Deed, published_rules}
 use Rattle.rule_reader.specs.declared.fault.ReadFault.{ReadFault}
 use Rattle.rule_reader.specs.declared.fault.ReadFault.TheVariants as reading
-use Rattle.rule_reader.specs.Profile.{ProfileValue}
+use Rattle.rule_profile.specs.Profile.{ProfileValue}
 use Rattle.event_core.specs.Machine.{Machine}
 use Rattle.event_core.specs.Machine.Event.{publish}
 use Rattle.event_core.specs.Takes.{Takes}

@@ -8,7 +8,7 @@ use Rattle.matcher.specs.declared.fault.MakeFault.TheVariants.{TooManyStates}
 use Rattle.names.specs.declared.errors.Errno.{Errno}
 use Rattle.directory_tree.specs.declared.change.Change.{Change}
 use Rattle.rule_reader.specs.declared.fault.ReadFault.{ReadFault}
-use Rattle.rule_reader.specs.Profile.{ProfileValue}
+use Rattle.rule_profile.specs.Profile.{ProfileValue}
 use Rattle.rule_reader.specs.Reading.{outcome_of}
 use Rattle.mediation.specs.Deeds.{Deed, published_rules, removed}
 use Rattle.mediation.specs.Opening.{judged, failed, no_profile}

@@ -1,6 +1,6 @@
 -- A rule as it is restated, by its shape and its paths; and more rules than a profile may have.
 use Rattle.std.specs.Prelude.{◌≡◌, ℕ, List, [], map, slice_get, Option, Some, None, option_map, true, if◌then◌else◌}
-use Rattle.rule_reader.specs.Limits.{max_rules}
+use Rattle.rule_profile.specs.Limits.{max_rules}
 use Rattle.profile_variables.specs.Variables.{Variable}
 use Rattle.rule_globs.specs.Tokens.{Token}
 use Rattle.subject_rules.specs.declared.shape.RuleShape.{RuleShape}

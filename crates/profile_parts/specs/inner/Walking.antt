@@ -3,8 +3,8 @@ use Rattle.std.specs.Prelude.{ℕ, suc, ◌-◌, List, [], ◌∷◌, length, op
 use Rattle.std.specs.List.{list_all}
 use Rattle.rule_globs.specs.Glob.{is_slash}
 use Rattle.rule_globs.specs.Tokens.{Token, byte, any_byte, bracket, stars, opening, between, closing}
-use Rattle.rule_reader.specs.Limits.{max_depth, max_items}
-use Rattle.rule_reader.specs.Readable.{can_stand, is_range}
+use Rattle.rule_profile.specs.Limits.{max_depth, max_items}
+use Rattle.rule_profile.specs.Readable.{can_stand, is_range}
 use Rattle.profile_parts.specs.declared.place.Place.{Place}
 use Rattle.profile_parts.specs.declared.place.Wanted.{Wanted}
 use Rattle.profile_parts.specs.declared.place.Wanted.TheVariants.{FirstSlash, Anything, NoRun, SlashOrEnd, Other}

@@ -1,11 +1,11 @@
 //! Laws of the grammar and of reading. The functions do nothing: each stands for its contract.
 ghost use Rattle.std.specs.Prelude.{◌≡◌, ◌↔◌, ◌++◌, ℕ, List, Ok, Err, IsTrue};
 ghost use Rattle.rule_reader.specs.declared.fault.ReadFault.{ReadFault};
-ghost use Rattle.rule_reader.specs.Profile.{ProfileValue, profile_value};
-ghost use Rattle.rule_reader.specs.declared.profile.Profile.{Profile};
+ghost use Rattle.rule_profile.specs.Profile.{ProfileValue, profile_value};
+ghost use Rattle.rule_profile.specs.declared.profile.Profile.{Profile};
 ghost use Rattle.rule_reader.specs.Grammar.{ReadsAs};
 ghost use Rattle.rule_reader.specs.Reading.{outcome_of};
-ghost use Rattle.rule_reader.specs.Readable.{is_profile};
+ghost use Rattle.rule_profile.specs.Readable.{is_profile};
 ghost use Rattle.rule_reader.specs.ReadFaults.{FaultsAs, HasOutcome, Refused, IsSettled};
 ghost use Rattle.rule_reader.specs.Spans.{AreReadAgain, spans_of};
 

@@ -2,20 +2,21 @@
 ghost use Rattle.std.specs.Prelude.{◌≡◌, ◌≤◌, ℕ, List, length, map, drop, option_map, IfOk, Some, None, if◌then◌else◌, codes};
 ghost use Rattle.rule_reader.specs.ReadWords.{is_word, after_word};
 ghost use Rattle.std.specs.List.{list_all};
-ghost use Rattle.rule_reader.specs.Profile.{rule_value};
+ghost use Rattle.rule_profile.specs.Profile.{rule_value};
 ghost use Rattle.rule_reader.specs.inner.Gives.{Gives};
-ghost use Rattle.rule_reader.specs.Limits.{max_rules};
+ghost use Rattle.rule_profile.specs.Limits.{max_rules};
 ghost use Rattle.rule_reader.specs.Reading.{is_mode, perms_at, perms_behind, qualifier_at, start_at, comma_at, body_at, rule_at, rule_begins, rules_at};
-ghost use Rattle.rule_reader.specs.Spans.{rule_span, span_between, spans_at};
+ghost use Rattle.rule_profile.specs.RuleSpans.{rule_span};
+ghost use Rattle.rule_reader.specs.Spans.{span_between, spans_at};
 ghost use Rattle.rule_reader.specs.TextBytes.{begins, is_close_brace};
 ghost use Rattle.rule_globs.specs.Tokens.{tokens_of};
 
 use super::local_fault::{Failure, FaultKind, fault_here, fault_with_left};
 use super::path::path_of;
 use super::words::{after_blank, after_gap, word_left_out, word_of};
-use crate::profile::{MAX_RULES, Rule, Span};
 use names::Perms;
 use rule_globs::RulePath;
+use rule_profile::{MAX_RULES, Rule, Span};
 use std::alloc::Global;
 use verdicts::RuleKind;
 
@@ -152,13 +153,7 @@ fn rule_of(alloc: Global, len: usize, bytes: &[u8]) -> Result<(Rule, &[u8]), Fai
         start: len.saturating_sub(bytes.len()),
         end: len.saturating_sub(rest.len()),
     };
-    let rule = Rule {
-        kind,
-        perms,
-        path,
-        span,
-    };
-    Ok((rule, rest))
+    Ok((Rule::new(kind, perms, path).with_span(span), rest))
 }
 
 /// Whether a rule begins here. Else it is a fault for itself.

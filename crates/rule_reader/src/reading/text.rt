@@ -1,15 +1,16 @@
 //! A whole text.
 ghost use Rattle.std.specs.Prelude.{◌≡◌, IfOk};
-ghost use Rattle.rule_reader.specs.Profile.{profile_value};
+ghost use Rattle.rule_profile.specs.Profile.{profile_value};
 ghost use Rattle.rule_reader.specs.inner.Gives.{Gives};
 ghost use Rattle.rule_reader.specs.Reading.{text_at};
-ghost use Rattle.rule_reader.specs.Spans.{profile_spans, spans_of};
+ghost use Rattle.rule_profile.specs.RuleSpans.{profile_spans};
+ghost use Rattle.rule_reader.specs.Spans.{spans_of};
 
 use super::header::header_of;
 use super::local_fault::{Failure, FaultKind, fault_here};
 use super::rules::rules_of;
 use super::words::after_blank;
-use crate::profile::Profile;
+use rule_profile::Profile;
 use std::alloc::Global;
 
 #[tactic(auto, unfolding(crate::specs::Reading::text_at))]
@@ -24,5 +25,5 @@ pub(crate) fn text_of(alloc: Global, bytes: &[u8]) -> Result<Profile, Failure>
         return Err(fault_here(FaultKind::Syntax, rest));
     }
     let name = Vec::from_slice(alloc, name)?;
-    Ok(Profile { name, rules })
+    Ok(Profile::new(name, rules))
 }

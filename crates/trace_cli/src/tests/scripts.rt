@@ -7,7 +7,7 @@ use matcher::MakeFault;
 use mediation::{Answer, Bench, LinkAnswer};
 use names::{Errno, NoMemory, Perms};
 use plain_tree::PlainTree;
-use rule_reader::Profile;
+use rule_profile::Profile;
 use std::alloc::Global;
 use std::io;
 use std::io::{BufRead, BufReader, ErrorKind};

@@ -1,5 +1,5 @@
 use Rattle.std.proofs.lemmas.Result.{IfOk-weaker, IfErr-weaker}
-use Rattle.rule_reader.specs.Profile.{profile_value}
+use Rattle.rule_profile.specs.Profile.{profile_value}
 use Rattle.glob_automaton.proofs.Compiled.{built, not_built, no_memory}
 use Rattle.glob_automaton.proofs.NamePrefixes.{each_with_slash}
 use Rattle.glob_automaton.proofs.compiling.compile.Goals as goal

@@ -5,7 +5,7 @@ use Rattle.std.proofs.lemmas.Bool.{and_from}
 use Rattle.std.proofs.lemmas.Bool.Decides.{nat_tests}
 use Rattle.std.proofs.lemmas.List.{length-map}
 use Rattle.std.proofs.lemmas.List.Sums.{list_all-from_AllPass}
-use Rattle.rule_reader.specs.Readable.{is_name, is_path, is_profile, is_rule}
+use Rattle.rule_profile.specs.Readable.{is_name, is_path, is_profile, is_rule}
 use Rattle.import_cut.specs.CutStates as cuts
 use Rattle.import_paths.specs.ImportedPaths.{imported_paths}
 use Rattle.import_scope.specs.Scopes.{at_start}

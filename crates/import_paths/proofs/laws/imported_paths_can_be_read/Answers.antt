@@ -1,6 +1,6 @@
 -- All of them pass both tests.
 use Rattle.std.proofs.lemmas.List.Sums.{AllPass-from_list_all}
-use Rattle.rule_reader.specs.Readable.{is_path}
+use Rattle.rule_profile.specs.Readable.{is_path}
 use Rattle.import_paths.specs.ImportedPaths.{imported_paths}
 use Rattle.import_paths.specs.Settled.{is_settled}
 use Rattle.import_paths.proofs.ImportLaws.{imported_readable, imported_settled}

@@ -1,6 +1,6 @@
 use Rattle.std.proofs.Common.{◌∙◌}
 use Rattle.matcher.proofs.ToldByTables.{tells_least}
-use Rattle.rule_reader.specs.Profile.{profile_value}
+use Rattle.rule_profile.specs.Profile.{profile_value}
 use Rattle.matcher.proofs.compiled.table_of.Goals as goal
 
 pub returns-clause-rules : goal.returns-clause-rules

@@ -3,7 +3,7 @@ use Rattle.matcher.specs.declared.profiles.AnyProfile.{AnyProfile}
 use Rattle.mediation.proofs.Telling.{rules_tell, table_tells}
 use Rattle.mediation.specs.Profiles.{judge_of}
 use Rattle.mediation.specs.inner.Telling.{Tells}
-use Rattle.rule_reader.specs.Profile.{profile_value}
+use Rattle.rule_profile.specs.Profile.{profile_value}
 use Rattle.mediation.proofs.profiles.record_by.Goals as goal
 
 pub returns-in-Compiled : goal.returns-in-Compiled

@@ -2,7 +2,7 @@
 use Rattle.std.proofs.Common.{◌≡◌, ◌++◌, drop, map, IsTrue, true, ◌&&◌}
 use Rattle.std.specs.List.{list_all}
 use Rattle.rule_globs.specs.Tokens.{tokens_of, all_full}
-use Rattle.rule_reader.specs.Readable.{is_path}
+use Rattle.rule_profile.specs.Readable.{is_path}
 use Rattle.path_leads.proofs.leads.split.Given as goal
 
 abbrev pub invariant-loop-items : goal.invariant-loop-items

@@ -1,6 +1,6 @@
 -- The last item's last token is that of all items.
 use Rattle.std.proofs.Common.{sym, ◌∙◌}
-use Rattle.rule_reader.specs.PathTokens.{is_plain_slash}
+use Rattle.rule_profile.specs.PathTokens.{is_plain_slash}
 use Rattle.path_leads.proofs.Ends.{ends_as_last}
 use Rattle.path_leads.proofs.shapes.ends_with_slash.Goals as goal
 

@@ -1,7 +1,7 @@
 use Rattle.std.proofs.lemmas.Result.{err_from_is_err_and}
 use Rattle.std.proofs.Common.{ap}
 use Rattle.mediation.specs.Profiles.{judge_of}
-use Rattle.plain_bench.proofs.LinkJudging.{link_told}
+use Rattle.mediation.proofs.LinkJudging.{link_told}
 use Rattle.path_session.specs.Standing.{plain_of}
 use Rattle.path_session.proofs.linking.judge_tested.Goals as goal
 

@@ -1,6 +1,6 @@
 use Rattle.std.proofs.lemmas.Result.{err_from_is_err_and}
 use Rattle.mediation.specs.Profiles.{judge_of}
-use Rattle.plain_bench.proofs.LinkJudging.{link_told}
+use Rattle.mediation.proofs.LinkJudging.{link_told}
 use Rattle.plain_bench.proofs.working.judge_tested.Goals as goal
 
 pub returns-clause-answer : goal.returns-clause-answer

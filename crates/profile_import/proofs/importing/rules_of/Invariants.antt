@@ -1,8 +1,8 @@
 -- The rules that were yielded, each of which can be read.
 use Rattle.std.proofs.Common.{◌≡◌, map, IsTrue}
 use Rattle.std.specs.List.{list_all}
-use Rattle.rule_reader.specs.Readable.{is_rule}
-use Rattle.rule_reader.specs.Rules.{rule_value}
+use Rattle.rule_profile.specs.Readable.{is_rule}
+use Rattle.rule_profile.specs.Rules.{rule_value}
 use Rattle.profile_import.proofs.importing.rules_of.Given as goal
 
 abbrev pub invariant-loop-rule : goal.invariant-loop-rule

@@ -1,6 +1,6 @@
 use Rattle.std.proofs.Common.{List, suc, subst, All, IsTrue, rules, arith}
 use Rattle.rule_globs.specs.Tokens.{Token}
-use Rattle.rule_reader.specs.Readable.{is_path}
+use Rattle.rule_profile.specs.Readable.{is_path}
 use Rattle.profile_import.proofs.Gathers.{pushed_more}
 use Rattle.profile_import.proofs.placed.push_restated.Goals as goal
 

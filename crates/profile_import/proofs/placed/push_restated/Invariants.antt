@@ -1,6 +1,6 @@
 -- The rules with the paths that were yielded, and that those that are left can be read.
 use Rattle.std.proofs.Common.{◌≡◌, ◌++◌, map, All, IsTrue}
-use Rattle.rule_reader.specs.Readable.{is_path}
+use Rattle.rule_profile.specs.Readable.{is_path}
 use Rattle.profile_import.specs.inner.Gathering.{placed_value}
 use Rattle.profile_import.proofs.placed.push_restated.Given as goal
 

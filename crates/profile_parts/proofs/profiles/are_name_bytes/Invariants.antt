@@ -1,6 +1,6 @@
 -- What is left of the name, from here.
 use Rattle.std.proofs.Common.{◌≡◌, drop, false}
-use Rattle.rule_reader.specs.Readable.{are_name_bytes}
+use Rattle.rule_profile.specs.Readable.{are_name_bytes}
 use Rattle.profile_parts.proofs.profiles.are_name_bytes.Given as goal
 
 abbrev pub invariant-loop-byte : goal.invariant-loop-byte

@@ -1,8 +1,8 @@
 -- What is left of the rules, from here.
 use Rattle.std.proofs.Common.{◌≡◌, drop, map}
 use Rattle.std.specs.List.{list_all}
-use Rattle.rule_reader.specs.Profile.{rule_value}
-use Rattle.rule_reader.specs.Readable.{is_rule}
+use Rattle.rule_profile.specs.Profile.{rule_value}
+use Rattle.rule_profile.specs.Readable.{is_rule}
 use Rattle.profile_parts.proofs.profiles.are_rules.Given as goal
 
 abbrev pub invariant-loop-rule : goal.invariant-loop-rule

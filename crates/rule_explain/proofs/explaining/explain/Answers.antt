@@ -5,8 +5,8 @@ use Rattle.std.proofs.lemmas.List.Elements.{filter_more}
 use Rattle.names.specs.declared.permissions.Permission.{Permission}
 use Rattle.names.specs.declared.permissions.Permission.TheVariants.{Read}
 use Rattle.names.specs.Permissions.{all_permissions, has}
-use Rattle.rule_reader.specs.Profile.{profile_value}
-use Rattle.rule_reader.specs.Spans.{profile_spans}
+use Rattle.rule_profile.specs.Profile.{profile_value}
+use Rattle.rule_profile.specs.RuleSpans.{profile_spans}
 use Rattle.rule_explain.specs.Explanations.{reason_line}
 use Rattle.rule_explain.proofs.explaining.explain.Goals as goal
 use Rattle.rule_explain.proofs.explaining.explain.Goals.{then-contains+in_ok-put_line, else-contains}

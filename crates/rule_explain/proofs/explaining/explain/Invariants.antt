@@ -2,8 +2,8 @@
 use Rattle.std.proofs.Common.{◌≡◌, ◌++◌, take, filter}
 use Rattle.std.specs.List.{flat_map}
 use Rattle.names.specs.Permissions.{all_permissions, has}
-use Rattle.rule_reader.specs.Profile.{profile_value}
-use Rattle.rule_reader.specs.Spans.{profile_spans}
+use Rattle.rule_profile.specs.Profile.{profile_value}
+use Rattle.rule_profile.specs.RuleSpans.{profile_spans}
 use Rattle.rule_explain.specs.Explanations.{reason_line}
 use Rattle.rule_explain.proofs.explaining.explain.Given as goal
 

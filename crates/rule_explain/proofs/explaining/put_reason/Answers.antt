@@ -1,9 +1,9 @@
 use Rattle.std.proofs.Common.{◌≡◌, ◌++◌, ℕ, List, append_assoc}
 use Rattle.std.specs.Prelude.{codes}
 use Rattle.std.proofs.lemmas.Result.{IfOk-weaker}
-use Rattle.rule_reader.specs.declared.profile.Span.{Span}
-use Rattle.rule_reader.specs.Profile.{RuleValue, profile_value}
-use Rattle.rule_reader.specs.Spans.{profile_spans}
+use Rattle.rule_profile.specs.declared.profile.Span.{Span}
+use Rattle.rule_profile.specs.Profile.{RuleValue, profile_value}
+use Rattle.rule_profile.specs.RuleSpans.{profile_spans}
 use Rattle.rule_explain.specs.declared.reason.Reason.{Reason}
 use Rattle.rule_explain.specs.declared.reason.Reason.TheVariants.{Allowed, Denied}
 use Rattle.rule_explain.specs.Explanations.{reason_text, rule_told}

@@ -1,9 +1,9 @@
 use Rattle.std.proofs.Common.{◌≡◌, ◌++◌, ℕ, List, ap, ◌∙◌, append_assoc}
 use Rattle.std.specs.Prelude.{codes, decimal}
 use Rattle.std.proofs.lemmas.Result.{IfOk-weaker}
-use Rattle.rule_reader.specs.declared.profile.Span.{Span}
-use Rattle.rule_reader.specs.Profile.{rule_value}
-use Rattle.rule_reader.specs.Spans.{rule_span}
+use Rattle.rule_profile.specs.declared.profile.Span.{Span}
+use Rattle.rule_profile.specs.Profile.{rule_value}
+use Rattle.rule_profile.specs.RuleSpans.{rule_span}
 use Rattle.rule_writer.specs.Canonical.{rule_text}
 use Rattle.rule_explain.specs.declared.place.Place.{Place}
 use Rattle.rule_explain.specs.Places.{place_at}

@@ -1,8 +1,8 @@
 use Rattle.std.specs.Prelude.{◌&&◌, length, nat_le}
 use Rattle.std.specs.List.{list_all}
 use Rattle.std.proofs.lemmas.Bool.{and_parts}
-use Rattle.rule_reader.specs.Limits.{max_rules}
-use Rattle.rule_reader.specs.Readable.{is_name, is_rule}
+use Rattle.rule_profile.specs.Limits.{max_rules}
+use Rattle.rule_profile.specs.Readable.{is_name, is_rule}
 use Rattle.rule_explain.specs.Reasons.{reason}
 use Rattle.rule_explain.proofs.ToldLaws.{rightly_told}
 use Rattle.rule_explain.proofs.laws.explanations_are_right.Goals as goal

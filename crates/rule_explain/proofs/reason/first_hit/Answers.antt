@@ -2,8 +2,8 @@ use Rattle.std.proofs.Common.{◌≡◌, ◌<◌, ◌+◌, Bool, ℕ, List, Opti
 use Rattle.std.specs.Prelude.{option_map}
 use Rattle.std.specs.List.{position}
 use Rattle.std.proofs.lemmas.List.{length-map}
-use Rattle.rule_reader.specs.Profile.{rule_value}
-use Rattle.rule_reader.specs.declared.profile.Rule.{Rule}
+use Rattle.rule_profile.specs.Profile.{rule_value}
+use Rattle.rule_profile.specs.declared.profile.Rule.{Rule}
 use Rattle.rule_globs.specs.Rules.{RuleValue}
 use Rattle.rule_explain.specs.Reasons.{hits}
 use Rattle.rule_explain.proofs.FirstHits.{nothing, none_yet, value_at, one_more, found, absent}

@@ -1,6 +1,6 @@
 -- None of the rules so far hits.
 use Rattle.std.proofs.Common.{map}
-use Rattle.rule_reader.specs.Profile.{rule_value}
+use Rattle.rule_profile.specs.Profile.{rule_value}
 use Rattle.rule_explain.specs.Reasons.{hits}
 use Rattle.rule_explain.proofs.FirstHits.{NoneBefore}
 use Rattle.rule_explain.proofs.reason.first_hit.Given as goal

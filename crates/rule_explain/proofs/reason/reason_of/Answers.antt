@@ -1,5 +1,5 @@
 use Rattle.std.proofs.Common.{ap, None}
-use Rattle.rule_reader.specs.Profile.{profile_value}
+use Rattle.rule_profile.specs.Profile.{profile_value}
 use Rattle.rule_explain.specs.declared.reason.Reason.TheVariants.{Allowed, Denied, NoRule}
 use Rattle.rule_explain.specs.Reasons.{reason_by}
 use Rattle.rule_explain.proofs.ReasonLaws.{denied, not_denied, right_so}

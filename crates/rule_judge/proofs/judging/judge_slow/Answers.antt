@@ -5,11 +5,11 @@ use Rattle.names.specs.declared.permissions.Permission.{Permission}
 use Rattle.names.specs.declared.permissions.Perms.{Perms}
 use Rattle.std.specs.Prelude.{◌&&◌, not}
 use Rattle.names.specs.Permissions.{has, set_of}
-use Rattle.rule_reader.specs.Profile.{RuleValue, rule_value, profile_value}
+use Rattle.rule_profile.specs.Profile.{RuleValue, rule_value, profile_value}
 use Rattle.rule_globs.specs.PlainVerdict.{verdict}
 use Rattle.rule_globs.specs.inner.RuleHits.{HitsSome}
 use Rattle.rule_globs.specs.Verdict.{IsRuleAt, IsVerdict}
-use Rattle.rule_reader.specs.declared.profile.Rule.{Rule}
+use Rattle.rule_profile.specs.declared.profile.Rule.{Rule}
 use Rattle.verdicts.specs.declared.verdict.Verdict.TheVariants.{Denied, NoRule, Allowed}
 use Rattle.names.proofs.PermsLaws.{some_member}
 use Rattle.rule_judge.proofs.VerdictSteps.{IsQuiet, IsMissingAfter, rule_at, quiet-skip, quiet-allow, missing-skip, missing-allow, denied, at_end-quiet, at_end-missing}

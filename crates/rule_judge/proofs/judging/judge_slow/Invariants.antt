@@ -2,7 +2,7 @@
 use Rattle.std.proofs.Common.{◌↔◌, IsTrue}
 use Rattle.names.specs.declared.permissions.Permission.{Permission}
 use Rattle.names.specs.Permissions.{has}
-use Rattle.rule_reader.specs.Profile.{profile_value}
+use Rattle.rule_profile.specs.Profile.{profile_value}
 use Rattle.rule_judge.proofs.VerdictSteps.{IsQuiet, IsMissingAfter}
 use Rattle.rule_judge.proofs.judging.judge_slow.Given as goal
 

@@ -2,7 +2,7 @@
 use Rattle.std.proofs.Common.{◌+◌, sym, ◌∙◌, subst}
 use Rattle.names.specs.declared.permissions.Permission.TheVariants.{Read}
 use Rattle.names.proofs.PermsTests.{IsPassedBefore, passed-all, passed-more, passed-same}
-use Rattle.rule_reader.specs.Profile.{profile_value}
+use Rattle.rule_profile.specs.Profile.{profile_value}
 use Rattle.rule_judge.proofs.LinkLaws.{is_allowed_by}
 use Rattle.rule_judge.proofs.linking.allowed_perms.Goals as goal
 use Rattle.rule_judge.proofs.linking.allowed_perms.Goals.{then-is_allowed, else-is_allowed}

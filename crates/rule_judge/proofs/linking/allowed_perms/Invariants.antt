@@ -1,6 +1,6 @@
 -- The set holds the permissions so far that are allowed.
 use Rattle.names.proofs.PermsTests.{IsPassedBefore}
-use Rattle.rule_reader.specs.Profile.{profile_value}
+use Rattle.rule_profile.specs.Profile.{profile_value}
 use Rattle.rule_judge.proofs.LinkLaws.{is_allowed_by}
 use Rattle.rule_judge.proofs.linking.allowed_perms.Given as goal
 

@@ -1,5 +1,5 @@
 use Rattle.std.proofs.Common.{inr}
-use Rattle.rule_reader.specs.Profile.{profile_value}
+use Rattle.rule_profile.specs.Profile.{profile_value}
 use Rattle.rule_reader.proofs.TakeTexts.{text_takes}
 use Rattle.rule_reader.proofs.ReadOutcomes as outcomes
 use Rattle.rule_reader.proofs.reading.read.Goals as goal

@@ -3,7 +3,7 @@ use Rattle.std.proofs.Common.{arith, ◌≡◌, subst, sym, List, ℕ}
 use Rattle.std.proofs.lemmas.Grind.{common_steps}
 use Rattle.rule_writer.specs.Canonical.{canonical}
 use Rattle.rule_reader.specs.Grammar.{ReadsAs}
-use Rattle.rule_reader.specs.Profile.{profile_value}
+use Rattle.rule_profile.specs.Profile.{profile_value}
 use Rattle.rule_writer.proofs.CanonTexts.{canonical_read}
 use Rattle.rule_writer.proofs.writing.write.Goals as goal
 

@@ -2,7 +2,7 @@
 use Rattle.std.proofs.Common.{◌≡◌, ◌++◌, map, drop}
 use Rattle.std.specs.List.{flat_map}
 use Rattle.rule_writer.specs.Canonical.{rule_line}
-use Rattle.rule_reader.specs.Profile.{rule_value}
+use Rattle.rule_profile.specs.Profile.{rule_value}
 use Rattle.rule_writer.proofs.writing.write.Given as goal
 
 abbrev pub invariant-loop-rule : goal.invariant-loop-rule

@@ -1,4 +1,4 @@
-use Rattle.rule_reader.specs.Profile.{profile_value}
+use Rattle.rule_profile.specs.Profile.{profile_value}
 use Rattle.tables.specs.Tables.{table_value}
 use Rattle.trace_commands.proofs.OneOutput.{image_made}
 use Rattle.trace_commands.proofs.compiling.image_of_text.Goals as goal

@@ -1,7 +1,7 @@
 use Rattle.std.proofs.Common.{◌≢◌, rules}
 use Rattle.rule_reader.specs.declared.fault.ReadFault.TheVariants as reading
-use Rattle.rule_reader.specs.Profile.{profile_value}
-use Rattle.rule_reader.specs.Spans.{profile_spans}
+use Rattle.rule_profile.specs.Profile.{profile_value}
+use Rattle.rule_profile.specs.RuleSpans.{profile_spans}
 use Rattle.trace_commands.proofs.ExplainEndings.{answered_so, forgotten, refused_so}
 use Rattle.trace_commands.proofs.explaining.explain_text.Goals as goal
 

@@ -1,6 +1,6 @@
 use Rattle.std.proofs.Common.{◌≡◌, Ok, ◌++◌, codes, refl, rules}
 use Rattle.rule_reader.specs.declared.fault.ReadFault.TheVariants.{NoMemory}
-use Rattle.rule_reader.specs.Profile.{profile_value}
+use Rattle.rule_profile.specs.Profile.{profile_value}
 use Rattle.rule_reader.specs.Reading.{outcome_of}
 use Rattle.trace_report.specs.Output.{refusal}
 use Rattle.trace_steps.specs.StepLines.{PublishesText}

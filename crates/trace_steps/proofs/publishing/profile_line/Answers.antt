@@ -2,8 +2,8 @@ use Rattle.std.proofs.Common.{◌≡◌, ℕ, List, ◌++◌, Ok, refl, ap, ◌�
 use Rattle.matcher.specs.declared.fault.MakeFault.TheVariants.{NoMemory}
 use Rattle.mediation.specs.Deeds.{published_rules}
 use Rattle.mediation.specs.PolicyChanges.{deed_of}
-use Rattle.rule_reader.specs.Profile.{profile_value}
-use Rattle.rule_reader.specs.declared.profile.Profile.{Profile}
+use Rattle.rule_profile.specs.Profile.{profile_value}
+use Rattle.rule_profile.specs.declared.profile.Profile.{Profile}
 use Rattle.trace_report.specs.Output.{compile_refusal}
 use Rattle.trace_steps.specs.StepLines.{Publishes, PublishesText}
 use Rattle.trace_steps.proofs.Commands.{has_line, has_line_so}

@@ -1,6 +1,6 @@
 -- The rule's end is pushed, and its items are drawn before it.
 use Rattle.std.proofs.Common.{◌≡◌, ◌++◌, ◌∷◌, [], length, ap, ◌∙◌, subst}
-use Rattle.rule_reader.specs.Profile.{rule_value, pattern}
+use Rattle.rule_profile.specs.Profile.{rule_value, pattern}
 use Rattle.glob_automaton.specs.inner.Drawing.{IsDrawn}
 use Rattle.glob_automaton.proofs.ChartRules.{chart_more}
 use Rattle.glob_automaton.proofs.chart.Chart.draw_rule.Goals as goal

@@ -1,4 +1,4 @@
-use Rattle.rule_reader.specs.Profile.{rule_value}
+use Rattle.rule_profile.specs.Profile.{rule_value}
 use Rattle.glob_automaton.proofs.RuleCount.{few_drawn}
 use Rattle.glob_automaton.proofs.chart.Chart.of.Goals as goal
 

@@ -1,6 +1,6 @@
 -- The rules so far are drawn.
 use Rattle.std.proofs.Common.{map, take}
-use Rattle.rule_reader.specs.Profile.{rule_value}
+use Rattle.rule_profile.specs.Profile.{rule_value}
 use Rattle.glob_automaton.specs.inner.Drawing.{IsChartOf}
 use Rattle.glob_automaton.proofs.chart.Chart.of.Given as goal
 

@@ -6,7 +6,7 @@ use Rattle.std.specs.Ordering.{nat_cmp}
 use Rattle.profile_variables.specs.Pieces.{Text}
 use Rattle.profile_variables.specs.Variables.{Variable}
 use Rattle.profile_variables.specs.inner.Known.{place_of}
-use Rattle.profile_variables.proofs.ByteKeys.{updates_bytes}
+use Rattle.names.proofs.ByteKeys.{updates_bytes}
 use Rattle.import_scope.specs.Scopes.{is_declared}
 use Rattle.import_scope.proofs.VariablePlaces.{place_of_one_more}
 use Rattle.import_scope.proofs.assigned.Assignments.declare.Goals as goal

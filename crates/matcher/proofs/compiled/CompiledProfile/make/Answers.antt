@@ -1,7 +1,7 @@
 use Rattle.std.proofs.Common.{sym, subst}
 use Rattle.matcher.proofs.FaultlessTables.{no_first_fault}
 use Rattle.matcher.specs.Telling.{IsTableOfRules}
-use Rattle.rule_reader.specs.Profile.{profile_value}
+use Rattle.rule_profile.specs.Profile.{profile_value}
 use Rattle.matcher.proofs.compiled.CompiledProfile.make.Goals as goal
 
 pub invariant_of-result : goal.invariant_of-result

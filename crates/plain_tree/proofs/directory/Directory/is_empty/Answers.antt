@@ -1,4 +1,4 @@
-use Rattle.plain_tree.proofs.ByteKeys.{empty_bytes}
+use Rattle.plain_tree.proofs.EmptyKeys.{empty_bytes}
 use Rattle.plain_tree.proofs.directory.Directory.is_empty.Goals as goal
 
 pub returns : goal.returns

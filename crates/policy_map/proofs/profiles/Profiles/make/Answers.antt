@@ -4,7 +4,7 @@ use Rattle.std.specs.Option.{option_map}
 use Rattle.mediation.specs.Deeds.{after_deed}
 use Rattle.mediation.specs.PolicyChanges.{deed_of, judge_shared}
 use Rattle.mediation.specs.Profiles.{judge_of}
-use Rattle.plain_tree.proofs.ByteKeys.{updates_bytes}
+use Rattle.names.proofs.ByteKeys.{updates_bytes}
 use Rattle.policy_map.specs.inner.Profiles.{policy_in}
 use Rattle.policy_map.proofs.Making.{mapped_if}
 use Rattle.policy_map.proofs.profiles.Profiles.make.Goals as goal

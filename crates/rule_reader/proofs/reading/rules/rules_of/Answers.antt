@@ -1,6 +1,6 @@
 use Rattle.std.proofs.Common.{sym, arith, map}
 use Rattle.std.proofs.lemmas.Result.{err_from_is_err_and}
-use Rattle.rule_reader.specs.Profile.{rule_value}
+use Rattle.rule_profile.specs.Profile.{rule_value}
 use Rattle.rule_reader.proofs.ReadLoops.{front_done, front_fails, rules_end, rules_refused, rules_stop, rules_fault, rules_blank_fault, rules_step}
 use Rattle.rule_reader.proofs.SpanLoops.{spans_end, spans_step}
 use Rattle.rule_reader.proofs.reading.rules.rules_of.Goals as goal

@@ -1,8 +1,9 @@
 -- The rules so far, and what is still read, are the rules of the profile.
 use Rattle.std.proofs.Common.{◌≡◌, ◌-◌, ◌≤◌, ◌++◌, length, map}
-use Rattle.rule_reader.specs.Profile.{rule_value}
+use Rattle.rule_profile.specs.Profile.{rule_value}
 use Rattle.rule_reader.specs.Reading.{rules_at}
-use Rattle.rule_reader.specs.Spans.{rule_span, spans_at}
+use Rattle.rule_profile.specs.RuleSpans.{rule_span}
+use Rattle.rule_reader.specs.Spans.{spans_at}
 use Rattle.rule_reader.proofs.ReadLoops.{with_front}
 use Rattle.rule_reader.proofs.reading.rules.rules_of.Given as goal
 

@@ -1,5 +1,5 @@
 use Rattle.std.proofs.Common.{map, sym, ◌∙◌}
-use Rattle.rule_reader.specs.Profile.{rule_value}
+use Rattle.rule_profile.specs.Profile.{rule_value}
 use Rattle.rule_reader.proofs.ReadCodeText.{text_goes_on, text_done, text_is_profile}
 use Rattle.rule_reader.proofs.SpanLoops.{spans_there}
 use Rattle.rule_reader.proofs.reading.text.text_of.Goals as goal

@@ -1,21 +1,21 @@
 ghost use Rattle.std.specs.Prelude.{◌≡◌, ◌≤◌, IsTrue, length, map};
-ghost use Rattle.rule_reader.specs.Limits.{max_rules};
-ghost use Rattle.rule_reader.specs.Rules.{rule_value};
-ghost use Rattle.rule_reader.specs.Readable.{is_profile};
+ghost use Rattle.rule_profile.specs.Limits.{max_rules};
+ghost use Rattle.rule_profile.specs.Rules.{rule_value};
+ghost use Rattle.rule_profile.specs.Readable.{is_profile};
 
 use names::Perms;
 use rule_globs::{Item, RulePath};
 use verdicts::RuleKind;
 
 /// The most rules of a profile.
-pub(crate) const MAX_RULES: usize = 1024;
+pub const MAX_RULES: usize = 1024;
 
 /// Where a rule stands in its text: from its first byte to its comma.
 #[derive(Clone, Copy, Debug, PartialEq, Eq)]
 pub struct Span {
-    /// How many bytes stand before the rule's first byte.
+    /// The number of bytes before the rule's first byte.
     pub start: usize,
-    /// How many stand before the byte behind its comma.
+    /// The number of bytes up to and with its comma.
     pub end: usize,
 }
 
@@ -23,17 +23,17 @@ pub struct Span {
 /// (apparmor.d(5), "Access Modes Details").
 #[derive(Debug, Drop)]
 pub struct Rule {
-    pub(crate) kind: RuleKind,
-    pub(crate) perms: Perms,
-    pub(crate) path: RulePath,
-    pub(crate) span: Span,
+    kind: RuleKind,
+    perms: Perms,
+    path: RulePath,
+    span: Span,
 }
 
 impl Rule {
     ghost use Rattle.std.specs.Prelude.{map};
-    ghost use Rattle.rule_reader.specs.Limits.{max_places};
-    ghost use Rattle.rule_reader.specs.Profile.{rule_value, pattern};
-    ghost use Rattle.rule_reader.specs.Spans.{rule_span};
+    ghost use Rattle.rule_profile.specs.Limits.{max_places};
+    ghost use Rattle.rule_profile.specs.Profile.{rule_value, pattern};
+    ghost use Rattle.rule_profile.specs.RuleSpans.{rule_span};
     ghost use Rattle.rule_globs.specs.Tokens.{tokens_of};
     ghost use Rattle.rule_globs.specs.Meaning.{meaning_of};
     ghost use Rattle.rule_globs.specs.Glob.{places};
@@ -50,6 +50,14 @@ impl Rule {
             path,
             span: Span { start: 0, end: 0 },
         }
+    }
+
+    /// The same rule, at this place of the text that it was read from.
+    pub fn with_span(self, span: Span) -> Rule
+        ensures value { rule_value result ≡ rule_value self }
+        ensures span { rule_span result ≡ span }
+    {
+        Rule { span, ..self }
     }
 
     /// Whether the rule allows or denies.
@@ -94,18 +102,18 @@ impl Rule {
 /// [`Profile::new`] does of a name and rules that pass the same tests.
 #[derive(Debug, Drop)]
 pub struct Profile {
-    pub(crate) name: Vec<u8>,
-    pub(crate) rules: Vec<Rule>,
+    name: Vec<u8>,
+    rules: Vec<Rule>,
     ghost few_rules: { length rules.items ≤ max_rules },
     ghost readable: { IsTrue (is_profile (record { name = name.items; rules = map rule_value rules.items })) },
 }
 
 impl Profile {
     ghost use Rattle.std.specs.Prelude.{map};
-    ghost use Rattle.rule_reader.specs.Limits.{max_rules};
-    ghost use Rattle.rule_reader.specs.Profile.{rule_value, profile_value};
-    ghost use Rattle.rule_reader.specs.Readable.{is_profile};
-    ghost use Rattle.rule_reader.specs.Spans.{rule_span, profile_spans};
+    ghost use Rattle.rule_profile.specs.Limits.{max_rules};
+    ghost use Rattle.rule_profile.specs.Profile.{rule_value, profile_value};
+    ghost use Rattle.rule_profile.specs.Readable.{is_profile};
+    ghost use Rattle.rule_profile.specs.RuleSpans.{rule_span, profile_spans};
 
     /// The profile of this name and these rules, which some text is read as.
     pub fn new(name: Vec<u8>, rules: Vec<Rule>) -> Profile

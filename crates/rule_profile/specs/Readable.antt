@@ -4,8 +4,8 @@ use Rattle.std.specs.List.{list_all, list_any}
 use Rattle.names.specs.Permissions.{has, all_permissions}
 use Rattle.rule_globs.specs.declared.items.ByteRange.{ByteRange}
 use Rattle.rule_globs.specs.Rules.{RuleValue, ProfileValue}
-use Rattle.rule_reader.specs.Limits.{max_items, max_rules, max_depth, max_name}
-use Rattle.rule_reader.specs.PathTokens.{is_plain_slash, slash_or_end_behind, depth_behind}
+use Rattle.rule_profile.specs.Limits.{max_items, max_rules, max_depth, max_name}
+use Rattle.rule_profile.specs.PathTokens.{is_plain_slash, slash_or_end_behind, depth_behind}
 use Rattle.rule_globs.specs.Tokens.{Token, byte, any_byte, bracket, stars, opening, between, closing}
 
 -- neither byte 0 nor LF
