@@ -1,5 +1,5 @@
 -- A map whose keys are bytes is empty where no look-up finds anything.
-use Rattle.std.proofs.Common.{◌≡◌, ℕ, Bool, List, [], ◌∷◌, length, Some, None, sym, refl, ap, ◌∙◌, cond, arith}
+use Rattle.std.proofs.Common.{◌≡◌, ℕ, Bool, true, List, [], ◌∷◌, length, Some, None, sym, refl, ap, ◌∙◌, cond, arith}
 use Rattle.std.specs.Prelude.{◌↔◌}
 use Rattle.std.specs.Ordering.{is_eq, nat_cmp}
 use Rattle.std.specs.Cmp.Lexicographic.{slice_cmp}

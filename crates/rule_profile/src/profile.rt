@@ -118,7 +118,8 @@ impl Profile {
     /// The profile of this name and these rules, which some text is read as.
     pub fn new(name: Vec<u8>, rules: Vec<Rule>) -> Profile
         requires { IsTrue (is_profile (record { name = name.items; rules = map rule_value rules.items })) }
-        ensures { profile_value result ≡ record { name = name.items; rules = map rule_value rules.items } }
+        ensures value { profile_value result ≡ record { name = name.items; rules = map rule_value rules.items } }
+        ensures spans { profile_spans result ≡ map rule_span rules.items }
     {
         Profile { name, rules }
     }
