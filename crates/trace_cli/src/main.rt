@@ -15,24 +15,17 @@
 //! line, 3 for a refused text, profile,
 //! image or stream, or an answer of a storm that isn't justified, and 4 for want of memory, of a thread or of a seat.
 //!
-//! To be believed are about 100 lines of definitions in `specs/`.
+//! `trace_program` does all of this over any streams; here are the command line and the standard streams.
 #![tactic(auto)]
 
-mod importing;
-mod program;
-mod script;
-mod steps;
-mod storm;
-mod testing;
-
 use names::NoMemory;
-use program::run_words;
 use std::io::{BufReader, ErrorKind, Input, Print, Write};
 use std::process::ExitCode;
 use std::rt::Env;
 use std::sync::Wait;
 use std::thread::Threads;
 use std::{env, io};
+use trace_program::run_words;
 use trace_report::{Status, fail};
 
 fn main(rt: HostRuntime) -> ExitCode {
@@ -75,6 +68,3 @@ fn words<R: Env + AllocGlobal>(rt: &R) -> io::Result<Vec<String>> {
     let words = env::args(rt)?.collect(rt.alloc())?;
     Ok(words)
 }
-
-#[cfg(test)]
-mod tests;

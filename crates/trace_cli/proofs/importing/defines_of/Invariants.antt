@@ -1,8 +1,0 @@
--- The first values are taken.
-use Rattle.std.proofs.Common.{◌≡◌, map, take}
-use Rattle.trace_line.specs.CommandLine.{define_value}
-use Rattle.trace_cli.specs.Import.{defined_pair}
-use Rattle.trace_cli.proofs.importing.defines_of.Given as goal
-
-abbrev pub invariant-loop-define : goal.invariant-loop-define
-invariant-loop-define l = map defined_pair l.defines.items ≡ map define_value (take l.define-index l.asked)
