@@ -7,6 +7,7 @@
 mod act;
 mod below;
 mod change;
+mod laws;
 mod link_text;
 mod look;
 mod place;
@@ -16,5 +17,6 @@ mod vacancy;
 
 pub use act::{Act, Move, NewNode};
 pub use change::check_change;
+pub use laws::{changes_have_one_answer, tested_acts_are_allowed};
 pub use look::ChangeLook;
 pub use place::Place;

@@ -1,4 +1,5 @@
-ghost use Rattle.std.specs.Prelude.{◌≡◌, ◌≢◌, ◌⊎◌, ◌+◌, ◌%◌, IfSome, IfNone, IfOk, IfErr};
+ghost use Rattle.std.specs.Prelude.{IfSome, IfNone, IfOk, IfErr};
+ghost use Rattle.row_rule.specs.Counts.{IsDisturbed, IsOdd, IsStill, IsVersion};
 
 /// The two counts of a walk beside a change: the first is odd, or they differ.
 #[derive(Clone, Copy, Debug, PartialEq, Eq)]
@@ -9,16 +10,16 @@ pub struct Busy {
 
 /// The version that a count stands for: half of an even one. None while a change is being made.
 pub fn version_of(count: u64) -> Option<u64>
-    ensures even { IfSome result (λ version. count ≡ version + version) }
-    ensures odd { IfNone result (count % 2 ≡ 1) }
+    ensures even { IfSome result (IsVersion count) }
+    ensures odd { IfNone result (IsOdd count) }
 {
     (count % 2 == 0).then_some(count / 2)
 }
 
 /// The version that a walk saw, by the counts that it read first and last: they are one even number. Else Busy.
 pub fn version_between(began: u64, ended: u64) -> Result<u64, Busy>
-    ensures still { IfOk result (λ version. (began ≡ version + version) × (ended ≡ began)) }
-    ensures busy { IfErr result (λ busy. (busy.began ≡ began) × (busy.ended ≡ ended) × ((began % 2 ≡ 1) ⊎ (ended ≢ began))) }
+    ensures still { IfOk result (IsStill began ended) }
+    ensures busy { IfErr result (IsDisturbed began ended) }
 {
     match version_of(began) {
         Some(version) if began == ended => Ok(version),

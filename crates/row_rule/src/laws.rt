@@ -1,11 +1,13 @@
 //! Laws of the rule. The functions do nothing: each stands for its contract.
 mod cells;
+mod counts;
 mod keeper;
 mod meeting;
 mod row;
 mod walker;
 
 pub use cells::{agreement_is_of_each_read, writing_sets_its_places};
+pub use counts::{counts_have_one_version, walks_have_one_outcome};
 pub use keeper::{
     closing_keeps_rule, keeper_reads_its_row, opening_keeps_rule, setting_keeps_rule,
 };

@@ -1,10 +1,15 @@
 //! Laws of rows: functions that do nothing, and stand for their contracts.
-ghost use Rattle.std.specs.Prelude.{◌≡◌, ◌≤◌, ◌+◌, ℕ, List, Bool, true, false, length};
+ghost use Rattle.std.specs.Prelude.{◌≡◌, ◌≢◌, ◌≤◌, ◌<◌, ◌+◌, ℕ, List, Bool, true, false, Some, None, length};
 ghost use Rattle.directory_tree.specs.Tree.{Tree, WellFormed, root_alone, find};
 ghost use Rattle.directory_tree.specs.Apply.{has_room};
+ghost use Rattle.path_lookup.specs.World.{World};
 ghost use Rattle.tree_row.specs.Slots.{slot_at, IsFree};
 ghost use Rattle.tree_row.specs.Rows.{Encodes};
 ghost use Rattle.tree_row.specs.OpeningRow.{opening_row};
+ghost use Rattle.tree_row.specs.Questions.{TellsChild, TellsEntryOf, TellsFree};
+ghost use Rattle.tree_row.specs.Worlds.{EncodesWorld, Reads};
+
+use crate::cells::Cells;
 
 /// A slot is free just where the tree has room for one more entry, and no tree has more entries than the row has slots for.
 pub fn slots_are_counted()
@@ -21,4 +26,39 @@ pub fn opening_row_encodes_root()
 /// A row encodes the entries of one tree at most: two trees that it encodes have the same entries at each place.
 pub fn one_row_one_tree()
     ensures { (capacity : ℕ) (row : List ℕ) (t u : Tree) → Encodes capacity row t → Encodes capacity row u → (d : ℕ) (c : List ℕ) → find t.entries d c ≡ find u.entries d c }
+{}
+
+/// In a row that may be the one that is read, a question about a slot has one answer.
+pub fn questions_have_one_answer<C: Cells>()
+    ensures word { (cells : C) (row : List ℕ) (word : List ℕ → ℕ) (one other : ℕ) → C.may cells row →
+        Reads (C.may cells) word one → Reads (C.may cells) word other → one ≡ other }
+    ensures entry { (cells : C) (row : List ℕ) (capacity directory s : ℕ) → C.may cells row →
+        TellsEntryOf capacity (C.may cells) directory s true → TellsEntryOf capacity (C.may cells) directory s false → ⊥ }
+    ensures child { (cells : C) (row : List ℕ) (w : World) (capacity directory s : ℕ) (component : List ℕ) → C.may cells row →
+        EncodesWorld capacity row w →
+        TellsChild capacity (C.may cells) directory component s true → TellsChild capacity (C.may cells) directory component s false → ⊥ }
+    ensures free { (cells : C) (row : List ℕ) (capacity one other : ℕ) → C.may cells row →
+        TellsFree capacity (C.may cells) (Some one) → TellsFree capacity (C.may cells) (Some other) → one ≡ other }
+    ensures full { (cells : C) (row : List ℕ) (capacity s : ℕ) → C.may cells row →
+        TellsFree capacity (C.may cells) (Some s) → TellsFree capacity (C.may cells) None → ⊥ }
+{}
+
+/// What no row answers: an entry in a free slot, an entry of another component or in another directory, the root's slot or one
+/// in use as a free one, a free slot though another stands before it, and none though one is free.
+pub fn wrong_answers_are_refused<C: Cells>()
+    ensures entry_in_a_free_slot { (cells : C) (row : List ℕ) (capacity directory s : ℕ) → C.may cells row →
+        (slot_at row s).kind ≡ 0 → TellsEntryOf capacity (C.may cells) directory s true → ⊥ }
+    ensures another_component { (cells : C) (row : List ℕ) (w : World) (capacity directory s : ℕ) (component : List ℕ) →
+        C.may cells row → EncodesWorld capacity row w →
+        (slot_at row s).component ≢ component → TellsChild capacity (C.may cells) directory component s true → ⊥ }
+    ensures another_directory { (cells : C) (row : List ℕ) (w : World) (capacity directory s : ℕ) (component : List ℕ) →
+        C.may cells row → EncodesWorld capacity row w →
+        (slot_at row s).parent ≢ directory → TellsChild capacity (C.may cells) directory component s true → ⊥ }
+    ensures root { (cells : C) (row : List ℕ) (capacity : ℕ) → C.may cells row → TellsFree capacity (C.may cells) (Some 0) → ⊥ }
+    ensures second_free_slot { (cells : C) (row : List ℕ) (capacity r s : ℕ) → C.may cells row →
+        IsFree (capacity + 1) (slot_at row) r → r < s → TellsFree capacity (C.may cells) (Some s) → ⊥ }
+    ensures slot_in_use { (cells : C) (row : List ℕ) (capacity s : ℕ) → C.may cells row →
+        (slot_at row s).kind ≢ 0 → TellsFree capacity (C.may cells) (Some s) → ⊥ }
+    ensures none_though_one_is_free { (cells : C) (row : List ℕ) (capacity s : ℕ) → C.may cells row →
+        IsFree (capacity + 1) (slot_at row) s → TellsFree capacity (C.may cells) None → ⊥ }
 {}

@@ -13,7 +13,10 @@ mod text;
 
 pub use cells::{Cells, MOST_ENTRIES};
 pub use known_row::KnownRow;
-pub use laws::{one_row_one_tree, opening_row_encodes_root, slots_are_counted};
+pub use laws::{
+    one_row_one_tree, opening_row_encodes_root, questions_have_one_answer, slots_are_counted,
+    wrong_answers_are_refused,
+};
 pub use question::{free_slot, is_child, is_entry_of};
 pub use slot::{
     COMPONENT, DIRECTORY, FILE, FREE, KIND, LENGTHS, LINK, NODE, PARENT, SLOT_LENGTH, TEXT,
