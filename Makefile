@@ -1,5 +1,5 @@
-# make            builds ./aa-trace, the proved program
-# make run        builds it, judges a name by examples/passwd.profile and by its image, runs two scripts of examples/, tests a third, and imports a profile of AppArmor's
+# make run        builds the program without a proof, in about two minutes, and runs it on the six cases of examples/demo
+# make            proves the program and builds it, as ./aa-trace
 # make test       the gate: every proof from nothing, must-fail edits, tests, programs
 # make bench      times on large inputs, each with the ratio to half the size or to another input, of compiled profiles, of
 #                 the loop that runs names through a table, beside the same loop in C, of names judged from C, of plans and
@@ -16,7 +16,8 @@
 # make install    installs the program, the static library for C with its header, the manual page and completion for bash
 #                 below PREFIX, which is /usr/local if not given; DESTDIR is put before it. Builds what isn't built
 # make uninstall  takes away what make install with the same PREFIX and DESTDIR installed
-# make edits      tries the wrong bodies that the gate leaves out: the prover must refuse each. Takes as long as the gate
+# make edits      tries the wrong bodies that the gate leaves out: the prover must refuse each
+# make reproduce  prints the checksums of ./aa-trace and of libcoqetwal.a, which come out the same wherever they are built
 # make help       shows this
 
 PREFIX ?= /usr/local
@@ -29,7 +30,7 @@ LIBRARY := crates/coqetwal/out/libcoqetwal.a
 LIBRARY_CRATES := coqetwal $(shell sed -n 's/^coqetwal staticlib: *//p' crates.txt)
 LIBRARY_SOURCES := crates.txt HANDLES $(filter $(addprefix crates/,$(addsuffix /%,$(LIBRARY_CRATES))),$(SOURCES))
 
-.PHONY: all run test tour bench calls embed refusals storm serve drawn edits install uninstall help need-rt
+.PHONY: all run test tour bench calls embed refusals storm serve drawn edits reproduce install uninstall help need-rt
 # Each recipe takes all processors, and two that prove the same crates would disturb each other.
 .NOTPARALLEL:
 
@@ -50,13 +51,8 @@ $(LIBRARY): $(LIBRARY_SOURCES)
 	cd crates/coqetwal && rt lib
 	@touch $@
 
-run: aa-trace
-	./aa-trace judge rw /etc/passwd < examples/passwd.profile
-	./aa-trace compile < examples/passwd.profile | ./aa-trace match rw /etc/passwd
-	./aa-trace run < examples/move.script
-	./aa-trace run < examples/links.script
-	./aa-trace test < examples/player.test
-	./aa-trace import < examples/viewer.flat | ./aa-trace explain rw /home/me/.ssh/id_rsa
+run: need-rt
+	@tools/demo
 
 test: need-rt
 	@tools/version-check
@@ -97,6 +93,10 @@ drawn: need-rt
 
 edits: need-rt
 	tools/more-edits
+
+reproduce: aa-trace $(LIBRARY)
+	@sha256sum aa-trace
+	@cd $(dir $(LIBRARY)) && sha256sum $(notdir $(LIBRARY))
 
 install: aa-trace $(LIBRARY)
 	@sh tools/install.sh
