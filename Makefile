@@ -83,7 +83,7 @@ refusals: aa-trace
 
 storm: aa-trace
 	sh tools/storm.sh
-	sh tools/drawn-storm.sh
+	sh tools/random-storms.sh
 
 serve: need-rt
 	sh tools/serve-example.sh

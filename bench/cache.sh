@@ -14,17 +14,17 @@ UNDER=${UNDER:-}
 work=$(mktemp -d)
 trap 'rm -rf "$work"' EXIT
 
-echo 'proving and building cache_bench ..'
-if ! (cd crates/cache_bench && rt run) >"$work/log" 2>&1; then
+echo 'proving and building benchmarks ..'
+if ! (cd crates/benchmarks && rt run -- cache) >"$work/log" 2>&1; then
     cat "$work/log"
     exit 1
 fi
-BENCH=crates/cache_bench/out/cache_bench
+BENCH='crates/benchmarks/out/benchmarks cache'
 
 for capacity in 1024 16384; do
     run=0
     while [ "$run" -lt "$RUNS" ]; do
-        $UNDER "$BENCH" "$capacity" "$CHANGES" $((CELLS / capacity)) >>"$work/$capacity"
+        $UNDER $BENCH "$capacity" "$CHANGES" $((CELLS / capacity)) >>"$work/$capacity"
         run=$((run + 1))
     done
     grep -v entries "$work/$capacity" >"$work/times-$capacity"

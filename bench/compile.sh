@@ -3,7 +3,7 @@
 # was held, and beside them what apparmor_parser takes for the same text where that program is installed.
 # Each time is the least of RUNS runs of the whole program, less that of a run on the smallest profile, in milliseconds.
 # The memory is what GNU time tells of one run. What can't be measured is printed as -.
-# COMPILE names another program to be timed in place of the one that is built here.
+# COMPILE is the command of another program to be timed in place of the one that is built here.
 set -eu
 cd "$(dirname "$0")/.."
 RUNS=${RUNS:-15}
@@ -11,18 +11,18 @@ work=$(mktemp -d)
 trap 'rm -rf "$work"' EXIT
 
 if [ -z "${COMPILE:-}" ]; then
-    echo 'proving and building compile_bench ..'
-    if ! (cd crates/compile_bench && rt run <stdin) >"$work/log" 2>&1; then
+    echo 'proving and building benchmarks ..'
+    if ! (cd crates/benchmarks && rt run -- compile <data/home.profile) >"$work/log" 2>&1; then
         cat "$work/log"
         exit 1
     fi
-    COMPILE=crates/compile_bench/out/compile_bench
+    COMPILE='crates/benchmarks/out/benchmarks compile'
 fi
 
 # compiled FILE, parsed FILE: one run of each program. The second writes the tables that a kernel would get to standard
 # output, takes nothing from its cache and loads nothing.
 compiled() {
-    "$COMPILE" <"$1"
+    $COMPILE <"$1"
 }
 parsed() {
     apparmor_parser -q -Q -K -S "$1"
@@ -79,7 +79,7 @@ for file in examples/profiles/*.profile bench/at_limit.profile bench/over_limit.
     rules=$(awk '!/^ *#/ && /,$/ { rules++ } END { print rules + 0 }' "$file")
     states=$(compiled "$file")
     time=$(milliseconds "$(least compiled "$file")" "$start")
-    held=$(memory "$file" "$COMPILE")
+    held=$(memory "$file" $COMPILE)
     parser_time=-
     parser_held=-
     if [ -n "$parser" ]; then

@@ -19,16 +19,16 @@ CAPACITY=${CAPACITY:-128}
 REST=${REST:-100}
 UNDER=${UNDER:-}
 COMPILE=${COMPILE:-./aa-trace compile}
-PROFILE=crates/open_bench/stdin
+PROFILE=crates/benchmarks/data/files.profile
 work=$(mktemp -d)
 trap 'rm -rf "$work"' EXIT
 
-echo 'proving and building open_bench ..'
-if ! (cd crates/open_bench && rt run <stdin) >"$work/log" 2>&1; then
+echo 'proving and building benchmarks ..'
+if ! (cd crates/benchmarks && rt run -- open <data/files.profile) >"$work/log" 2>&1; then
     cat "$work/log"
     exit 1
 fi
-BENCH=crates/open_bench/out/open_bench
+BENCH='crates/benchmarks/out/benchmarks open'
 
 lock=
 if command -v rustc >/dev/null 2>&1; then
@@ -39,7 +39,7 @@ fi
 run=0
 while [ "$run" -lt "$RUNS" ]; do
     for rest in 0 "$REST"; do
-        $UNDER "$BENCH" "$CAPACITY" "$OPENS" "$rest" <"$PROFILE" >>"$work/session-$rest"
+        $UNDER $BENCH "$CAPACITY" "$OPENS" "$rest" <"$PROFILE" >>"$work/session-$rest"
         if [ -n "$lock" ]; then $UNDER "$work/rwlock_tree" "$work/image" "$OPENS" "$rest" >>"$work/lock-$rest"; fi
     done
     run=$((run + 1))

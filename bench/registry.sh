@@ -15,13 +15,13 @@ UNDER=${UNDER:-}
 work=$(mktemp -d)
 trap 'rm -rf "$work"' EXIT
 
-echo 'proving and building registry_bench ..'
-if ! (cd crates/registry_bench && rt run) >"$work/log" 2>&1; then
+echo 'proving and building benchmarks ..'
+if ! (cd crates/benchmarks && rt run -- registry) >"$work/log" 2>&1; then
     cat "$work/log"
     exit 1
 fi
-BENCH=crates/registry_bench/out/registry_bench
-"$BENCH" "$READERS" "$CHANGES" 0
+BENCH='crates/benchmarks/out/benchmarks registry'
+$BENCH "$READERS" "$CHANGES" 0
 
 lock=
 if command -v rustc >/dev/null 2>&1; then
@@ -30,7 +30,7 @@ if command -v rustc >/dev/null 2>&1; then
 fi
 run=0
 while [ "$run" -lt "$RUNS" ]; do
-    $UNDER "$BENCH" 0 0 "$READS" >>"$work/registry"
+    $UNDER $BENCH 0 0 "$READS" >>"$work/registry"
     if [ -n "$lock" ]; then $UNDER "$work/rwlock" "$READS" >>"$work/lock"; fi
     run=$((run + 1))
 done

@@ -9,18 +9,18 @@ RUNS=${RUNS:-7}
 work=$(mktemp -d)
 trap 'rm -rf "$work"' EXIT
 
-echo 'proving and building row_bench ..'
-if ! (cd crates/row_bench && rt run -- mkdir 64 3) >"$work/log" 2>&1; then
+echo 'proving and building benchmarks ..'
+if ! (cd crates/benchmarks && rt run -- row) >"$work/log" 2>&1; then
     cat "$work/log"
     exit 1
 fi
-BENCH=crates/row_bench/out/row_bench
+BENCH='crates/benchmarks/out/benchmarks row'
 
 # least WORK CAPACITY COUNT: the least time of a run, in nanoseconds
 least() {
     run=0
     while [ "$run" -lt "$RUNS" ]; do
-        "$BENCH" "$1" "$2" "$3" timed
+        $BENCH "$1" "$2" "$3" timed
         run=$((run + 1))
     done | awk 'NR == 1 || $3 < best { best = $3 } END { print best }'
 }

@@ -1,4 +1,4 @@
-//! What `crates/registry_bench` times, over a lock: a map of shared profiles with its version, behind std's RwLock. It takes
+//! What `benchmarks registry` times, over a lock: a map of shared profiles with its version, behind std's RwLock. It takes
 //! READS, and prints how many reads a second one thread and four make, so many in each: where each of the four reads all names,
 //! and where it has names of its own.
 use std::collections::HashMap;

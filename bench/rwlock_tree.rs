@@ -1,4 +1,4 @@
-//! What `crates/open_bench` times, over a lock: a plain tree in memory and a map of shared profiles, both behind one RwLock of
+//! What `benchmarks open` times, over a lock: a plain tree in memory and a map of shared profiles, both behind one RwLock of
 //! std. It takes IMAGE, OPENS and REST, and prints lines like those of that program.
 //!
 //! The tree is the same: four symbolic links, a directory aside, and 16 directories, each in the one before, each with six files.

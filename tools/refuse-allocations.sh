@@ -13,10 +13,10 @@ trap 'rm -rf "$work"' EXIT
 # build NAME: a program of the tests, proved
 build() {
     echo "proving and building $1 .."
-    (cd "crates/$1" && rt run </dev/null) >"$work/log" 2>&1 || { cat "$work/log"; exit 1; }
+    (cd "crates/$1" && rt run -- walk 1 4 4 </dev/null) >"$work/log" 2>&1 || { cat "$work/log"; exit 1; }
 }
-build walk_storm
-WALK_STORM=crates/walk_storm/out/walk_storm
+build random_storms
+RANDOM_STORMS=crates/random_storms/out/random_storms
 
 cat >"$work/refuse.c" <<'C'
 #define _GNU_SOURCE
@@ -243,16 +243,16 @@ ended=0
 while :; do
     : >"$work/told"
     REFUSE=$((refused + 1)) REFUSE_TOLD=9 LD_PRELOAD="$work/refuse.so" \
-        "$WALK_STORM" 1 40 40 >"$work/answers" 2>"$work/faults" 9>"$work/told" || true
+        "$RANDOM_STORMS" walk 1 40 40 >"$work/answers" 2>"$work/faults" 9>"$work/told" || true
     [ -s "$work/told" ] || break
     refused=$((refused + 1))
     case $(cat "$work/answers")$(grep -v '^answers:' "$work/faults") in
     *': no answer differs') ended=$((ended + 1)) ;;
     'no memory' | 'Error: Kind(OutOfMemory)') ;;
     *)
-        echo "allocation $refused of 'walk_storm 1 40 40': $(cat "$work/answers" "$work/faults")" >&2
+        echo "allocation $refused of 'random_storms walk 1 40 40': $(cat "$work/answers" "$work/faults")" >&2
         exit 1
         ;;
     esac
 done
-echo "walk_storm 1 40 40: $refused allocations, each refused in turn: $((refused - ended)) times no memory, $ended times no answer differs"
+echo "random_storms walk 1 40 40: $refused allocations, each refused in turn: $((refused - ended)) times no memory, $ended times no answer differs"

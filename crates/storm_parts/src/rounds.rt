@@ -8,8 +8,8 @@ pub const ROUNDS: usize = 100;
 // A thread that waits longer goes on without the others, so that none waits for ever.
 const MOST_YIELDS: u64 = 1 << 20;
 
-/// Threads that do their work in rounds, which they begin together: so walks stand beside changes from the first to the last,
-/// however the threads get on.
+/// Threads that do their work in rounds, which they begin together: so walks are concurrent with changes from the first to the last,
+/// however the threads are scheduled.
 #[derive(Drop)]
 pub struct Rounds {
     threads: u64,
@@ -18,7 +18,7 @@ pub struct Rounds {
 }
 
 impl Rounds {
-    /// Those of so many threads.
+    /// The rounds of `threads` threads.
     pub fn new(threads: usize) -> Rounds {
         Rounds {
             threads: threads as u64,

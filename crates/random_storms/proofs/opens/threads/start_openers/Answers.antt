@@ -1,0 +1,12 @@
+use denote.Exit.{no}
+use denote.Param.{param}
+use denote.Param.Send.{shr_send}
+use Rattle.path_guard.proofs.Closures.{of_three}
+use Rattle.random_storms.proofs.Sending.{opener_send, scene_sync}
+use Rattle.random_storms.proofs.opens.threads.start_openers.Goals as goal
+
+pub spawn-thread-requires-send-F : goal.spawn-thread-requires-send-F
+spawn-thread-requires-send-F g c κs within =
+    let opener = opener_send (param 0 g.row.M) g.M.Row c.type_bounds.send-M in
+    let scene = scene_sync (param 0 g.row.M) g.M.Row c.type_bounds.send-M in
+    of_three 1 _ no _ _ _ _ opener (shr_send _ _ _ c.type_bounds.sync-R) (shr_send _ _ _ (scene _ _))
