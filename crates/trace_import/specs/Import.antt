@@ -1,5 +1,5 @@
 -- What `import` writes, memory and failures of the streams aside.
-use Rattle.std.specs.Prelude.{◌≡◌, ℕ, ◌-◌, List, [], take, drop, Result, Ok, Err, option_map}
+use Rattle.std.specs.Prelude.{◌≡◌, ℕ, ◌-◌, List, [], take, drop, Option, Result, Ok, Err, option_map}
 use Rattle.std.specs.List.{flat_map}
 use Rattle.import_cut.specs.declared.span.Span.{Span}
 use Rattle.import_cut.specs.declared.span.SpanKind.{SpanKind}
@@ -12,6 +12,8 @@ use Rattle.profile_import.specs.Imports.{Imports, Outcome}
 use Rattle.rule_explain.specs.Places.{place_at}
 use Rattle.rule_writer.specs.Canonical.{canonical}
 use Rattle.trace_report.specs.Output.{Output, fault}
+use Rattle.trace_report.specs.Streams.{Streams, EndsInOne, IsTextOf}
+use Rattle.trace_report.specs.declared.status.Status.{Status}
 use Rattle.trace_report.specs.declared.status.Status.TheVariants.{Done, Refused}
 
 -- the bytes of a text from one place to another
@@ -43,3 +45,9 @@ import_output text (Err f) = fault (refusal_of text f) Refused
 -- what `import` may write on a text: that of its outcome
 abbrev pub IsImportOutput : ImportOptions → List ℕ → Output → Type 0
 IsImportOutput options text output = (outcome : Outcome) × Imports options text outcome × (output ≡ import_output text outcome)
+
+-- How `import` ends over a reader that has these bytes left, where they are known.
+pub record ImportEndsOver (options : ImportOptions) (left : Option (List ℕ)) (streams : Streams) (status : Status) : Type 0 where
+  pub text : List ℕ
+  pub is_text : IsTextOf left text
+  pub ends : EndsInOne streams (IsImportOutput options text) status

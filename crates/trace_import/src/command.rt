@@ -1,14 +1,14 @@
 //! `import`: the profile that is asked for, and the account.
-ghost use Rattle.std.specs.Prelude.{◌≡◌, ◌⊎◌, ℕ, List, Ok, IfOk};
+ghost use Rattle.std.specs.Prelude.{◌≡◌, ◌⊎◌, Ok, IfOk};
 ghost use Rattle.std.specs.Io.KnownBytes.{Appends};
 ghost use Rattle.names.specs.Errors.{no_memory_text};
 ghost use Rattle.rule_profile.specs.Profile.{profile_value};
 ghost use Rattle.rule_writer.specs.Canonical.{canonical};
 ghost use Rattle.profile_import.specs.Told.{import_value, import_fault_value};
 ghost use Rattle.trace_report.specs.Output.{line};
-ghost use Rattle.trace_report.specs.Streams.{EndsInOne, IsTextOf, IsTold};
+ghost use Rattle.trace_report.specs.Streams.{EndsInOne, IsTold};
 ghost use Rattle.trace_report.specs.declared.status.Status.TheVariants.{Done};
-ghost use Rattle.trace_import.specs.Import.{IsImportOutput, account_text, import_output, refusal_of};
+ghost use Rattle.trace_import.specs.Import.{ImportEndsOver, IsImportOutput, account_text, import_output, refusal_of};
 ghost use Rattle.trace_import.specs.inner.Reading.{IsTextRead};
 
 use crate::account::{account_text, refusal_of};
@@ -28,14 +28,13 @@ pub fn import<R: Read, A: Write, F: Write>(
     answers: &mut A,
     faults: &mut F,
 ) -> Status
-    ensures { (text : List ℕ) × IsTextOf (R.remaining input.old) text × EndsInOne
+    ensures { ImportEndsOver options.entry (R.remaining input.old)
         (record {
           answers_before = A.contents answers.old;
           answers_after = A.contents answers.new;
           faults_before = F.contents faults.old;
           faults_after = F.contents faults.new;
-        })
-        (IsImportOutput options.entry text) result }
+        }) result }
 {
     match read_all(alloc, input) {
         Ok(text) => import_text(alloc, options, &text, answers, faults),

@@ -19,7 +19,7 @@ use Rattle.rule_reader.specs.Reading.{outcome_of}
 use Rattle.trace_report.specs.declared.status.Status.{Status}
 use Rattle.trace_report.specs.declared.status.Status.TheVariants.{Done, Unmet, BadArguments, Refused, InputFailed, OutputFailed, FaultsFailed, NoMemory}
 use Rattle.trace_report.specs.Output.{Output, line, refusal, compile_refusal}
-use Rattle.trace_report.specs.Streams.{Streams, IsWritten, AppendsFront}
+use Rattle.trace_report.specs.Streams.{Streams, IsTextOf, IsWritten, AppendsFront}
 use Rattle.trace_script.specs.Script.{ChangeWords, Command, Script, mkdir, create, symlink, link, unlink, rmdir, rename, publish, remove, alter, judge_open, judge_link, script_of}
 use Rattle.mediation.specs.History.{History, new_history, with_deed, with_change, after_link, tree_version, policy_version, open_answer, link_answer}
 use Rattle.mediation.specs.Deeds.{published_rules, removed}
@@ -151,6 +151,10 @@ ScriptEnds limit streams left_before left_after history text NoMemory =
 ScriptEnds limit streams left_before left_after history text OutputFailed = IsCut streams (script_output limit history (script_of text))
 ScriptEnds limit streams left_before left_after history text FaultsFailed =
     AppendsFront streams.answers_before streams.answers_after (script_output limit history (script_of text)).answers
+
+-- The same of a text that these bytes of the reader may be, by each test for too many states.
+pub record ScriptEndsOver (streams : Streams) (left_before left_after : Option (List ℕ)) (history : History) (status : Status) : Type 0 where
+  pub ended : (limit : StateLimit) → (text : List ℕ) × IsTextOf left_before text × ScriptEnds limit streams left_before left_after history text status
 
 -- How `run` ends. Bad arguments are found before.
 abbrev pub RunEnds : StateLimit → Streams → Option (List ℕ) → Option (List ℕ) → ℕ → List ℕ → Status → Type 0

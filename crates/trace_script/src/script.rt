@@ -4,7 +4,7 @@ ghost use Rattle.glob_automaton.specs.Automata.{StateLimit};
 ghost use Rattle.trace_script.specs.Following.{IsFollowed};
 ghost use Rattle.trace_script.specs.inner.Following.{run_engine};
 ghost use Rattle.mediation.specs.History.{policy_version};
-ghost use Rattle.trace_script.specs.RunOutput.{ScriptEnds};
+ghost use Rattle.trace_script.specs.RunOutput.{ScriptEndsOver};
 ghost use Rattle.trace_report.specs.Streams.{IsTextOf};
 
 use crate::reading::{LineRead, read_line};
@@ -28,14 +28,14 @@ pub fn run_script<B: Bench, R: BufRead, A: Write, F: Write>(
     faults: &mut F,
 ) -> Status
     requires { policy_version (B.history bench.old) ≡ 0 }
-    ensures { (limit : StateLimit) → (text : List ℕ) × IsTextOf (R.remaining input.old) text × ScriptEnds limit
+    ensures { ScriptEndsOver
         (record {
           answers_before = A.contents answers.old;
           answers_after = A.contents answers.new;
           faults_before = F.contents faults.old;
           faults_after = F.contents faults.new;
         })
-        (R.remaining input.old) (R.remaining input.new) (B.history bench.old) text result }
+        (R.remaining input.old) (R.remaining input.new) (B.history bench.old) result }
 {
     match follow(alloc, bench, input, answers) {
         Ok(()) => Status::Done,
