@@ -16,20 +16,25 @@ pub(crate) fn compiled(alloc: Global, text: &[u8]) -> Option<Arc<AnyProfile>> {
     Arc::new(alloc, AnyProfile::Compiled(compiled)).ok()
 }
 
-/// Stages a share of a profile under a name, or its removal.
+/// Stages a share of a profile under a name.
 pub(crate) fn stage(
     publisher: &mut Publisher,
     name: &[u8],
-    profile: Option<&Arc<AnyProfile>>,
+    profile: &Arc<AnyProfile>,
 ) -> Result<(), NoMemory> {
     if publisher.changes() >= MOST_CHANGES {
         return Err(NoMemory);
     }
-    match profile {
-        Some(profile) => match Arc::try_clone(profile) {
-            Ok(share) => publisher.replace(name, share),
-            Err(_) => Err(NoMemory),
-        },
-        None => publisher.remove(name),
+    match Arc::try_clone(profile) {
+        Ok(share) => publisher.replace(name, share),
+        Err(_) => Err(NoMemory),
     }
+}
+
+/// Stages that no profile has the name.
+pub(crate) fn stage_removal(publisher: &mut Publisher, name: &[u8]) -> Result<(), NoMemory> {
+    if publisher.changes() >= MOST_CHANGES {
+        return Err(NoMemory);
+    }
+    publisher.remove(name)
 }

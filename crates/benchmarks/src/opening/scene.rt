@@ -75,12 +75,11 @@ impl Scene {
 impl Policy {
     /// Publishes the first profile after an even number of others, and else the second.
     pub(crate) fn publish<R: Wait>(&mut self, rt: &R, others: u64) -> Result<u64, NoMemory> {
-        let profile = if others % 2 == 0 {
-            &self.first
+        if others % 2 == 0 {
+            stage(&mut self.publisher, PROFILE, &self.first)?;
         } else {
-            &self.second
-        };
-        stage(&mut self.publisher, PROFILE, Some(profile))?;
+            stage(&mut self.publisher, PROFILE, &self.second)?;
+        }
         self.publisher.publish(rt)
     }
 

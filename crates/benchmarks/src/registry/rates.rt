@@ -34,7 +34,7 @@ pub(crate) fn publish_names<R: Wait>(
             b'0' + k / 10,
             b'0' + k % 10,
         ];
-        stage(publisher, &text, Some(&profile))?;
+        stage(publisher, &text, &profile)?;
         let Ok(name) = Vec::from_slice(alloc, &text) else {
             return Err(NoMemory);
         };

@@ -1,6 +1,6 @@
 //! Many readers concurrently with one publisher.
 use super::plan::Plan;
-use crate::profiles::{compiled, stage};
+use crate::profiles::{compiled, stage, stage_removal};
 use matcher::AnyProfile;
 use names::NoMemory;
 use profile_registry::{PolicyReader, Publisher};
@@ -75,12 +75,12 @@ fn publish_all<R: Wait>(
 ) -> bool {
     for k in 0..last {
         let change = k + 1;
-        let profile = match published_after(change) {
-            Stands::First => Some(first),
-            Stands::Second => Some(second),
-            _ => None,
+        let staged = match published_after(change) {
+            Stands::First => stage(publisher, b"name", first),
+            Stands::Second => stage(publisher, b"name", second),
+            _ => stage_removal(publisher, b"name"),
         };
-        if stage(publisher, b"name", profile).is_err() {
+        if staged.is_err() {
             return false;
         }
         if (change % 4 != 1 || change == last) && publisher.publish(rt) != Ok(change) {
