@@ -9,7 +9,9 @@
 
 mod end;
 mod growing;
+mod laws;
 mod publishing;
 mod trail;
 
+pub use laws::wrong_answers_are_not_justified;
 pub use trail::Trail;

@@ -7,6 +7,7 @@
 mod assignment;
 mod bytes;
 mod condition;
+mod laws;
 mod letters;
 mod statement;
 mod stop;
@@ -16,6 +17,7 @@ pub use assignment::{after_separators, after_use, is_assignment, line_ends};
 pub use condition::{
     after_condition, after_parentheses, after_white, is_allowing_flag, unknown_flag,
 };
+pub use laws::readings_have_one_answer;
 pub use letters::{ExecMode, Letters, letters_of};
 pub use statement::{after_boolean, after_statement, is_statement};
 pub use stop::{Failure, Stop, StopKind, fault_here};

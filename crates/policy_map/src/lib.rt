@@ -7,9 +7,11 @@
 #![tactic(auto)]
 
 mod deeds;
+mod laws;
 mod policy;
 mod profiles;
 mod replacing;
 
+pub use laws::last_change_of_a_name_stands;
 pub use policy::Policy;
 pub use replacing::replacement;

@@ -4,9 +4,11 @@
 #![tactic(auto)]
 
 mod fault;
+mod laws;
 mod status;
 mod telling;
 
 pub use fault::Fault;
+pub use laws::{commands_end_as_they_are_to, zero_is_done};
 pub use status::Status;
 pub use telling::{fail, write_answer, write_through};
