@@ -1,22 +1,70 @@
-//! Changes, told by lines.
+//! The lines of scripts.
 use directory_tree::{Change, LinkBytes};
 use names::Path;
-use std::test::Fail;
 
-pub(crate) fn path(bytes: &[u8]) -> Result<Path<'_>, Fail> {
-    Ok(Path::check(bytes).ok().ok_or("a path")?)
+/// What a line asks for.
+#[derive(Drop)]
+pub(crate) enum Line<'a> {
+    /// Nothing.
+    Comment,
+    /// A new tree with room for so many entries.
+    Room(usize),
+    /// So many rounds of changes at random, in trees with room for so many entries.
+    Draw { capacity: usize, rounds: usize },
+    /// The change is made.
+    Make(Change<'a>),
+    /// The cells that a change would set.
+    Plan(Change<'a>),
+    /// The name of the place that a path leads to.
+    Name(Path<'a>),
+    /// The number of the node that a path leads to.
+    Node(Path<'a>),
+    /// The text of the link that a path leads to.
+    Text(Path<'a>),
 }
 
-// The change that a line tells, by a verb and one or two words.
-pub(crate) fn change<'a>(line: &'a str) -> Result<Change<'a>, Fail> {
-    let (verb, rest) = split_at_space(line.as_bytes());
+/// Reads a line.
+pub(crate) fn read_line(bytes: &[u8]) -> Option<Line<'_>> {
+    if matches!(bytes, [] | [b'=' | b'#', ..]) {
+        return Some(Line::Comment);
+    }
+    let (word, rest) = split_at_space(bytes);
+    match word {
+        b"room" => Some(Line::Room(number(rest)?)),
+        b"draw" => draw(rest),
+        b"plan" => Some(Line::Plan(change(rest)?)),
+        b"name" => Some(Line::Name(path(rest)?)),
+        b"node" => Some(Line::Node(path(rest)?)),
+        b"text" => Some(Line::Text(path(rest)?)),
+        _ => Some(Line::Make(change(bytes)?)),
+    }
+}
+
+fn draw(rest: &[u8]) -> Option<Line<'_>> {
+    let (capacity, rounds) = split_at_space(rest);
+    Some(Line::Draw {
+        capacity: number(capacity)?,
+        rounds: number(rounds)?,
+    })
+}
+
+fn number(digits: &[u8]) -> Option<usize> {
+    str::from_utf8(digits).ok()?.parse().ok()
+}
+
+fn path(bytes: &[u8]) -> Option<Path<'_>> {
+    Path::check(bytes).ok()
+}
+
+// The change that a line says, by a verb and one or two words.
+fn change(line: &[u8]) -> Option<Change<'_>> {
+    let (verb, rest) = split_at_space(line);
     let (one, two) = split_at_space(rest);
-    let made = match (verb, two) {
+    match (verb, two) {
         (_, b"") => change_at(verb, path(one)?),
         (b"symlink", _) => Some(Change::Symlink(LinkBytes::new(one), path(two)?)),
         _ => change_of_two(verb, path(one)?, path(two)?),
-    };
-    Ok(made.ok_or("a line that isn't understood")?)
+    }
 }
 
 fn change_at<'a>(verb: &[u8], at: Path<'a>) -> Option<Change<'a>> {
@@ -37,7 +85,7 @@ fn change_of_two<'a>(verb: &[u8], one: Path<'a>, two: Path<'a>) -> Option<Change
     }
 }
 
-// What stands before the first space and behind it.
+// What stands before the first space, and what follows it.
 fn split_at_space(bytes: &[u8]) -> (&[u8], &[u8]) {
     match bytes.iter().position(|b| *b == b' ') {
         Some(at) => (&bytes[..at], &bytes[at + 1..]),

@@ -1,57 +1,37 @@
-//! Changes of one tree in a row in memory and in plain memory, which have to answer alike: tests of `row_plan`, and nothing
-//! else. The program draws changes at random: `plan_tests CAPACITY ROUNDS` prints how many of a hundred a round were made in trees
-//! with room for so many entries, or why it stopped.
+//! Scripts of changes of one tree, in a row in memory and in plain memory, which have to answer alike: tests of `row_plan`. The
+//! program reads scripts from standard input, and writes each line with what it comes to. The file `stdout` has what it must
+//! write, so it reads as a list of worked changes.
+//!
+//! The lines of a script, in which `bytes_of` of `case_texts` reads brackets:
+//!
+//! | line | is written with |
+//! |---|---|
+//! | `room N` | nothing: the lines that follow are of a new tree, with room for N entries |
+//! | `mkdir P`, `create P`, `symlink TEXT P`, `link OLD NEW`, `unlink P`, `rmdir P`, `rename OLD NEW` | `ok V` with the tree's new version, or the error |
+//! | `plan CHANGE` | the cells that the change would set, each as its place and its word |
+//! | `name P` | the name of the place that P leads to, or the error |
+//! | `node P` | the number of the node that P leads to, a last link not followed, or the error |
+//! | `text P` | the text of the link that P leads to |
+//! | `draw N ROUNDS` | how many changes were made of a hundred a round, drawn at random, in trees with room for N entries |
+//! | one that is empty, or begins with `=` or `#` | nothing |
+//!
+//! After each change both trees have to tell the same of many paths, and the test of a change has to tell what the change then
+//! answers, and to change nothing.
 #![tactic(auto)]
 
-#[cfg(test)]
 mod lines;
-#[cfg(test)]
-mod place;
-#[cfg(test)]
-mod plans;
+mod making;
 mod random;
-#[cfg(test)]
-mod refusals;
-#[cfg(test)]
 mod scripts;
-#[cfg(test)]
-mod steps;
-#[cfg(test)]
-mod testing;
+mod telling;
 mod twins;
 
-use crate::random::{Failure, change_at_random};
-use std::alloc::{AllocError, Global};
-use std::{env, io};
-use tree_row::MOST_ENTRIES;
+use crate::scripts::run_all;
+use std::io;
+use std::io::{BufWriter, Input};
 
 fn main(rt: HostRuntime) -> io::Result<()> {
-    let mut args = env::args(&rt)?;
-    let _program = args.next();
-    let capacity = args.next();
-    let rounds = args.next();
-    let line = match (number(&capacity), number(&rounds)) {
-        (Some(capacity), Some(rounds)) if capacity <= MOST_ENTRIES => {
-            report(rt.alloc(), change_at_random(rt.alloc(), capacity, rounds))?
-        }
-        _ => format!(in rt.alloc(); "usage: plan_tests CAPACITY ROUNDS")?,
-    };
-    println!(rt; "{line}")
-}
-
-// The number that a word tells, if there is one and it tells one.
-fn number(word: &Option<String>) -> Option<usize> {
-    match word {
-        Some(word) => word.as_str().parse().ok(),
-        None => None,
-    }
-}
-
-fn report(alloc: Global, end: Result<u64, Failure>) -> Result<String, AllocError> {
-    match end {
-        Ok(made) => format!(in alloc; "changes made: {made}"),
-        Err(Failure::NoMemory) => format!(in alloc; "no memory"),
-        Err(Failure::NotAPath) => format!(in alloc; "a path that is none"),
-        Err(Failure::Differ) => format!(in alloc; "the trees differ"),
-    }
+    let scripts = io::read_to_string(rt.alloc(), rt.reader())?;
+    let mut output = BufWriter::new(rt.alloc(), io::writer(&rt))?;
+    run_all(rt.alloc(), &scripts, &mut output)
 }

@@ -156,17 +156,3 @@ fn change_one_tree(alloc: Global, capacity: usize, random: &mut Random) -> Resul
     }
     Ok(made)
 }
-
-#[cfg(test)]
-mod tests {
-    use super::*;
-    use std::test::Fail;
-
-    #[test]
-    fn trees_change_at_random(rt: HostRuntime) -> Result<(), Fail> {
-        for third in 0..14 {
-            assert!(rt; change_at_random(rt.alloc(), 3 * third, 1).is_ok());
-        }
-        Ok(())
-    }
-}

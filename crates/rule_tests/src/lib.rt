@@ -1,17 +1,13 @@
-//! Tests of `names`, `rule_text` and `glob_automaton`, and nothing else. A library with tests of its own would be proved
-//! twice, once with them; as they stand here, each of these libraries is proved once.
+//! Tests of calls that no text of `text_cases` reaches, of the libraries that it shows. A library with tests of its own would be
+//! proved twice, once with them; as they stand here, each of these libraries is proved once.
 #![tactic(auto)]
 
 #[cfg(test)]
-mod automaton;
+mod components;
 #[cfg(test)]
 mod errors;
 #[cfg(test)]
-mod judging;
-#[cfg(test)]
 mod linking;
-#[cfg(test)]
-mod paths;
 #[cfg(test)]
 mod permissions;
 #[cfg(test)]
@@ -19,6 +15,10 @@ mod printing;
 #[cfg(test)]
 mod profiles;
 #[cfg(test)]
-mod reading;
+mod records;
 #[cfg(test)]
-mod writing;
+mod settled;
+#[cfg(test)]
+mod subjects;
+#[cfg(test)]
+mod variables;

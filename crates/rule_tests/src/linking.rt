@@ -1,44 +1,13 @@
-//! What names are allowed, and hard links by it.
+//! Hard links by what their names are allowed.
 use crate::printing::is_printed;
 use names::Perms;
-use rule_text::{LinkVerdict, Profile, Verdict, allowed_perms, judge_link, read};
+use rule_text::{LinkVerdict, Verdict, judge_link};
 use std::process::Abort;
 use std::test::Fail;
 
 /// The set of these letters.
 fn perms(letters: &[u8]) -> Result<Perms, Fail> {
     Ok(Perms::from_letters(letters).ok_or("a letter of no permission")?)
-}
-
-/// Names, and the letters of what each is allowed.
-fn expect_allowed(rt: &impl Abort, profile: &Profile, rows: &[(&[u8], &[u8])]) -> Result<(), Fail> {
-    for (name, letters) in rows {
-        assert_eq!(rt; allowed_perms(profile, name), perms(letters)?, "{name:?}");
-    }
-    Ok(())
-}
-
-#[test]
-fn permissions_that_names_are_allowed(rt: HostRuntime) -> Result<(), Fail> {
-    let rules =
-        b"profile p { / r, /a/** rw, /a/* km, /a/k l, deny /a/k* w, /a/x l, deny /a/x rwlkm, }";
-    let profile = read(rt.alloc(), rules)?;
-    expect_allowed(
-        &rt,
-        &profile,
-        &[
-            (b"/", b"r"),
-            (b"/a/f", b"rwkm"),
-            (b"/a/d/", b"rw"),
-            (b"/a/d/f", b"rw"),
-            (b"/a/k", b"rlkm"),
-            (b"/a/key", b"rkm"),
-            (b"/a/x", b""),
-            (b"/a/", b""),
-            (b"/b", b""),
-            (b"", b""),
-        ],
-    )
 }
 
 /// The verdict on a link whose new name is allowed these permissions, and whose old one those.

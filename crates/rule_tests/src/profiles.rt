@@ -1,20 +1,44 @@
-//! Profiles for the tests.
-use rule_text::{Profile, read};
+//! Profiles made of parts.
+use names::Perms;
+use profile_parts::{path_of, profile_of};
+use rule_profile::Rule;
+use rule_reader::read_path;
 use std::alloc::Global;
 use std::test::Fail;
+use verdicts::RuleKind;
 
-/// `profile p {`, these rules and `}`, read.
-pub(crate) fn profile_of(alloc: Global, rules: &[u8]) -> Result<Profile, Fail> {
-    profile_between(alloc, b"profile p {", rules, b"}")
+/// A rule that allows these permissions on `/a`.
+fn rule_of(alloc: Global, letters: &[u8]) -> Result<Rule, Fail> {
+    let items = read_path(alloc, b"/a")?.ok_or("the text of a path")?;
+    let path = path_of(items).ok_or("a path")?;
+    let perms = if letters.is_empty() {
+        Perms::NONE
+    } else {
+        Perms::from_letters(letters).ok_or("permissions")?
+    };
+    Ok(Rule::new(RuleKind::Allow, perms, path))
 }
 
-/// A text of three parts, read.
-pub(crate) fn profile_between(
-    alloc: Global,
-    before: &[u8],
-    part: &[u8],
-    behind: &[u8],
-) -> Result<Profile, Fail> {
-    let text = [before, part, behind].concat(alloc)?;
-    Ok(read(alloc, &text)?)
+/// Whether there is a profile of this name with so many rules.
+fn is_made(alloc: Global, name: &[u8], letters: &[u8], count: usize) -> Result<bool, Fail> {
+    let mut rules = Vec::new(alloc);
+    for _ in 0..count {
+        rules.push(rule_of(alloc, letters)?)?;
+    }
+    Ok(profile_of(Vec::from_slice(alloc, name)?, rules).is_some())
+}
+
+#[test]
+fn so_many_rules(rt: HostRuntime) -> Result<(), Fail> {
+    assert!(&rt; is_made(rt.alloc(), b"p", b"r", 0)?);
+    assert!(&rt; is_made(rt.alloc(), b"p", b"r", 1024)?);
+    assert!(&rt; !is_made(rt.alloc(), b"p", b"r", 1025)?);
+    Ok(())
+}
+
+#[test]
+fn some_permission(rt: HostRuntime) -> Result<(), Fail> {
+    assert!(&rt; is_made(rt.alloc(), b"p", b"rwlkm", 1)?);
+    assert!(&rt; !is_made(rt.alloc(), b"p", b"", 1)?);
+    Ok(())
 }
