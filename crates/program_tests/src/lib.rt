@@ -1,5 +1,20 @@
-//! Tests of the program's runs over streams in memory, and nothing else: as they stand here, `trace_program` is proved once.
+//! Tests of runs of the program that no text reaches: streams that fail half way, refused memory, and words that are none. Everything
+//! else that it writes is shown by `program_cases`.
 #![tactic(auto)]
 
 #[cfg(test)]
-mod tests;
+mod events;
+#[cfg(test)]
+mod expectations;
+#[cfg(test)]
+mod images;
+#[cfg(test)]
+mod imports;
+#[cfg(test)]
+mod judging;
+#[cfg(test)]
+mod running;
+#[cfg(test)]
+mod scripts;
+#[cfg(test)]
+mod storms;

@@ -1,7 +1,7 @@
-//! Scripts, on a bench that has no memory for anything new.
+//! Scripts on a bench that has no memory for anything new, and over streams that fail.
 ghost use Rattle.std.specs.Prelude.{[]};
 
-use crate::tests::{Ending, Failing, Pieces};
+use crate::running::{Ending, Failing, Pieces};
 use directory_tree::Change;
 use matcher::MakeFault;
 use mediation::{Answer, Bench, LinkAnswer};
@@ -9,7 +9,6 @@ use names::{Errno, NoMemory, Perms};
 use plain_tree::PlainTree;
 use rule_profile::Profile;
 use std::alloc::Global;
-use std::io;
 use std::io::{BufRead, BufReader, ErrorKind};
 use std::process::Abort;
 use std::test::Fail;
@@ -107,14 +106,14 @@ fn run_into_failing(alloc: Global, calls: usize) -> Result<Ending, Fail> {
     run_within(alloc, &mut input, answers, Failing::never(alloc))
 }
 
-/// A script, the status of its run, and what then stands on both streams.
-type Row<'a> = (&'a str, Status, &'a str, &'a str);
+/// A script, and what it has answered where memory is refused.
+type Row<'a> = (&'a str, &'a str);
 
-fn expect(rt: &impl Abort, alloc: Global, rows: &[Row]) -> Result<(), Fail> {
-    for (text, status, answers, faults) in rows {
+fn expect_refused(rt: &impl Abort, alloc: Global, rows: &[Row]) -> Result<(), Fail> {
+    for (text, answers) in rows {
         let ending = run(alloc, text.as_bytes())?;
         assert!(rt;
-            ending.is(*status, answers.as_bytes(), faults.as_bytes()),
+            ending.is(Status::NoMemory, answers.as_bytes(), b"no memory\n"),
             "{text}"
         );
     }
@@ -126,89 +125,18 @@ const ANSWER: &str = "no profile policy 0\n";
 const TWO_ANSWERS: &str = "no profile policy 0\nno profile policy 0\n";
 
 #[test]
-fn scripts_that_end(rt: HostRuntime) -> Result<(), Fail> {
-    expect(
+fn memory_is_refused(rt: HostRuntime) -> Result<(), Fail> {
+    expect_refused(
         &rt,
         rt.alloc(),
         &[
-            ("", Status::Done, "", ""),
-            ("# a comment\n\n \t\n  #\n", Status::Done, "", ""),
-            ("open p /a r\n", Status::Done, ANSWER, ""),
-            ("\topen  p\t/a r ", Status::Done, ANSWER, ""),
-            (
-                "mkdir a\nrename /a b\n",
-                Status::Done,
-                "EINVAL 22\nEINVAL 22\n",
-                "",
-            ),
-            (
-                "policy\n.",
-                Status::Done,
-                "policy refused: read 1 at 0\n",
-                "",
-            ),
-            (
-                "policy\nprofile p {\n  /x ix,\n}\n.\nopen p /x r",
-                Status::Done,
-                "policy refused: read 2 at 17\nno profile policy 0\n",
-                "",
-            ),
-        ],
-    )
-}
-
-#[test]
-fn scripts_that_stop(rt: HostRuntime) -> Result<(), Fail> {
-    let first_line = "line 1: not a command\n";
-    expect(
-        &rt,
-        rt.alloc(),
-        &[
-            ("look /a\n", Status::Refused, "", first_line),
-            ("mkdir /a /b\n", Status::Refused, "", first_line),
-            (
-                "\n\nopen p /a x",
-                Status::Refused,
-                "",
-                "line 3: not a command\n",
-            ),
-            ("policy\n.\r\n", Status::Refused, "", first_line),
-            (
-                "open p /a r\nlook /a\nopen p /a r\n",
-                Status::Refused,
-                ANSWER,
-                "line 2: not a command\n",
-            ),
-            (
-                "open p /a r\npolicy\nprofile p {\n}\n",
-                Status::Refused,
-                ANSWER,
-                "line 2: not a command\n",
-            ),
-            (
-                "open p /a r\nmkdir /a\nopen p /a r\n",
-                Status::NoMemory,
-                ANSWER,
-                "no memory\n",
-            ),
-            (
-                "open p /a r\ndrop p\n",
-                Status::NoMemory,
-                ANSWER,
-                "no memory\n",
-            ),
+            ("open p /a r\nmkdir /a\nopen p /a r\n", ANSWER),
+            ("open p /a r\ndrop p\n", ANSWER),
             (
                 "judged-link p /a /b\nlink /a /b\nmkdir /a\nopen p /a r\n",
-                Status::NoMemory,
                 "no profile policy 0\nENOENT 2\n",
-                "no memory\n",
             ),
-            (
-                "open p /a r\npolicy\nprofile p {\n}\n.\n",
-                Status::NoMemory,
-                ANSWER,
-                "no memory\n",
-            ),
+            ("open p /a r\npolicy\nprofile p {\n}\n.\n", ANSWER),
         ],
     )
 }

@@ -1,32 +1,14 @@
-//! Readers and writers that fail.
-use crate::running::run_on;
+//! Scripts of events over streams that fail.
+use crate::running::{Pieces, run_on_pieces};
 use std::alloc::Global;
 use std::io;
-use std::io::{BufReader, ErrorKind, Read, Write};
+use std::io::{ErrorKind, Write};
 use std::process::Abort;
+use std::sync::Wait;
 use std::test::Fail;
+use std::thread::Threads;
+use trace_program::run_words;
 use trace_report::Status;
-
-/// Gives one byte at a time, and fails once it has been read from often enough.
-#[derive(Drop)]
-struct Failing<'a> {
-    left: &'a [u8],
-    reads: usize,
-}
-
-impl Read for Failing<'_> {
-    fn read(&mut self, buf: &mut [u8]) -> io::Result<usize> {
-        if self.reads == 0 {
-            return Err(io::Error::from(ErrorKind::BrokenPipe));
-        }
-        self.reads -= 1;
-        let n = buf.len().min(self.left.len()).min(1);
-        let (given, left) = self.left.split_at(n);
-        buf[..n].copy_from_slice(given);
-        self.left = left;
-        Ok(n)
-    }
-}
 
 /// Takes one byte at a time, and fails once it has been written to often enough.
 #[derive(Drop)]
@@ -51,6 +33,8 @@ impl Write for Narrow {
     }
 }
 
+const WORDS: [&str; 4] = ["aa-trace", "steps", "--capacity", "8"];
+
 const SCRIPT: &str = "mkdir /a\nkeep mkdir /b\nopen p / r\nclose\n";
 
 const PRINTED: &str = "ok 1\nno profile policy 0\nok 2\n";
@@ -62,25 +46,34 @@ fn expect_beginning(rt: &impl Abort, answers: &[u8]) {
 #[test]
 fn readers_that_fail(rt: HostRuntime) -> Result<(), Fail> {
     for reads in 0..SCRIPT.len() {
-        let left = SCRIPT.as_bytes();
-        let mut input = BufReader::new(rt.alloc(), Failing { left, reads })?;
-        let (mut answers, mut faults) = (Vec::new(rt.alloc()), Vec::new(rt.alloc()));
-        let status = run_on(rt.alloc(), &mut input, &mut answers, &mut faults)?;
-        assert_eq!(rt; status, Status::InputFailed);
-        assert_eq!(rt; faults.as_slice(), b"refused: input\n".as_slice());
-        expect_beginning(&rt, &answers);
+        let pieces = Pieces {
+            left: SCRIPT.as_bytes(),
+            piece: 1,
+            reads,
+            error: ErrorKind::BrokenPipe,
+        };
+        let ending = run_on_pieces(&rt, rt.alloc(), &WORDS, pieces)?;
+        assert_eq!(rt; ending.status, Status::InputFailed);
+        assert_eq!(rt; ending.faults.as_slice(), b"refused: input\n".as_slice());
+        expect_beginning(&rt, &ending.answers);
     }
     Ok(())
 }
 
-fn status_of(alloc: Global, writes: usize, answers: &mut Vec<u8>) -> Result<Status, Fail> {
+/// The status of a run whose answers can be written to so often, and what stands of them.
+fn status_of(
+    rt: &(impl Threads + Wait + Sync),
+    alloc: Global,
+    writes: usize,
+    answers: &mut Vec<u8>,
+) -> Result<Status, Fail> {
     let mut input = SCRIPT.as_bytes();
     let mut narrow = Narrow {
         taken: Vec::new(alloc),
         writes,
     };
     let mut faults = Vec::new(alloc);
-    let status = run_on(alloc, &mut input, &mut narrow, &mut faults)?;
+    let status = run_words(rt, alloc, &WORDS, &mut input, &mut narrow, &mut faults);
     answers.extend_from_slice(&narrow.taken)?;
     let told = if status == Status::Done {
         b"".as_slice()
@@ -98,12 +91,12 @@ fn status_of(alloc: Global, writes: usize, answers: &mut Vec<u8>) -> Result<Stat
 fn writers_that_fail(rt: HostRuntime) -> Result<(), Fail> {
     for writes in 0..PRINTED.len() {
         let mut answers = Vec::new(rt.alloc());
-        let status = status_of(rt.alloc(), writes, &mut answers)?;
+        let status = status_of(&rt, rt.alloc(), writes, &mut answers)?;
         assert_eq!(rt; (status, answers.len()), (Status::OutputFailed, writes));
         expect_beginning(&rt, &answers);
     }
     let mut answers = Vec::new(rt.alloc());
-    let status = status_of(rt.alloc(), PRINTED.len(), &mut answers)?;
+    let status = status_of(&rt, rt.alloc(), PRINTED.len(), &mut answers)?;
     assert_eq!(rt; status, Status::Done);
     expect_beginning(&rt, &answers);
     Ok(())

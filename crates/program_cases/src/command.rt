@@ -1,0 +1,150 @@
+//! Commands, and what they do with a text.
+ghost use Rattle.std.specs.Prelude.{◌≡◌};
+ghost use Rattle.mediation.specs.History.{policy_version};
+
+use crate::ending::Ending;
+use crate::expand::expanded;
+use mediation::Bench;
+use names::NoMemory;
+use plain_bench::PlainBench;
+use std::alloc::{AllocError, Global};
+use std::io;
+use std::sync::Wait;
+use std::thread::Threads;
+use trace_line::{LineFault, command_line};
+use trace_program::run_words;
+use trace_script::run_script;
+
+/// Runs a command on a text: each part on what the part before it wrote, until one fails.
+pub(crate) fn run_command<H: Threads + Wait + Sync>(
+    rt: &H,
+    alloc: Global,
+    command: &str,
+    text: &[u8],
+) -> io::Result<Ending> {
+    let command = String::from_utf8(expanded(alloc, command)?).unwrap_or(String::new(alloc));
+    let mut ending = Ending::of_answers(alloc, text)?;
+    for part in command.split(" | ") {
+        if ending.status.code() == 0 {
+            ending = run_part(rt, alloc, &words_of(alloc, part)?, &ending.answers)?;
+        }
+    }
+    Ok(ending)
+}
+
+/// The words of a command: what stands between blanks, or between double quotes.
+fn words_of(alloc: Global, command: &str) -> Result<Vec<&str>, AllocError> {
+    let mut words = Vec::new(alloc);
+    let mut left = command.trim_start();
+    for _ in 0..command.len() {
+        if left.is_empty() {
+            break;
+        }
+        let (word, rest) = match left.strip_prefix('"') {
+            Some(quoted) => quoted.split_once('"').unwrap_or((quoted, "")),
+            None => left.split_once(' ').unwrap_or((left, "")),
+        };
+        words.push(word)?;
+        left = rest.trim_start();
+    }
+    Ok(words)
+}
+
+/// Runs one part of a command, by its words.
+fn run_part<H: Threads + Wait + Sync>(
+    rt: &H,
+    alloc: Global,
+    words: &[&str],
+    input: &[u8],
+) -> io::Result<Ending> {
+    match words.first().copied() {
+        Some("aa-trace") => Ok(run_program(rt, alloc, words, input)),
+        Some("parse") => parse(alloc, words),
+        Some("plain-bench") => run_plain(alloc, number(words, 1), input),
+        Some("set") => set_byte(alloc, number(words, 1), number(words, 2), input),
+        Some("first") => first_bytes(alloc, number(words, 1), input),
+        _ => Ok(Ending::of_fault(alloc, "no command of a case\n")?),
+    }
+}
+
+/// The number that a word tells, or 0.
+fn number(words: &[&str], at: usize) -> usize {
+    match words.get(at) {
+        Some(word) => word.parse().unwrap_or(0),
+        None => 0,
+    }
+}
+
+fn run_program<H: Threads + Wait + Sync>(
+    rt: &H,
+    alloc: Global,
+    words: &[&str],
+    input: &[u8],
+) -> Ending {
+    let mut ending = Ending::nothing(alloc);
+    let mut input = input;
+    ending.status = run_words(
+        rt,
+        alloc,
+        words,
+        &mut input,
+        &mut ending.answers,
+        &mut ending.faults,
+    );
+    ending
+}
+
+/// What the words after the first one ask for, or what is wrong with them.
+fn parse(alloc: Global, words: &[&str]) -> io::Result<Ending> {
+    let asked = words.get(1..).unwrap_or(&[]);
+    match command_line(alloc, asked) {
+        Ok(line) => {
+            let line = format!(in alloc; "{line:?}\n")?;
+            Ok(Ending::of_answers(alloc, line.as_bytes())?)
+        }
+        Err(LineFault::Usage(error)) => {
+            let text = error.to_string(alloc)?;
+            Ok(Ending::of_fault(alloc, &text)?)
+        }
+        Err(LineFault::NoMemory) => Ok(Ending::of_fault(alloc, "no memory\n")?),
+    }
+}
+
+/// Runs a script in plain memory.
+fn run_plain(alloc: Global, capacity: usize, script: &[u8]) -> io::Result<Ending> {
+    match PlainBench::new(alloc, capacity) {
+        Ok(mut bench) => Ok(run_on(alloc, &mut bench, script)),
+        Err(NoMemory) => Ok(Ending::of_fault(alloc, "no memory\n")?),
+    }
+}
+
+/// Runs a script on a new bench.
+fn run_on<B: Bench>(alloc: Global, bench: &mut B, script: &[u8]) -> Ending
+    requires { policy_version (B.history bench.old) ≡ 0 }
+{
+    let mut ending = Ending::nothing(alloc);
+    let mut input = script;
+    ending.status = run_script(
+        alloc,
+        bench,
+        &mut input,
+        &mut ending.answers,
+        &mut ending.faults,
+    );
+    ending
+}
+
+/// The input with another byte in a place.
+fn set_byte(alloc: Global, place: usize, byte: usize, input: &[u8]) -> io::Result<Ending> {
+    let mut ending = Ending::of_answers(alloc, input)?;
+    if let Some(cell) = ending.answers.get_mut(place) {
+        *cell = u8::try_from(byte).unwrap_or(0);
+    }
+    Ok(ending)
+}
+
+/// So many bytes of the input.
+fn first_bytes(alloc: Global, count: usize, input: &[u8]) -> io::Result<Ending> {
+    let kept = input.get(..count).unwrap_or(input);
+    Ok(Ending::of_answers(alloc, kept)?)
+}
