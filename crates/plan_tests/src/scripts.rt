@@ -16,7 +16,7 @@ pub(crate) fn run_all<W: Write>(alloc: Global, scripts: &str, output: &mut W) ->
         write!(output, "{written}")?;
         let bytes = bytes_of(alloc, written)?;
         run(alloc, &mut tree, read_line(&bytes), output)?;
-        write!(output, "\n")?;
+        writeln!(output)?;
     }
     output.flush()
 }

@@ -117,7 +117,9 @@ impl Twins {
         &mut self,
         path: &Path<'_>,
         rooms: &mut Rooms,
-    ) -> Result<Result<Told, WalkFault>, Differ> {
+    ) -> Result<Result<Told, WalkFault>, Differ>
+        ensures { IfOk result (λ answer. IfOk answer (λ told. told.text ≤ LONGEST_LINK_TEXT)) }
+    {
         let told = self.tell_row(path, rooms);
         if tells(&mut self.plain, path, told, rooms) {
             Ok(told)
@@ -127,7 +129,9 @@ impl Twins {
     }
 
     // What the row tells of a path.
-    fn tell_row(&mut self, path: &Path<'_>, rooms: &mut Rooms) -> Result<Told, WalkFault> {
+    fn tell_row(&mut self, path: &Path<'_>, rooms: &mut Rooms) -> Result<Told, WalkFault>
+        ensures { IfOk result (λ told. told.text ≤ LONGEST_LINK_TEXT) }
+    {
         tell(&mut self.look, path, rooms)
     }
 

@@ -7,6 +7,8 @@ mod components;
 #[cfg(test)]
 mod errors;
 #[cfg(test)]
+mod fronts;
+#[cfg(test)]
 mod linking;
 #[cfg(test)]
 mod permissions;
@@ -16,8 +18,6 @@ mod printing;
 mod profiles;
 #[cfg(test)]
 mod records;
-#[cfg(test)]
-mod settled;
 #[cfg(test)]
 mod subjects;
 #[cfg(test)]

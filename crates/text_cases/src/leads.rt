@@ -22,10 +22,12 @@ fn tell_rules<W: Write>(alloc: Global, paths: Vec<RulePath>, output: &mut W) -> 
     if paths.is_empty() {
         return writeln!(output, "no path");
     }
-    let mut gap = "";
+    let mut is_first = true;
     for path in paths {
-        write!(output, "{gap}")?;
-        gap = " ";
+        if !is_first {
+            write!(output, " ")?;
+        }
+        is_first = false;
         tell_rule(alloc, path, output)?;
     }
     writeln!(output)

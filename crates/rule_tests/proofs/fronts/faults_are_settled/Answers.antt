@@ -1,5 +1,5 @@
 use Rattle.rule_tests.proofs.Settled.{settled, unsettled}
-use Rattle.rule_tests.proofs.settled.faults_are_settled.Goals as goal
+use Rattle.rule_tests.proofs.fronts.faults_are_settled.Goals as goal
 
 pub returns-clause-settled : goal.returns-clause-settled
 returns-clause-settled c = settled
