@@ -7,11 +7,13 @@
 #![tactic(auto)]
 
 mod bench;
+mod laws;
 mod plain;
 mod tree;
 mod working;
 
 pub use bench::{PlainBench, TreeBench};
+pub use laws::{changes_are_made_or_refused, publications_are_told_apart};
 pub use mediation::{Answer, Bench, LinkAnswer};
 pub use policy_map::replacement;
 pub use tree::BenchTree;

@@ -5,9 +5,11 @@
 //! private contracts and proofs.
 #![tactic(auto)]
 
+mod laws;
 mod sessions;
 mod stepping;
 
 pub use event_core::StepFault;
 pub use justification::Answer;
+pub use laws::{steps_leave_other_sessions, steps_move_their_session};
 pub use sessions::Sessions;

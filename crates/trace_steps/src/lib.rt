@@ -8,9 +8,11 @@ mod calls;
 mod changes;
 mod command;
 mod doing;
+mod laws;
 mod lines;
 mod numbers;
 mod publishing;
 mod steps;
 
+pub use laws::step_scripts_end_as_they_stop;
 pub use steps::run_steps;
