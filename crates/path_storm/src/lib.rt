@@ -9,6 +9,7 @@
 
 mod fault;
 mod gate;
+mod laws;
 mod laying;
 mod log;
 mod plan;
@@ -21,6 +22,7 @@ mod worker;
 
 pub use fault::StormFault;
 pub use gate::{Gate, Open};
+pub use laws::storms_have_one_report;
 pub use laying::{FILE, PROFILE};
 pub use log::StormLog;
 pub use plan::{Plan, StormReport};

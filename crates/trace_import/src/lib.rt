@@ -6,5 +6,7 @@
 
 mod account;
 mod command;
+mod laws;
 
 pub use command::import;
+pub use laws::imports_end_as_their_outcome;

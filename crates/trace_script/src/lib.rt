@@ -23,7 +23,10 @@ pub use compose::{
     answer_line, change_of, errno_line, joined, numbered_line, policy_line, refusal_line,
     version_line,
 };
-pub use laws::lines_are_the_text;
+pub use laws::{
+    lines_are_read_one_by_one, lines_are_the_text, lines_have_one_text,
+    policies_are_closed_by_their_end, scripts_end_as_they_stop,
+};
 pub use line::{ChangeWords, Command, LineKind, is_comment, is_word, kind_of_words, parse_line};
 pub use reading::{LineRead, read_line};
 pub use rows::{

@@ -10,6 +10,10 @@ ghost use Rattle.trace_test.specs.Laws.{IsPlain, woven};
 ghost use Rattle.trace_test.specs.TestOutput.{expectations, holds, test_output};
 ghost use Rattle.trace_test.specs.TestScript.{ask, test_script};
 
+mod endings;
+
+pub use endings::{expectations_hold_by_their_answer, tests_end_as_their_expectations_hold};
+
 /// A script without quotes and without lines that expect anything says the same as a test as it does to `run`; where it has an end,
 /// it has no expectation.
 pub fn scripts_are_tests()

@@ -13,6 +13,9 @@ mod quotes;
 mod rows;
 mod script;
 
-pub use laws::{own_answers_hold, scripts_are_tests};
+pub use laws::{
+    expectations_hold_by_their_answer, own_answers_hold, scripts_are_tests,
+    tests_end_as_their_expectations_hold,
+};
 pub use rows::{expectations_are_told, lines_are_read, quotes_are_read};
 pub use script::run_test;
