@@ -15,8 +15,8 @@
 //!
 //! The transcript has what a command writes to standard output, then, after `--- standard error`, what it writes there, if anything,
 //! and then `--- status N`, if that isn't 0. For `parse` and `plain-bench` it says `--- as above` where they end as the command before
-//! them. It has the same notation for a byte that comes 64 times or more, for what isn't text in
-//! ASCII, and for images; `<<end>>` stands where a last line has no line break.
+//! them. It has the same notation for a byte that comes 64 times or more, for what isn't text in ASCII, and for images; `<<end>>`
+//! stands where a last line has no line break.
 #![tactic(auto)]
 
 mod case;

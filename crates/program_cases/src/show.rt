@@ -96,8 +96,10 @@ fn words_of(alloc: Global, image: &[u8]) -> Result<Vec<u32>, AllocError> {
 /// Writes an image by its words, and equal ones by how many they are.
 fn show_image<W: Write>(words: &[u32], output: &mut W) -> io::Result<()> {
     write!(output, "<<words")?;
-    for (place, run) in words.chunk_by(|a, b| a == b).enumerate() {
+    let mut place: usize = 0;
+    for run in words.chunk_by(|a, b| a == b) {
         let blank = if place % RUNS_ON_LINE == 0 { '\n' } else { ' ' };
+        place = place.wrapping_add(1);
         let word = run.first().copied().unwrap_or(0);
         match run.len() {
             1 => write!(output, "{blank}{word}")?,
