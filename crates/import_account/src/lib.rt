@@ -4,8 +4,10 @@
 //! To be believed are about 90 lines of definitions in `specs/`.
 #![tactic(auto)]
 
+mod laws;
 mod shown;
 mod what;
 
+pub use laws::{shown_texts_are_safe, statements_have_their_words};
 pub use shown::{shown_byte, shown_text};
 pub use what::What;
