@@ -1,5 +1,5 @@
 //! Laws of the tests of a change. The functions do nothing: each stands for its contract.
-ghost use Rattle.std.specs.Prelude.{◌≡◌, ◌<◌, ℕ, true, false, length, Ok, Some};
+ghost use Rattle.std.specs.Prelude.{◌≡◌, ◌<◌, ℕ, false, length, Ok, Some};
 ghost use Rattle.names.specs.declared.errors.Errno.{Errno};
 ghost use Rattle.names.specs.declared.paths.TheConstants.{LONGEST_COMPONENT};
 ghost use Rattle.directory_tree.specs.Apply.{Changed, has_room};

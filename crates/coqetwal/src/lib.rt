@@ -1,19 +1,9 @@
-//! What C calls: an image verified once, and names judged by it, by any number of threads, with no memory taken.
-//! `include/coqetwal.h` declares these functions, and has what holds an image.
+//! The library for C: what `image_judge` answers, exported. `include/coqetwal.h` declares these functions, and has what holds an
+//! image.
 //!
-//! To be believed are about 90 lines of definitions in `specs/`.
+//! To be believed are the definitions of `image_judge`, and that each function here has the clause of the one that it calls.
 #![tactic(auto)]
 
-mod answer;
-mod batch;
-mod judging;
-mod laws;
-mod permissions;
-mod verifying;
+mod exports;
 
-pub use answer::Answer;
-pub use laws::numbers_are_sets;
-pub use verifying::{Counts, Fault};
-
-#[cfg(test)]
-mod tests;
+pub use image_judge::{Answer, Counts, Fault};

@@ -13,7 +13,7 @@ use Rattle.std.proofs.Crossing as boxes
 use Rattle.dentry_cache.proofs.walker.Walker.TheSendSync as walker
 use Rattle.profile_registry.proofs.Sending.{reader_send}
 use Rattle.path_guard.proofs.Sending.{guard_sync}
-use Rattle.path_guard.specs.declared.row.Row as row
+use Rattle.guarded_row.specs.declared.row.Row as row
 use Rattle.path_session.specs.contracts.session.Session as session
 use Rattle.mediating_server.specs.contracts.desk.Requests as requests
 use Rattle.mediating_server.specs.contracts.desk.Desk as desk

@@ -1,7 +1,7 @@
 //! What is answered, as text.
 ghost use Rattle.std.specs.Prelude.{◌≡◌, ◌++◌, IfOk, codes, decimal};
 ghost use Rattle.mediating_server.specs.Answers.{told_text};
-ghost use Rattle.path_guard.specs.Opening.{IsNotBusy};
+ghost use Rattle.guarded_row.specs.Opening.{IsNotBusy};
 ghost use Rattle.trace_script.specs.Engine.{IsText};
 
 use path_guard::Answer;

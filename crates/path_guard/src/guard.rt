@@ -3,9 +3,9 @@ ghost use Rattle.std.specs.Prelude.{◌≡◌, ◌^◌, ◌<◌, [], IfOk};
 ghost use Rattle.row_rule.specs.Steps.{newcomer};
 
 use crate::fault::SessionFault;
-use crate::row::{Row, RowKeeper};
-use dentry_cache::{Keeper, Walker};
+use dentry_cache::Keeper;
 use directory_tree::Change;
+use guarded_row::{GuardedRow, Row};
 use matcher::AnyProfile;
 use names::{Errno, NoMemory};
 use path_session::Session;
@@ -21,7 +21,7 @@ const MOST_CHANGES: u64 = (1 << 60) - 1;
 /// It is not `Drop`: end it by [`close`](Guard::close).
 pub struct Guard<M: Row> {
     alloc: Global,
-    pub(crate) keeper: Mutex<RowKeeper<M>>,
+    pub(crate) row: GuardedRow<M>,
     publisher: Mutex<Publisher>,
 }
 
@@ -32,7 +32,7 @@ impl<M: Row> Guard<M> {
     {
         Guard {
             alloc,
-            keeper: Mutex::new(RowKeeper::new(keeper)),
+            row: GuardedRow::new(keeper),
             publisher: Mutex::new(publisher),
         }
     }
@@ -44,21 +44,12 @@ impl<M: Row> Guard<M> {
         ensures reader { IfOk result (λ session. (session.reading.entries ≡ 0) × (session.reading.refused ≡ 0)) }
         ensures profile { IfOk result (λ session. (session.profile ≡ profile.now) × (session.judged ≡ []) × (session.meetings ≡ 0)) }
     {
-        let walker = self.walker(rt)?;
+        let walker = self.row.walker(rt).map_err(|_| SessionFault::NoSeat)?;
         let reader = self.reader(rt)?;
         match Session::new(self.alloc, walker, reader, profile) {
             Ok(session) => Ok(session),
             Err(_) => Err(SessionFault::NoMemory),
         }
-    }
-
-    fn walker(&self, rt: &impl Wait) -> Result<Walker, SessionFault>
-        ensures { IfOk result (λ walker. (walker.table ≡ M.table) × (walker.view ≡ newcomer)) }
-    {
-        let mut keeper = self.keeper.lock(rt);
-        let walker = keeper.walker();
-        MutexGuard::unlock(keeper);
-        walker.map_err(|_| SessionFault::NoSeat)
     }
 
     fn reader(&self, rt: &impl Wait) -> Result<PolicyReader, SessionFault>
@@ -70,12 +61,10 @@ impl<M: Row> Guard<M> {
         reader.map_err(|_| SessionFault::NoSeat)
     }
 
-    /// Makes a change of the tree, and answers the version that it makes, or tells by number why not; then nothing was changed.
+    /// Makes a change of the tree, and returns the version that it makes, or why not; then nothing was changed. It waits for the
+    /// keeper's lock.
     pub fn change(&self, rt: &impl Wait, change: &Change<'_>) -> Result<u64, Errno> {
-        let mut keeper = self.keeper.lock(rt);
-        let version = keeper.change(change);
-        MutexGuard::unlock(keeper);
-        version
+        self.row.change(rt, change)
     }
 
     /// Publishes a profile under a name, in place of the one that is there, and answers the policy's new version. It waits for
@@ -106,7 +95,7 @@ impl<M: Row> Guard<M> {
     pub fn close(self, rt: &impl Wait) {
         let Guard {
             alloc: _,
-            keeper: _,
+            row: _,
             publisher,
         } = self;
         publisher.into_inner().close(rt);

@@ -2,12 +2,12 @@
 ghost use Rattle.std.specs.Prelude.{◌≡◌, [], IfOk, IfErr, OnOk};
 ghost use mathlib.Core.List.{IsPrefix};
 ghost use Rattle.path_session.specs.Sitting.{IsSameSession, IsLetIn};
-ghost use Rattle.path_guard.specs.Linking.{IsAnswerSomewhere, IsNoAnswer};
+ghost use Rattle.guarded_row.specs.Linking.{IsAnswerSomewhere, IsNoAnswer};
 
 use crate::guard::Guard;
-use crate::row::Row;
+use guarded_row::Row;
 use path_session::{LinkAnswer, Session, Unanswered};
-use std::sync::{MutexGuard, Wait};
+use std::sync::Wait;
 
 impl<M: Row> Guard<M> {
     /// Makes a hard link by a session that this guard gave, where its profile allows it (apparmor.d(5), "Link rules"; link(2)).
@@ -25,9 +25,6 @@ impl<M: Row> Guard<M> {
         ensures ok { IfOk result (IsAnswerSomewhere session.new old.now new.now) }
         ensures err { IfErr result (IsNoAnswer session.old session.new old.now new.now) }
     {
-        let mut keeper = self.keeper.lock(rt);
-        let answer = keeper.link(session, old, new);
-        MutexGuard::unlock(keeper);
-        answer
+        self.row.link(rt, session, old, new)
     }
 }

@@ -1,25 +1,21 @@
 //! Opens, at once where that can be.
-ghost use Rattle.std.specs.Prelude.{◌≡◌, ◌≢◌};
 ghost use Rattle.justification.specs.Justified.{Justified};
 ghost use Rattle.mediation.specs.Deeds.{policy_after};
 ghost use Rattle.path_session.specs.Sitting.{IsSameSession, HasSeenMore, HasVersions, IsNameJudged, IsByPublished, CountsRefusals};
-ghost use Rattle.path_guard.specs.Opening.{IsNotBusy, HasAsked, HasLooked};
-ghost use Rattle.path_guard.specs.inner.Tries.{HasTried};
+ghost use Rattle.guarded_row.specs.Opening.{IsNotBusy, HasAsked, HasLooked};
+ghost use Rattle.std.specs.Prelude.{◌≡◌};
 
 use crate::guard::Guard;
-use crate::row::Row;
+use guarded_row::Row;
 use names::Perms;
 use path_session::{Answer, Session};
-use std::sync::{MutexGuard, Wait};
-
-/// So often is an open tried beside the keeper before its lock is taken.
-const TRIES: usize = 3;
+use std::sync::Wait;
 
 impl<M: Row> Guard<M> {
-    /// Opens a file by a session that this guard gave. It is tried three times at most beside the keeper, again only where a
-    /// change came between; after that it waits for the keeper's lock, so that it is never `Busy`.
+    /// Opens a file by a session that this guard gave. It is tried three times at most concurrently with the keeper, again only
+    /// where a change came between; after that it waits for the keeper's lock, so that it is never `Busy`.
     ///
-    /// What is answered is right of the changes of tree and policy that the session has seen then (open(2), apparmor.d(5)).
+    /// The answer is right of the changes of tree and policy that the session has seen then (open(2), apparmor.d(5)).
     pub fn open(&self, rt: &impl Wait, session: &mut Session, path: &[u8], ask: Perms) -> Answer
         requires { session.old.walk.table ≡ M.table }
         ensures same { IsSameSession session.old session.new }
@@ -33,35 +29,6 @@ impl<M: Row> Guard<M> {
         ensures refused { CountsRefusals session.old session.new result }
         ensures not_busy { IsNotBusy result }
     {
-        match open_quickly(session, path, ask) {
-            Answer::Busy { .. } => {
-                let mut keeper = self.keeper.lock(rt);
-                let answer = keeper.open(session, path, ask);
-                MutexGuard::unlock(keeper);
-                answer
-            }
-            answer => answer,
-        }
+        self.row.open(rt, session, path, ask)
     }
-}
-
-/// Tries to open a file beside the keeper, again where a change came between.
-fn open_quickly(session: &mut Session, path: &[u8], ask: Perms) -> Answer
-    ensures same { IsSameSession session.old session.new × (session.new.meetings ≡ session.old.meetings) }
-    ensures history { HasSeenMore session.old session.new }
-    ensures policy_read { HasAsked session.old session.new result }
-    ensures tree_read { HasLooked session.old session.new result }
-    ensures versions { HasVersions session.new result }
-    ensures justified { Justified session.old.profile path.now ask session.new.walk.view.seen session.new.reading.seen result }
-    ensures name { IsNameJudged session.new.walk.view.seen path.now ask result session.new.judged }
-    ensures published { IsByPublished (policy_after session.new.reading.seen session.old.profile) result }
-    ensures refused { CountsRefusals session.old session.new result }
-{
-    for _ in 1..TRIES {
-        match session.try_open(path, ask) {
-            Answer::Busy { .. } => {}
-            answer => return answer,
-        }
-    }
-    session.try_open(path, ask)
 }

@@ -11,7 +11,7 @@ use Rattle.path_session.proofs.Sending.{session_send}
 use Rattle.path_guard.proofs.Sending.{guard_sync}
 use Rattle.directory_tree.specs.contracts.change.Change as change
 use Rattle.matcher.specs.contracts.profiles.PolicyChange as policy_change
-use Rattle.path_guard.specs.declared.row.Row as row
+use Rattle.guarded_row.specs.declared.row.Row as row
 use Rattle.path_storm.specs.contracts.profiles.Profiles as profiles
 use Rattle.path_storm.specs.contracts.worker.Worker as worker
 use Rattle.path_storm.specs.contracts.threads.Scene as scene

@@ -2,9 +2,9 @@
 //! profile; and whether each answer is right.
 //!
 //! [`storm_with`] lays it on a guard, and puts each answer to the trail of what was really changed. [`storm_log`] gives what it
-//! did, and [`StormLog::report`] what that comes to.
+//! did, and [`StormLog::report`] sums it up.
 //!
-//! To be believed are some 45 lines of definitions in `specs/`, beside those of `justification`.
+//! To be believed are some 45 lines of definitions in `specs/`, and those of `justification`.
 #![tactic(auto)]
 
 mod fault;

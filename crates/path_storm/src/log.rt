@@ -1,4 +1,4 @@
-//! What a storm did, and what that comes to.
+//! What a storm did, and its report.
 ghost use Rattle.std.specs.Prelude.{◌≡◌, ◌+◌, IfErr, IfOk, map};
 ghost use Rattle.path_storm.specs.declared.fault.StormFault.TheVariants.{NoMemory};
 ghost use Rattle.mediation.specs.PolicyChanges.{deed_of};

@@ -1,6 +1,6 @@
 //! How large a storm is, and what it came to.
 
-/// So many sessions, each of which opens the file so often, beside so many renames and so many profiles.
+/// How many sessions open the file, how often each of them does, and how many renames and new profiles come meanwhile.
 #[derive(Clone, Copy, Debug)]
 pub struct Plan {
     pub sessions: u32,

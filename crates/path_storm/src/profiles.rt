@@ -20,7 +20,7 @@ impl Profiles {
         })
     }
 
-    /// A share of the one that is published after so many others.
+    /// A share of the one that is published after N others.
     pub(crate) fn after(&self, others: u64) -> Result<Arc<AnyProfile>, StormFault> {
         let profile = if others % 2 == 0 {
             &self.first

@@ -23,7 +23,7 @@ pub(crate) fn make_file<M: Row>(
     Ok(made)
 }
 
-/// Renames `/a` to `/b` and back by turns. Answers all changes that were made, behind those that are told.
+/// Renames `/a` to `/b` and back by turns. Returns all changes that were made, after those that are given.
 pub(crate) fn rename_all<M: Row>(
     rt: &impl Wait,
     guard: &Guard<M>,

@@ -20,7 +20,7 @@ pub(crate) fn publish_first<M: Row>(
     Ok(made)
 }
 
-/// Publishes the second profile and the first one by turns. Answers all changes that were made, behind those that are told.
+/// Publishes the second profile and the first one by turns. Returns all changes that were made, after those that are given.
 pub(crate) fn replace_all<M: Row>(
     rt: &impl Wait,
     alloc: Global,

@@ -26,7 +26,7 @@ pub(crate) struct Scene<'a, M: Row, G> {
     pub ask: Perms,
     /// So often each session opens.
     pub opens: u64,
-    /// So many renames there are, and so many profiles.
+    /// The number of renames, and of profiles.
     pub changes: u64,
 }
 

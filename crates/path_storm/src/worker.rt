@@ -63,7 +63,7 @@ impl<M: Row> Worker<M> {
     }
 }
 
-/// That a thread which ends well brings back so many answers.
+/// That a thread which ends well brings back this many answers.
 #[derive(Clone, Copy)]
 pub(crate) struct Answered {
     pub opens: u64,

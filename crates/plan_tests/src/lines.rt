@@ -7,9 +7,9 @@ use names::Path;
 pub(crate) enum Line<'a> {
     /// Nothing.
     Comment,
-    /// A new tree with room for so many entries.
+    /// A new tree with room for this many entries.
     Room(usize),
-    /// So many rounds of changes at random, in trees with room for so many entries.
+    /// Rounds of changes at random, in trees with room for this many entries.
     Draw { capacity: usize, rounds: usize },
     /// The change is made.
     Make(Change<'a>),

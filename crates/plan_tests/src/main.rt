@@ -1,5 +1,5 @@
 //! Scripts of changes of one tree, in a row in memory and in plain memory, which have to answer alike: tests of `row_plan`. The
-//! program reads scripts from standard input, and writes each line with what it comes to. The file `stdout` has what it must
+//! program reads scripts from standard input, and writes each line with its outcome. The file `stdout` has what it must
 //! write, so it reads as a list of worked changes.
 //!
 //! The lines of a script, in which `bytes_of` of `case_texts` reads brackets:
@@ -7,7 +7,7 @@
 //! | line | is written with |
 //! |---|---|
 //! | `room N` | nothing: the lines that follow are of a new tree, with room for N entries |
-//! | `mkdir P`, `create P`, `symlink TEXT P`, `link OLD NEW`, `unlink P`, `rmdir P`, `rename OLD NEW` | `ok V` with the tree's new version, or the error |
+//! | `mkdir P`, `create P`, `symlink TEXT P`, `link OLD NEW`, `unlink P`, `rmdir P`, `rename OLD NEW` | `ok V`, the new version, or the error |
 //! | `plan CHANGE` | the cells that the change would set, each as its place and its word |
 //! | `name P` | the name of the place that P leads to, or the error |
 //! | `node P` | the number of the node that P leads to, a last link not followed, or the error |

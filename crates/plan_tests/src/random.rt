@@ -18,7 +18,7 @@ pub(crate) enum Failure {
 }
 
 // What changes are drawn of, and of which both trees have to tell the same after each. Components of seven, eight and nine
-// bytes end in, at and behind the end of a cell.
+// bytes end in, at and after the end of a cell.
 const PATHS: [&str; 36] = [
     "/a",
     "/b",
@@ -115,7 +115,7 @@ impl Random {
 // So many changes are made of one tree. In the long run its entries move to where no path of the table leads.
 const CHANGES_OF_A_ROUND: usize = 100;
 
-/// Makes changes of a tree that has room for so many entries, a hundred in each round, which begins with the root alone, and
+/// Makes changes of a tree with room for N entries, a hundred in each round, which begins with the root alone, and
 /// answers how many were made. After each change both trees have to tell the same of all paths.
 pub(crate) fn change_at_random(
     alloc: Global,

@@ -9,7 +9,7 @@ use std::io;
 use std::io::Write;
 use tree_row::MOST_ENTRIES;
 
-/// Writes each line of the scripts, and what it comes to.
+/// Writes each line of the scripts, and its outcome.
 pub(crate) fn run_all<W: Write>(alloc: Global, scripts: &str, output: &mut W) -> io::Result<()> {
     let mut tree = None;
     for written in scripts.lines() {
@@ -36,7 +36,7 @@ fn run<W: Write>(
     }
 }
 
-// The root alone, with room for so many entries.
+// The root alone, with room for this many entries.
 fn begin<W: Write>(
     alloc: Global,
     tree: &mut Option<Twins>,

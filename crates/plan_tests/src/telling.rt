@@ -9,7 +9,7 @@ use row_rule::Cell;
 use std::io;
 use std::io::Write;
 
-/// Writes what a line comes to that asks for something of a tree.
+/// Writes the outcome of a line that asks for something of a tree.
 pub(crate) fn tell<W: Write>(tree: &mut Twins, line: &Line<'_>, output: &mut W) -> io::Result<()> {
     match line {
         Line::Make(change) => tell_change(tree, change, output),

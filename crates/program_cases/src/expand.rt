@@ -15,7 +15,7 @@ pub(crate) fn expanded(alloc: Global, text: &str) -> Result<Vec<u8>, AllocError>
     Ok(bytes)
 }
 
-/// Puts in place what stands behind the last `<<`, at its `>>`.
+/// Puts in place what stands after the last `<<`, at its `>>`.
 fn close(alloc: Global, bytes: &mut Vec<u8>) -> Result<(), AllocError> {
     let Some(at) = bytes.windows(2).rposition(|two| two == b"<<".as_slice()) else {
         return bytes.extend_from_slice(b">>");
@@ -40,7 +40,7 @@ fn text_of(bytes: Option<&[u8]>) -> &str {
     }
 }
 
-/// Adds numbers of so many bytes, the lowest byte first; `N*B` are N of them.
+/// Adds numbers of `width` bytes, the lowest byte first; `N*B` are N of them.
 fn push_numbers(bytes: &mut Vec<u8>, numbers: &str, size: usize) -> Result<(), AllocError> {
     for number in numbers.split_whitespace() {
         let (count, number) = number.split_once('*').unwrap_or(("1", number));
@@ -51,7 +51,7 @@ fn push_numbers(bytes: &mut Vec<u8>, numbers: &str, size: usize) -> Result<(), A
     Ok(())
 }
 
-/// Adds bytes so many times.
+/// Adds bytes, repeated.
 fn push_times(bytes: &mut Vec<u8>, more: &[u8], count: u32) -> Result<(), AllocError> {
     for _ in 0..count {
         bytes.extend_from_slice(more)?;

@@ -8,7 +8,7 @@
 //! - `$ parse aa-trace WORDS` shows what the words ask for, or what the parser says of them.
 //! - `$ plain-bench N` runs a script as `aa-trace run --capacity N` does, on a bench in plain memory.
 //! - `$ ONE | TWO` gives what ONE writes to TWO. Between them may stand `set PLACE BYTE`, which changes a byte of it, and `first N`,
-//!   which keeps so many bytes of it.
+//!   which keeps the given number of its bytes.
 //!
 //! In a text and in a command `<<N TEXT>>` stands for TEXT N times, `<<bytes B ..>>` for bytes by their numbers, and `<<words W ..>>`
 //! for numbers of four bytes, the lowest byte first; `N*B` among them is N of them.

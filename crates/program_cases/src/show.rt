@@ -4,7 +4,7 @@ use std::alloc::{AllocError, Global};
 use std::io;
 use std::io::Write;
 
-/// From so many on, equal bytes are written by their number.
+/// The least number of equal bytes that are written by their number.
 const MANY: usize = 64;
 
 /// So many runs of words are written on a line.

@@ -10,7 +10,7 @@ use trace_report::Status;
 /// One that fails, and one that holds of the same answer.
 const FAILS: &str = "mkdir /d\nexpect EEXIST 17\nexpect ok 1\n";
 
-/// A test whose answers are taken seven bytes at a time and in so many calls at most.
+/// A test whose answers are taken seven bytes at a time and in at most N calls.
 fn test_into_failing(rt: &(impl Threads + Wait + Sync), alloc: Global, calls: usize) -> Ending {
     let mut input = FAILS.as_bytes();
     let answers = Failing::after(alloc, 7, calls);

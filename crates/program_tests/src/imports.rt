@@ -56,7 +56,7 @@ fn imports_that_are_not_read(rt: HostRuntime) -> Result<(), Fail> {
     Ok(())
 }
 
-/// Adds a text so many times.
+/// Adds a text, repeated.
 fn push_times(text: &mut String, count: usize, more: &str) -> Result<(), AllocError> {
     for _ in 0..count {
         text.push_str(more)?;
@@ -64,7 +64,7 @@ fn push_times(text: &mut String, count: usize, more: &str) -> Result<(), AllocEr
     Ok(())
 }
 
-/// A variable that is led to 16 long paths, and below it a profile with so many times this line.
+/// A variable that is led to 16 long paths, and below it a profile that repeats this line.
 fn many_paths(alloc: Global, count: usize, line: &str) -> Result<String, AllocError> {
     let mut text = String::new(alloc);
     text.push_str("@{A} = \"{")?;

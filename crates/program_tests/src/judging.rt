@@ -61,7 +61,7 @@ fn explanations_that_are_cut_off(rt: HostRuntime) {
     assert!(rt; ending.is(Status::OutputFailed, &whole[..15], b"refused: output\n"));
 }
 
-/// Asserts how a run ends whose fault is taken in each number of calls: it isn't told until it is flushed.
+/// Asserts how a run ends whose fault is taken in each number of calls: it isn't reported until it is flushed.
 fn expect_told_late(rt: &(impl Abort + Threads + Wait + Sync), alloc: Global, words: &[&str]) {
     expect_unread(rt, alloc, words, 0, Status::FaultsFailed);
     expect_unread(rt, alloc, words, 1, Status::FaultsFailed);

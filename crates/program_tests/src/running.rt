@@ -78,7 +78,7 @@ impl Write for Failing {
     }
 }
 
-/// What a run comes to: its status, and what stands on both streams.
+/// The outcome of a run: its status, and what stands on both streams.
 #[derive(Drop)]
 pub(crate) struct Ending {
     pub(crate) status: Status,
@@ -93,7 +93,7 @@ impl Ending {
             && self.faults.as_slice() == faults
     }
 
-    /// Whether just this was told: as an answer where the run was done, and as a fault where it wasn't.
+    /// Whether just this was written: as an answer where the run was done, and as a fault where it wasn't.
     pub(crate) fn tells(&self, status: Status, told: &str) -> bool {
         let told = told.as_bytes();
         if status == Status::Done {
@@ -151,7 +151,7 @@ pub(crate) fn run_on_pieces(
     Ok(run_within(rt, alloc, words, &mut input, answers, faults))
 }
 
-/// A run over one profile, whose answers are taken a few bytes at a time and in so many calls at most.
+/// A run over one profile, whose answers are taken a few bytes at a time and in at most N calls.
 pub(crate) fn run_into_failing(
     rt: &(impl Threads + Wait + Sync),
     alloc: Global,
@@ -187,7 +187,7 @@ pub(crate) fn expect_read_faults(
     Ok(())
 }
 
-/// Asserts how a run ends whose fault is taken in so many calls at most: nothing is read, and nothing answered.
+/// Asserts how a run ends whose fault is taken in at most N calls: nothing is read, and nothing answered.
 pub(crate) fn expect_unread(
     rt: &(impl Abort + Threads + Wait + Sync),
     alloc: Global,

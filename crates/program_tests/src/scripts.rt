@@ -99,7 +99,7 @@ fn run_on_pieces(alloc: Global, pieces: Pieces<'_>) -> Result<Ending, Fail> {
     )
 }
 
-/// A run of two lines that are answered, whose answers are taken seven bytes at a time and in so many calls at most.
+/// A run of two lines that are answered, whose answers are taken seven bytes at a time and in at most the given number of calls.
 fn run_into_failing(alloc: Global, calls: usize) -> Result<Ending, Fail> {
     let mut input = b"open p /a r\nopen p /a r\n".as_slice();
     let answers = Failing::after(alloc, 7, calls);
@@ -152,7 +152,7 @@ fn more_than_a_million_lines(rt: HostRuntime) -> Result<(), Fail> {
     Ok(())
 }
 
-/// What follows after so many reads, each of a line, and how the run ends.
+/// What follows after N reads, each of a line, and how the run ends.
 type ReadFault<'a> = (ErrorKind, usize, Status, &'a str, &'a str);
 
 fn expect_read_faults(rt: &impl Abort, alloc: Global, rows: &[ReadFault]) -> Result<(), Fail> {

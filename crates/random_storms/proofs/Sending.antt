@@ -10,7 +10,7 @@ use Rattle.path_session.proofs.Sending.{session_send}
 use Rattle.path_guard.proofs.Sending.{guard_sync}
 use Rattle.storm_parts.proofs.drawing.Random.TheSendSync as random_crosses
 use Rattle.storm_parts.proofs.rounds.Rounds.TheSendSync as rounds
-use Rattle.path_guard.specs.declared.row.Row as row
+use Rattle.guarded_row.specs.declared.row.Row as row
 use Rattle.storm_parts.specs.contracts.drawing.Random as random
 use Rattle.random_storms.specs.contracts.opens.opening.Opener as opener
 use Rattle.storm_parts.specs.contracts.questions.Question as question

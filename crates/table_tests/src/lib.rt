@@ -1,10 +1,12 @@
-//! Tests of `table_image`, `table_verifier` and `matcher`, and nothing else. A library with tests of its own would be proved
-//! twice, once with them; as they stand here, each of these libraries is proved once.
+//! Tests of `table_image`, `table_verifier`, `image_judge` and `matcher`, and nothing else. A library with tests of its own would
+//! be proved twice, once with them; as they stand here, each of these libraries is proved once.
 #![tactic(auto)]
 
 #[cfg(test)]
 mod images;
 #[cfg(test)]
 mod matching;
+#[cfg(test)]
+mod numbers;
 #[cfg(test)]
 mod verifying;

@@ -118,7 +118,7 @@ pub fn from_bytes(alloc: Global, bytes: &[u8]) -> Result<RawTable, ImageFault>
     Ok(read_table(alloc, bytes, counts)?)
 }
 
-// The tables that stand behind a header, whose places follow from its counts.
+// The tables that follow a header, whose places depend on its counts.
 fn read_table(alloc: Global, bytes: &[u8], counts: Counts) -> Result<RawTable, AllocError>
     requires whole { IsWhole bytes.now }
     requires states { counts.states ≡ word_at bytes.now 8 }

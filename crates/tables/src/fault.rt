@@ -19,7 +19,7 @@ pub enum ImageFault {
     /// Another version than 1.
     #[error("another version")]
     Version,
-    /// The two bytes behind the version aren't 0.
+    /// The two bytes after the version aren't 0.
     #[error("reserved bytes in use")]
     Reserved,
     /// Fewer than 2 or more than 65,536 states, fewer than 256 or more than 16,777,216 cells, or fewer than 1 or more than
@@ -32,7 +32,7 @@ pub enum ImageFault {
     /// A state's default is no state.
     #[error("the default of state {state} is no state")]
     Default { state: u32 },
-    /// A state's row would end behind the last cell.
+    /// A state's row would end after the last cell.
     #[error("the row of state {state} ends behind the last cell")]
     Base { state: u32 },
     /// A state's accept names no record.

@@ -15,6 +15,6 @@ pub struct RawTable {
     pub next: Vec<u32>,
     /// For each cell the state that owns it.
     pub check: Vec<u32>,
-    /// What is told of names that end in a state.
+    /// The record of names that end in a state.
     pub records: Vec<Record>,
 }

@@ -7,7 +7,7 @@ use std::alloc::{AllocError, Global};
 use std::io;
 use std::io::Write;
 
-/// Shows each line, and of a path what it comes to with the variables in place. A line that gives the first variable another
+/// Shows each line, and of a path what it is with the variables in place. A line that gives the first variable another
 /// value is shown alone.
 pub(crate) fn show_substituted<W: Write>(
     alloc: Global,

@@ -153,8 +153,10 @@ ScriptEnds limit streams left_before left_after history text FaultsFailed =
     AppendsFront streams.answers_before streams.answers_after (script_output limit history (script_of text)).answers
 
 -- The same of a text that these bytes of the reader may be, by each test for too many states.
-pub record ScriptEndsOver (streams : Streams) (left_before left_after : Option (List ℕ)) (history : History) (status : Status) : Type 0 where
-  pub ended : (limit : StateLimit) → (text : List ℕ) × IsTextOf left_before text × ScriptEnds limit streams left_before left_after history text status
+pub record ScriptEndsOver (streams : Streams) (left_before left_after : Option (List ℕ)) (history : History)
+    (status : Status) : Type 0 where
+  pub ended : (limit : StateLimit) → (text : List ℕ) × IsTextOf left_before text
+      × ScriptEnds limit streams left_before left_after history text status
 
 -- How `run` ends. Bad arguments are found before.
 abbrev pub RunEnds : StateLimit → Streams → Option (List ℕ) → Option (List ℕ) → ℕ → List ℕ → Status → Type 0

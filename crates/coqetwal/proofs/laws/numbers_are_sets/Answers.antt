@@ -1,5 +1,0 @@
-use Rattle.coqetwal.proofs.Sums.{sums_are_sets}
-use Rattle.coqetwal.proofs.laws.numbers_are_sets.Goals as goal
-
-pub returns : goal.returns
-returns c = sums_are_sets

@@ -1,9 +1,0 @@
-//! Laws of the numbers that C is told.
-ghost use Rattle.std.specs.Prelude.{◌≡◌, ◌≢◌, Some};
-ghost use Rattle.names.specs.declared.permissions.Perms.{Perms};
-ghost use Rattle.coqetwal.specs.Sets.{number_of, set_of_number};
-
-/// The number of a set that isn't empty stands for that set.
-pub fn numbers_are_sets()
-    ensures { (s : Perms) → number_of s ≢ 0 → set_of_number (number_of s) ≡ Some s }
-{}

@@ -1,0 +1,80 @@
+//! What was changed, and published, is found.
+ghost use Rattle.std.specs.Prelude.{◌≡◌};
+
+use crate::testing::{allowed, create, keeper, path, publish, session, to_read};
+use dentry_cache::Keeper;
+use directory_tree::Change;
+use names::Errno;
+use path_guard::{Answer, Guard, Row};
+use profile_registry::Publisher;
+use std::alloc::Global;
+use std::marker::Brand;
+use std::process::Abort;
+use std::sync::Wait;
+use std::test::Fail;
+use verdicts::Verdict;
+
+fn guard_reads_back_of<M: Row, R: Abort + Wait>(
+    rt: &R,
+    alloc: Global,
+    guard: &Guard<M>,
+) -> Result<(), Fail> {
+    let mut session = session(rt, guard)?;
+    let file: &[u8] = b"/f";
+    assert_eq!(rt;
+        guard.open(rt, &mut session, file, to_read()),
+        Answer::NoProfile { policy_version: 0 }
+    );
+    assert_eq!(rt; publish(rt, alloc, guard, b"profile p {\n  /f r,\n}\n")?, 1);
+    let missing = Answer::Failed {
+        errno: Errno::ENOENT,
+        tree_version: 0,
+    };
+    assert_eq!(rt; guard.open(rt, &mut session, file, to_read()), missing);
+    assert_eq!(rt; create(rt, guard, file)?, 1);
+    assert_eq!(rt;
+        guard.open(rt, &mut session, file, to_read()),
+        allowed(2, 1, 1)
+    );
+    assert_eq!(rt; session.name(), file);
+    assert_eq!(rt;
+        publish(rt, alloc, guard, b"profile p {\n  deny /f r,\n}\n")?,
+        2
+    );
+    let denied = Answer::Judged {
+        verdict: Verdict::Denied { rule: 1 },
+        node: 2,
+        tree_version: 1,
+        policy_version: 2,
+    };
+    assert_eq!(rt; guard.open(rt, &mut session, file, to_read()), denied);
+    assert_eq!(rt; guard.remove(rt, b"p"), Ok(3));
+    assert_eq!(rt;
+        guard.open(rt, &mut session, file, to_read()),
+        Answer::NoProfile { policy_version: 3 }
+    );
+    let again = Change::Create(path(file)?);
+    assert_eq!(rt; guard.change(rt, &again), Err(Errno::EEXIST));
+    Ok(())
+}
+
+fn guard_reads_back_by<M: Row, R: Abort + Wait>(
+    rt: &R,
+    alloc: Global,
+    keeper: Keeper,
+    publisher: Publisher,
+) -> Result<(), Fail>
+    requires { keeper.table ≡ M.table }
+{
+    let guard: Guard<M> = Guard::new(alloc, keeper, publisher);
+    let outcome = guard_reads_back_of(rt, alloc, &guard);
+    guard.close(rt);
+    outcome
+}
+
+#[test]
+fn guard_reads_back(rt: HostRuntime) -> Result<(), Fail> {
+    let keeper = keeper(rt.alloc())?;
+    let publisher = Publisher::new(rt.alloc())?;
+    guard_reads_back_by::<Brand, _>(&rt, rt.alloc(), keeper, publisher)
+}

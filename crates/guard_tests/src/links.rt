@@ -1,0 +1,71 @@
+//! Hard links by a guard.
+ghost use Rattle.std.specs.Prelude.{◌≡◌};
+
+use crate::testing::{allowed, create, keeper, publish, session, to_read};
+use dentry_cache::Keeper;
+use names::{Errno, Permission, Perms};
+use path_guard::{Guard, LinkAnswer, Row};
+use profile_registry::Publisher;
+use rule_judge::LinkVerdict;
+use std::alloc::Global;
+use std::marker::Brand;
+use std::process::Abort;
+use std::sync::Wait;
+use std::test::Fail;
+
+fn links_of<M: Row, R: Abort + Wait>(rt: &R, alloc: Global, guard: &Guard<M>) -> Result<(), Fail> {
+    create(rt, guard, b"/f")?;
+    publish(
+        rt,
+        alloc,
+        guard,
+        b"profile p {\n  /f r,\n  /g rl,\n  /h rwl,\n}\n",
+    )?;
+    let mut session = session(rt, guard)?;
+    let made = LinkAnswer::Linked {
+        node: 2,
+        tree_version: 2,
+        policy_version: 1,
+    };
+    assert_eq!(rt; guard.link(rt, &mut session, b"/f", b"/g"), Ok(made));
+    assert_eq!(rt;
+        guard.open(rt, &mut session, b"/g", to_read()),
+        allowed(2, 2, 1)
+    );
+    let wider = LinkAnswer::NotAllowed {
+        verdict: LinkVerdict::Wider {
+            extra: Perms::NONE.with(Permission::Write),
+        },
+        node: 2,
+        tree_version: 2,
+        policy_version: 1,
+    };
+    assert_eq!(rt; guard.link(rt, &mut session, b"/f", b"/h"), Ok(wider));
+    let there = LinkAnswer::Failed {
+        errno: Errno::EEXIST,
+        tree_version: 2,
+    };
+    assert_eq!(rt; guard.link(rt, &mut session, b"/f", b"/g"), Ok(there));
+    Ok(())
+}
+
+fn links_by<M: Row, R: Abort + Wait>(
+    rt: &R,
+    alloc: Global,
+    keeper: Keeper,
+    publisher: Publisher,
+) -> Result<(), Fail>
+    requires { keeper.table ≡ M.table }
+{
+    let guard: Guard<M> = Guard::new(alloc, keeper, publisher);
+    let outcome = links_of(rt, alloc, &guard);
+    guard.close(rt);
+    outcome
+}
+
+#[test]
+fn links(rt: HostRuntime) -> Result<(), Fail> {
+    let keeper = keeper(rt.alloc())?;
+    let publisher = Publisher::new(rt.alloc())?;
+    links_by::<Brand, _>(&rt, rt.alloc(), keeper, publisher)
+}

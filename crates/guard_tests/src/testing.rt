@@ -1,0 +1,70 @@
+//! Guards, each of a keeper and a publisher of its own.
+ghost use Rattle.std.specs.Prelude.{◌≡◌, IfOk};
+
+use dentry_cache::Keeper;
+use directory_tree::Change;
+use matcher::{AnyProfile, CompiledProfile};
+use names::{Path, Permission, Perms};
+use path_guard::{Answer, Guard, Row, Session};
+use rule_text::read;
+use std::alloc::Global;
+use std::sync::{Arc, Wait};
+use std::test::Fail;
+use verdicts::Verdict;
+
+pub(crate) fn to_read() -> Perms {
+    Perms::NONE.with(Permission::Read)
+}
+
+pub(crate) fn path(bytes: &[u8]) -> Result<Path<'_>, Fail> {
+    Ok(Path::check(bytes).ok().ok_or("a path")?)
+}
+
+/// The profile that a text spells.
+pub(crate) fn compiled(alloc: Global, text: &[u8]) -> Result<Arc<AnyProfile>, Fail> {
+    let compiled = CompiledProfile::make(alloc, read(alloc, text)?)?;
+    Ok(Arc::new(alloc, AnyProfile::Compiled(compiled))?)
+}
+
+/// A keeper with room for nine entries.
+pub(crate) fn keeper(alloc: Global) -> Result<Keeper, Fail> {
+    Ok(Keeper::new(alloc, 9)?)
+}
+
+/// Makes a file, and returns the tree's version.
+pub(crate) fn create<M: Row>(rt: &impl Wait, guard: &Guard<M>, name: &[u8]) -> Result<u64, Fail> {
+    let change = Change::Create(path(name)?);
+    Ok(guard.change(rt, &change).ok().ok_or("a change")?)
+}
+
+/// Publishes the profile p.
+pub(crate) fn publish<M: Row>(
+    rt: &impl Wait,
+    alloc: Global,
+    guard: &Guard<M>,
+    text: &[u8],
+) -> Result<u64, Fail> {
+    let profile = compiled(alloc, text)?;
+    Ok(
+        guard
+            .replace(rt, b"p", profile)
+            .ok()
+            .ok_or("a publication")?,
+    )
+}
+
+pub(crate) fn session<M: Row>(rt: &impl Wait, guard: &Guard<M>) -> Result<Session, Fail>
+    ensures { IfOk result (λ session. session.walk.table ≡ M.table) }
+{
+    Ok(guard.session(rt, b"p").ok().ok_or("a session")?)
+}
+
+/// The answer where reading the file of this node is allowed.
+pub(crate) fn allowed(node: u64, tree_version: u64, policy_version: u64) -> Answer {
+    Answer::Judged {
+        verdict: Verdict::Allowed,
+        node,
+        tree_version,
+        policy_version,
+    }
+}

@@ -1,0 +1,14 @@
+//! A row's keeper under a lock, for the sessions of many threads: opens that take the lock only where they met one change after
+//! another, and what waits for it.
+//!
+//! To be believed are about 40 lines of definitions in `specs/`, and those of `path_session`.
+#![tactic(auto)]
+
+mod guarded;
+mod linking;
+mod opening;
+mod row;
+
+pub use guarded::GuardedRow;
+pub use path_session::{Answer, LinkAnswer, Session, Unanswered};
+pub use row::{Row, RowKeeper};

@@ -1,0 +1,36 @@
+//! Names judged.
+ghost use Rattle.image_judge.specs.Answers.{IsAnswerOf, IsNoneOrLoaded, IsToldByTable};
+ghost use Rattle.image_judge.specs.Sets.{set_of_number};
+
+use crate::answer::{Answer, answer_on, no_answer};
+use crate::permissions::set_of_number;
+use names::Perms;
+use table_runner::record_by_image;
+use table_verifier::{Steps, VerifiedImage};
+use verdicts::grounds_of;
+
+/// What an image that was accepted says of a name for which permissions are asked by the sum of their numbers.
+// The answer goes out through a pointer: a result would be put together on the stack, and read again in larger parts than it
+// was written in, for which the processor waits.
+pub fn judge(image: &[u8], name: &[u8], asked: u32, answer: &mut Answer)
+    requires { IsNoneOrLoaded image.now }
+    ensures { IsAnswerOf image.now (set_of_number asked) name.now answer.new }
+{
+    match set_of_number(asked) {
+        Some(ask) if !image.is_empty() => judge_by(
+            &VerifiedImage::accepted(image),
+            name,
+            ask,
+            answer,
+        ),
+        _ => *answer = no_answer(),
+    }
+}
+
+fn judge_by(image: &VerifiedImage<'_>, name: &[u8], ask: Perms, answer: &mut Answer)
+    ensures { IsToldByTable image.now ask name.now answer.new }
+{
+    let mut steps = Steps::new();
+    let record = record_by_image(image, name, &mut steps);
+    *answer = answer_on(grounds_of(&record, ask), steps.count());
+}

@@ -1,0 +1,18 @@
+//! An image verified once, and names judged by it with all answers in numbers, as C has them, by any number of threads. It takes
+//! no memory. `coqetwal` exports these functions to C.
+//!
+//! To be believed are about 90 lines of definitions in `specs/`.
+#![tactic(auto)]
+
+mod answer;
+mod batch;
+mod judging;
+mod laws;
+mod permissions;
+mod verifying;
+
+pub use answer::Answer;
+pub use batch::judge_all;
+pub use judging::judge;
+pub use laws::numbers_are_sets;
+pub use verifying::{Counts, Fault, count, verify};

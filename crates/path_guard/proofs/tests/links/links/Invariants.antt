@@ -1,4 +1,0 @@
-use Rattle.path_guard.proofs.tests.links.links.Given as goal
-
-abbrev pub ghosts-links_by : goal.ghosts-links_by
-ghosts-links_by g a = record { table = a.keeper.table }

@@ -1,4 +1,0 @@
-use Rattle.path_guard.proofs.tests.locked.quick_under_lock.Given as goal
-
-abbrev pub ghosts-quick_under_lock_by : goal.ghosts-quick_under_lock_by
-ghosts-quick_under_lock_by g a = record { table = a.keeper.table }

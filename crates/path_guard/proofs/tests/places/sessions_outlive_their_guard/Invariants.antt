@@ -1,4 +1,0 @@
-use Rattle.path_guard.proofs.tests.places.sessions_outlive_their_guard.Given as goal
-
-abbrev pub ghosts-ended_guard : goal.ghosts-ended_guard
-ghosts-ended_guard g a = record { table = a.keeper.table }
