@@ -1,40 +1,50 @@
 //! Changes that are made, and changes that are refused.
 use crate::lines::{change, path};
 use crate::testing::{apply, keeper, keeper_after, walk, walk_on, walker};
-use dentry_cache::Keeper;
+use dentry_cache::{Keeper, Walker};
 use directory_tree::{Change, LinkBytes};
 use names::Errno;
 use path_lookup::NAME_ROOM;
 use std::process::Abort;
 use std::test::Fail;
 
-// The test of a change tells what then becomes of it, and changes nothing. A walk that began before a change that is refused
-// ends well, and one that began before a change that is made doesn't.
+// The test of a change says what then becomes of it, and changes nothing.
+fn expect_test(rt: &impl Abort, keeper: &mut Keeper, made: &Change<'_>, refusal: Option<Errno>) {
+    let version = keeper.version();
+    assert_eq!(rt; keeper.test(made).err(), refusal);
+    assert_eq!(rt; keeper.test(made).err(), refusal);
+    assert_eq!(rt; keeper.version(), version);
+}
+
+// Makes a change, or is refused, and returns the version before.
+fn expect_answer(
+    rt: &impl Abort,
+    keeper: &mut Keeper,
+    made: &Change<'_>,
+    refusal: Option<Errno>,
+) -> u64 {
+    let version = keeper.version();
+    let next = version.wrapping_add(1);
+    let wanted = refusal.map_or((Ok(next), next), |errno| (Err(errno), version));
+    let answer = apply(keeper, made);
+    assert_eq!(rt; (answer, keeper.version()), wanted);
+    version
+}
+
+// A walk that began before a change that is refused ends well, and one that began before a change that is made doesn't.
 fn expect(
     rt: &impl Abort,
     keeper: &mut Keeper,
     made: &Change<'_>,
     refusal: Option<Errno>,
 ) -> Result<(), Fail> {
-    let version = keeper.version();
     let attempt = walker(keeper)?.begin();
-    assert_eq!(rt; keeper.test(made).err(), refusal);
-    assert_eq!(rt; keeper.test(made).err(), refusal);
-    assert_eq!(rt; keeper.version(), version);
-    let answer = apply(keeper, made);
-    let after = keeper.version();
+    expect_test(rt, keeper, made, refusal);
+    let version = expect_answer(rt, keeper, made, refusal);
     let walked = walk_on(attempt, b"/a/f", &mut [0; NAME_ROOM])?;
     match refusal {
-        Some(errno) => {
-            assert_eq!(rt; answer, Err(errno));
-            assert_eq!(rt; after, version);
-            assert_eq!(rt; walked.end, Ok(version));
-        }
-        None => {
-            assert_eq!(rt; answer, Ok(after));
-            assert_eq!(rt; after, version.wrapping_add(1));
-            assert!(rt; walked.end.is_err());
-        }
+        Some(_) => assert_eq!(rt; walked.end, Ok(version)),
+        None => assert!(rt; walked.end.is_err()),
     }
     Ok(())
 }
@@ -89,8 +99,12 @@ fn changes_are_refused(rt: HostRuntime) -> Result<(), Fail> {
             ("rename /a /l", Some(Errno::ENOTDIR)),
         ],
     )?;
+    refuse_long_text(&rt, &mut keeper)
+}
+
+fn refuse_long_text(rt: &impl Abort, keeper: &mut Keeper) -> Result<(), Fail> {
     let long = Change::Symlink(LinkBytes::new(&[b'/'; 1024]), path(b"/x")?);
-    expect(&rt, &mut keeper, &long, Some(Errno::ENAMETOOLONG))?;
+    expect(rt, keeper, &long, Some(Errno::ENAMETOOLONG))?;
     assert_eq!(rt; keeper.version(), 5);
     Ok(())
 }
@@ -158,10 +172,17 @@ fn no_room_at_all(rt: HostRuntime) -> Result<(), Fail> {
 fn the_greatest_row(rt: HostRuntime) -> Result<(), Fail> {
     let mut keeper = keeper(rt.alloc(), 16384)?;
     assert_eq!(rt; keeper.capacity(), 16384);
-    assert_eq!(rt; apply(&mut keeper, &change("mkdir /a")?), Ok(1));
-    assert_eq!(rt; apply(&mut keeper, &change("create /a/f")?), Ok(2));
+    expect_answers(
+        &rt,
+        &mut keeper,
+        &[("mkdir /a", None), ("create /a/f", None)],
+    )?;
+    expect_file(&rt, walker(&mut keeper)?)
+}
+
+fn expect_file(rt: &impl Abort, walker: Walker) -> Result<(), Fail> {
     let mut room = [0; NAME_ROOM];
-    let walked = walk(walker(&mut keeper)?, b"/a/f", &mut room)?;
+    let walked = walk(walker, b"/a/f", &mut room)?;
     assert_eq!(rt; (walked.length, walked.end), (Ok(4), Ok(2)));
     assert!(rt; room.starts_with(b"/a/f"));
     Ok(())

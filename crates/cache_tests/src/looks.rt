@@ -1,68 +1,125 @@
 //! What the keeper itself sees, and whose changes a walker sees.
 use crate::lines::change;
-use crate::testing::{apply, keeper, keeper_after, name, walk, walk_on, walker};
+use crate::testing::{Walked, apply, keeper, keeper_after, name, walk, walk_on, walker};
+use dentry_cache::{Attempt, Busy, Keeper, Walker};
 use names::Errno;
 use path_lookup::{NAME_ROOM, WalkFault};
+use std::process::Abort;
 use std::test::Fail;
+
+const ABSENT: WalkFault = WalkFault::Refused(Errno::ENOENT);
+
+/// What the keeper's look finds by a path: this name, or none.
+fn expect_seen(
+    rt: &impl Abort,
+    keeper: &mut Keeper,
+    path: &str,
+    want: Result<&str, WalkFault>,
+) -> Result<(), Fail> {
+    let mut room = [0; NAME_ROOM];
+    let length = name(keeper.look(), path.as_bytes(), &mut room)?;
+    match want {
+        Ok(name) => {
+            assert_eq!(rt; length, Ok(name.len()), "{path}");
+            assert!(rt; room.starts_with(name.as_bytes()), "{path}");
+        }
+        Err(fault) => assert_eq!(rt; length, Err(fault), "{path}"),
+    }
+    Ok(())
+}
+
+fn expect_all_seen(
+    rt: &impl Abort,
+    keeper: &mut Keeper,
+    rows: &[(&str, Result<&str, WalkFault>)],
+) -> Result<(), Fail> {
+    for (path, want) in rows {
+        expect_seen(rt, keeper, path, *want)?;
+    }
+    Ok(())
+}
+
+const LINES: [&str; 4] = [
+    "mkdir /a",
+    "create /a/f",
+    "symlink ../a/f /a/l",
+    "symlink r /r",
+];
 
 #[test]
 fn a_keeper_looks(rt: HostRuntime) -> Result<(), Fail> {
-    let lines = [
-        "mkdir /a",
-        "create /a/f",
-        "symlink ../a/f /a/l",
-        "symlink r /r",
-    ];
-    let mut keeper = keeper_after(rt.alloc(), 5, &lines)?;
-    let mut room = [0; NAME_ROOM];
-    assert_eq!(rt; name(keeper.look(), b"/a/l", &mut room)?, Ok(4));
-    assert!(rt; room.starts_with(b"/a/f"));
-    assert_eq!(rt; name(keeper.look(), b"/a/.", &mut room)?, Ok(3));
-    assert!(rt; room.starts_with(b"/a/"));
-    let absent = Err(WalkFault::Refused(Errno::ENOENT));
-    assert_eq!(rt; name(keeper.look(), b"/b", &mut room)?, absent);
+    let rename = change("rename /a /b")?;
+    let mut keeper = keeper_after(rt.alloc(), 5, &LINES)?;
     let looped = Err(WalkFault::Refused(Errno::ELOOP));
-    assert_eq!(rt; name(keeper.look(), b"/r", &mut room)?, looped);
+    let first = [
+        ("/a/l", Ok("/a/f")),
+        ("/a/.", Ok("/a/")),
+        ("/b", Err(ABSENT)),
+        ("/r", looped),
+    ];
+    expect_all_seen(&rt, &mut keeper, &first)?;
     assert_eq!(rt; keeper.version(), 4);
     // Changes go on after a look, and the next look sees them.
-    assert_eq!(rt; apply(&mut keeper, &change("rename /a /b")?), Ok(5));
-    assert_eq!(rt; name(keeper.look(), b"/b/f", &mut room)?, Ok(4));
-    assert!(rt; room.starts_with(b"/b/f"));
-    assert_eq!(rt; name(keeper.look(), b"/a", &mut room)?, absent);
-    Ok(())
+    assert_eq!(rt; apply(&mut keeper, &rename), Ok(5));
+    let then = [("/b/f", Ok("/b/f")), ("/a", Err(ABSENT))];
+    expect_all_seen(&rt, &mut keeper, &then)
 }
 
-// A look is no change: a walk beside it ends well.
+/// Goes on with a walk, and expects the length of the name that it finds, and how it ends.
+fn expect_end(
+    rt: &impl Abort,
+    attempt: Attempt,
+    path: &str,
+    length: Result<usize, WalkFault>,
+    end: Result<u64, Busy>,
+) -> Result<Walker, Fail> {
+    let Walked {
+        walker,
+        length: found,
+        end: ended,
+    } = walk_on(attempt, path.as_bytes(), &mut [0; NAME_ROOM])?;
+    assert_eq!(rt; (found, ended), (length, end), "{path}");
+    Ok(walker)
+}
+
+// A look is no change: a walk that goes on after it ends well.
 #[test]
-fn a_walk_beside_a_look(rt: HostRuntime) -> Result<(), Fail> {
+fn a_walk_around_a_look(rt: HostRuntime) -> Result<(), Fail> {
     let mut keeper = keeper_after(rt.alloc(), 1, &["create /f"])?;
     let attempt = walker(&mut keeper)?.begin();
-    let mut room = [0; NAME_ROOM];
-    assert_eq!(rt; name(keeper.look(), b"/f", &mut room)?, Ok(2));
-    let walked = walk_on(attempt, b"/f", &mut room)?;
-    assert_eq!(rt; (walked.length, walked.end), (Ok(2), Ok(1)));
+    expect_seen(&rt, &mut keeper, "/f", Ok("/f"))?;
+    expect_end(&rt, attempt, "/f", Ok(2), Ok(1))?;
     Ok(())
 }
 
-// Walkers of one row don't see another one, nor are they beside its changes.
+fn make_two(rt: &impl Abort, keeper: &mut Keeper) -> Result<(), Fail> {
+    assert_eq!(rt; apply(keeper, &change("create /one")?), Ok(1));
+    assert_eq!(rt; apply(keeper, &change("create /two")?), Ok(2));
+    Ok(())
+}
+
+fn expect_other(rt: &impl Abort, attempt: Attempt) -> Result<(), Fail> {
+    let walker = expect_end(rt, attempt, "/one", Err(ABSENT), Ok(1))?;
+    expect_end(rt, walker.begin(), "/other", Ok(6), Ok(1))?;
+    Ok(())
+}
+
+fn expect_one(rt: &impl Abort, attempt: Attempt) -> Result<(), Fail> {
+    let walker = expect_end(rt, attempt, "/other", Err(ABSENT), Ok(2))?;
+    expect_end(rt, walker.begin(), "/one", Ok(4), Ok(2))?;
+    Ok(())
+}
+
+// Walkers of one row don't see another one, and its changes don't disturb them.
 #[test]
 fn rows_are_apart(rt: HostRuntime) -> Result<(), Fail> {
-    let mut one = keeper(rt.alloc(), 2)?;
     let mut other = keeper_after(rt.alloc(), 3, &["create /other"])?;
     let attempt = walker(&mut other)?.begin();
+    let mut one = keeper(rt.alloc(), 2)?;
     let ours = walker(&mut one)?;
-    assert_eq!(rt; apply(&mut one, &change("create /one")?), Ok(1));
-    assert_eq!(rt; apply(&mut one, &change("create /two")?), Ok(2));
-    let mut room = [0; NAME_ROOM];
-    let absent = Err(WalkFault::Refused(Errno::ENOENT));
-    let walked = walk_on(attempt, b"/one", &mut room)?;
-    assert_eq!(rt; (walked.length, walked.end), (absent, Ok(1)));
-    let walked = walk(walked.walker, b"/other", &mut room)?;
-    assert_eq!(rt; (walked.length, walked.end), (Ok(6), Ok(1)));
-    let walked = walk(ours, b"/other", &mut room)?;
-    assert_eq!(rt; (walked.length, walked.end), (absent, Ok(2)));
-    let walked = walk(walked.walker, b"/one", &mut room)?;
-    assert_eq!(rt; (walked.length, walked.end), (Ok(4), Ok(2)));
+    make_two(&rt, &mut one)?;
+    expect_other(&rt, attempt)?;
+    expect_one(&rt, ours.begin())?;
     assert_eq!(rt; (one.version(), other.version()), (2, 1));
     Ok(())
 }

@@ -50,7 +50,10 @@ pub(crate) fn walker(keeper: &mut Keeper) -> Result<Walker, Fail>
 {
     match keeper.walker() {
         Ok(walker) => Ok(walker),
-        Err(_) => Ok(keeper.walker().ok().ok_or("a seat")?),
+        Err(_) => match keeper.walker() {
+            Ok(walker) => Ok(walker),
+            Err(_) => Err(Fail::from("a seat")),
+        },
     }
 }
 

@@ -1,10 +1,10 @@
 //! Opens beside changes of the tree.
-use crate::scene::{begin, make, path, policy, rename, scene, set_all, take};
+use crate::scene::{begin, make, open_for, path, perms, policy, rename, scene, set_all, take};
 use directory_tree::Change;
 use interleaving_core::{Answer, Core, Event, EventMachine, run};
 use matcher::PolicyChange;
-use names::Perms;
 use std::alloc::Global;
+use std::process::Abort;
 use std::test::Fail;
 use verdicts::Verdict;
 
@@ -60,103 +60,142 @@ fn events_of<'a>(
     Ok(events)
 }
 
-#[test]
-fn a_list_of_events(rt: HostRuntime) -> Result<(), Fail> {
-    let mut core = Core::new(rt.alloc(), 4).ok().ok_or("memory")?;
-    let policy = [policy(rt.alloc())?];
-    let directory = Change::Mkdir(path(b"/d")?);
-    let file = Change::Create(path(b"/d/f")?);
-    let events = events_of(rt.alloc(), &directory, &file, &policy)?;
-    let answers = run(&mut core, &events).ok().ok_or("memory")?;
+fn expect_told(rt: &impl Abort, core: &Core, answers: &[(u32, Answer)]) {
     let told = [
         (7, Answer::NoProfile { policy_version: 0 }),
         (9, judged(Verdict::Allowed, 2)),
     ];
-    assert_eq!(rt; answers.as_slice(), told.as_slice());
+    assert_eq!(rt; answers, told.as_slice());
     assert_eq!(rt; (core.tree_version(), core.policy_version()), (2, 2));
-    assert_eq!(rt; (core.name(7), core.name(9)), (&b""[..], &b"/d/f"[..]));
+    assert_eq!(rt; core.name(7), b"".as_slice());
+    assert_eq!(rt; core.name(9), b"/d/f".as_slice());
+}
+
+fn run_list(rt: &impl Abort, alloc: Global, policy: &[PolicyChange]) -> Result<(), Fail> {
+    let directory = Change::Mkdir(path(b"/d")?);
+    let file = Change::Create(path(b"/d/f")?);
+    let events = events_of(alloc, &directory, &file, policy)?;
+    let mut core = Core::new(alloc, 4).ok().ok_or("memory")?;
+    let answers = run(&mut core, &events).ok().ok_or("memory")?;
+    expect_told(rt, &core, &answers);
     Ok(())
 }
 
+#[test]
+fn a_list_of_events(rt: HostRuntime) -> Result<(), Fail> {
+    let policy = [policy(rt.alloc())?];
+    run_list(&rt, rt.alloc(), &policy)
+}
+
 // A walk that goes on to its end.
-fn walk(rt: &impl std::process::Abort, core: &mut Core, session: u32) {
+fn walk(rt: &impl Abort, core: &mut Core, session: u32) {
     let cells = core.read_cells(session, 1000);
     assert!(rt; matches!(&cells, Ok(count) if *count > 0));
     assert_eq!(rt; core.read_cells(session, 1000), Ok(0));
 }
 
-#[test]
-fn an_open_between_two_renames(rt: HostRuntime) -> Result<(), Fail> {
-    let mut core = scene(&rt, rt.alloc())?;
-    let (there, on) = (rename(b"/d", b"/e")?, rename(b"/e", b"/g")?);
-    take(&rt, &mut core, &begin(1, b"/e/f")?);
-    take(&rt, &mut core, &Event::PolicyRead(1));
-    make(&rt, &mut core, &there);
-    take(&rt, &mut core, &Event::CountRead(1));
-    walk(&rt, &mut core, 1);
-    take(&rt, &mut core, &Event::CountCheck(1));
-    make(&rt, &mut core, &on);
-    assert_eq!(rt;
-        core.step(&Event::Answer(1)),
-        Ok(Some(judged(Verdict::Allowed, 3)))
-    );
-    assert_eq!(rt; core.name(1), b"/e/f".as_slice());
-    assert_eq!(rt; core.tree_version(), 4);
+// All that a call reads of the tree.
+fn read_tree(rt: &impl Abort, core: &mut Core, session: u32) {
+    take(rt, core, &Event::CountRead(session));
+    walk(rt, core, session);
+    take(rt, core, &Event::CountCheck(session));
+}
+
+fn expect_answer(rt: &impl Abort, core: &mut Core, session: u32, answer: Answer, name: &[u8]) {
+    assert_eq!(rt; core.step(&Event::Answer(session)), Ok(Some(answer)));
+    assert_eq!(rt; core.name(session), name);
+}
+
+// The tree is read after one change, and before another.
+fn open_between(
+    rt: &impl Abort,
+    core: &mut Core,
+    there: &Change<'_>,
+    on: &Change<'_>,
+) -> Result<(), Fail> {
+    take(rt, core, &begin(1, b"/e/f")?);
+    take(rt, core, &Event::PolicyRead(1));
+    make(rt, core, there);
+    read_tree(rt, core, 1);
+    make(rt, core, on);
     Ok(())
 }
 
 #[test]
-fn a_disturbed_walk_is_busy(rt: HostRuntime) -> Result<(), Fail> {
+fn an_open_between_two_renames(rt: HostRuntime) -> Result<(), Fail> {
+    let (there, on) = (rename(b"/d", b"/e")?, rename(b"/e", b"/g")?);
     let mut core = scene(&rt, rt.alloc())?;
-    let change = rename(b"/d", b"/e")?;
-    take(&rt, &mut core, &begin(1, b"/d/f")?);
-    take(&rt, &mut core, &begin(2, b"/d/f")?);
-    take(&rt, &mut core, &Event::PolicyRead(1));
-    take(&rt, &mut core, &Event::PolicyRead(2));
-    take(&rt, &mut core, &Event::CountRead(1));
-    take(&rt, &mut core, &Event::Open(&change));
+    open_between(&rt, &mut core, &there, &on)?;
+    expect_answer(&rt, &mut core, 1, judged(Verdict::Allowed, 3), b"/e/f");
+    assert_eq!(rt; core.tree_version(), 4);
+    Ok(())
+}
+
+// Two calls have begun. The first has read the count.
+fn begin_both(rt: &impl Abort, core: &mut Core) -> Result<(), Fail> {
+    take(rt, core, &begin(1, b"/d/f")?);
+    take(rt, core, &begin(2, b"/d/f")?);
+    for event in &[
+        Event::PolicyRead(1),
+        Event::PolicyRead(2),
+        Event::CountRead(1),
+    ] {
+        take(rt, core, event);
+    }
+    Ok(())
+}
+
+// The second reads the count while a change is open.
+fn disturb(rt: &impl Abort, core: &mut Core, change: &Change<'_>) {
+    take(rt, core, &Event::Open(change));
     assert!(rt; core.has_open_change());
-    take(&rt, &mut core, &Event::CountRead(2));
-    set_all(&rt, &mut core);
-    take(&rt, &mut core, &Event::Close);
-    // The second found an odd count, and reads no cell.
+    take(rt, core, &Event::CountRead(2));
+    set_all(rt, core);
+    take(rt, core, &Event::Close);
+}
+
+// The second found an odd count, and reads no cell.
+fn end_both(rt: &impl Abort, core: &mut Core) {
     assert_eq!(rt; core.read_cells(2, 1000), Ok(0));
-    walk(&rt, &mut core, 1);
-    take(&rt, &mut core, &Event::CountCheck(1));
-    take(&rt, &mut core, &Event::CountCheck(2));
-    let busy = [
-        Answer::Busy { began: 4, ended: 6 },
-        Answer::Busy { began: 5, ended: 6 },
-    ];
-    assert_eq!(rt; core.step(&Event::Answer(1)), Ok(Some(busy[0])));
-    assert_eq!(rt; core.step(&Event::Answer(2)), Ok(Some(busy[1])));
-    assert_eq!(rt; core.name(1), b"".as_slice());
+    walk(rt, core, 1);
+    take(rt, core, &Event::CountCheck(1));
+    take(rt, core, &Event::CountCheck(2));
+}
+
+#[test]
+fn a_disturbed_walk_is_busy(rt: HostRuntime) -> Result<(), Fail> {
+    let change = rename(b"/d", b"/e")?;
+    let mut core = scene(&rt, rt.alloc())?;
+    begin_both(&rt, &mut core)?;
+    disturb(&rt, &mut core, &change);
+    end_both(&rt, &mut core);
+    expect_answer(&rt, &mut core, 1, Answer::Busy { began: 4, ended: 6 }, b"");
+    expect_answer(&rt, &mut core, 2, Answer::Busy { began: 5, ended: 6 }, b"");
+    Ok(())
+}
+
+// The policy is read before the removal, and the tree after it.
+fn open_around(rt: &impl Abort, core: &mut Core, removal: &[PolicyChange]) -> Result<(), Fail> {
+    take(rt, core, &open_for(1, b"/d/f", perms(b"rw")?));
+    take(rt, core, &Event::PolicyRead(1));
+    take(rt, core, &Event::Publish(removal));
+    read_tree(rt, core, 1);
     Ok(())
 }
 
 #[test]
 fn a_profile_is_removed_after_it_was_read(rt: HostRuntime) -> Result<(), Fail> {
-    let mut core = scene(&rt, rt.alloc())?;
+    let missing = perms(b"w")?;
     let removal = [PolicyChange::Remove(Vec::from_slice(rt.alloc(), b"p")?)];
-    let Event::Begin { path, .. } = begin(1, b"/d/f")? else {
-        return Ok(());
-    };
-    let begin = Event::Begin {
-        session: 1,
-        profile: b"p",
-        path,
-        ask: Perms::from_letters(b"rw").ok_or("letters")?,
-    };
-    take(&rt, &mut core, &begin);
-    take(&rt, &mut core, &Event::PolicyRead(1));
-    take(&rt, &mut core, &Event::Publish(&removal));
-    take(&rt, &mut core, &Event::CountRead(1));
-    walk(&rt, &mut core, 1);
-    take(&rt, &mut core, &Event::CountCheck(1));
-    let missing = Verdict::NoRule {
-        missing: Perms::from_letters(b"w").ok_or("letters")?,
-    };
-    assert_eq!(rt; core.step(&Event::Answer(1)), Ok(Some(judged(missing, 2))));
+    let mut core = scene(&rt, rt.alloc())?;
+    open_around(&rt, &mut core, &removal)?;
+    expect_answer(
+        &rt,
+        &mut core,
+        1,
+        judged(Verdict::NoRule { missing }, 2),
+        b"/d/f",
+    );
     assert_eq!(rt; core.policy_version(), 2);
     Ok(())
 }

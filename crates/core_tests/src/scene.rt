@@ -1,4 +1,5 @@
-//! What the tests play with.
+//! What the tests play with. They are in small functions, since what a function borrows is dear to prove: the time grows with the
+//! square of the references and with the ways out.
 use directory_tree::Change;
 use interleaving_core::{Core, Event, EventMachine, StepFault};
 use matcher::{AnyProfile, CompiledProfile, PolicyChange};
@@ -25,13 +26,23 @@ pub(crate) fn policy(alloc: Global) -> Result<PolicyChange, Fail> {
     Ok(PolicyChange::Replace(Vec::from_slice(alloc, b"p")?, shared))
 }
 
-pub(crate) fn begin(session: u32, path: &[u8]) -> Result<Event<'_>, Fail> {
-    Ok(Event::Begin {
+pub(crate) fn perms(letters: &[u8]) -> Result<Perms, Fail> {
+    Ok(Perms::from_letters(letters).ok_or("letters")?)
+}
+
+/// An open by the profile `p`.
+pub(crate) fn open_for<'a>(session: u32, path: &'a [u8], ask: Perms) -> Event<'a> {
+    Event::Begin {
         session,
         profile: b"p",
         path,
-        ask: Perms::from_letters(b"r").ok_or("letters")?,
-    })
+        ask,
+    }
+}
+
+/// An open to read.
+pub(crate) fn begin(session: u32, path: &[u8]) -> Result<Event<'_>, Fail> {
+    Ok(open_for(session, path, perms(b"r")?))
 }
 
 /// Takes an event, which has no answer.
@@ -59,12 +70,17 @@ pub(crate) fn set_all(rt: &impl Abort, core: &mut Core) {
     }
 }
 
+fn make_file(rt: &impl Abort, core: &mut Core) -> Result<(), Fail> {
+    make(rt, core, &Change::Mkdir(path(b"/d")?));
+    make(rt, core, &Change::Create(path(b"/d/f")?));
+    Ok(())
+}
+
 /// The file `/d/f`, node 3 at version 2, and the profile `p`, at version 1.
 pub(crate) fn scene(rt: &impl Abort, alloc: Global) -> Result<Core, Fail> {
-    let mut core = Core::new(alloc, 4).ok().ok_or("memory")?;
-    make(rt, &mut core, &Change::Mkdir(path(b"/d")?));
-    make(rt, &mut core, &Change::Create(path(b"/d/f")?));
     let changes = [policy(alloc)?];
+    let mut core = Core::new(alloc, 4).ok().ok_or("memory")?;
+    make_file(rt, &mut core)?;
     take(rt, &mut core, &Event::Publish(&changes));
     assert_eq!(rt; (core.tree_version(), core.policy_version()), (2, 1));
     Ok(core)

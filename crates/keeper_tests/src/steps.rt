@@ -4,6 +4,7 @@ use event_core::StepFault;
 use names::{Errno, Path};
 use row_keeper::{Keeper, NotNow};
 use std::alloc::Global;
+use std::process::Abort;
 use std::test::Fail;
 
 fn mkdir(path: &[u8]) -> Result<Change<'_>, Fail> {
@@ -14,7 +15,7 @@ fn keeper(alloc: Global) -> Result<Keeper, Fail> {
     Ok(Keeper::new(alloc, 2).ok().ok_or("memory")?)
 }
 
-// Makes a change, and answers how many cells it set.
+// Makes a change, and returns how many cells it set.
 fn make(keeper: &mut Keeper, change: &Change<'_>) -> Result<usize, Fail> {
     keeper.open(change).ok().ok_or("not opened")?;
     let cells = keeper.cells_left().ok_or("no change is open")?;
@@ -25,27 +26,40 @@ fn make(keeper: &mut Keeper, change: &Change<'_>) -> Result<usize, Fail> {
     Ok(cells)
 }
 
-#[test]
-fn steps_of_one_change(rt: HostRuntime) -> Result<(), Fail> {
-    let mut keeper = keeper(rt.alloc())?;
-    let change = mkdir(b"/a")?;
+fn expect_no_change(rt: &impl Abort, keeper: &mut Keeper, change: &Change<'_>) {
     assert_eq!(rt; keeper.capacity(), 2);
     assert_eq!(rt; keeper.cells_left(), None);
     assert_eq!(rt; keeper.set(), Err(NotNow));
     assert_eq!(rt; keeper.close(), Err(NotNow));
-    // The slot behind the root's: its kind, node, parent (0 as it stands), length and component.
-    assert_eq!(rt; keeper.test(&change), Ok(Ok(4)));
-    assert_eq!(rt; keeper.open(&change), Ok(()));
+    // The slot after the root's: its kind, node, parent (0 as it stands), length and component.
+    assert_eq!(rt; keeper.test(change), Ok(Ok(4)));
+}
+
+fn expect_open_change(rt: &impl Abort, keeper: &mut Keeper, change: &Change<'_>) {
     assert_eq!(rt; (keeper.count(), keeper.version()), (1, 0));
-    assert_eq!(rt; keeper.open(&change), Err(StepFault::NotNow));
-    assert_eq!(rt; keeper.test(&change), Err(StepFault::NotNow));
+    assert_eq!(rt; keeper.open(change), Err(StepFault::NotNow));
+    assert_eq!(rt; keeper.test(change), Err(StepFault::NotNow));
     assert_eq!(rt; keeper.close(), Err(NotNow));
+}
+
+fn expect_cells(rt: &impl Abort, keeper: &mut Keeper) {
     for left in 0..4 {
         assert_eq!(rt; keeper.cells_left(), Some(4 - left));
         assert_eq!(rt; keeper.set(), Ok(()));
     }
     assert_eq!(rt; keeper.set(), Err(NotNow));
     assert_eq!(rt; (keeper.count(), keeper.version()), (1, 0));
+}
+
+// In parts, since the proof of a test grows faster than its assertions do.
+#[test]
+fn steps_of_one_change(rt: HostRuntime) -> Result<(), Fail> {
+    let mut keeper = keeper(rt.alloc())?;
+    let change = mkdir(b"/a")?;
+    expect_no_change(&rt, &mut keeper, &change);
+    assert_eq!(rt; keeper.open(&change), Ok(()));
+    expect_open_change(&rt, &mut keeper, &change);
+    expect_cells(&rt, &mut keeper);
     assert_eq!(rt; keeper.close(), Ok(()));
     assert_eq!(rt; (keeper.count(), keeper.version()), (2, 1));
     assert_eq!(rt; keeper.cells_left(), None);

@@ -2,8 +2,8 @@
 ghost use Rattle.std.specs.Prelude.{◌≡◌};
 
 use crate::testing::{
-    FILE, TREE, expect_beside, expect_with, failed, first_keeper, judged, new_publisher, opened,
-    perms, publish_first, select, session, unjudged,
+    FILE, TREE, expect_beside, expect_with, failed, first_session, judged, new_publisher, opened,
+    perms, select, unjudged,
 };
 use dentry_cache::Keeper;
 use names::{Errno, Perms};
@@ -143,22 +143,31 @@ fn expect_made(rt: &impl Abort, session: &mut Session, keeper: &mut Keeper) -> R
     expect_with(rt, session, keeper, &both)
 }
 
-fn links<R: Abort + Wait>(rt: &R, alloc: Global, publisher: &mut Publisher) -> Result<(), Fail> {
-    let mut keeper = first_keeper(alloc)?;
-    publish_first(rt, alloc, publisher)?;
-    let mut session = session(alloc, &mut keeper, publisher, b"q")?;
+// By a profile that isn't published.
+fn expect_unknown(rt: &impl Abort, session: &mut Session, keeper: &mut Keeper)
+    ensures same { keeper.new.table ≡ keeper.old.table }
+    ensures of { session.new.walk ≡ session.old.walk }
+{
     let unknown = LinkAnswer::NoProfile { policy_version: 1 };
-    assert_eq!(rt;
-        link(rt, &mut session, &mut keeper, b"/d/f", b"/m"),
-        Ok(unknown)
-    );
+    assert_eq!(rt; link(rt, session, keeper, b"/d/f", b"/m"), Ok(unknown));
     assert!(rt; session.name().is_empty());
     assert_eq!(rt; keeper.version(), TREE);
-    select(&mut session, b"p")?;
+}
+
+fn make_links(rt: &impl Abort, session: &mut Session, keeper: &mut Keeper) -> Result<(), Fail>
+    requires { session.old.walk.table ≡ keeper.old.table }
+{
+    expect_unknown(rt, session, keeper);
+    select(session, b"p")?;
     let unmade = not_allowed(perms(b"l")?, perms(b"w")?);
-    expect_unmade(rt, &mut session, &mut keeper, &unmade)?;
-    expect_unmade(rt, &mut session, &mut keeper, &failures())?;
-    expect_made(rt, &mut session, &mut keeper)
+    expect_unmade(rt, session, keeper, &unmade)?;
+    expect_unmade(rt, session, keeper, &failures())?;
+    expect_made(rt, session, keeper)
+}
+
+fn links<R: Abort + Wait>(rt: &R, alloc: Global, publisher: &mut Publisher) -> Result<(), Fail> {
+    let (mut keeper, mut session) = first_session(rt, alloc, publisher, b"q")?;
+    make_links(rt, &mut session, &mut keeper)
 }
 
 #[test]

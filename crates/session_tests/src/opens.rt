@@ -1,9 +1,12 @@
-//! Opens beside a keeper that is at rest, and where it is at hand.
+//! Opens concurrently with a keeper that is at rest, and where it is at hand.
+ghost use Rattle.std.specs.Prelude.{◌≡◌};
+
 use crate::testing::{
     FILE, Row, TREE, allowed, apply, compiled, expect_beside, expect_with, failed, first_keeper,
-    judged, new_publisher, opened, path, perms, publish, publish_first, select, session,
+    first_session, judged, new_publisher, opened, path, perms, publish, publish_first, select,
     sessions_of, unjudged,
 };
+use dentry_cache::Keeper;
 use directory_tree::Change;
 use names::{Errno, Perms};
 use path_session::{Answer, Session};
@@ -51,22 +54,36 @@ fn quiet_open(rt: HostRuntime) -> Result<(), Fail> {
     outcome
 }
 
-// `/d/f` is `/e/f` from the next version on. The session meets its keeper, and opens beside it.
+fn expect_moved(rt: &impl Abort, session: &mut Session, keeper: &mut Keeper) -> Result<(), Fail>
+    requires { session.old.walk.table ≡ keeper.old.table }
+{
+    let moved = opened(b"/e/f", b"r", judged(Verdict::Allowed, FILE, 6), b"/e/f");
+    let gone = unjudged(b"/d/f", failed(Errno::ENOENT, 6));
+    expect_with(rt, session, keeper, &[moved])?;
+    expect_beside(rt, session, &[moved, gone])
+}
+
+// `/d/f` is `/e/f` from the next version on. The session meets its keeper, and opens concurrently with it.
+fn open_around_a_rename(
+    rt: &impl Abort,
+    session: &mut Session,
+    keeper: &mut Keeper,
+) -> Result<(), Fail>
+    requires { session.old.walk.table ≡ keeper.old.table }
+{
+    let rename = Change::Rename(path(b"/d")?, path(b"/e")?);
+    expect_beside(rt, session, &[allowed()])?;
+    assert_eq!(rt; apply(keeper, &rename), Ok(6));
+    expect_moved(rt, session, keeper)
+}
+
 fn meet_and_open<R: Abort + Wait>(
     rt: &R,
     alloc: Global,
     publisher: &mut Publisher,
 ) -> Result<(), Fail> {
-    let mut keeper = first_keeper(alloc)?;
-    publish_first(rt, alloc, publisher)?;
-    let mut session = session(alloc, &mut keeper, publisher, b"p")?;
-    expect_beside(rt, &mut session, &[allowed()])?;
-    let renamed = apply(&mut keeper, &Change::Rename(path(b"/d")?, path(b"/e")?));
-    assert_eq!(rt; renamed, Ok(6));
-    let moved = opened(b"/e/f", b"r", judged(Verdict::Allowed, FILE, 6), b"/e/f");
-    let gone = unjudged(b"/d/f", failed(Errno::ENOENT, 6));
-    expect_with(rt, &mut session, &mut keeper, &[moved])?;
-    expect_beside(rt, &mut session, &[moved, gone])
+    let (mut keeper, mut session) = first_session(rt, alloc, publisher, b"p")?;
+    open_around_a_rename(rt, &mut session, &mut keeper)
 }
 
 #[test]
@@ -124,24 +141,39 @@ fn failures<'a>(long: &'a [u8]) -> [Row<'a>; 7] {
     ]
 }
 
+// Opens concurrently with the keeper, and where it is at hand.
+fn expect_both(
+    rt: &impl Abort,
+    session: &mut Session,
+    keeper: &mut Keeper,
+    rows: &[Row<'_>],
+) -> Result<(), Fail>
+    requires { session.old.walk.table ≡ keeper.old.table }
+    ensures same { keeper.new ≡ keeper.old }
+    ensures of { session.new.walk.table ≡ session.old.walk.table }
+{
+    expect_beside(rt, session, rows)?;
+    expect_with(rt, session, keeper, rows)
+}
+
+fn open_all(rt: &impl Abort, session: &mut Session, keeper: &mut Keeper) -> Result<(), Fail>
+    requires { session.old.walk.table ≡ keeper.old.table }
+{
+    let verdicts = verdicts(perms(b"r")?, perms(b"w")?);
+    expect_both(rt, session, keeper, &verdicts)?;
+    expect_both(rt, session, keeper, &failures(&[b'/'; 4096]))?;
+    select(session, b"q")?;
+    let missing = Answer::NoProfile { policy_version: 1 };
+    expect_both(rt, session, keeper, &[unjudged(b"/d/f", missing)])
+}
+
 fn open_all_kinds<R: Abort + Wait>(
     rt: &R,
     alloc: Global,
     publisher: &mut Publisher,
 ) -> Result<(), Fail> {
-    let mut keeper = first_keeper(alloc)?;
-    publish_first(rt, alloc, publisher)?;
-    let mut session = session(alloc, &mut keeper, publisher, b"p")?;
-    let long = [b'/'; 4096];
-    let (verdicts, failures) = (verdicts(perms(b"r")?, perms(b"w")?), failures(&long));
-    expect_beside(rt, &mut session, &verdicts)?;
-    expect_beside(rt, &mut session, &failures)?;
-    expect_with(rt, &mut session, &mut keeper, &verdicts)?;
-    expect_with(rt, &mut session, &mut keeper, &failures)?;
-    select(&mut session, b"q")?;
-    let missing = [unjudged(b"/d/f", Answer::NoProfile { policy_version: 1 })];
-    expect_beside(rt, &mut session, &missing)?;
-    expect_with(rt, &mut session, &mut keeper, &missing)
+    let (mut keeper, mut session) = first_session(rt, alloc, publisher, b"p")?;
+    open_all(rt, &mut session, &mut keeper)
 }
 
 #[test]
@@ -152,18 +184,8 @@ fn opens_of_all_kinds(rt: HostRuntime) -> Result<(), Fail> {
     outcome
 }
 
-fn select_in_turn<R: Abort + Wait>(
-    rt: &R,
-    alloc: Global,
-    publisher: &mut Publisher,
-) -> Result<(), Fail> {
-    let mut keeper = first_keeper(alloc)?;
-    publish_first(rt, alloc, publisher)?;
-    let mut session = session(alloc, &mut keeper, publisher, b"p")?;
-    expect_beside(rt, &mut session, &[allowed()])?;
-    let denying = compiled(alloc, b"profile q {\n  deny /d/f r,\n}\n")?;
-    assert_eq!(rt; publish(rt, publisher, b"q", &denying)?, 2);
-    select(&mut session, b"q")?;
+fn open_by_another_profile(rt: &impl Abort, session: &mut Session) -> Result<(), Fail> {
+    select(session, b"q")?;
     // The name is that of the last answer, until the next one.
     assert!(rt; session.name() == b"/d/f".as_slice());
     let answer = Answer::Judged {
@@ -172,10 +194,35 @@ fn select_in_turn<R: Abort + Wait>(
         tree_version: TREE,
         policy_version: 2,
     };
-    expect_beside(rt, &mut session, &[opened(b"/d/f", b"r", answer, b"/d/f")])?;
-    select(&mut session, b"")?;
+    expect_beside(rt, session, &[opened(b"/d/f", b"r", answer, b"/d/f")])
+}
+
+fn open_by_no_profile(rt: &impl Abort, session: &mut Session) -> Result<(), Fail> {
+    select(session, b"")?;
     let missing = Answer::NoProfile { policy_version: 2 };
-    expect_beside(rt, &mut session, &[unjudged(b"/d/f", missing)])
+    expect_beside(rt, session, &[unjudged(b"/d/f", missing)])
+}
+
+fn publish_denying<R: Abort + Wait>(
+    rt: &R,
+    alloc: Global,
+    publisher: &mut Publisher,
+) -> Result<(), Fail> {
+    let denying = compiled(alloc, b"profile q {\n  deny /d/f r,\n}\n")?;
+    assert_eq!(rt; publish(rt, publisher, b"q", &denying)?, 2);
+    Ok(())
+}
+
+fn select_in_turn<R: Abort + Wait>(
+    rt: &R,
+    alloc: Global,
+    publisher: &mut Publisher,
+) -> Result<(), Fail> {
+    let (_keeper, mut session) = first_session(rt, alloc, publisher, b"p")?;
+    expect_beside(rt, &mut session, &[allowed()])?;
+    publish_denying(rt, alloc, publisher)?;
+    open_by_another_profile(rt, &mut session)?;
+    open_by_no_profile(rt, &mut session)
 }
 
 #[test]

@@ -2,7 +2,7 @@
 ghost use Rattle.std.specs.Prelude.{◌≡◌};
 
 use crate::testing::{
-    expect_beside, expect_with, first_keeper, new_publisher, path, perms, publish_first, select,
+    expect_beside, expect_with, first_keeper, first_session, new_publisher, path, perms, select,
     session, unjudged,
 };
 use dentry_cache::Keeper;
@@ -46,10 +46,9 @@ fn left_alone<R: Abort + Wait>(
     alloc: Global,
     publisher: &mut Publisher,
 ) -> Result<Session, Fail> {
-    let mut keeper = first_keeper(alloc)?;
-    publish_first(rt, alloc, publisher)?;
-    let session = session(alloc, &mut keeper, publisher, b"p")?;
-    stop(keeper, &Change::Rename(path(b"/d")?, path(b"/e")?))?;
+    let rename = Change::Rename(path(b"/d")?, path(b"/e")?);
+    let (keeper, session) = first_session(rt, alloc, publisher, b"p")?;
+    stop(keeper, &rename)?;
     Ok(session)
 }
 
@@ -82,24 +81,33 @@ fn answers_beside_a_stopped_keeper(rt: HostRuntime) -> Result<(), Fail> {
     expect_always(&rt, &mut session, Answer::NoEntry)
 }
 
+fn expect_no_link(rt: &impl Abort, session: &mut Session, keeper: &mut Keeper)
+    requires { session.old.walk.table ≡ keeper.old.table }
+{
+    let linked = session.link_with(keeper, b"/d/f", b"/m");
+    assert_eq!(rt; linked, Err(Unanswered::NoEntry));
+    let linked = session.link_with(keeper, b"", b"");
+    assert_eq!(rt; linked, Err(Unanswered::NoEntry));
+}
+
+fn expect_no_entry(rt: &impl Abort, session: &mut Session, keeper: &mut Keeper) -> Result<(), Fail>
+    requires { session.old.walk.table ≡ keeper.old.table }
+{
+    expect_always(rt, session, Answer::NoEntry)?;
+    let rows = [
+        unjudged(b"/d/f", Answer::NoEntry),
+        unjudged(b"", Answer::NoEntry),
+    ];
+    expect_with(rt, session, keeper, &rows)?;
+    expect_no_link(rt, session, keeper);
+    Ok(())
+}
+
 #[test]
 fn no_entry_where_the_publisher_is_closed(rt: HostRuntime) -> Result<(), Fail> {
     let mut keeper = first_keeper(rt.alloc())?;
     let mut publisher = new_publisher(rt.alloc())?;
     let made = session(rt.alloc(), &mut keeper, &mut publisher, b"p");
     publisher.close(&rt);
-    let mut session = made?;
-    expect_always(&rt, &mut session, Answer::NoEntry)?;
-    let rows = [
-        unjudged(b"/d/f", Answer::NoEntry),
-        unjudged(b"", Answer::NoEntry),
-    ];
-    expect_with(&rt, &mut session, &mut keeper, &rows)?;
-    let linked = session.link_with(&mut keeper, b"/d/f", b"/m");
-    assert_eq!(rt; linked, Err(Unanswered::NoEntry));
-    assert_eq!(rt;
-        session.link_with(&mut keeper, b"", b""),
-        Err(Unanswered::NoEntry)
-    );
-    Ok(())
+    expect_no_entry(&rt, &mut made?, &mut keeper)
 }

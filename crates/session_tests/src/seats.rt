@@ -2,8 +2,8 @@
 ghost use Rattle.std.specs.Prelude.{◌≡◌};
 
 use crate::testing::{
-    FILE, TREE, allowed, expect_beside, expect_with, first_keeper, new_publisher, perms,
-    publish_first, session, sessions_of,
+    FILE, TREE, allowed, expect_beside, expect_with, first_keeper, first_session, new_publisher,
+    perms, publish_first, session, sessions_of,
 };
 use dentry_cache::Keeper;
 use mediation::Answer;
@@ -16,15 +16,20 @@ use std::process::Abort;
 use std::sync::Wait;
 use std::test::Fail;
 
+fn open_each(rt: &impl Abort, sessions: &mut [Session]) -> Result<(), Fail> {
+    for session in sessions {
+        expect_beside(rt, session, &[allowed()])?;
+    }
+    Ok(())
+}
+
 // All of them open, the last one too. Where one ends, its place is free.
 fn fill<R: Abort + Wait>(rt: &R, alloc: Global, publisher: &mut Publisher) -> Result<(), Fail> {
     let mut keeper = first_keeper(alloc)?;
     publish_first(rt, alloc, publisher)?;
     let mut sessions = sessions_of(alloc, &mut keeper, publisher, PLACES)?;
     assert_eq!(rt; publisher.reader().err(), Some(NoSeat));
-    for session in &mut sessions {
-        expect_beside(rt, session, &[allowed()])?;
-    }
+    open_each(rt, &mut sessions)?;
     drop(sessions.pop());
     let mut last = session(alloc, &mut keeper, publisher, b"p")?;
     assert_eq!(rt; publisher.reader().err(), Some(NoSeat));
@@ -87,19 +92,30 @@ fn expect_entry(
     Ok(())
 }
 
+fn expect_no_place(
+    rt: &impl Abort,
+    session: &mut Session,
+    keeper: &mut Keeper,
+    publisher: &mut Publisher,
+) -> Result<(), Fail>
+    requires { session.old.walk.table ≡ keeper.old.table }
+    ensures same { keeper.new.table ≡ keeper.old.table }
+    ensures of { session.new.walk.table ≡ session.old.walk.table }
+{
+    expect_no_entry(rt, session, keeper, publisher)?;
+    expect_with(rt, session, keeper, &[allowed()])?;
+    expect_no_entry(rt, session, keeper, publisher)
+}
+
 // What the publisher tells takes a place. Where none is free there is no entry by it, and beside it there is.
 fn ask_without_a_place<R: Abort + Wait>(
     rt: &R,
     alloc: Global,
     publisher: &mut Publisher,
 ) -> Result<(), Fail> {
-    let mut keeper = first_keeper(alloc)?;
-    publish_first(rt, alloc, publisher)?;
+    let (mut keeper, mut session) = first_session(rt, alloc, publisher, b"p")?;
     let mut others = sessions_of(alloc, &mut keeper, publisher, PLACES - 1)?;
-    let mut session = session(alloc, &mut keeper, publisher, b"p")?;
-    expect_no_entry(rt, &mut session, &mut keeper, publisher)?;
-    expect_with(rt, &mut session, &mut keeper, &[allowed()])?;
-    expect_no_entry(rt, &mut session, &mut keeper, publisher)?;
+    expect_no_place(rt, &mut session, &mut keeper, publisher)?;
     drop(others.pop());
     expect_entry(rt, &mut session, &mut keeper, publisher)
 }

@@ -59,6 +59,11 @@ pub(crate) fn new_keeper(alloc: Global) -> Result<Keeper, Fail> {
 /// `/d` with the files `/d/f` and `/d/k`, a link `/l` to it, and a link `/r` to itself.
 pub(crate) fn first_keeper(alloc: Global) -> Result<Keeper, Fail> {
     let mut keeper = new_keeper(alloc)?;
+    make_first(&mut keeper)?;
+    Ok(keeper)
+}
+
+fn make_first(keeper: &mut Keeper) -> Result<(), Fail> {
     let changes = [
         Change::Mkdir(path(b"/d")?),
         Change::Create(path(b"/d/f")?),
@@ -67,11 +72,11 @@ pub(crate) fn first_keeper(alloc: Global) -> Result<Keeper, Fail> {
         Change::Symlink(LinkBytes::new(b"r"), path(b"/r")?),
     ];
     for change in &changes {
-        apply(&mut keeper, change)
+        apply(keeper, change)
             .ok()
             .ok_or("a change that is refused")?;
     }
-    Ok(keeper)
+    Ok(())
 }
 
 /// Makes a change.
@@ -153,7 +158,22 @@ pub(crate) fn session(
     }
 }
 
-/// So many sessions, which open by the profile `p`.
+/// The first keeper, and a session of it that opens by the profile of a name. The rules of `p` are published.
+pub(crate) fn first_session<R: Wait>(
+    rt: &R,
+    alloc: Global,
+    publisher: &mut Publisher,
+    profile: &[u8],
+) -> Result<(Keeper, Session), Fail>
+    ensures { IfOk result (λ both. both.1.walk.table ≡ both.0.table) }
+{
+    publish_first(rt, alloc, publisher)?;
+    let mut keeper = first_keeper(alloc)?;
+    let session = session(alloc, &mut keeper, publisher, profile)?;
+    Ok((keeper, session))
+}
+
+/// As many sessions, which open by the profile `p`.
 pub(crate) fn sessions_of(
     alloc: Global,
     keeper: &mut Keeper,
