@@ -5,7 +5,7 @@ use crate::testing::{allowed, create, keeper, path, publish, session, to_read};
 use dentry_cache::Keeper;
 use directory_tree::Change;
 use names::Errno;
-use path_guard::{Answer, Guard, Row};
+use path_guard::{Answer, Guard, Row, Session};
 use profile_registry::Publisher;
 use std::alloc::Global;
 use std::marker::Brand;
@@ -14,46 +14,73 @@ use std::sync::Wait;
 use std::test::Fail;
 use verdicts::Verdict;
 
-fn guard_reads_back_of<M: Row, R: Abort + Wait>(
+fn expect_open<M: Row>(
+    rt: &(impl Abort + Wait),
+    guard: &Guard<M>,
+    session: &mut Session,
+    answer: Answer,
+)
+    requires { session.old.walk.table ≡ M.table }
+    ensures { session.new.walk.table ≡ M.table }
+{
+    assert_eq!(rt; guard.open(rt, session, b"/f", to_read()), answer);
+}
+
+// Nothing is published; then there is no file; then it may be read.
+fn expect_allowed<M: Row, R: Abort + Wait>(
     rt: &R,
     alloc: Global,
     guard: &Guard<M>,
-) -> Result<(), Fail> {
-    let mut session = session(rt, guard)?;
-    let file: &[u8] = b"/f";
-    assert_eq!(rt;
-        guard.open(rt, &mut session, file, to_read()),
-        Answer::NoProfile { policy_version: 0 }
-    );
+    session: &mut Session,
+) -> Result<(), Fail>
+    requires { session.old.walk.table ≡ M.table }
+    ensures { session.new.walk.table ≡ M.table }
+{
+    expect_open(rt, guard, session, Answer::NoProfile { policy_version: 0 });
     assert_eq!(rt; publish(rt, alloc, guard, b"profile p {\n  /f r,\n}\n")?, 1);
     let missing = Answer::Failed {
         errno: Errno::ENOENT,
         tree_version: 0,
     };
-    assert_eq!(rt; guard.open(rt, &mut session, file, to_read()), missing);
-    assert_eq!(rt; create(rt, guard, file)?, 1);
-    assert_eq!(rt;
-        guard.open(rt, &mut session, file, to_read()),
-        allowed(2, 1, 1)
-    );
-    assert_eq!(rt; session.name(), file);
-    assert_eq!(rt;
-        publish(rt, alloc, guard, b"profile p {\n  deny /f r,\n}\n")?,
-        2
-    );
+    expect_open(rt, guard, session, missing);
+    assert_eq!(rt; create(rt, guard, b"/f")?, 1);
+    expect_open(rt, guard, session, allowed(2, 1, 1));
+    assert_eq!(rt; session.name(), b"/f".as_slice());
+    Ok(())
+}
+
+// A profile takes the place of the first, and then goes.
+fn expect_denied<M: Row, R: Abort + Wait>(
+    rt: &R,
+    alloc: Global,
+    guard: &Guard<M>,
+    session: &mut Session,
+) -> Result<(), Fail>
+    requires { session.old.walk.table ≡ M.table }
+{
+    let denying = b"profile p {\n  deny /f r,\n}\n";
+    assert_eq!(rt; publish(rt, alloc, guard, denying)?, 2);
     let denied = Answer::Judged {
         verdict: Verdict::Denied { rule: 1 },
         node: 2,
         tree_version: 1,
         policy_version: 2,
     };
-    assert_eq!(rt; guard.open(rt, &mut session, file, to_read()), denied);
+    expect_open(rt, guard, session, denied);
     assert_eq!(rt; guard.remove(rt, b"p"), Ok(3));
-    assert_eq!(rt;
-        guard.open(rt, &mut session, file, to_read()),
-        Answer::NoProfile { policy_version: 3 }
-    );
-    let again = Change::Create(path(file)?);
+    expect_open(rt, guard, session, Answer::NoProfile { policy_version: 3 });
+    Ok(())
+}
+
+fn guard_reads_back_of<M: Row, R: Abort + Wait>(
+    rt: &R,
+    alloc: Global,
+    guard: &Guard<M>,
+) -> Result<(), Fail> {
+    let mut session = session(rt, guard)?;
+    expect_allowed(rt, alloc, guard, &mut session)?;
+    expect_denied(rt, alloc, guard, &mut session)?;
+    let again = Change::Create(path(b"/f")?);
     assert_eq!(rt; guard.change(rt, &again), Err(Errno::EEXIST));
     Ok(())
 }

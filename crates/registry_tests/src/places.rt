@@ -5,21 +5,38 @@ use std::alloc::Global;
 use std::process::Abort;
 use std::test::Fail;
 
-// Each place is taken once, and can be taken again when its reader, or its note, is let go.
-fn fills(rt: &impl Abort, alloc: Global, publisher: &mut Publisher) -> Result<(), Fail> {
+// All places but one are taken.
+fn take_places(alloc: Global, publisher: &mut Publisher) -> Result<Vec<PolicyReader>, Fail> {
     let mut readers: Vec<PolicyReader> = Vec::with_capacity(alloc, PLACES)?;
     for _ in 1..PLACES {
         readers.push(publisher.reader()?)?;
     }
+    Ok(readers)
+}
+
+// The last place is a note's, as long as there is one.
+fn take_last_by_note(rt: &impl Abort, publisher: &mut Publisher) -> Result<(), Fail> {
     let told = publisher.tell()?;
     assert_eq!(rt; publisher.reader().err(), Some(NoSeat));
     assert_eq!(rt; publisher.tell().err(), Some(NoSeat));
     drop(told);
-    readers.push(publisher.reader()?)?;
-    assert_eq!(rt; publisher.reader().err(), Some(NoSeat));
-    for reader in readers.iter_mut() {
+    Ok(())
+}
+
+fn look_by_each(rt: &impl Abort, readers: &mut [PolicyReader]) -> Result<(), Fail> {
+    for reader in readers {
         assert_eq!(rt; look(reader, b"p")?, (Found::Nothing, 0));
     }
+    Ok(())
+}
+
+// Each place is taken once, and can be taken again when its reader, or its note, is let go.
+fn fills(rt: &impl Abort, alloc: Global, publisher: &mut Publisher) -> Result<(), Fail> {
+    let mut readers = take_places(alloc, publisher)?;
+    take_last_by_note(rt, publisher)?;
+    readers.push(publisher.reader()?)?;
+    assert_eq!(rt; publisher.reader().err(), Some(NoSeat));
+    look_by_each(rt, &mut readers)?;
     drop(readers.pop());
     drop(publisher.reader()?);
     Ok(())

@@ -1,9 +1,10 @@
 //! What is published, row by row.
 use crate::testing::{Found, look, new_publisher, profile_a, profile_b, publish, remove, replace};
-use profile_registry::Publisher;
+use matcher::AnyProfile;
+use profile_registry::{PolicyReader, Publisher};
 use std::alloc::Global;
 use std::process::Abort;
-use std::sync::Wait;
+use std::sync::{Arc, Wait};
 use std::test::Fail;
 
 fn rows<R: Abort + Wait>(rt: &R, alloc: Global, publisher: &mut Publisher) -> Result<(), Fail> {
@@ -26,22 +27,37 @@ fn rows<R: Abort + Wait>(rt: &R, alloc: Global, publisher: &mut Publisher) -> Re
     Ok(())
 }
 
+const LONG: [u8; 300] = [b'x'; 300];
+
+fn stage<R: Abort + Wait>(
+    rt: &R,
+    publisher: &mut Publisher,
+    a: &Arc<AnyProfile>,
+    b: &Arc<AnyProfile>,
+) -> Result<(), Fail> {
+    replace(rt, publisher, b"p", a)?;
+    replace(rt, publisher, b"p", b)?;
+    replace(rt, publisher, b"", a)?;
+    replace(rt, publisher, &LONG, b)?;
+    remove(rt, publisher, b"")
+}
+
+fn expect_batch(rt: &impl Abort, reader: &mut PolicyReader, version: u64) -> Result<(), Fail> {
+    assert_eq!(rt; look(reader, b"p")?, (Found::B, version));
+    assert_eq!(rt; look(reader, b"")?, (Found::Nothing, version));
+    assert_eq!(rt; look(reader, &LONG)?, (Found::B, version));
+    Ok(())
+}
+
 // Each change of a batch is seen, in order, and the first copy and the second answer alike.
 fn batches<R: Abort + Wait>(rt: &R, alloc: Global, publisher: &mut Publisher) -> Result<(), Fail> {
     let (a, b) = (profile_a(alloc)?, profile_b(alloc)?);
-    let long = [b'x'; 300];
     let mut reader = publisher.reader()?;
     for round in 0..5u64 {
-        replace(rt, publisher, b"p", &a)?;
-        replace(rt, publisher, b"p", &b)?;
-        replace(rt, publisher, b"", &a)?;
-        replace(rt, publisher, &long, &b)?;
-        remove(rt, publisher, b"")?;
+        stage(rt, publisher, &a, &b)?;
         let version = 5 * round + 5;
         assert_eq!(rt; publish(rt, publisher, &mut reader, b"p")?, version);
-        assert_eq!(rt; look(&mut reader, b"p")?, (Found::B, version));
-        assert_eq!(rt; look(&mut reader, b"")?, (Found::Nothing, version));
-        assert_eq!(rt; look(&mut reader, &long)?, (Found::B, version));
+        expect_batch(rt, &mut reader, version)?;
         assert_eq!(rt; publisher.publish(rt)?, version);
     }
     Ok(())
