@@ -2,8 +2,8 @@
 ghost use Rattle.std.specs.Prelude.{◌≡◌};
 
 use crate::testing::{
-    FILE, TREE, allowed, expect_beside, expect_with, first_keeper, first_session, new_publisher,
-    perms, publish_first, session, sessions_of,
+    FILE, TREE, allowed, expect_beside, expect_with, first_keeper, new_publisher, perms,
+    publish_first, session, sessions_of,
 };
 use dentry_cache::Keeper;
 use mediation::Answer;
@@ -113,8 +113,10 @@ fn ask_without_a_place<R: Abort + Wait>(
     alloc: Global,
     publisher: &mut Publisher,
 ) -> Result<(), Fail> {
-    let (mut keeper, mut session) = first_session(rt, alloc, publisher, b"p")?;
+    let mut keeper = first_keeper(alloc)?;
+    publish_first(rt, alloc, publisher)?;
     let mut others = sessions_of(alloc, &mut keeper, publisher, PLACES - 1)?;
+    let mut session = session(alloc, &mut keeper, publisher, b"p")?;
     expect_no_place(rt, &mut session, &mut keeper, publisher)?;
     drop(others.pop());
     expect_entry(rt, &mut session, &mut keeper, publisher)
