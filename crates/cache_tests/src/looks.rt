@@ -110,16 +110,20 @@ fn expect_one(rt: &impl Abort, attempt: Attempt) -> Result<(), Fail> {
     Ok(())
 }
 
+fn walk_both(rt: &impl Abort, one: &mut Keeper, other: &mut Keeper) -> Result<(), Fail> {
+    let attempt = walker(other)?.begin();
+    let ours = walker(one)?;
+    make_two(rt, one)?;
+    expect_other(rt, attempt)?;
+    expect_one(rt, ours.begin())
+}
+
 // Walkers of one row don't see another one, and its changes don't disturb them.
 #[test]
 fn rows_are_apart(rt: HostRuntime) -> Result<(), Fail> {
     let mut other = keeper_after(rt.alloc(), 3, &["create /other"])?;
-    let attempt = walker(&mut other)?.begin();
     let mut one = keeper(rt.alloc(), 2)?;
-    let ours = walker(&mut one)?;
-    make_two(&rt, &mut one)?;
-    expect_other(&rt, attempt)?;
-    expect_one(&rt, ours.begin())?;
+    walk_both(&rt, &mut one, &mut other)?;
     assert_eq!(rt; (one.version(), other.version()), (2, 1));
     Ok(())
 }

@@ -1,13 +1,14 @@
 //! A keeper's changes, and walks beside it.
 ghost use Rattle.std.specs.Prelude.{◌≡◌};
 
-use crate::lines::path;
-use crate::testing::{keeper, walker};
-use dentry_cache::{Attempt, Busy, Walker};
+use crate::lines::{change, path};
+use crate::testing::{apply, keeper, walker};
+use dentry_cache::{Attempt, Busy, Keeper, Walker};
 use directory_tree::Change;
 use names::Errno;
 use path_lookup::Look;
 use row_look::RowLook;
+use std::process::Abort;
 use std::test::Fail;
 
 /// Whether the root has this entry, and the walk's end.
@@ -21,37 +22,50 @@ pub(crate) fn look(walker: Walker, component: &[u8]) -> (Walker, Option<bool>, R
     (walker, found, ended)
 }
 
+fn expect_look(
+    rt: &impl Abort,
+    walker: Walker,
+    component: &[u8],
+    is_there: bool,
+    version: u64,
+) -> Walker {
+    let (walker, found, ended) = look(walker, component);
+    assert_eq!(rt; (found, ended), (Some(is_there), Ok(version)));
+    walker
+}
+
+fn expect_answers(
+    rt: &impl Abort,
+    keeper: &mut Keeper,
+    rows: &[(&str, Result<u64, Errno>)],
+) -> Result<(), Fail> {
+    for (line, answer) in rows {
+        let made = change(line)?;
+        assert_eq!(rt; keeper.test(&made).err(), answer.err(), "{line}");
+        assert_eq!(rt; apply(keeper, &made), *answer, "{line}");
+    }
+    Ok(())
+}
+
+const FIRST: [(&str, Result<u64, Errno>); 2] = [
+    ("mkdir /a", Ok(1)),
+    ("mkdir /a", Err(Errno::EEXIST)),
+];
+
+const MORE: [(&str, Result<u64, Errno>); 3] = [
+    ("create /a/b", Ok(2)),
+    ("mkdir /c", Err(Errno::ENOSPC)),
+    ("rename /a /d", Ok(3)),
+];
+
 #[test]
 fn changes_are_seen(rt: HostRuntime) -> Result<(), Fail> {
     let mut keeper = keeper(rt.alloc(), 2)?;
-    assert_eq!(rt; keeper.test(&Change::Mkdir(path(b"/a")?)), Ok(()));
-    assert_eq!(rt; keeper.version(), 0);
-    assert_eq!(rt; keeper.apply(&Change::Mkdir(path(b"/a")?)), Ok(1));
-    assert_eq!(rt;
-        keeper.test(&Change::Mkdir(path(b"/a")?)),
-        Err(Errno::EEXIST)
-    );
-    assert_eq!(rt;
-        keeper.apply(&Change::Mkdir(path(b"/a")?)),
-        Err(Errno::EEXIST)
-    );
-    let walker = walker(&mut keeper)?;
-    let (walker, found, ended) = look(walker, b"a");
-    assert_eq!(rt; (found, ended), (Some(true), Ok(1)));
-    assert_eq!(rt; keeper.apply(&Change::Create(path(b"/a/b")?)), Ok(2));
-    assert_eq!(rt;
-        keeper.apply(&Change::Mkdir(path(b"/c")?)),
-        Err(Errno::ENOSPC)
-    );
-    assert_eq!(rt;
-        keeper.apply(&Change::Rename(path(b"/a")?, path(b"/d")?)),
-        Ok(3)
-    );
-    let (walker, found, ended) = look(walker, b"a");
-    assert_eq!(rt; (found, ended), (Some(false), Ok(3)));
-    let walker = walker.begin().stop();
-    let (_, found, ended) = look(walker, b"d");
-    assert_eq!(rt; (found, ended), (Some(true), Ok(3)));
+    expect_answers(&rt, &mut keeper, &FIRST)?;
+    let walker = expect_look(&rt, walker(&mut keeper)?, b"a", true, 1);
+    expect_answers(&rt, &mut keeper, &MORE)?;
+    let walker = expect_look(&rt, walker, b"a", false, 3);
+    expect_look(&rt, walker.begin().stop(), b"d", true, 3);
     assert_eq!(rt; (keeper.version(), keeper.capacity()), (3, 2));
     Ok(())
 }
