@@ -1,5 +1,4 @@
-//! What the tests play with. They are in small functions, since what a function borrows is dear to prove: the time grows with the
-//! square of the references and with the ways out.
+//! What the tests play with. They are in small functions, since what a function borrows is dear to prove.
 use directory_tree::Change;
 use interleaving_core::{Core, Event, EventMachine, StepFault};
 use matcher::{AnyProfile, CompiledProfile, PolicyChange};

@@ -51,7 +51,7 @@ fn expect_cells(rt: &impl Abort, keeper: &mut Keeper) {
     assert_eq!(rt; (keeper.count(), keeper.version()), (1, 0));
 }
 
-// In parts, since the proof of a test grows faster than its assertions do.
+// In parts, since a function with many assertions is dear to prove.
 #[test]
 fn steps_of_one_change(rt: HostRuntime) -> Result<(), Fail> {
     let mut keeper = keeper(rt.alloc())?;
