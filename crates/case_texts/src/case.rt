@@ -1,4 +1,8 @@
 //! What a case consists of.
+ghost use Rattle.std.specs.Prelude.{◌≡◌, ◌==◌, IfOk, map};
+ghost use Rattle.std.specs.List.{after_first};
+ghost use Rattle.case_texts.specs.Cases.{IsRead, line_of};
+
 use std::alloc::{AllocError, Global};
 
 /// A case as it is written: a line with its title, a line that says what is asked, lines that begin with `+ `, each with an
@@ -14,7 +18,9 @@ pub struct Case<'a> {
 
 impl Case<'_> {
     /// Reads a case, from its title on.
-    pub fn read(alloc: Global, case: &str) -> Result<Case<'_>, AllocError> {
+    pub fn read(alloc: Global, case: &str) -> Result<Case<'_>, AllocError>
+        ensures { IfOk result (λ read. IsRead case.now read.view.now (map (λ option. option.now) read.options.items) read.text.now) }
+    {
         let (_title, below) = line_and_rest(case);
         let (view, below) = line_and_rest(below);
         let mut options = Vec::new(alloc);
@@ -36,6 +42,9 @@ impl Case<'_> {
 }
 
 /// The first line, and what follows its end.
-fn line_and_rest(text: &str) -> (&str, &str) {
+fn line_and_rest(text: &str) -> (&str, &str)
+    ensures line { result.0.now ≡ line_of text.now }
+    ensures rest { result.1.now ≡ after_first (λ b. b == 10) text.now }
+{
     text.split_once('\n').unwrap_or((text, ""))
 }
