@@ -41,7 +41,9 @@ fn expect_answers(
 ) -> Result<(), Fail> {
     for (line, answer) in rows {
         let made = change(line)?;
+        let version = keeper.version();
         assert_eq!(rt; keeper.test(&made).err(), answer.err(), "{line}");
+        assert_eq!(rt; keeper.version(), version, "{line}");
         assert_eq!(rt; apply(keeper, &made), *answer, "{line}");
     }
     Ok(())

@@ -24,8 +24,8 @@ impl<M: Row> GuardedRow<M> {
         }
     }
 
-    /// Waits for the lock and takes it, for several calls of the keeper. Give it back by `MutexGuard::unlock`: until then all else
-    /// that takes the lock waits.
+    /// Waits for the lock and takes it. Until it is given back by `MutexGuard::unlock`, all else that takes it waits: no change is
+    /// made, and an open goes on where it needs no lock.
     pub fn lock(&self, rt: &impl Wait) -> MutexGuard<'_, RowKeeper<M>> {
         self.keeper.lock(rt)
     }

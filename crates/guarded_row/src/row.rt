@@ -5,7 +5,8 @@ ghost use Rattle.atomic_table.specs.Seated.{TableId};
 ghost use Rattle.justification.specs.Justified.{Justified};
 ghost use Rattle.mediation.specs.Deeds.{policy_after};
 ghost use Rattle.row_rule.specs.Steps.{newcomer};
-ghost use Rattle.path_session.specs.Sitting.{IsSameSession, HasSeenMore, HasReadPolicy, HasVersions, IsNameJudged, IsByPublished, CountsRefusals, IsLetIn};
+ghost use Rattle.path_session.specs.Sitting.{IsSameSession, HasSeenMore, HasReadPolicy, HasVersions, IsNameJudged};
+ghost use Rattle.path_session.specs.Sitting.{IsByPublished, CountsRefusals, IsLetIn};
 ghost use Rattle.guarded_row.specs.Opening.{IsNotBusy};
 ghost use Rattle.guarded_row.specs.Linking.{IsAnswerSomewhere, IsNoAnswer};
 
@@ -34,7 +35,7 @@ pub struct RowKeeper<M: Row> {
 
 impl<M: Row> RowKeeper<M> {
     /// The keeper of the row that `M` names.
-    pub fn new(keeper: Keeper) -> RowKeeper<M>
+    pub(crate) fn new(keeper: Keeper) -> RowKeeper<M>
         requires { keeper.table ≡ M.table }
     {
         RowKeeper {
@@ -44,19 +45,19 @@ impl<M: Row> RowKeeper<M> {
     }
 
     /// Makes a change of the tree, and returns the version that it makes, or why not; then nothing was changed.
-    pub fn change(&mut self, change: &Change<'_>) -> Result<u64, Errno> {
+    pub(crate) fn change(&mut self, change: &Change<'_>) -> Result<u64, Errno> {
         self.keeper.apply(change)
     }
 
     /// A walker of the row, which may go to another thread.
-    pub fn walker(&mut self) -> Result<Walker, NoSeat>
+    pub(crate) fn walker(&mut self) -> Result<Walker, NoSeat>
         ensures { IfOk result (λ walker. (walker.table ≡ M.table) × (walker.view ≡ newcomer)) }
     {
         self.keeper.walker()
     }
 
     /// Opens a file by a session of this row.
-    pub fn open(&mut self, session: &mut Session, path: &[u8], ask: Perms) -> Answer
+    pub(crate) fn open(&mut self, session: &mut Session, path: &[u8], ask: Perms) -> Answer
         requires { session.old.walk.table ≡ M.table }
         ensures same { IsSameSession session.old session.new }
         ensures history { HasSeenMore session.old session.new }
@@ -73,7 +74,7 @@ impl<M: Row> RowKeeper<M> {
     }
 
     /// Makes a hard link by a session.
-    pub fn link(
+    pub(crate) fn link(
         &mut self,
         session: &mut Session,
         old: &[u8],

@@ -16,7 +16,8 @@ set_there n some low =
 abbrev bit : Bool → ℕ
 bit b = number_if b 1
 
-scaled : (b : Bool) → (bit b ≤ 1) × (number_if b 2 ≡ 2 * bit b) × (number_if b 4 ≡ 4 * bit b) × (number_if b 8 ≡ 8 * bit b) × (number_if b 16 ≡ 16 * bit b)
+scaled : (b : Bool) → (bit b ≤ 1) × (number_if b 2 ≡ 2 * bit b) × (number_if b 4 ≡ 4 * bit b) × (number_if b 8 ≡ 8 * bit b)
+    × (number_if b 16 ≡ 16 * bit b)
 scaled true = (omega arith, refl, refl, refl, refl)
 scaled false = (omega arith, refl, refl, refl, refl)
 
@@ -25,12 +26,19 @@ is_bit true n e = ap (λ k. k == 1) e
 is_bit false n e = ap (λ k. k == 1) e
 
 -- what a sum of such numbers has at each place
-module _ (a b c d e n : ℕ) (la : a ≤ 1) (lb : b ≤ 1) (lc : c ≤ 1) (ld : d ≤ 1) (le : e ≤ 1) (is : n ≡ a + 2 * b + 4 * c + 8 * d + 16 * e) where
+module _ (a b c d e n : ℕ) (la : a ≤ 1) (lb : b ≤ 1) (lc : c ≤ 1) (ld : d ≤ 1) (le : e ≤ 1)
+    (is : n ≡ a + 2 * b + 4 * c + 8 * d + 16 * e) where
   low : n < 32
   low = omega (arith, la, lb, lc, ld, le, is)
 
   places : (n / 1 % 2 ≡ a) × (n / 2 % 2 ≡ b) × (n / 4 % 2 ≡ c) × (n / 8 % 2 ≡ d) × (n / 16 % 2 ≡ e)
-  places = (omega (arith, la, is), omega (arith, la, lb, is), omega (arith, la, lb, lc, is), omega (arith, la, lb, lc, ld, is), omega (arith, la, lb, lc, ld, le, is))
+  places = (
+    omega (arith, la, is),
+    omega (arith, la, lb, is),
+    omega (arith, la, lb, lc, is),
+    omega (arith, la, lb, lc, ld, is),
+    omega (arith, la, lb, lc, ld, le, is),
+  )
 
 pub sums_are_sets : (s : Perms) → number_of s ≢ 0 → set_of_number (number_of s) ≡ Some s
 sums_are_sets s some =

@@ -38,9 +38,11 @@ zero_of_none s none =
     omega arith
 
 -- the numbers that are chosen are those of a verdict on the grounds
-pub chosen : (g : Grounds) (steps verdict told missing : ℕ) (is_denied : Bool) → (is_denied ≡ true → g.rule ≢ 0) → (is_denied ≡ false → g.rule ≡ 0) →
-    missing ≡ number_of g.missing → verdict ≡ (if is_denied then 2 else (if missing == 0 then 1 else 3)) → told ≡ (if is_denied then 0 else missing) →
-    (v : Verdict) × IsVerdictOn g v × ◌≡◌ {A = Answer} (record { steps = steps; verdict = verdict; rule = g.rule; missing = told }) (answer_of v steps)
+pub chosen : (g : Grounds) (steps verdict told missing : ℕ) (is_denied : Bool) → (is_denied ≡ true → g.rule ≢ 0) →
+    (is_denied ≡ false → g.rule ≡ 0) → missing ≡ number_of g.missing →
+    verdict ≡ (if is_denied then 2 else (if missing == 0 then 1 else 3)) → told ≡ (if is_denied then 0 else missing) →
+    (v : Verdict) × IsVerdictOn g v
+    × ◌≡◌ {A = Answer} (record { steps = steps; verdict = verdict; rule = g.rule; missing = told }) (answer_of v steps)
 chosen g steps verdict told missing true there gone m v t =
     (Denied g.rule, (there refl, refl), λ i. record { steps = steps; verdict = v i; rule = g.rule; missing = t i })
 chosen g steps verdict told zero false there gone m v t =

@@ -38,7 +38,8 @@ answer_of (NoRule missing) steps = record { steps = steps; verdict = 3; rule = 0
 
 -- the verdict that the record of the name's last state tells, and one step for each byte of the name
 abbrev pub IsToldByTable : Table → Perms → List ℕ → Answer → Type 0
-IsToldByTable t ask name a = (r : Record) × (record_after t name ≡ Some r) × (v : Verdict) × IsTold r ask v × (a ≡ answer_of v (length name))
+IsToldByTable t ask name a = (r : Record) × (record_after t name ≡ Some r)
+    × (v : Verdict) × IsTold r ask v × (a ≡ answer_of v (length name))
 
 -- What is told of a name by an image: nothing where nothing is asked that has a meaning, or there is no image; else what its
 -- table tells.

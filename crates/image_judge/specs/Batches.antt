@@ -11,7 +11,8 @@ part_of text begin end = if nat_le begin end && nat_le end (length text) then So
 
 -- the name from an offset to the next one, if there is one
 abbrev pub name_at : List ℕ → List ℕ → ℕ → Option (List ℕ)
-name_at names offsets i = option_and_then (λ begin. option_and_then (λ end. part_of names begin end) (slice_get offsets (i + 1))) (slice_get offsets i)
+name_at names offsets i =
+    option_and_then (λ begin. option_and_then (λ end. part_of names begin end) (slice_get offsets (i + 1))) (slice_get offsets i)
 
 -- the answer for a name, if there is one
 abbrev pub IsAnswerAt : List ℕ → ℕ → Option (List ℕ) → Answer → Type 0

@@ -7,7 +7,7 @@
 //! | line | is written with |
 //! |---|---|
 //! | `room N` | nothing: the lines that follow are of a new tree, with room for N entries |
-//! | `mkdir P`, `create P`, `symlink TEXT P`, `link OLD NEW`, `unlink P`, `rmdir P`, `rename OLD NEW` | `ok V`, the new version, or the error |
+//! | `mkdir P`, `create P`, `symlink TEXT P`, `link OLD NEW`, `unlink P`, `rmdir P`, `rename OLD NEW` | `ok VERSION`, or the error |
 //! | `plan CHANGE` | the cells that the change would set, each as its place and its word |
 //! | `name P` | the name of the place that P leads to, or the error |
 //! | `node P` | the number of the node that P leads to, a last link not followed, or the error |

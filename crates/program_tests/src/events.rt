@@ -60,7 +60,7 @@ fn readers_that_fail(rt: HostRuntime) -> Result<(), Fail> {
     Ok(())
 }
 
-/// The status of a run whose answers can be written to so often, and what stands of them.
+/// The status of a run whose answers take a limited number of calls, and what was written of them.
 fn status_of(
     rt: &(impl Threads + Wait + Sync),
     alloc: Global,

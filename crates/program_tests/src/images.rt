@@ -51,7 +51,7 @@ fn images_that_cannot_be_read(rt: HostRuntime) -> Result<(), Fail> {
     expect_read_faults(&rt, rt.alloc(), &["aa-trace", "match", "r", "/x"], &rows)
 }
 
-/// Asserts what stands of an image of which N calls are taken.
+/// Asserts what was written of an image whose stream takes N calls.
 fn expect_front(
     rt: &(impl Abort + Threads + Wait + Sync),
     alloc: Global,

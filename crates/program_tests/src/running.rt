@@ -78,7 +78,7 @@ impl Write for Failing {
     }
 }
 
-/// The outcome of a run: its status, and what stands on both streams.
+/// The outcome of a run: its status, and what it wrote to both streams.
 #[derive(Drop)]
 pub(crate) struct Ending {
     pub(crate) status: Status,

@@ -6,5 +6,6 @@ use Rattle.image_judge.proofs.judging.judge_by.Goals as goal
 pub returns : goal.returns
 returns c =
     let on = c.answer_on.ensures in
-    let steps : c.count.result ≡ length c.args.name.now = omega (arith, c.count.ensures, c.«record_by_image-record».ensures.steps, c.new-steps.ensures) in
-    (c.«record_by_image-record».result, c.«record_by_image-record».ensures.«record», on.0, c.grounds_of.ensures.told on.0 on.1, on.2 ∙ ap (answer_of on.0) steps)
+    let by = c.«record_by_image-record» in
+    let steps : c.count.result ≡ length c.args.name.now = omega (arith, c.count.ensures, by.ensures.steps, c.new-steps.ensures) in
+    (by.result, by.ensures.«record», on.0, c.grounds_of.ensures.told on.0 on.1, on.2 ∙ ap (answer_of on.0) steps)
