@@ -1,13 +1,17 @@
 #!/usr/bin/env python3
 """Proves each crate that the program depends on, several at the same time, and builds ./aa-trace.
 
-What was proved before and hasn't changed is kept. A command of rt in a crate's folder keeps others out of that folder and of
-those of all crates below it, so each crate is proved in a room of its own: a folder with the crates below it as they were
-built, to which the crate's out/ goes and from which it comes back.
+A crate is proved as the gate proves it: from nothing, over the statements of the crates below, which are loaded without their
+proofs. What was proved stays in the out/ of the program's crate, with a sum of all that it was proved from, and is proved again
+where this changes. Work that `rt check` can begin with is kept by `rt all check`.
 
-How long each proof takes is read from tools/proof-seconds, and is written there after proofs from nothing.
+The prover is called, and not `rt`, which reads the files of a crate again for each chain of dependencies that leads to it: below
+the program there are 29,000, and that takes minutes.
+
+How long each proof takes is read from tools/proof-seconds, and is written there.
 """
 import glob
+import hashlib
 import os
 import resource
 import shutil
@@ -19,8 +23,10 @@ from concurrent.futures import FIRST_COMPLETED, ThreadPoolExecutor, wait
 
 TOP = os.path.dirname(os.path.dirname(os.path.abspath(__file__)))
 CRATES = f"{TOP}/crates"
-ROOMS = f"{TOP}/.build"
 PROGRAM = "trace_cli"
+# What was built of each library, NAME.rlib, and the sum of what it was proved from, NAME.sum. In this folder `rt ci` takes files of
+# code for what was built; of a program, rt itself has nothing there.
+BUILT = f"{CRATES}/{PROGRAM}/out/rlib"
 # Lines "crate seconds", in the order of crates.txt: the processor seconds of the crate's proof from nothing by one job. A program's
 # include its build.
 SECONDS = f"{TOP}/tools/proof-seconds"
@@ -33,25 +39,31 @@ MOST_JOBS = 4
 
 
 def read_lines():
-    """The line of crates.txt for each crate, lowest crate first."""
+    """For each crate the libraries that crates.txt lists, lowest crate first."""
     with open(f"{TOP}/crates.txt", encoding="utf-8") as it:
-        lines = [line for line in it if ":" in line.partition("#")[0]]
-    return {line.partition(":")[0].split()[0]: line for line in lines}
+        lines = [line.partition("#")[0].partition(":") for line in it]
+    return {name.split()[0]: libraries.split() for name, colon, libraries in lines if colon}
 
 
 def find_below(lines):
     """The crates that each crate depends on, directly or not."""
     below = {}
-    for name, line in lines.items():
-        direct = [it for it in line.partition(":")[2].split() if it in lines]
+    for name, libraries in lines.items():
+        direct = [it for it in libraries if it in lines]
         below[name] = {*direct, *(low for it in direct for low in below[it])}
     return below
+
+
+def files_of(name):
+    """The files that a crate's proof reads."""
+    parts = ("src", "specs", "proofs")
+    return sorted(it for part in parts for it in glob.glob(f"{CRATES}/{name}/{part}/**/*", recursive=True) if os.path.isfile(it))
 
 
 def count_lines(name):
     """The lines of a crate's code."""
     count = 0
-    for file in glob.iglob(f"{CRATES}/{name}/src/**/*.rt", recursive=True):
+    for file in filter(lambda it: it.endswith(".rt"), files_of(name)):
         with open(file, "rb") as it:
             count += it.read().count(b"\n")
     return count
@@ -102,61 +114,78 @@ def find_chains(lines, below, seconds):
     return chain
 
 
-def link(source, to):
-    """A second name for a file, or a copy where the file system has no such names."""
+def find_kit():
+    """The folder of the kit, in which rt's guides are, and the line that identifies it."""
+    guide = subprocess.run(["rt", "doc"], stdout=subprocess.PIPE, text=True, check=True).stdout.strip()
+    version = subprocess.run(["rt", "version"], stdout=subprocess.PIPE, text=True, check=True).stdout
+    return os.path.dirname(guide), version
+
+
+def find_sums(lines, version):
+    """For each crate a sum of all that its proof reads."""
+    sums = {}
+    for name, libraries in lines.items():
+        made_from = hashlib.sha256(repr((version, name, libraries)).encode())
+        for file in files_of(name):
+            with open(file, "rb") as it:
+                made_from.update(repr((os.path.relpath(file, CRATES), it.read())).encode())
+        made_from.update("".join(sums.get(it, "") for it in libraries).encode())
+        sums[name] = made_from.hexdigest()
+    return sums
+
+
+def is_built(name, made_from):
+    """Whether a library was built from what there is now."""
     try:
-        os.link(source, to)
-    except OSError:
-        shutil.copy2(source, to)
+        with open(f"{BUILT}/{name}.sum", encoding="utf-8") as it:
+            return it.read() == made_from and os.path.isdir(f"{BUILT}/{name}.rlib")
+    except FileNotFoundError:
+        return False
 
 
-def furnish(room, name, lines, below):
-    """Puts a crate, and what was built of those below it, into a room."""
-    shutil.copy(f"{TOP}/HANDLES", room)
-    with open(f"{room}/crates.txt", "w", encoding="utf-8") as it:
-        it.writelines(line for crate, line in lines.items() if crate == name or crate in below[name])
-    for low in below[name]:
-        built = shutil.ignore_patterns("incremental")
-        shutil.copytree(f"{CRATES}/{low}", f"{room}/crates/{low}", copy_function=link, ignore=built)
-    shutil.copytree(f"{CRATES}/{name}", f"{room}/crates/{name}", ignore=shutil.ignore_patterns("out"))
-    if os.path.isdir(f"{CRATES}/{name}/out"):
-        os.rename(f"{CRATES}/{name}/out", f"{room}/crates/{name}/out")
+def words_of(kit, name, lines, jobs):
+    """The words by which the prover is told of a crate."""
+    words = ["--crate-name", name, f"src/{'main' if name == PROGRAM else 'lib'}.rt"]
+    words += ["-L", f"dependency={kit}/rlibs", "-L", f"dependency={BUILT}"]
+    for library in ["std", *lines[name]]:
+        words += ["--extern", f"{library}={BUILT if library in lines else f'{kit}/rlibs'}/{library}.rlib"]
+    words += ["--antt-project", f"{kit}/rattle/logic/antt-project.json", "--logic-built", f"{kit}/logic_built"]
+    return [*words, "--links", f"{name}=", "--jobs", str(jobs)]
 
 
-def run_rt(words, folder, given=subprocess.DEVNULL):
-    """Runs rt in a crate's folder, and returns its status, what it printed, and its processor seconds where it proved the crate
-    from nothing."""
-    is_new = not os.path.isdir(f"{folder}/out")
+def run_in(folder, words):
+    """Runs a command, and returns what it printed where it fails, and its processor seconds."""
     with tempfile.TemporaryFile() as printed:
-        rt = subprocess.Popen(["rt", *words], cwd=folder, stdin=given, stdout=printed, stderr=subprocess.STDOUT)
-        _, rt.returncode, used = os.wait4(rt.pid, 0)
+        ran = subprocess.Popen(words, cwd=folder, stdin=subprocess.DEVNULL, stdout=printed, stderr=subprocess.STDOUT)
+        _, status, used = os.wait4(ran.pid, 0)
+        ran.returncode = os.waitstatus_to_exitcode(status)
         printed.seek(0)
         said = printed.read().decode(errors="replace")
-    # rt may begin with what it kept in another copy of the repository, or take a library that was built there.
-    is_new = is_new and "logic=proved" in said and "begins with what a check kept" not in said
-    return rt.returncode, said, used.ru_utime + used.ru_stime if is_new else None
+    return said if ran.returncode else None, used.ru_utime + used.ru_stime
 
 
-def prove(name, lines, below, jobs):
-    """Proves one library, and returns what was printed where that fails, and its processor seconds where they were measured."""
-    with tempfile.TemporaryDirectory(dir=ROOMS) as room:
-        furnish(room, name, lines, below)
-        folder = f"{room}/crates/{name}"
-        status, said, seconds = run_rt(["lib", "--jobs", str(jobs)], folder)
-        if os.path.isdir(f"{folder}/out"):
-            os.rename(f"{folder}/out", f"{CRATES}/{name}/out")
-    return f"{name} isn't proved\n{said}" if status else None, seconds if jobs == 1 else None
+def prove(kit, name, lines, made_from, jobs):
+    """Proves one library and builds it, and returns what was printed where that fails, and its processor seconds."""
+    shutil.rmtree(f"{BUILT}/{name}.rlib", ignore_errors=True)
+    words = [f"{kit}/bin/rattle", "build", *words_of(kit, name, lines, jobs), "--statements", "-o", f"{BUILT}/{name}.rlib"]
+    said, seconds = run_in(f"{CRATES}/{name}", words)
+    if said is None:
+        with open(f"{BUILT}/{name}.sum", "w", encoding="utf-8") as it:
+            it.write(made_from)
+    return f"{name} isn't proved\n{said}" if said is not None else None, seconds if jobs == 1 else None
 
 
-def prove_libraries(lines, below, lanes, measured):
+def prove_libraries(kit, lines, sums, lanes, measured):
     """Proves the libraries, as many at the same time as there are lanes, and returns what was printed where one fails.
 
     The crate with the longest chain goes first. A proof by several jobs takes more processor time in all, so only lanes for which
     no crate is ready become further jobs, of the first of those that begin.
     """
+    below = find_below(lines)
     chain = find_chains(lines, below, estimate_seconds(below[PROGRAM], read_seconds()))
-    left = sorted(below[PROGRAM], key=lambda it: -chain[it])
-    running, built, idle = {}, set(), lanes
+    built = {it for it in below[PROGRAM] if is_built(it, sums[it])}
+    left = sorted(below[PROGRAM] - built, key=lambda it: -chain[it])
+    running, idle = {}, lanes
     with ThreadPoolExecutor(lanes) as pool:
         while left or running:
             ready = [it for it in left if below[it] <= built][:idle]
@@ -164,7 +193,7 @@ def prove_libraries(lines, below, lanes, measured):
                 jobs = min(MOST_JOBS, idle - (len(ready) - place))
                 idle -= jobs
                 left.remove(name)
-                running[pool.submit(prove, name, lines, below, jobs)] = name, jobs
+                running[pool.submit(prove, kit, name, lines, sums[name], jobs)] = name, jobs
             for it in wait(running, return_when=FIRST_COMPLETED).done:
                 name, jobs = running.pop(it)
                 idle += jobs
@@ -177,19 +206,21 @@ def prove_libraries(lines, below, lanes, measured):
     return None
 
 
-def build_program(measured):
-    """Proves the program itself, builds it and runs it once, and returns what was printed where that fails.
+def build_program(kit, lines, measured):
+    """Proves the program itself and builds it, and returns what was printed where that fails.
 
     One job proves it: a program reads all of the crates below it, and each further job would read them again.
     """
-    with open(f"{TOP}/examples/passwd.profile", "rb") as profile:
-        words = ["run", "--jobs", "1", "--", "judge", "rw", "/etc/passwd"]
-        status, said, seconds = run_rt(words, f"{CRATES}/{PROGRAM}", profile)
-    if status:
+    toolchain = f"{kit}/toolchain"
+    compiled = f"{BUILT}/{PROGRAM}.o"
+    words = [f"{kit}/bin/rattle", "build", *words_of(kit, PROGRAM, lines, 1), "--toolchain", toolchain, "-o", compiled]
+    said, seconds = run_in(f"{CRATES}/{PROGRAM}", words)
+    if said is not None:
         return said
-    measured.update({PROGRAM: seconds} if seconds else {})
-    shutil.copy(f"{CRATES}/{PROGRAM}/out/{PROGRAM}", f"{TOP}/aa-trace")
-    return None
+    measured.update({PROGRAM: seconds})
+    target = ["--target", "x86_64-unknown-linux-gnu", "--toolchain", toolchain]
+    libraries = [f"{kit}/c/libos_c.a", f"{kit}/c/liblibc_c.a"]
+    return run_in(TOP, [f"{kit}/bin/rattle-link", *target, "-o", f"{TOP}/aa-trace", compiled, *libraries])[0]
 
 
 def count_lanes():
@@ -201,13 +232,14 @@ def count_lanes():
 
 def prove_all(lanes):
     """Proves the libraries and the program, and builds it, and returns what was printed where that fails."""
+    kit, version = find_kit()
     lines, measured = read_lines(), {}
     try:
         print(f"proving the crates that the program depends on, {lanes} at once ..", flush=True)
-        fault = prove_libraries(lines, find_below(lines), lanes, measured)
+        fault = prove_libraries(kit, lines, find_sums(lines, version), lanes, measured)
         if not fault:
             print("proving the program, and building it ..", flush=True)
-            fault = build_program(measured)
+            fault = build_program(kit, lines, measured)
         return fault
     finally:
         write_seconds(read_seconds(), measured, lines)
@@ -215,13 +247,8 @@ def prove_all(lanes):
 
 def main():
     begin = time.time()
-    # A build that was killed may have left its rooms.
-    shutil.rmtree(ROOMS, ignore_errors=True)
-    os.mkdir(ROOMS)
-    try:
-        fault = prove_all(count_lanes())
-    finally:
-        shutil.rmtree(ROOMS, ignore_errors=True)
+    os.makedirs(BUILT, exist_ok=True)
+    fault = prove_all(count_lanes())
     if fault:
         print(fault, end="")
         return 1
