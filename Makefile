@@ -48,7 +48,7 @@ aa-trace: $(SOURCES)
 
 $(LIBRARY): $(LIBRARY_SOURCES)
 	@:$(NEED_RT)
-	cd crates/coqetwal && rt lib
+	@python3 tools/build.py coqetwal
 	@touch $@
 
 run: need-rt

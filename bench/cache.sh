@@ -15,10 +15,7 @@ work=$(mktemp -d)
 trap 'rm -rf "$work"' EXIT
 
 echo 'proving and building benchmarks ..'
-if ! (cd crates/benchmarks && rt run -- cache) >"$work/log" 2>&1; then
-    cat "$work/log"
-    exit 1
-fi
+python3 tools/build.py benchmarks >"$work/log" 2>&1 || { cat "$work/log"; exit 1; }
 BENCH='crates/benchmarks/out/benchmarks cache'
 
 for capacity in 1024 16384; do

@@ -12,10 +12,7 @@ trap 'rm -rf "$work"' EXIT
 
 if [ -z "${COMPILE:-}" ]; then
     echo 'proving and building benchmarks ..'
-    if ! (cd crates/benchmarks && rt run -- compile <data/home.profile) >"$work/log" 2>&1; then
-        cat "$work/log"
-        exit 1
-    fi
+    python3 tools/build.py benchmarks >"$work/log" 2>&1 || { cat "$work/log"; exit 1; }
     COMPILE='crates/benchmarks/out/benchmarks compile'
 fi
 

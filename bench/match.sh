@@ -12,10 +12,7 @@ work=$(mktemp -d)
 trap 'rm -rf "$work"' EXIT
 
 echo 'proving and building the static library ..'
-if ! (cd crates/loop_bench && rt lib) >"$work/log" 2>&1; then
-    cat "$work/log"
-    exit 1
-fi
+python3 tools/build.py loop_bench >"$work/log" 2>&1 || { cat "$work/log"; exit 1; }
 # The calls of malloc and free that the library makes.
 heap=$(dirname "$(rt doc)")/c/liblibc_c.a
 

@@ -24,10 +24,7 @@ work=$(mktemp -d)
 trap 'rm -rf "$work"' EXIT
 
 echo 'proving and building benchmarks ..'
-if ! (cd crates/benchmarks && rt run -- open <data/files.profile) >"$work/log" 2>&1; then
-    cat "$work/log"
-    exit 1
-fi
+python3 tools/build.py benchmarks >"$work/log" 2>&1 || { cat "$work/log"; exit 1; }
 BENCH='crates/benchmarks/out/benchmarks open'
 
 lock=

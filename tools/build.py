@@ -1,14 +1,16 @@
 #!/usr/bin/env python3
-"""Proves each crate that the program depends on, several at the same time, and builds ./aa-trace.
+"""Proves a program or a static library with each crate below it, several at the same time, and builds it.
 
-A crate is proved as the gate proves it: from nothing, over the statements of the crates below, which are loaded without their
-proofs. What was proved stays in the out/ of the program's crate, with a sum of all that it was proved from, and is proved again
-where this changes. Work that `rt check` can begin with is kept by `rt all check`.
+A crate is proved from nothing over the statements of the crates below, which are loaded without their proofs, as the gate does.
+What was proved stays in the out/ of the program's crate, with a sum of all that it was proved from, and is proved again where this
+changes. `rt check` can't begin with it; it begins with what `rt check` and `rt all check` keep.
 
 The prover is called, and not `rt`, which reads the files of a crate again for each chain of dependencies that leads to it: below
-the program there are 29,000, and that takes minutes.
+the program there are 29,000, and that takes minutes. What `rt ci` tests of a crate besides its proof, the gate alone tests.
 
 How long each proof takes is read from tools/proof-seconds, and is written there.
+
+usage: tools/build.py [NAME]    crates/NAME/out/NAME, or of a static library crates/NAME/out/libNAME.a; without NAME ./aa-trace
 """
 import glob
 import hashlib
@@ -24,8 +26,8 @@ from concurrent.futures import FIRST_COMPLETED, ThreadPoolExecutor, wait
 TOP = os.path.dirname(os.path.dirname(os.path.abspath(__file__)))
 CRATES = f"{TOP}/crates"
 PROGRAM = "trace_cli"
-# What was built of each library, NAME.rlib, and the sum of what it was proved from, NAME.sum. In this folder `rt ci` takes files of
-# code for what was built; of a program, rt itself has nothing there.
+# What was built of each library, NAME.rlib, and for each crate the sum of what it was proved from, NAME.sum. In this folder `rt ci`
+# takes files of code for what was built; of a program, rt itself has nothing there.
 BUILT = f"{CRATES}/{PROGRAM}/out/rlib"
 # Lines "crate seconds", in the order of crates.txt: the processor seconds of the crate's proof from nothing by one job. A program's
 # include its build.
@@ -39,10 +41,12 @@ MOST_JOBS = 4
 
 
 def read_lines():
-    """For each crate the libraries that crates.txt lists, lowest crate first."""
+    """For each crate the libraries that crates.txt lists, lowest crate first, and the crates that are static libraries."""
     with open(f"{TOP}/crates.txt", encoding="utf-8") as it:
         lines = [line.partition("#")[0].partition(":") for line in it]
-    return {name.split()[0]: libraries.split() for name, colon, libraries in lines if colon}
+    heads = [head.split() for head, colon, _ in lines if colon]
+    tails = [tail.split() for _, colon, tail in lines if colon]
+    return {head[0]: tail for head, tail in zip(heads, tails)}, {head[0] for head in heads if "staticlib" in head}
 
 
 def find_below(lines):
@@ -134,21 +138,25 @@ def find_sums(lines, version):
     return sums
 
 
-def is_built(name, made_from):
-    """Whether a library was built from what there is now."""
+def is_built(name, made_from, product):
+    """Whether this was built of a crate from what there is now."""
     try:
         with open(f"{BUILT}/{name}.sum", encoding="utf-8") as it:
-            return it.read() == made_from and os.path.isdir(f"{BUILT}/{name}.rlib")
+            return it.read() == made_from and os.path.exists(product)
     except FileNotFoundError:
         return False
 
 
+def library_of(name):
+    return f"{BUILT}/{name}.rlib"
+
+
 def words_of(kit, name, lines, jobs):
     """The words by which the prover is told of a crate."""
-    words = ["--crate-name", name, f"src/{'main' if name == PROGRAM else 'lib'}.rt"]
-    words += ["-L", f"dependency={kit}/rlibs", "-L", f"dependency={BUILT}"]
+    root = "main" if os.path.isfile(f"{CRATES}/{name}/src/main.rt") else "lib"
+    words = ["--crate-name", name, f"src/{root}.rt", "-L", f"dependency={kit}/rlibs", "-L", f"dependency={BUILT}"]
     for library in ["std", *lines[name]]:
-        words += ["--extern", f"{library}={BUILT if library in lines else f'{kit}/rlibs'}/{library}.rlib"]
+        words += ["--extern", f"{library}={library_of(library) if library in lines else f'{kit}/rlibs/{library}.rlib'}"]
     words += ["--antt-project", f"{kit}/rattle/logic/antt-project.json", "--logic-built", f"{kit}/logic_built"]
     return [*words, "--links", f"{name}=", "--jobs", str(jobs)]
 
@@ -164,27 +172,29 @@ def run_in(folder, words):
     return said if ran.returncode else None, used.ru_utime + used.ru_stime
 
 
-def prove(kit, name, lines, made_from, jobs):
-    """Proves one library and builds it, and returns what was printed where that fails, and its processor seconds."""
-    shutil.rmtree(f"{BUILT}/{name}.rlib", ignore_errors=True)
-    words = [f"{kit}/bin/rattle", "build", *words_of(kit, name, lines, jobs), "--statements", "-o", f"{BUILT}/{name}.rlib"]
-    said, seconds = run_in(f"{CRATES}/{name}", words)
+def build(kit, name, lines, made_from, jobs, how, product):
+    """Proves a crate and builds what these further words say, and returns what was printed where that fails, and its processor
+    seconds, if one job took them."""
+    # Until it is built anew, nothing says what the old one was built from.
+    if os.path.exists(f"{BUILT}/{name}.sum"):
+        os.remove(f"{BUILT}/{name}.sum")
+    said, seconds = run_in(f"{CRATES}/{name}", [f"{kit}/bin/rattle", "build", *words_of(kit, name, lines, jobs), *how, "-o", product])
     if said is None:
         with open(f"{BUILT}/{name}.sum", "w", encoding="utf-8") as it:
             it.write(made_from)
     return f"{name} isn't proved\n{said}" if said is not None else None, seconds if jobs == 1 else None
 
 
-def prove_libraries(kit, lines, sums, lanes, measured):
-    """Proves the libraries, as many at the same time as there are lanes, and returns what was printed where one fails.
+def build_libraries(kit, target, lines, sums, lanes, measured):
+    """Builds the libraries below a crate, as many at the same time as there are lanes, and returns what was printed where one fails.
 
     The crate with the longest chain goes first. A proof by several jobs takes more processor time in all, so only lanes for which
     no crate is ready become further jobs, of the first of those that begin.
     """
     below = find_below(lines)
-    chain = find_chains(lines, below, estimate_seconds(below[PROGRAM], read_seconds()))
-    built = {it for it in below[PROGRAM] if is_built(it, sums[it])}
-    left = sorted(below[PROGRAM] - built, key=lambda it: -chain[it])
+    chain = find_chains(lines, below, estimate_seconds(below[target], read_seconds()))
+    built = {it for it in below[target] if is_built(it, sums[it], library_of(it))}
+    left = sorted(below[target] - built, key=lambda it: -chain[it])
     running, idle = {}, lanes
     with ThreadPoolExecutor(lanes) as pool:
         while left or running:
@@ -193,7 +203,7 @@ def prove_libraries(kit, lines, sums, lanes, measured):
                 jobs = min(MOST_JOBS, idle - (len(ready) - place))
                 idle -= jobs
                 left.remove(name)
-                running[pool.submit(prove, kit, name, lines, sums[name], jobs)] = name, jobs
+                running[pool.submit(build, kit, name, lines, sums[name], jobs, ["--statements"], library_of(name))] = name, jobs
             for it in wait(running, return_when=FIRST_COMPLETED).done:
                 name, jobs = running.pop(it)
                 idle += jobs
@@ -202,25 +212,31 @@ def prove_libraries(kit, lines, sums, lanes, measured):
                     return fault
                 built.add(name)
                 measured.update({name: seconds} if seconds else {})
-                print(f"proved {name}, {len(built)} of {len(below[PROGRAM])} libraries", flush=True)
+                print(f"proved {name}, {len(built)} of {len(below[target])} libraries", flush=True)
     return None
 
 
-def build_program(kit, lines, measured):
-    """Proves the program itself and builds it, and returns what was printed where that fails.
+def build_target(kit, target, lines, is_static, made_from, measured):
+    """Proves a program or a static library itself and builds it, and returns what was printed where that fails.
 
     One job proves it: a program reads all of the crates below it, and each further job would read them again.
     """
-    toolchain = f"{kit}/toolchain"
-    compiled = f"{BUILT}/{PROGRAM}.o"
-    words = [f"{kit}/bin/rattle", "build", *words_of(kit, PROGRAM, lines, 1), "--toolchain", toolchain, "-o", compiled]
-    said, seconds = run_in(f"{CRATES}/{PROGRAM}", words)
-    if said is not None:
-        return said
-    measured.update({PROGRAM: seconds})
-    target = ["--target", "x86_64-unknown-linux-gnu", "--toolchain", toolchain]
+    folder = f"{CRATES}/{target}/out"
+    product = f"{folder}/lib{target}.a" if is_static else f"{folder}/{target}"
+    if is_built(target, made_from, product):
+        return None
+    os.makedirs(folder, exist_ok=True)
+    if os.path.exists(product):
+        os.remove(product)
+    toolchain = ["--toolchain", f"{kit}/toolchain"]
+    how = [*toolchain, "--crate-type", "staticlib"] if is_static else toolchain
+    fault, seconds = build(kit, target, lines, made_from, 1, how, product if is_static else f"{product}.o")
+    if fault or is_static:
+        return fault
+    measured[target] = seconds
     libraries = [f"{kit}/c/libos_c.a", f"{kit}/c/liblibc_c.a"]
-    return run_in(TOP, [f"{kit}/bin/rattle-link", *target, "-o", f"{TOP}/aa-trace", compiled, *libraries])[0]
+    words = ["--target", "x86_64-unknown-linux-gnu", *toolchain, "-o", product, f"{product}.o", *libraries]
+    return run_in(TOP, [f"{kit}/bin/rattle-link", *words])[0]
 
 
 def count_lanes():
@@ -230,16 +246,17 @@ def count_lanes():
     return max(1, min(len(os.sched_getaffinity(0)), free // MEMORY))
 
 
-def prove_all(lanes):
-    """Proves the libraries and the program, and builds it, and returns what was printed where that fails."""
+def build_all(target, lanes):
+    """Builds a program or a static library, and the libraries below it, and returns what was printed where that fails."""
     kit, version = find_kit()
-    lines, measured = read_lines(), {}
+    lines, statics = read_lines()
+    sums, measured = find_sums(lines, version), {}
     try:
-        print(f"proving the crates that the program depends on, {lanes} at once ..", flush=True)
-        fault = prove_libraries(kit, lines, find_sums(lines, version), lanes, measured)
+        print(f"proving the crates that {target} depends on, {lanes} at once ..", flush=True)
+        fault = build_libraries(kit, target, lines, sums, lanes, measured)
         if not fault:
-            print("proving the program, and building it ..", flush=True)
-            fault = build_program(kit, lines, measured)
+            print(f"proving {target}, and building it ..", flush=True)
+            fault = build_target(kit, target, lines, target in statics, sums[target], measured)
         return fault
     finally:
         write_seconds(read_seconds(), measured, lines)
@@ -247,13 +264,19 @@ def prove_all(lanes):
 
 def main():
     begin = time.time()
+    target = sys.argv[1] if len(sys.argv) == 2 else PROGRAM
+    if len(sys.argv) > 2 or not os.path.isdir(f"{CRATES}/{target}"):
+        print(__doc__, file=sys.stderr)
+        return 2
     os.makedirs(BUILT, exist_ok=True)
-    fault = prove_all(count_lanes())
+    fault = build_all(target, count_lanes())
     if fault:
         print(fault, end="")
         return 1
+    if target == PROGRAM:
+        shutil.copy(f"{CRATES}/{target}/out/{target}", f"{TOP}/aa-trace")
     used = resource.getrusage(resource.RUSAGE_CHILDREN)
-    print(f"built ./aa-trace in {(time.time() - begin) / 60:.1f} minutes, {(used.ru_utime + used.ru_stime) / 60:.1f} processor minutes")
+    print(f"built {target} in {(time.time() - begin) / 60:.1f} minutes, {(used.ru_utime + used.ru_stime) / 60:.1f} processor minutes")
     return 0
 
 

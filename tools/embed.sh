@@ -8,7 +8,7 @@ work=$(mktemp -d)
 trap 'rm -rf "$work"' EXIT
 library=crates/coqetwal/out/libcoqetwal.a
 
-(cd crates/coqetwal && rt lib) >"$work/log" 2>&1 || { cat "$work/log"; exit 1; }
+python3 tools/build.py coqetwal >"$work/log" 2>&1 || { cat "$work/log"; exit 1; }
 ${CC:-cc} -std=c99 -Wall -Wextra -Werror -pedantic -O2 -Iinclude -o embed examples/embed.c "$library"
 rust=
 if command -v rustc >/dev/null 2>&1; then

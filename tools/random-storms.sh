@@ -4,7 +4,8 @@
 # of the tree and as many of the policy; checks each answer against what was really changed, and prints how long all that took.
 # Then the same in small, with one change left out when the answers are checked: of these some must not be justified.
 set -eu
-cd "$(dirname "$0")/../crates/random_storms"
+cd "$(dirname "$0")/.."
+RANDOM_STORMS=crates/random_storms/out/random_storms
 SEED=${1:-1}
 SESSIONS=${2:-16}
 OPENS=${3:-62500}
@@ -12,16 +13,16 @@ CHANGES=${4:-10000}
 echo 'proving and building random_storms ..'
 log=$(mktemp)
 trap 'rm -f "$log"' EXIT
-rt run -- open >"$log" 2>&1 || { cat "$log"; exit 1; }
+python3 tools/build.py random_storms >"$log" 2>&1 || { cat "$log"; exit 1; }
 
 begin=$(date +%s%N)
-out/random_storms open "$SEED" "$SESSIONS" "$OPENS" "$CHANGES" | tee "$log"
+"$RANDOM_STORMS" open "$SEED" "$SESSIONS" "$OPENS" "$CHANGES" | tee "$log"
 end=$(date +%s%N)
 echo "$(((end - begin) / 1000000)) milliseconds"
 [ "$(cat "$log")" = "answers $((SESSIONS * OPENS)) unjustified 0" ] || exit 1
 
 echo 'with one change of the tree left out:'
-out/random_storms open "$SEED" 4 1000 1000 10 | tee "$log"
+"$RANDOM_STORMS" open "$SEED" 4 1000 1000 10 | tee "$log"
 case $(cat "$log") in
 'answers 4000 unjustified 0') echo 'all of them should not be justified' >&2; exit 1 ;;
 'answers 4000 unjustified '*) ;;

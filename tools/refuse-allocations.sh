@@ -10,12 +10,8 @@ cd "$(dirname "$0")/.."
 work=$(mktemp -d)
 trap 'rm -rf "$work"' EXIT
 
-# build NAME: a program of the tests, proved
-build() {
-    echo "proving and building $1 .."
-    (cd "crates/$1" && rt run -- walk 1 4 4 </dev/null) >"$work/log" 2>&1 || { cat "$work/log"; exit 1; }
-}
-build random_storms
+echo 'proving and building random_storms ..'
+python3 tools/build.py random_storms >"$work/log" 2>&1 || { cat "$work/log"; exit 1; }
 RANDOM_STORMS=crates/random_storms/out/random_storms
 
 cat >"$work/refuse.c" <<'C'

@@ -49,7 +49,7 @@ ask() {
 
 echo 'proving and building mediating_server ..'
 : >"$work/told"
-rt run -- data/served.profile 1 <stdin >"$work/log" 2>&1 || { cat "$work/log"; exit 1; }
+python3 ../../tools/build.py mediating_server >"$work/log" 2>&1 || { cat "$work/log"; exit 1; }
 
 profile '/srv/* r'
 mkfifo "$work/requests"
