@@ -92,7 +92,7 @@ drawn: need-rt
 	tools/drawn-changes
 
 edits: need-rt
-	tools/more-edits
+	tools/more-edits --anew
 
 reproduce: aa-trace $(LIBRARY)
 	@sha256sum aa-trace
