@@ -5,8 +5,8 @@ ghost use Rattle.interleaving_core.specs.Parts.{machine_of};
 
 use event_core::runs_keep_rule;
 use names::NoMemory;
+use open_session::Policy;
 use path_lookup::Scratch;
-use policy_map::Policy;
 use row_keeper::Keeper;
 use session_table::Sessions;
 use std::alloc::Global;

@@ -10,9 +10,8 @@ ghost use Rattle.verdicts.specs.declared.verdict.Verdict.{Verdict};
 ghost use Rattle.tables.specs.Tables.{record_after};
 
 use crate::laws::told_is_the_one_verdict;
-use matcher::{AnyProfile, tables_of_rules_tell_their_verdicts};
+use matcher::{AnyProfile, record_of_name, tables_of_rules_tell_their_verdicts};
 use names::{Permission, Perms, permissions_are_numbered};
-use table_runner::record_of_name;
 use table_verifier::{Steps, VerifiedTable};
 use verdicts::{Record, Verdict, told};
 

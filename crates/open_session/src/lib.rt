@@ -17,4 +17,6 @@ mod walking;
 pub use event_core::StepFault;
 pub use justification::Answer;
 pub use laws::rule_gives_what_steps_require;
+pub use policy_map::Policy;
+pub use row_keeper::Keeper;
 pub use session::Session;

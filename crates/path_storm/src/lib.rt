@@ -25,5 +25,6 @@ pub use gate::{Gate, Open};
 pub use laws::storms_have_one_report;
 pub use laying::{FILE, PROFILE};
 pub use log::StormLog;
+pub use path_guard::{Guard, Row};
 pub use plan::{Plan, StormReport};
 pub use storm::{storm_log, storm_with};

@@ -4,15 +4,17 @@ use names::Path;
 
 /// The change of this name, for a tree that `grow` has filled.
 pub(crate) fn change_of(name: &[u8]) -> Option<Change<'static>> {
+    let (file, new) = (path(b"/file")?, path(b"/new")?);
+    let (empty, other) = (path(b"/empty")?, path(b"/other")?);
     match name {
-        b"mkdir" => Some(Change::Mkdir(path(b"/new")?)),
-        b"create" => Some(Change::Create(path(b"/new")?)),
-        b"symlink" => Some(Change::Symlink(LinkBytes::new(b"d/d"), path(b"/new")?)),
-        b"link" => Some(Change::Link(path(b"/file")?, path(b"/new")?)),
-        b"unlink" => Some(Change::Unlink(path(b"/file")?)),
-        b"rmdir" => Some(Change::Rmdir(path(b"/empty")?)),
-        b"rename" => Some(Change::Rename(path(b"/file")?, path(b"/new")?)),
-        b"replace" => Some(Change::Rename(path(b"/file")?, path(b"/other")?)),
+        b"mkdir" => Some(Change::Mkdir(new)),
+        b"create" => Some(Change::Create(new)),
+        b"symlink" => Some(Change::Symlink(LinkBytes::new(b"d/d"), new)),
+        b"link" => Some(Change::Link(file, new)),
+        b"unlink" => Some(Change::Unlink(file)),
+        b"rmdir" => Some(Change::Rmdir(empty)),
+        b"rename" => Some(Change::Rename(file, new)),
+        b"replace" => Some(Change::Rename(file, other)),
         _ => None,
     }
 }

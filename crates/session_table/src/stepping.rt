@@ -11,10 +11,8 @@ use crate::sessions::Sessions;
 use event_core::StepFault;
 use justification::Answer;
 use names::Perms;
-use open_session::Session;
+use open_session::{Keeper, Policy, Session};
 use path_lookup::Scratch;
-use policy_map::Policy;
-use row_keeper::Keeper;
 
 impl Sessions {
     /// The session begins a call: may this profile open this path for this?

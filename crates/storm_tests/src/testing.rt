@@ -3,8 +3,7 @@ ghost use Rattle.std.specs.Prelude.{◌≡◌, IfOk};
 
 use dentry_cache::Keeper;
 use names::NoMemory;
-use path_guard::{Guard, Row};
-use path_storm::{Gate, Plan, StormFault, StormReport, storm_with};
+use path_storm::{Gate, Guard, Plan, Row, StormFault, StormReport, storm_with};
 use profile_registry::Publisher;
 use std::alloc::Global;
 use std::sync::Wait;

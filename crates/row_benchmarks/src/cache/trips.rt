@@ -42,13 +42,15 @@ pub(crate) fn trip_of(kind: &[u8]) -> Option<Trip> {
 
 // What undoes the change of a kind, except that a file that was replaced has to be created again.
 fn back_of(kind: &[u8]) -> Option<Change<'static>> {
+    let (file, new) = (path(b"/file")?, path(b"/new")?);
+    let (empty, other) = (path(b"/empty")?, path(b"/other")?);
     match kind {
-        b"mkdir" => Some(Change::Rmdir(path(b"/new")?)),
-        b"create" | b"symlink" | b"link" => Some(Change::Unlink(path(b"/new")?)),
-        b"unlink" => Some(Change::Create(path(b"/file")?)),
-        b"rmdir" => Some(Change::Mkdir(path(b"/empty")?)),
-        b"rename" => Some(Change::Rename(path(b"/new")?, path(b"/file")?)),
-        b"replace" => Some(Change::Rename(path(b"/other")?, path(b"/file")?)),
+        b"mkdir" => Some(Change::Rmdir(new)),
+        b"create" | b"symlink" | b"link" => Some(Change::Unlink(new)),
+        b"unlink" => Some(Change::Create(file)),
+        b"rmdir" => Some(Change::Mkdir(empty)),
+        b"rename" => Some(Change::Rename(new, file)),
+        b"replace" => Some(Change::Rename(other, file)),
         _ => None,
     }
 }
