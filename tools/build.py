@@ -6,7 +6,7 @@ What was proved stays in the out/ of the program's crate, with a sum of all that
 changes. `rt check` can't begin with it; it begins with what `rt check` and `rt all check` keep.
 
 The prover is called, and not `rt`, which reads the files of a crate again for each chain of dependencies that leads to it: below
-the program there are 29,000, and that takes minutes. What `rt ci` tests of a crate besides its proof, the gate alone tests.
+the program there are tens of thousands, and that takes minutes. What `rt ci` tests of a crate besides its proof, the gate alone tests.
 
 How long each proof takes is read from tools/proof-seconds, and is written there.
 
