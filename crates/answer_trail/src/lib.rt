@@ -3,7 +3,7 @@
 //! A [`Trail`] is for one path and one set of permissions; [`Trail::justifies`] tests an answer as `justification::justify` does,
 //! and makes no tree for it.
 //!
-//! To be believed are the 6 lines of definitions in `specs/`, beside those of `justification`; those in `specs/inner/` are of
+//! The definitions to believe are those in `specs/`, and those of `justification`; those in `specs/inner/` are of
 //! private contracts and proofs.
 #![tactic(auto)]
 

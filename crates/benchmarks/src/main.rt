@@ -11,7 +11,7 @@
 //! The words after it say how much is done, and have it timed; with none `row`, `cache`, `registry` and `open` do a little, and
 //! print whether it was right.
 //!
-//! To be believed are the 17 lines of definitions in `specs/`.
+//! The definitions to believe are those in `specs/`.
 #![tactic(auto)]
 
 mod compile;

@@ -1,7 +1,7 @@
 //! The tests of the changes of a directory tree: whether a change would be made, and where it acts, or by which number it is
 //! refused. They are written once, over any way to read a tree.
 //!
-//! To be believed are about 80 lines of definitions in `specs/`.
+//! The definitions to believe are those in `specs/`.
 #![tactic(auto)]
 
 mod act;

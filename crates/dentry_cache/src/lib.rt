@@ -2,7 +2,7 @@
 //! a lock. The first word is the count: two for each change that was made, and one more while a change is open. The cells of the
 //! row follow.
 //!
-//! To be believed are about 100 lines of definitions in `specs/Models.antt`, `specs/Told.antt` and `specs/Seats.antt`, and those of the crates below;
+//! The definitions to believe are those in `specs/Models.antt`, `specs/Told.antt` and `specs/Seats.antt`, and those of the crates below;
 //! the others are of private contracts and proofs.
 #![tactic(auto)]
 

@@ -2,7 +2,7 @@
 //! the tree or why it is refused, and the laws of all this. The functions of the laws and of the examples do nothing: each
 //! stands for its contract.
 //!
-//! To be believed are about 540 lines of definitions in `specs/`, of which about 80 are the worked examples.
+//! The definitions to believe are those in `specs/`, worked examples among them.
 #![tactic(auto)]
 
 mod change;

@@ -2,7 +2,7 @@
 //! publications of policy, in every order of their steps. The functions of the laws do nothing: each stands for its contract.
 //! [`EventMachine`] is what code that takes the events promises.
 //!
-//! To be believed are about 400 lines of definitions in `specs/`.
+//! The definitions to believe are those in `specs/`.
 #![tactic(auto)]
 
 mod event;

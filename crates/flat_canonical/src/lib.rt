@@ -1,6 +1,6 @@
 //! The canonical text of a profile, read as a flattened AppArmor profile text: which items it has. A library of laws, with no code.
 //!
-//! To be believed are about 70 lines of definitions in `specs/`.
+//! The definitions to believe are those in `specs/`.
 #![tactic(auto)]
 
 mod laws;

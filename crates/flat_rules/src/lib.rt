@@ -1,6 +1,6 @@
 //! What a file rule of a flattened profile text says, and what of it isn't in the imported text as it stands.
 //!
-//! To be believed are about 190 lines of definitions in `specs/`.
+//! The definitions to believe are those in `specs/`.
 #![tactic(auto)]
 
 mod marks;

@@ -1,7 +1,7 @@
 //! Flattened AppArmor profile texts, as `apparmor_parser --preprocess` prints them, cut into items and parts: each byte of the
 //! text is in one part, which says what it is there for. What the items mean is for others to say.
 //!
-//! To be believed are about 470 lines of definitions in `specs/`; those in `specs/inner/` are of private contracts and proofs.
+//! The definitions to believe are those in `specs/`; those in `specs/inner/` are of private contracts and proofs.
 #![tactic(auto)]
 
 mod assignment;

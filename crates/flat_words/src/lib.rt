@@ -1,7 +1,7 @@
 //! The words of flattened AppArmor profile texts, as `apparmor_parser --preprocess` prints them: where blanks, words, statements
 //! and conditions end, and what the letters of permissions stand for.
 //!
-//! To be believed are about 450 lines of definitions in `specs/`; those in `specs/inner/` are of private contracts and proofs.
+//! The definitions to believe are those in `specs/`; those in `specs/inner/` are of private contracts and proofs.
 #![tactic(auto)]
 
 mod assignment;

@@ -1,7 +1,7 @@
 //! A profile compiled to an automaton: for every list of bytes the least numbers of the rules that allow and that deny each
 //! permission.
 //!
-//! To be believed are about 110 lines of definitions in `specs/`; those in `specs/inner/` are of private contracts and
+//! The definitions to believe are those in `specs/`; those in `specs/inner/` are of private contracts and
 //! proofs.
 #![tactic(auto)]
 

@@ -1,7 +1,7 @@
 //! A row's keeper under a lock, for the sessions of many threads: opens that take the lock only where they met one change after
 //! another, and what waits for it.
 //!
-//! To be believed are about 40 lines of definitions in `specs/`, and those of `path_session`.
+//! The definitions to believe are those in `specs/`, and those of `path_session`.
 #![tactic(auto)]
 
 mod guarded;

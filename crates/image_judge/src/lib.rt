@@ -1,7 +1,7 @@
 //! An image verified once, and names judged by it with all answers in numbers, as C has them, by any number of threads. It takes
 //! no memory. `coqetwal` exports these functions to C.
 //!
-//! To be believed are about 90 lines of definitions in `specs/`.
+//! The definitions to believe are those in `specs/`.
 #![tactic(auto)]
 
 mod answer;

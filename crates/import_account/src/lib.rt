@@ -1,7 +1,7 @@
 //! The account that an import of a profile gives: why each part of the text that isn't in the imported text was left out or
 //! changed, and how that is told.
 //!
-//! To be believed are about 90 lines of definitions in `specs/`.
+//! The definitions to believe are those in `specs/`.
 #![tactic(auto)]
 
 mod laws;

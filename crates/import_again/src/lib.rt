@@ -1,6 +1,6 @@
 //! The law that what was imported is imported as itself. The function does nothing: it stands for its contract.
 //!
-//! To be believed are about 15 lines of definitions in `specs/`, beside those of `profile_import`.
+//! The definitions to believe are those in `specs/`, and those of `profile_import`.
 #![tactic(auto)]
 
 mod again;

@@ -1,7 +1,7 @@
 //! The items of a flattened AppArmor profile text, cut into spans for one of its profiles: what of the text stays, what is
 //! blank, and what an account tells, with its effect.
 //!
-//! To be believed are about 440 lines of definitions in `specs/`.
+//! The definitions to believe are those in `specs/`.
 #![tactic(auto)]
 
 mod cut;

@@ -2,7 +2,7 @@
 //! changes for the chosen subject, the imported profile allows it just what AppArmor's rules do. The functions do nothing: each
 //! stands for its contract.
 //!
-//! To be believed are about 50 lines of definitions in `specs/`, beside those of `profile_import`.
+//! The definitions to believe are those in `specs/`, and those of `profile_import`.
 #![tactic(auto)]
 
 mod meaning;

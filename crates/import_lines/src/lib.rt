@@ -1,6 +1,6 @@
 //! The lines by which an import of a profile text tells what it didn't take as it stands, and why it refused.
 //!
-//! To be believed are about 40 lines of definitions in `specs/`.
+//! The definitions to believe are those in `specs/`.
 #![tactic(auto)]
 
 mod account;

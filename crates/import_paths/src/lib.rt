@@ -1,7 +1,7 @@
 //! The text of a path in an AppArmor profile, with its variables in place, brought to paths of this language, as an import does
 //! it: none where AppArmor and this language may read the text in two ways.
 //!
-//! To be believed are about 130 lines of definitions in `specs/`.
+//! The definitions to believe are those in `specs/`.
 #![tactic(auto)]
 
 mod imports;

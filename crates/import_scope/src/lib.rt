@@ -1,7 +1,7 @@
 //! A flattened AppArmor profile text gone through once: the variables that it declares, its profiles by their full names, and
 //! what is wrong with it beside its grammar.
 //!
-//! To be believed are about 240 lines of definitions in `specs/`; those in `specs/inner/` are of private contracts and proofs.
+//! The definitions to believe are those in `specs/`; those in `specs/inner/` are of private contracts and proofs.
 #![tactic(auto)]
 
 mod asking;

@@ -4,7 +4,7 @@
 //! What [`run`] answers is right in every order of the events: that is its contract, and by it the promise on names, versions
 //! and rules holds of every interleaving of these steps.
 //!
-//! To be believed are about 60 lines of definitions in `specs/`, and those of `event_core`; those in `specs/inner/` are of
+//! The definitions to believe are those in `specs/`, and those of `event_core`; those in `specs/inner/` are of
 //! private contracts and proofs.
 #![tactic(auto)]
 

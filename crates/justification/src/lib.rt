@@ -1,7 +1,7 @@
 //! When an answer to an open is right: by the tree and the policy of the versions that it names, whoever found it, and however.
 //! [`justify`] tests an answer, afresh, by trees and profiles in plain memory.
 //!
-//! To be believed are about 60 lines of definitions in `specs/`; those in `specs/inner/` are of private contracts and proofs.
+//! The definitions to believe are those in `specs/`; those in `specs/inner/` are of private contracts and proofs.
 #![tactic(auto)]
 
 mod answer;

@@ -2,7 +2,7 @@
 //! one name through an image.
 //! It is no part of the interface for C (`coqetwal`).
 //!
-//! To be believed are about 40 lines of definitions in `specs/`.
+//! The definitions to believe are those in `specs/`.
 #![tactic(auto)]
 
 mod image;

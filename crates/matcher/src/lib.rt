@@ -1,6 +1,6 @@
 //! Profiles compiled to tables, and laws on what these tell. What runs names through tables and judges by them is handed on.
 //!
-//! To be believed are about 60 lines of definitions in `specs/`.
+//! The definitions to believe are those in `specs/`.
 #![tactic(auto)]
 
 mod compiled;

@@ -6,7 +6,7 @@
 //! by one on standard output, behind the line's number; the order of answers is that in which the workers come to them. What
 //! became of the file is told on standard error.
 //!
-//! To be believed are about 50 lines of definitions in `specs/`, for contracts of private functions alone.
+//! The definitions to believe are those in `specs/`, for contracts of private functions alone.
 #![tactic(auto)]
 
 mod answering;

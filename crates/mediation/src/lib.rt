@@ -1,7 +1,7 @@
 //! Judged opens and links, apart from who asks for them: the published policy as a list of deeds, what an open and a judged
 //! link are answered, and the functions that judge over any look at a tree. [`Bench`] is what a script works on: it has both.
 //!
-//! To be believed are about 280 lines of definitions in `specs/`; those in `specs/inner/` are of private contracts and
+//! The definitions to believe are those in `specs/`; those in `specs/inner/` are of private contracts and
 //! proofs.
 #![tactic(auto)]
 

@@ -1,7 +1,7 @@
 //! Paths made to begin with a slash: one whose items begin with a group is brought to paths that match the same names. Besides,
 //! tests of what AppArmor and this language read in two ways: groups of one alternative, and points of a path's text.
 //!
-//! To be believed are about 130 lines of definitions in `specs/`.
+//! The definitions to believe are those in `specs/`.
 #![tactic(auto)]
 
 mod alike;

@@ -1,6 +1,6 @@
 //! The walk of a path and the name of an entry, over any way to read a tree piece by piece.
 //!
-//! To be believed are about 50 lines of definitions in `specs/`; those in `specs/inner/` are of private contracts and proofs.
+//! The definitions to believe are those in `specs/`; those in `specs/inner/` are of private contracts and proofs.
 #![tactic(auto)]
 
 mod arrival;

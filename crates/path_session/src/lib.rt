@@ -5,7 +5,7 @@
 //! [`Session::open_with`] answers at once where the keeper is at hand, and [`Session::link_with`] makes hard links. Where the
 //! publisher is at hand, too, [`Session::open_with_both`] and [`Session::link_with_both`] answer by all that it has published.
 //!
-//! To be believed are about 100 lines of definitions in `specs/`.
+//! The definitions to believe are those in `specs/`.
 #![tactic(auto)]
 
 mod at_hand;

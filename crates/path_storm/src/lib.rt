@@ -4,7 +4,7 @@
 //! [`storm_with`] lays it on a guard, and puts each answer to the trail of what was really changed. [`storm_log`] gives what it
 //! did, and [`StormLog::report`] sums it up.
 //!
-//! To be believed are some 45 lines of definitions in `specs/`, and those of `justification`.
+//! The definitions to believe are those in `specs/`, and those of `justification`.
 #![tactic(auto)]
 
 mod fault;

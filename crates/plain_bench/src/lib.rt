@@ -3,7 +3,7 @@
 //! [`TreeBench`] is a [`Bench`], which is what a script works on, over any tree that can be changed, tested and looked at;
 //! [`PlainBench`] is the one over a tree in plain memory.
 //!
-//! To be believed are the 5 lines of definitions in `specs/`; those in `specs/inner/` are of private contracts and proofs.
+//! The definitions to believe are those in `specs/`; those in `specs/inner/` are of private contracts and proofs.
 #![tactic(auto)]
 
 mod bench;

@@ -1,6 +1,6 @@
 //! A directory tree in plain memory, as a look, and the changes of it.
 //!
-//! To be believed are about 60 lines of definitions in `specs/`; those in `specs/inner/` are of private contracts and proofs.
+//! The definitions to believe are those in `specs/`; those in `specs/inner/` are of private contracts and proofs.
 #![tactic(auto)]
 
 mod directory;

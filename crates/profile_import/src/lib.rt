@@ -1,7 +1,7 @@
 //! Imports of flattened AppArmor profile texts: one profile of a text restated in this program's language, for one of both
 //! subjects, and the spans of the text: what of it is kept, blank, or told in an account.
 //!
-//! To be believed are about 330 lines of definitions in `specs/`; those in `specs/inner/` are of private contracts and proofs.
+//! The definitions to believe are those in `specs/`; those in `specs/inner/` are of private contracts and proofs.
 #![tactic(auto)]
 
 mod added;

@@ -3,7 +3,7 @@
 //! A [`Publisher`] stages changes and makes them visible all at once. A [`PolicyReader`] answers by what was published at one
 //! moment of its call. `crates/registry_tests/src/server.rt` is a server in small: one publisher, and a reader for each thread.
 //!
-//! To be believed are about 50 lines of definitions in `specs/`; those in `specs/inner/` are of private contracts and proofs.
+//! The definitions to believe are those in `specs/`; those in `specs/inner/` are of private contracts and proofs.
 #![tactic(auto)]
 
 mod absorbing;

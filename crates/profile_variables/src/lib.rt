@@ -1,7 +1,7 @@
 //! The variables of AppArmor profile texts (apparmor.d(5), "Variables"): the texts that each stands for, and paths in which
 //! they are put in place. Each list of texts is made once, and none is made that is too long.
 //!
-//! To be believed are about 330 lines of definitions in `specs/`; those in `specs/inner/` are of private contracts and
+//! The definitions to believe are those in `specs/`; those in `specs/inner/` are of private contracts and
 //! proofs.
 #![tactic(auto)]
 

@@ -1,6 +1,6 @@
 //! A row of words as a look: paths are walked and entries named over the words of a row, all of which are known, or some.
 //!
-//! To be believed are about 45 lines of definitions in `specs/`.
+//! The definitions to believe are those in `specs/`.
 #![tactic(auto)]
 
 mod known;

@@ -1,7 +1,7 @@
 //! What a change of the directory tree sets in a row of words: the cells after which the row encodes the tree with the
 //! change made.
 //!
-//! To be believed are about 85 lines of definitions in `specs/Plan.antt` and `specs/Changes.antt`. Those in `specs/Leaves.antt` say
+//! The definitions to believe are those in `specs/Plan.antt` and `specs/Changes.antt`. Those in `specs/Leaves.antt` say
 //! word for word which row a change leaves; what they are for is the law `change_has_one_plan`. Those in `specs/inner/` are of
 //! private contracts and proofs.
 #![tactic(auto)]

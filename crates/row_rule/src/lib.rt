@@ -2,7 +2,7 @@
 //! step of a seat keeps the rule, and tells that seat what it may know. The functions of the laws do nothing: each stands
 //! for its contract. What the cells of a row hold is open: the rule and the laws are of any `Encoding`.
 //!
-//! To be believed are about 150 lines of definitions in `specs/`.
+//! The definitions to believe are those in `specs/`.
 #![tactic(auto)]
 
 mod cell;

@@ -1,7 +1,7 @@
 //! What the rules of a text say of a name, and why: for each permission the least rule that hits, where it stands in the text
 //! and how it is written; and for a text that is refused, the line with its fault.
 //!
-//! To be believed are about 210 lines of definitions in `specs/`.
+//! The definitions to believe are those in `specs/`.
 #![tactic(auto)]
 
 mod explaining;

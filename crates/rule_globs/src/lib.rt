@@ -1,7 +1,7 @@
 //! What rules mean: the items of a path and the pattern that they stand for, which names a pattern takes, and the verdict of
 //! rules on a name, as definitions. A name is matched by its live places, in one pass over the items for each byte.
 //!
-//! To be believed are about 390 lines of definitions in `specs/`; those in `specs/inner/` are of private contracts and
+//! The definitions to believe are those in `specs/`; those in `specs/inner/` are of private contracts and
 //! proofs.
 #![tactic(auto)]
 

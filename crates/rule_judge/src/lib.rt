@@ -1,7 +1,7 @@
 //! Profiles judged in the plainest way: the verdict on a name by each rule in turn, and the verdict on a hard link by what
 //! the rules say of both its names.
 //!
-//! To be believed are about 40 lines of definitions in `specs/`.
+//! The definitions to believe are those in `specs/`.
 #![tactic(auto)]
 
 mod judging;

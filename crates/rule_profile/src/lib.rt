@@ -1,7 +1,7 @@
 //! Profiles and their rules: a name, and rules in the order of the text, each of which can be written as a text and read again.
 //! Their limits, and where a rule stands in the text that it was read from.
 //!
-//! To be believed are about 140 lines of definitions in `specs/`: what a rule and a profile are to their readers, the profiles
+//! The definitions to believe are those in `specs/`: what a rule and a profile are to their readers, the profiles
 //! that some text is read as, and the limits.
 #![tactic(auto)]
 

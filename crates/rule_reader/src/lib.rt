@@ -2,9 +2,8 @@
 //! their rules stand in the text. A profile is also made of a name and rules, which pass the same tests. The text of a path
 //! alone is read to its items.
 //!
-//! To be believed are about 1,170 lines of definitions in `specs/`, of which the grammar and its profiles are about 600 and
-//! the places of rules about 50; the rest says which fault is the first. Those in `specs/inner/` are of private contracts and
-//! proofs.
+//! The definitions to believe are those in `specs/`: the grammar, its profiles, the places of rules, and which
+//! fault is the first. Those in `specs/inner/` are of private contracts and proofs.
 #![tactic(auto)]
 
 mod fault;

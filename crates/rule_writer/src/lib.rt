@@ -1,6 +1,6 @@
 //! The canonical texts of a profile and of a rule.
 //!
-//! To be believed are about 50 lines of definitions in `specs/`.
+//! The definitions to believe are those in `specs/`.
 #![tactic(auto)]
 
 mod laws;

@@ -1,7 +1,7 @@
 //! The sessions of a machine, by their numbers. Each step of one of them is a step of the machine over events, and leaves the
 //! others as they are.
 //!
-//! To be believed are about 20 lines of definitions in `specs/`, and those of the crates below; those in `specs/inner/` are of
+//! The definitions to believe are those in `specs/`, and those of the crates below; those in `specs/inner/` are of
 //! private contracts and proofs.
 #![tactic(auto)]
 

@@ -4,7 +4,7 @@
 //!
 //! What the judge says is a definition, and nothing here reads a text. Nothing here takes memory.
 //!
-//! To be believed are about 270 lines of definitions in `specs/`.
+//! The definitions to believe are those in `specs/`.
 #![tactic(auto)]
 
 mod effect;

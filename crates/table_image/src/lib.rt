@@ -1,6 +1,6 @@
 //! The tables of an automaton. The names of tables, of their images and of records are handed on.
 //!
-//! To be believed are the 13 lines of definitions in `specs/`; those in `specs/inner/` are of private contracts and proofs.
+//! The definitions to believe are those in `specs/`; those in `specs/inner/` are of private contracts and proofs.
 #![tactic(auto)]
 
 mod packing;

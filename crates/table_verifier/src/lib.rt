@@ -1,6 +1,6 @@
 //! Tables whose bounds are verified: no index leaves them, whatever the bytes that they run on.
 //!
-//! To be believed are about 20 lines of definitions in `specs/`; those in `specs/inner/` are of private contracts and proofs.
+//! The definitions to believe are those in `specs/`; those in `specs/inner/` are of private contracts and proofs.
 #![tactic(auto)]
 
 mod image;

@@ -1,7 +1,7 @@
 //! The commands that read a whole text or image and then answer: `judge`, `explain`, `compile`, `check` and `match`, over any
 //! streams.
 //!
-//! To be believed are about 140 lines of definitions in `specs/`; those in `specs/inner/` are of private contracts and
+//! The definitions to believe are those in `specs/`; those in `specs/inner/` are of private contracts and
 //! proofs.
 #![tactic(auto)]
 

@@ -1,6 +1,6 @@
 //! The command line of `aa-trace`: the words that it is called with, and what they ask for.
 //!
-//! To be believed are about 235 lines of definitions in `specs/`; those in `specs/inner/` are of private contracts and
+//! The definitions to believe are those in `specs/`; those in `specs/inner/` are of private contracts and
 //! proofs.
 #![tactic(auto)]
 

@@ -1,6 +1,6 @@
 //! What `aa-trace` does with its words, over any streams: `run_words` reads the command line and runs the command's engine.
 //!
-//! To be believed are about 100 lines of definitions in `specs/`.
+//! The definitions to believe are those in `specs/`.
 #![tactic(auto)]
 
 mod importing;

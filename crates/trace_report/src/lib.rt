@@ -1,6 +1,6 @@
 //! How commands end: exit statuses, why a command has no answer and how that is told, and what goes to the streams of output.
 //!
-//! To be believed are about 170 lines of definitions in `specs/`.
+//! The definitions to believe are those in `specs/`.
 #![tactic(auto)]
 
 mod fault;

@@ -3,7 +3,7 @@
 //! [`run_script`] is the engine of such scripts. What it is made of is public for engines of other scripts, whose lines and
 //! answers are alike.
 //!
-//! To be believed are about 500 lines of definitions in `specs/`; those in `specs/inner/` are of private contracts and
+//! The definitions to believe are those in `specs/`; those in `specs/inner/` are of private contracts and
 //! proofs.
 #![tactic(auto)]
 

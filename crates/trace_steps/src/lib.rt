@@ -1,7 +1,7 @@
 //! Scripts of events: the lines of a script of commands, each done whole, and lines for single events of sessions, of the keeper
 //! and of the policy. [`run_steps`] is their engine, over any machine that takes events.
 //!
-//! To be believed are about 290 lines of definitions in `specs/`; those in `specs/inner/` are of private contracts and proofs.
+//! The definitions to believe are those in `specs/`; those in `specs/inner/` are of private contracts and proofs.
 #![tactic(auto)]
 
 mod calls;

@@ -1,7 +1,7 @@
 //! Tests: scripts of changes, profiles and judged opens, with lines that expect the answer of the command before them.
 //! [`run_test`] is their engine, over any bench.
 //!
-//! To be believed are about 230 lines of definitions in `specs/`; those in `specs/inner/` are of private contracts and proofs.
+//! The definitions to believe are those in `specs/`; those in `specs/inner/` are of private contracts and proofs.
 #![tactic(auto)]
 
 mod compose;

@@ -1,7 +1,7 @@
 //! A directory tree as a row of 64-bit words: what a row's cells encode, cells that are read by their places, and what
 //! single slots tell.
 //!
-//! To be believed are about 145 lines of definitions in `specs/`.
+//! The definitions to believe are those in `specs/`.
 #![tactic(auto)]
 
 mod cells;

@@ -2,7 +2,7 @@
 //!
 //! Nothing here takes memory.
 //!
-//! To be believed are about 105 lines of definitions in `specs/`.
+//! The definitions to believe are those in `specs/`.
 #![tactic(auto)]
 
 mod judging;

@@ -1,7 +1,7 @@
 //! The words that the walk of one open has read of a row, and the walk that goes on from them: it reads what it needs of a
 //! row at hand, until the words decide what the open reaches, or it has read as many as it may.
 //!
-//! To be believed are about 50 lines of definitions in `specs/`.
+//! The definitions to believe are those in `specs/`.
 #![tactic(auto)]
 
 mod cells;
