@@ -16,7 +16,7 @@ use Rattle.answer_trail.specs.declared.end.End.{End}
 use Rattle.answer_trail.specs.declared.end.End.TheVariants.{Failed, File}
 use Rattle.answer_trail.specs.inner.Ends.{IsEndIn, IsEnd}
 
--- of a change that is refused, and of those behind it, there is no tree
+-- a change that is refused has no tree, nor have those after it
 pub none_later : (p : Plain) (changes : List Change) (i : ℕ) (change : Change) (errno : Errno) → p.capacity ≡ length changes → p.history ≡ take i changes
     → tree_after p.capacity p.history ≡ Ok (tree_of p) → i < length changes → change ≡ get_or changes i change → outcome p change ≡ Err errno
     → (version : ℕ) (t : Tree) → i < version → IsTreeAt changes version t → ⊥
@@ -48,7 +48,7 @@ module _ (changes : List Change) (path : List ℕ) (ask : Perms) where
   end_of version t (Failed errno) at is = (t, at, is)
   end_of version t (File file) at is = (t, at, is)
 
-  -- one end more, of the next version
+  -- one more end, that of the next version
   pub one_more : (ends : List End) (e : End) → ((version : ℕ) (default : End) → version < length ends → IsEnd changes version path ask (get_or ends version default))
       → IsEnd changes (length ends) path ask e
       → (version : ℕ) (default : End) → version < length (ends ++ e ∷ []) → IsEnd changes version path ask (get_or (ends ++ e ∷ []) version default)
@@ -61,7 +61,7 @@ module _ (changes : List Change) (path : List ℕ) (ask : Perms) where
         | inr less ↦ subst (IsEnd changes version path ask) (sym (get_or_append_left ends (e ∷ []) default version less)) (each version default less)
       ]
 
-  -- the next change is accepted, and one end more found
+  -- the next change is accepted, and one more end found
   pub goes_on : (p q r : Plain) (i : ℕ) (change : Change) (version : ℕ) (ends new : List End) (e : End) → HasMade changes path ask p ends i
       → i < length changes → change ≡ get_or changes i change → Accepted p q change version → r ≡ q → IsEndIn (tree_of q) path ask e → new ≡ ends ++ e ∷ []
       → HasMade changes path ask r new (i + 1)

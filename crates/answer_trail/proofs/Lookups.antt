@@ -1,4 +1,4 @@
--- The last deed of a list says what stands under a name, or those before it do.
+-- The last deed of a list decides what is published under a name, or those before it do.
 use Rattle.std.proofs.Common.{◌≡◌, ℕ, List, [], ◌∷◌, ◌++◌, map, ap, ◌∙◌, None}
 use Rattle.std.proofs.lemmas.List.{map-append}
 use Rattle.matcher.specs.declared.profiles.PolicyChange.{PolicyChange}

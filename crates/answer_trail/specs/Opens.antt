@@ -1,4 +1,4 @@
--- Opens of one path beside changes of the tree.
+-- Opens of one path together with changes of the tree.
 use Rattle.std.specs.Prelude.{ℕ, List}
 use Rattle.names.specs.declared.permissions.Perms.{Perms}
 use Rattle.directory_tree.specs.declared.change.Change.{Change}

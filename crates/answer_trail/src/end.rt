@@ -1,4 +1,4 @@
-//! What an open comes to.
+//! The outcome of an open.
 ghost use Rattle.std.specs.Prelude.{◌≡◌, ◌≤◌, ◌↔◌, IfOk, IsTrue};
 ghost use Rattle.directory_tree.specs.Plain.{tree_of};
 ghost use Rattle.mediation.specs.Judge.{verdict_by};
@@ -13,7 +13,7 @@ use plain_tree::PlainTree;
 use std::alloc::Global;
 use verdicts::Verdict;
 
-/// What an open comes to in one tree.
+/// The outcome of an open in one tree.
 #[derive(Drop)]
 pub(crate) enum End {
     /// No file is reached that can be judged.
@@ -29,7 +29,7 @@ pub(crate) struct File {
     name: Vec<u8>,
 }
 
-/// What an open comes to in a tree.
+/// Finds the outcome of an open in a tree.
 pub(crate) fn end_in(
     alloc: Global,
     tree: &mut PlainTree,
@@ -54,7 +54,7 @@ pub(crate) fn end_in(
     }
 }
 
-/// No file is reached, for this reason.
+/// Whether no file is reached, for this reason.
 pub(crate) fn is_failure(end: &End, errno: Errno) -> bool
     ensures { IsTrue result ↔ IsFailure end.now errno }
 {
@@ -64,7 +64,7 @@ pub(crate) fn is_failure(end: &End, errno: Errno) -> bool
     }
 }
 
-/// A file of this node is reached, and the profile says this of its name.
+/// Whether a file of this node is reached, and the profile says this of its name.
 pub(crate) fn is_judged(
     end: &End,
     profile: &AnyProfile,

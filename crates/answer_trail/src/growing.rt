@@ -1,4 +1,4 @@
-//! What an open comes to in one tree after the other.
+//! The outcomes of an open in one tree after the other.
 ghost use Rattle.std.specs.Prelude.{◌≡◌, ◌++◌, ◌∷◌, [], IfOk};
 ghost use Rattle.answer_trail.specs.inner.Ends.{AreEnds};
 
@@ -8,7 +8,7 @@ use names::{Errno, NoMemory, Perms};
 use plain_tree::PlainTree;
 use std::alloc::Global;
 
-/// What an open comes to after none of the changes, after the first, and so on, up to the first change that is refused.
+/// The outcomes of an open after none of the changes, after the first, and so on, up to the first change that is refused.
 pub(crate) fn ends_after(
     alloc: Global,
     path: &[u8],

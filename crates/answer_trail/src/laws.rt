@@ -8,8 +8,8 @@ ghost use Rattle.names.specs.declared.errors.Errno.{Errno};
 ghost use Rattle.names.specs.declared.permissions.Perms.{Perms};
 ghost use Rattle.verdicts.specs.declared.verdict.Verdict.{Verdict};
 
-/// No answer is justified at a version to come, none is busy where the count was one even number, and at one version there is
-/// one failure, and a profile or none.
+/// No answer is justified at a version past the last change, no busy one where both counts are the same even number, and at one
+/// version there is at most one failure, and either a profile or none.
 pub fn wrong_answers_are_not_justified()
     ensures busy_though_still { (profile path : List ℕ) (ask : Perms) (changes : List Change) (deeds : List Deed) (n : ℕ) →
         Justified profile path ask changes deeds (Busy (n + n) (n + n)) → ⊥ }

@@ -1,4 +1,4 @@
-//! Whether many answers to one open are right: what the open comes to in the tree of each version is found once, and kept.
+//! Whether many answers to one open are right: the outcome of the open in the tree of each version is found once, and kept.
 //!
 //! A [`Trail`] is for one path and one set of permissions; [`Trail::justifies`] tests an answer as `justification::justify` does,
 //! and makes no tree for it.

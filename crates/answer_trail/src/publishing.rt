@@ -8,7 +8,7 @@ ghost use Rattle.justification.specs.Versions.{IsPublishedAt};
 
 use matcher::{AnyProfile, PolicyChange};
 
-/// What is published under a name after the first so many changes, if there are so many.
+/// What is published under a name after the first `version` changes, if there are that many.
 pub(crate) fn published_at<'a>(
     changes: &'a [PolicyChange],
     version: u64,
@@ -23,8 +23,8 @@ pub(crate) fn published_at<'a>(
     Some(published(&changes[..version as usize], name))
 }
 
-/// What is published under a name after these changes. The last one that is about the name says it, so they are read backwards
-/// as far as that.
+/// What is published under a name after these changes. The last one that is about the name decides, so they are read backwards up
+/// to that one.
 fn published<'a>(changes: &'a [PolicyChange], name: &[u8]) -> Option<&'a AnyProfile>
     ensures { option_map (λ p. judge_of p.now) result ≡ policy_after (map deed_of changes.now) name.now }
 {
@@ -38,7 +38,7 @@ fn published<'a>(changes: &'a [PolicyChange], name: &[u8]) -> Option<&'a AnyProf
     None
 }
 
-/// What stands under a name after a change that is about it.
+/// What is published under a name after a change, if the change is about it.
 fn published_by<'a>(change: &'a PolicyChange, name: &[u8]) -> Option<Option<&'a AnyProfile>>
     ensures { MatchOption result
         ((policy : Policy) → after_deed policy (deed_of change.now) name.now ≡ policy name.now)

@@ -16,8 +16,8 @@ use names::{NoMemory, Perms};
 use std::alloc::Global;
 use std::marker::Model;
 
-/// What the open of one path, for the same permissions, comes to after none of some changes of a tree, after the first, and so
-/// on. To contracts it is the path, the permissions and the changes.
+/// The outcomes of opening one path, for the same permissions, after none of some changes of a tree, after the first, and so on.
+/// To contracts it is the path, the permissions and the changes.
 #[derive(Drop)]
 pub struct Trail<'a> {
     path: &'a [u8],
@@ -110,7 +110,7 @@ impl<'a> Trail<'a> {
         }
     }
 
-    /// What the open comes to in the tree of a version, if there is one.
+    /// The outcome of the open in the tree of a version, if there is one.
     fn end(&self, version: u64) -> Option<&End>
         ensures { MatchOption result ((t : Tree) → ¬ (IsTreeAt self.now.changes version t))
             (λ end. IsEnd self.now.changes version self.now.path self.now.ask end.now) }

@@ -1,4 +1,4 @@
--- What a thread that opens works on may move to it.
+-- What a thread that opens files works on may be sent to it.
 use denote.RattleType.{RattleType}
 use mir.Syntax.{Sym, Ty}
 use Rattle.std.proofs.Common.{ℕ, List, [], ◌∷◌}
@@ -20,7 +20,7 @@ number_sync = search sendable
 pub flag_sync : IsSync flag.the_row
 flag_sync = search (sendable, boxes.crosses)
 
--- a closure that captures so many may go to a thread where all of them may
+-- a closure that captures this many may be sent to a thread if all of them may
 pub of_five : (i : ℕ) (layout : Ty) (kept : Kept) (name : Sym) (A B C D E : RattleType) → IsSend A → IsSend B → IsSend C → IsSend D → IsSend E →
     IsSend (param i (arg layout kept (TupleAt name (A ∷ B ∷ C ∷ D ∷ E ∷ []))))
 of_five i layout kept name A B C D E a b c d e =

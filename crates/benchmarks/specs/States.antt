@@ -9,7 +9,7 @@ use Rattle.glob_automaton.specs.Sets.{IsCount}
 use Rattle.benchmarks.specs.declared.compile.Refusal.{Refusal}
 use Rattle.benchmarks.specs.declared.compile.Refusal.TheVariants.{Text, Profile}
 
--- the rules of the text's profile have so many sets of live places
+-- the rules of the text's profile have this many sets of live places
 abbrev pub HasStates : List ℕ → ℕ → Type 0
 HasStates text n = (profile : ProfileValue) × ReadsAs text profile × IsCount profile.rules n
 

@@ -9,7 +9,7 @@ use std::sync::Arc;
 /// The most changes that are staged.
 const MOST_CHANGES: u64 = 1 << 59;
 
-/// The profile of a text; none where memory is refused, or the text is no profile's.
+/// The profile of a text; none if memory runs out, or the text is no profile's.
 pub(crate) fn compiled(alloc: Global, text: &[u8]) -> Option<Arc<AnyProfile>> {
     let profile = read(alloc, text).ok()?;
     let compiled = CompiledProfile::make(alloc, profile).ok()?;

@@ -8,7 +8,7 @@ use path_lookup::NAME_ROOM;
 use std::process::Abort;
 use std::test::Fail;
 
-// The test of a change says what then becomes of it, and changes nothing.
+// Testing a change predicts its outcome, and changes nothing.
 fn expect_test(rt: &impl Abort, keeper: &mut Keeper, made: &Change<'_>, refusal: Option<Errno>) {
     let version = keeper.version();
     assert_eq!(rt; keeper.test(made).err(), refusal);
@@ -16,7 +16,7 @@ fn expect_test(rt: &impl Abort, keeper: &mut Keeper, made: &Change<'_>, refusal:
     assert_eq!(rt; keeper.version(), version);
 }
 
-// Makes a change, or is refused, and returns the version before.
+// Makes a change, or is refused, and returns the previous version.
 fn expect_answer(
     rt: &impl Abort,
     keeper: &mut Keeper,
@@ -136,7 +136,7 @@ fn changes_are_made(rt: HostRuntime) -> Result<(), Fail> {
     Ok(())
 }
 
-// Room for one entry alone.
+// Room for a single entry.
 #[test]
 fn the_least_row(rt: HostRuntime) -> Result<(), Fail> {
     let mut keeper = keeper(rt.alloc(), 1)?;

@@ -1,4 +1,4 @@
-//! Changes, told by lines.
+//! Changes, written as lines.
 use directory_tree::{Change, LinkBytes};
 use names::Path;
 use std::test::Fail;
@@ -7,7 +7,7 @@ pub(crate) fn path(bytes: &[u8]) -> Result<Path<'_>, Fail> {
     Ok(Path::check(bytes).ok().ok_or("a path")?)
 }
 
-// The change that a line tells, by a verb and one or two words.
+// Parses the change of a line: a verb and one or two words.
 pub(crate) fn change<'a>(line: &'a str) -> Result<Change<'a>, Fail> {
     let (verb, rest) = split_at_space(line.as_bytes());
     let (one, two) = split_at_space(rest);
@@ -37,7 +37,7 @@ fn change_of_two<'a>(verb: &[u8], one: Path<'a>, two: Path<'a>) -> Option<Change
     }
 }
 
-// What stands before the first space and behind it.
+// Returns what is before and after the first space.
 fn split_at_space(bytes: &[u8]) -> (&[u8], &[u8]) {
     match bytes.iter().position(|b| *b == b' ') {
         Some(at) => (&bytes[..at], &bytes[at + 1..]),

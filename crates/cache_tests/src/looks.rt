@@ -9,7 +9,7 @@ use std::test::Fail;
 
 const ABSENT: WalkFault = WalkFault::Refused(Errno::ENOENT);
 
-/// What the keeper's look finds by a path: this name, or none.
+/// Expects the keeper's look to find this name by a path, or this fault.
 fn expect_seen(
     rt: &impl Abort,
     keeper: &mut Keeper,
@@ -59,13 +59,13 @@ fn a_keeper_looks(rt: HostRuntime) -> Result<(), Fail> {
     ];
     expect_all_seen(&rt, &mut keeper, &first)?;
     assert_eq!(rt; keeper.version(), 4);
-    // Changes go on after a look, and the next look sees them.
+    // Changes continue after a look, and the next look sees them.
     assert_eq!(rt; apply(&mut keeper, &rename), Ok(5));
     let then = [("/b/f", Ok("/b/f")), ("/a", Err(ABSENT))];
     expect_all_seen(&rt, &mut keeper, &then)
 }
 
-/// Goes on with a walk, and expects the length of the name that it finds, and how it ends.
+/// Continues a walk, and expects the length of the name that it finds, and how it ends.
 fn expect_end(
     rt: &impl Abort,
     attempt: Attempt,
@@ -82,7 +82,7 @@ fn expect_end(
     Ok(walker)
 }
 
-// A look is no change: a walk that goes on after it ends well.
+// A look is no change: a walk that continues after it ends well.
 #[test]
 fn a_walk_around_a_look(rt: HostRuntime) -> Result<(), Fail> {
     let mut keeper = keeper_after(rt.alloc(), 1, &["create /f"])?;
@@ -118,7 +118,7 @@ fn walk_both(rt: &impl Abort, one: &mut Keeper, other: &mut Keeper) -> Result<()
     expect_one(rt, ours.begin())
 }
 
-// Walkers of one row don't see another one, and its changes don't disturb them.
+// Walkers of one row don't see another row, and its changes don't disturb them.
 #[test]
 fn rows_are_apart(rt: HostRuntime) -> Result<(), Fail> {
     let mut other = keeper_after(rt.alloc(), 3, &["create /other"])?;
@@ -128,7 +128,7 @@ fn rows_are_apart(rt: HostRuntime) -> Result<(), Fail> {
     Ok(())
 }
 
-// Where the keeper is gone, its row stays as it was.
+// Once the keeper is gone, its row stays as it was.
 #[test]
 fn a_walker_without_its_keeper(rt: HostRuntime) -> Result<(), Fail> {
     let mut keeper = keeper_after(rt.alloc(), 1, &["create /f"])?;

@@ -1,4 +1,4 @@
-//! Keepers that stop in the middle of a change: each walk is beside it from then on, and none waits for its end.
+//! Keepers that stop in the middle of a change: from then on each walk is concurrent with it, and none waits for its end.
 use crate::lines::{change, path};
 use crate::testing::{keeper_after, walk, walk_on, walker};
 use dentry_cache::{Attempt, Busy, Walker};
@@ -16,15 +16,15 @@ const FIRST: [&str; 4] = [
     "mkdir /b",
 ];
 
-// Whose row's keeper has stopped.
+// Readers of a row whose keeper has stopped.
 #[derive(Drop)]
 struct Left {
-    // A walk that had begun before.
+    // A walk that began before that.
     attempt: Attempt,
     walker: Walker,
 }
 
-// A keeper makes the first changes, and then sets so many cells of one more. It is gone thereafter.
+// A keeper makes the first changes, and then sets the first `cells` cells of one more. It is gone afterwards.
 fn stop(alloc: Global, made: &Change<'_>, cells: usize) -> Result<Result<Left, Errno>, Fail> {
     let mut keeper = keeper_after(alloc, 5, &FIRST)?;
     let attempt = walker(&mut keeper)?.begin();
@@ -35,7 +35,7 @@ fn stop(alloc: Global, made: &Change<'_>, cells: usize) -> Result<Result<Left, E
     }
 }
 
-// Where memory is refused once, another keeper is asked.
+// If an allocation fails, tries again with another keeper.
 fn stopped(alloc: Global, made: &Change<'_>, cells: usize) -> Result<Left, Fail> {
     match stop(alloc, made, cells)? {
         Ok(left) => Ok(left),
@@ -47,7 +47,7 @@ fn stopped(alloc: Global, made: &Change<'_>, cells: usize) -> Result<Left, Fail>
     }
 }
 
-// What is walked: paths that lead to what was moved and made, and others.
+// The paths that are walked: some lead to what was moved and made.
 const PATHS: [&str; 7] = [
     "/a/directory/f",
     "/b/moved.directory/f",
@@ -58,7 +58,7 @@ const PATHS: [&str; 7] = [
     "/",
 ];
 
-// No walk ends well. Whatever its words told, it comes to an end.
+// No walk ends well. Whatever words it read, it terminates.
 fn expect_busy(
     rt: &impl Abort,
     alloc: Global,
@@ -95,7 +95,7 @@ fn a_rename_stops(rt: HostRuntime) -> Result<(), Fail> {
     Ok(())
 }
 
-// 1,023 bytes: 341 components, each of which leads nowhere but up.
+// 1,023 bytes: 341 components, each of which leads only upwards.
 fn long_text() -> [u8; 1023] {
     let mut text = [b'.'; 1023];
     for i in 0..341 {
@@ -115,7 +115,7 @@ fn a_symlink_stops(rt: HostRuntime) -> Result<(), Fail> {
     Ok(())
 }
 
-// How much of a change is seen by walks that are beside it, once so many cells are set.
+// How much of a change is seen by concurrent walks, once its first `cells` cells are set.
 fn expect_seen(
     rt: &impl Abort,
     alloc: Global,
@@ -136,7 +136,7 @@ fn so_many_cells_are_set(rt: HostRuntime) -> Result<(), Fail> {
     let absent = Err(WalkFault::Refused(Errno::ENOENT));
     let (old, new) = ("/a/directory/f", "/b/moved.directory/f");
     expect_seen(&rt, rt.alloc(), 0, &[(old, Ok(14)), (new, absent)])?;
-    // It has moved, and not its name.
+    // It has moved, but its name hasn't changed.
     let half = "/b/directory/f";
     expect_seen(
         &rt,
@@ -159,7 +159,7 @@ fn so_many_cells_are_set(rt: HostRuntime) -> Result<(), Fail> {
     expect_seen(&rt, rt.alloc(), usize::MAX, &[(old, absent), (new, Ok(20))])
 }
 
-// A change that is refused isn't opened, and the keeper comes back.
+// A change that is refused isn't opened, and the keeper is returned.
 #[test]
 fn a_refused_change_does_not_stop(rt: HostRuntime) -> Result<(), Fail> {
     let mut keeper = keeper_after(rt.alloc(), 5, &FIRST)?;

@@ -1,4 +1,4 @@
-//! Keepers, walkers and walks. Where memory is refused once, it is asked for again, as `rt try --test --fail-alloc N` refuses it.
+//! Keepers, walkers and walks. An allocation that fails is retried once, as `rt try --test --fail-alloc N` makes one fail.
 ghost use Rattle.std.specs.Prelude.{◌≡◌, ◌≤◌, IfOk};
 
 use crate::lines::{change, path};
@@ -11,7 +11,7 @@ use std::alloc::Global;
 use std::test::Fail;
 use tree_row::MOST_ENTRIES;
 
-/// The keeper of a row of the root alone, with room for so many entries.
+/// Returns the keeper of a row of the root alone, with room for `capacity` entries.
 pub(crate) fn keeper(alloc: Global, capacity: usize) -> Result<Keeper, Fail>
     requires { capacity ≤ MOST_ENTRIES }
 {
@@ -21,7 +21,7 @@ pub(crate) fn keeper(alloc: Global, capacity: usize) -> Result<Keeper, Fail>
     }
 }
 
-/// One that has made these changes.
+/// Returns a keeper that has made these changes.
 pub(crate) fn keeper_after(alloc: Global, capacity: usize, lines: &[&str]) -> Result<Keeper, Fail>
     requires { capacity ≤ MOST_ENTRIES }
 {
@@ -57,7 +57,7 @@ pub(crate) fn walker(keeper: &mut Keeper) -> Result<Walker, Fail>
     }
 }
 
-/// How long the name is of what a path leads to, which is put into the room.
+/// Writes the name of what a path leads to into `room`, and returns its length.
 pub(crate) fn name<L: Look>(
     look: &mut L,
     text: &[u8],
@@ -73,12 +73,12 @@ pub(crate) fn name<L: Look>(
 #[derive(Drop)]
 pub(crate) struct Walked {
     pub walker: Walker,
-    /// How long the name is of what was found.
+    /// The length of the name of what was found.
     pub length: Result<usize, WalkFault>,
     pub end: Result<u64, Busy>,
 }
 
-/// Goes on with a walk, along a path, and ends it.
+/// Continues a walk along a path, and ends it.
 pub(crate) fn walk_on(
     attempt: Attempt,
     text: &[u8],
@@ -94,7 +94,7 @@ pub(crate) fn walk_on(
     })
 }
 
-/// A walk along a path.
+/// Walks along a path.
 pub(crate) fn walk(
     walker: Walker,
     text: &[u8],

@@ -11,7 +11,7 @@ use std::process::Abort;
 use std::test::Fail;
 use std::thread::{Threads, join};
 
-// Makes a change in another thread, and brings the keeper back.
+// Makes a change in another thread, and returns the keeper.
 fn apply_there<R: Threads>(
     rt: &R,
     keeper: Keeper,
@@ -53,13 +53,13 @@ fn all_go_to_other_threads(rt: HostRuntime) -> Result<(), Fail> {
     Ok(())
 }
 
-// The last version. At each odd one the directory stands, and at each even one it doesn't.
+// The last version. The directory exists at each odd version, and not at each even one.
 const LAST: u64 = 1000;
 
-// A walker gives up after so many walks, which take some seconds: the changes take some milliseconds.
+// A walker gives up after this many walks, which take some seconds; the changes take some milliseconds.
 const WALKS: u64 = 1 << 22;
 
-// Makes a directory and takes it away again and again. Says whether each version was the one that is due.
+// Makes and removes a directory repeatedly. Returns whether each version was the expected one.
 fn change_often(keeper: Keeper, make: &Change<'static>, remove: &Change<'static>) -> (Keeper, bool)
     ensures { result.0.table ≡ keeper.table }
 {
@@ -73,8 +73,8 @@ fn change_often(keeper: Keeper, make: &Change<'static>, remove: &Change<'static>
     (keeper, true)
 }
 
-// Walks until the last version is seen. Says whether each walk that ended well saw what stands at its version, and no version
-// fell.
+// Walks until the last version is seen. Returns whether each walk that ended well saw what exists at its version, and no
+// version decreased.
 fn walk_often(walker: Walker) -> (Walker, bool)
     ensures { result.0.table ≡ walker.table }
 {
@@ -97,7 +97,7 @@ fn walk_often(walker: Walker) -> (Walker, bool)
     (walker, false)
 }
 
-// Changes beside walks. Once both threads have ended, the walker meets its keeper.
+// Makes changes concurrently with walks. Once both threads have ended, the walker meets its keeper.
 fn run<R: Abort + Threads>(rt: &R, mut keeper: Keeper) -> Result<(), Fail> {
     let walker = walker(&mut keeper)?;
     let (make, remove) = (change("mkdir /a")?, change("rmdir /a")?);

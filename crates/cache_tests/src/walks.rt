@@ -1,4 +1,4 @@
-//! A keeper's changes, and walks beside it.
+//! A keeper's changes, and walks concurrent with it.
 ghost use Rattle.std.specs.Prelude.{◌≡◌};
 
 use crate::lines::{change, path};
@@ -11,7 +11,7 @@ use row_look::RowLook;
 use std::process::Abort;
 use std::test::Fail;
 
-/// Whether the root has this entry, and the walk's end.
+/// Returns whether the root has this entry, and how the walk ended.
 pub(crate) fn look(walker: Walker, component: &[u8]) -> (Walker, Option<bool>, Result<u64, Busy>)
     ensures { result.0.table ≡ walker.table }
 {

@@ -15,7 +15,7 @@ use Rattle.directory_tree.proofs.Placing.{root_nowhere}
 use Rattle.directory_tree.proofs.Standing.{placed_at}
 use Rattle.directory_tree.proofs.Walks.{own_entry_found}
 
--- so many steps up lead from one directory to another, and neither they nor what is above tell that it lies below
+-- i steps up lead from one directory to another, and whether `from` lies below `top` is decided from there on
 pub record ClimbsTo (t : Tree) (top : ℕ) (from at : Spot) (i : ℕ) : Type 0 where
   pub directory : shape_of (kind_at at) ≡ kind.Directory
   pub same : is_below t.entries (length t.entries - i) top (node_at at) ≡ is_below t.entries (length t.entries) top (node_at from)

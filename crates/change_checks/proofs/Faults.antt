@@ -8,7 +8,7 @@ use Rattle.path_lookup.specs.declared.fault.WalkFault.TheVariants.{Refused, Torn
 use Rattle.path_lookup.specs.World.{World}
 use Rattle.path_lookup.specs.Walking.{IsFault}
 
--- a fault is one of every question that has the same answer
+-- a fault of one question is a fault of every question with the same answer
 fault_along : {X Y : Type 0} (lacks : Type 0) (sees : World → Type 0) (f : World → Result X Errno) (g : World → Result Y Errno) (fault : WalkFault)
     → ((w : World) (e : Errno) → sees w → f w ≡ Err e → g w ≡ Err e) → IsFault lacks sees f fault → IsFault lacks sees g fault
 fault_along lacks sees f g (Refused errno) along h = λ w seen. along w errno seen (h w seen)

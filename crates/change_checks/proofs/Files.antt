@@ -12,12 +12,12 @@ use Rattle.directory_tree.specs.Walk.Spot.{Root, Held}
 use Rattle.directory_tree.specs.Spots.{node_at, kind_at, child_of}
 use Rattle.directory_tree.specs.Apply.{entry, is_file, link, link_to, link_from}
 
--- the entry that a spot is; the root is none, and stands for any
+-- the entry that a spot is; the root has none, and any will do
 abbrev pub entry_in : Spot → Entry
 entry_in Root = entry 0 [] 0 File
 entry_in (Held e) = e
 
--- a link of a file is refused as its new entry is
+-- a link of a file is refused for the reason why its new entry is
 pub link_refused : (t : Tree) (room : Bool) (s : Spot) (c : List ℕ) (into : ℕ) (name : List ℕ) (file : Spot) (e : Errno) → child_of t s c ≡ Some file → kind_at file ≡ File
     → link_to t room (entry_in file) into name (find t.entries into name) ≡ Err e → link t room (node_at s) c into name ≡ Err e
 link_refused t room s c into name file e there is h =

@@ -17,11 +17,11 @@ child_found t s p c h = elim (find t.entries (node_at s) c) as (λ (o : Option E
   | Some z ↦ λ q. (z, refl, ap (λ (o : Option Spot). elim o [ None ↦ p | Some x ↦ x ]) q)
 ] h
 
--- what stands in a directory is an entry
+-- what is in a directory is an entry
 pub child_held : (t : Tree) (s p : Spot) (c : List ℕ) → child_of t s c ≡ Some p → p ≡ Held (entry_in p)
 child_held t s p c h = let (z, found, same) = child_found t s p c h in sym same ∙ ap (λ (x : Spot). Held (entry_in x)) same
 
--- a rename is refused as the entry that stands at the new place refuses to give way
+-- a rename is refused for the reason why the entry at the new place can't be replaced
 module _ (t : Tree) (s p entry other : Spot) (c name : List ℕ) where
   abbrev go : Changed
   go = Ok (moved t (node_at s) c (node_at p) name)

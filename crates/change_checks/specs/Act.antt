@@ -38,18 +38,18 @@ module _ {E : Type 0} (means : E → Spot) (t : Tree) where
   abbrev pub IsEmptied : E → Type 0
   IsEmptied e = shape_of (kind_at (means e)) ≡ kind.Directory → is_empty t.entries (node_at (means e)) ≡ true
 
-  -- an entry may come to this place, where none stands
+  -- an entry may be added at this place, where there is none
   pub record IsVacant (capacity : ℕ) (place : Place E) : Type 0 where
     pub free : find t.entries (number_in place) place.component.now ≡ None
     pub directory : shape_of (kind_at (means place.directory)) ≡ kind.Directory
     pub room : has_room capacity t ≡ true
 
-  -- the entry stands at this place, and may go
+  -- the entry is at this place, and may be removed
   pub record MayGo (place : Place E) (e : E) : Type 0 where
     pub there : child_of t (means place.directory) place.component.now ≡ Some (means e)
     pub empty : IsEmptied e
 
-  -- the entry may move: what stands at the new place is of another node, and may go
+  -- the entry may move: what is at the new place is of another node, and may be removed
   pub record MayMove (m : Move E) : Type 0 where
     pub there : child_of t (means m.from.directory) m.from.component.now ≡ Some (means m.entry)
     pub onto : child_of t (means m.to.directory) m.to.component.now ≡ option_map means m.replaced
@@ -57,7 +57,7 @@ module _ {E : Type 0} (means : E → Spot) (t : Tree) where
     pub empty : IfSome m.replaced IsEmptied
     pub directory : shape_of (kind_at (means m.to.directory)) ≡ kind.Directory
 
-  -- what the tests told of the tree
+  -- what the tests found out about the tree
   abbrev pub IsTested : ℕ → Act E → Type 0
   IsTested capacity (act.Make place node) = IsVacant capacity place
   IsTested capacity (act.Link file place) = IsVacant capacity place × (kind_at (means file) ≡ File)
@@ -65,7 +65,7 @@ module _ {E : Type 0} (means : E → Spot) (t : Tree) where
   IsTested capacity (act.Move m) = MayMove m
   IsTested capacity act.Nothing = Unit {0}
 
--- the entries that it names are such
+-- P holds for the entries that an act names
 abbrev pub NamesOnly : {E : Type 0} → (E → Type 0) → Act E → Type 0
 NamesOnly P (act.Make place node) = P place.directory
 NamesOnly P (act.Link file place) = P file × P place.directory

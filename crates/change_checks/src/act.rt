@@ -17,7 +17,7 @@ pub struct Move<'a, E: Copy> {
     /// The entry that moves.
     pub entry: E,
     pub to: Place<'a, E>,
-    /// What stands at the new place, and goes: an empty directory, or no directory.
+    /// What is at the new place, and is removed: an empty directory, or no directory.
     pub replaced: Option<E>,
 }
 
@@ -41,14 +41,14 @@ impl<'a, E: Copy> Move<'a, E> {
     }
 }
 
-/// What a change does, where its tests found nothing against it.
+/// What a change does, if its tests found nothing against it.
 #[derive(Drop)]
 pub enum Act<'a, E: Copy> {
-    /// A new node comes, and its entry stands at this place.
+    /// A new node is made, with its entry at this place.
     Make(Place<'a, E>, NewNode<'a>),
-    /// One more entry of this file comes to this place.
+    /// One more entry of this file is made at this place.
     Link(E, Place<'a, E>),
-    /// This entry goes from its place: that of a file, of a link or of an empty directory.
+    /// This entry is removed from its place: that of a file, of a link or of an empty directory.
     Remove(Place<'a, E>, E),
     /// An entry moves.
     Move(Move<'a, E>),

@@ -8,7 +8,7 @@ ghost use Rattle.path_lookup.specs.World.{World, Narrows, IsTorn};
 use crate::look::ChangeLook;
 use path_lookup::{Look, Torn};
 
-/// Whether a directory is the one of this number, or lies below it.
+/// Whether a directory is the one with this number, or lies below it.
 pub(crate) fn lies_below<L: ChangeLook>(
     look: &mut L,
     top: u64,

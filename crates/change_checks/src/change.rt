@@ -17,8 +17,8 @@ use directory_tree::{Change, LinkBytes};
 use names::Path;
 use path_lookup::{EndSlash, Look, WalkFault};
 
-/// Tests a change of a tree: what it would do, or by which number it is refused, whatever tree is seen. Nothing is changed,
-/// and no memory is taken.
+/// Tests a change of a tree: what it would do, or with which error number it is refused, whatever tree is seen. Nothing is
+/// changed, and no memory is taken.
 pub fn check_change<'a, L: ChangeLook>(
     look: &mut L,
     change: &Change<'a>,

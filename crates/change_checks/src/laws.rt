@@ -19,8 +19,8 @@ ghost use Rattle.change_checks.specs.declared.place.Place.{Place};
 
 use crate::look::ChangeLook;
 
-/// Where a tree is seen, a change has one error number or is made: no test that comes later answers in place of an earlier
-/// one, and nothing that is refused is done.
+/// Where a tree is seen, a change has one error number or is made: no later test answers in place of an earlier one, and nothing
+/// that is refused is done.
 pub fn changes_have_one_answer<L: ChangeLook>()
     ensures number { (look : L) (w : World) (changed : World → Changed) (one other : Errno) → L.sees look w →
         IsFault (L.lacks look) (L.sees look) changed (Refused one) → IsFault (L.lacks look) (L.sees look) changed (Refused other) →

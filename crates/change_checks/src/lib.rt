@@ -1,5 +1,5 @@
-//! The tests of the changes of a directory tree: whether a change would be made, and where it acts, or by which number it is
-//! refused. They are written once, over any way to read a tree.
+//! The tests of the changes of a directory tree: whether a change would be made, and where it acts, or with which error number it
+//! is refused. They are written once, over any way to read a tree.
 //!
 //! The definitions to believe are those in `specs/`.
 #![tactic(auto)]

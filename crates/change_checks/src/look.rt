@@ -7,9 +7,9 @@ ghost use Rattle.path_lookup.specs.World.{World, Narrows, IsTorn};
 
 use path_lookup::{Look, Torn};
 
-/// A look that tells whether a change may be made, too. Its answers are right as those of a [`Look`] are.
+/// A look that also says whether a change may be made. Its answers are right in the same sense as those of a [`Look`].
 pub trait ChangeLook: Look {
-    // So many entries may stand.
+    // The number of entries that a tree may have.
     ghost capacity: { Self → ℕ };
 
     /// Whether the directory has no entry.
@@ -35,6 +35,6 @@ pub trait ChangeLook: Look {
     fn most_entries(&self) -> usize
         ensures { (w : World) → Self.sees self.now w → length w.tree.entries ≤ result };
 
-    // The capacity is of what no reading changes.
+    // The capacity depends only on what reading leaves unchanged.
     ghost capacity_kept: { (before after : Self) → Self.kept before ≡ Self.kept after → capacity before ≡ capacity after };
 }

@@ -1,4 +1,4 @@
-//! The tests of what takes an entry away.
+//! The tests of changes that remove an entry.
 ghost use Rattle.std.specs.Prelude.{◌≡◌, IfOk, IfErr, Ok};
 ghost use Rattle.directory_tree.specs.Apply.{unlink, rmdir, at_one};
 ghost use Rattle.path_lookup.specs.Target.{target_for};
@@ -13,7 +13,7 @@ use directory_tree::Kind;
 use names::{Errno, Path};
 use path_lookup::{EndSlash, Look, WalkFault};
 
-/// Tests that the entry of a file or a link goes (unlink(2)).
+/// Tests the removal of the entry of a file or a link (unlink(2)).
 pub(crate) fn check_unlink<'a, L: ChangeLook>(
     look: &mut L,
     path: &Path<'a>,
@@ -40,7 +40,7 @@ pub(crate) fn check_unlink<'a, L: ChangeLook>(
     }
 }
 
-/// Tests that an empty directory goes (rmdir(2)).
+/// Tests the removal of an empty directory (rmdir(2)).
 pub(crate) fn check_rmdir<'a, L: ChangeLook>(
     look: &mut L,
     path: &Path<'a>,

@@ -18,7 +18,7 @@ use directory_tree::Kind;
 use names::{Errno, LONGEST_COMPONENT, Path};
 use path_lookup::{EndSlash, Look, Torn, WalkFault};
 
-/// Tests that an entry moves (rename(2)). One onto another entry of its node does nothing.
+/// Tests a move of an entry (rename(2)). A move onto another entry of the same node does nothing.
 pub(crate) fn check_rename<'a, L: ChangeLook>(
     look: &mut L,
     old: &Path<'a>,
@@ -40,7 +40,7 @@ pub(crate) fn check_rename<'a, L: ChangeLook>(
     check_move(look, &from, &to)
 }
 
-// The same of two places.
+// The same for two places.
 fn check_move<'a, L: ChangeLook>(
     look: &mut L,
     from: &Place<'a, L::Entry>,
@@ -74,7 +74,7 @@ fn check_move<'a, L: ChangeLook>(
     Ok(Act::Move(Move::new(from, entry, to, None)))
 }
 
-// The same where an entry stands at the new place.
+// The same where there is an entry at the new place.
 fn check_onto<'a, L: ChangeLook>(
     look: &mut L,
     from: &Place<'a, L::Entry>,
@@ -133,8 +133,8 @@ fn goes_below<L: ChangeLook>(look: &mut L, entry: L::Entry, into: L::Entry) -> R
     }
 }
 
-// Tests that an entry may take the place of another: an empty directory gives way to a directory alone, and what is no
-// directory to no directory.
+// Tests that an entry may replace another: an empty directory is replaced only by a directory, and a non-directory only by a
+// non-directory.
 fn check_replaced<L: ChangeLook>(
     look: &mut L,
     entry: L::Entry,

@@ -1,4 +1,4 @@
-//! The tests of what makes an entry: of a new node, and of one more entry of a file.
+//! The tests of changes that make an entry: that of a new node, or one more entry of a file.
 ghost use Rattle.std.specs.Prelude.{◌≡◌, ◌≤◌, Bool, List, ℕ, OnOk, IfOk, IfErr, Ok, None, Some, length, true};
 ghost use Rattle.directory_tree.specs.declared.node.Kind.TheVariants as kind;
 ghost use Rattle.directory_tree.specs.declared.node.NodeKind.{NodeKind};
@@ -17,7 +17,7 @@ use directory_tree::Kind;
 use names::{Errno, Path};
 use path_lookup::{EndSlash, Look, WalkFault};
 
-/// Tests a new node (mkdir(2), open(2), symlink(2)). Room is asked for last.
+/// Tests a new node (mkdir(2), open(2), symlink(2)). Room is tested last.
 pub(crate) fn check_make<'a, L: ChangeLook>(
     look: &mut L,
     path: &Path<'a>,
@@ -66,7 +66,7 @@ pub(crate) fn check_link<'a, L: ChangeLook>(
     Ok(Act::Link(file, to))
 }
 
-// Tests that an entry may come to a place: none stands there, and there is room for it.
+// Tests that an entry may be added at a place: there is none, and there is room for it.
 fn check_vacant<L: ChangeLook>(look: &mut L, place: &Place<'_, L::Entry>) -> Result<(), WalkFault>
     requires { L.knows look.old place.now.directory }
     ensures kept { L.kept look.new ≡ L.kept look.old }

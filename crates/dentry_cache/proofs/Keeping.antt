@@ -31,7 +31,7 @@ use Rattle.dentry_cache.specs.Seats.{keeper_of, IsKeeping}
 use Rattle.dentry_cache.specs.Models.{Held, Accepts, Refuses, Hinders, SeesHistory}
 use Rattle.dentry_cache.specs.inner.Knowing.{RowSeat, held, IsKept, KeeperKnows, Countable, IsPlanned}
 
--- One change more is counted, or there are too many.
+-- One more change is counted, or there are too many.
 module _ (capacity : ℕ) (history : List Change) (t : Tree) (made : tree_after capacity history ≡ Ok t) (change : Change) where
   more : tree_after capacity (history ++ change ∷ []) ≡ apply_counted capacity (length history) t change
   more = after_more capacity 0 root_alone t history change (length history) (omega arith) made
@@ -50,7 +50,7 @@ module _ (capacity : ℕ) (history : List Change) (t : Tree) (made : tree_after 
         | false ↦ λ q h. absurd (err_is_ok EOVERFLOW u h)
       ] refl (sym more ∙ is)
 
--- a change numbers one node at most
+-- a change numbers at most one node
 low_after : (next version : ℕ) (change : Change) → next ≤ version + 2 → next_after next change ≤ version + 1 + 2
 low_after next version (change.Mkdir path) h = omega arith
 low_after next version (change.Create path) h = omega arith
@@ -71,7 +71,7 @@ kept_first h none first = record {
   few = omega arith;
 }
 
--- one change more can be counted but for the last
+-- one more change can be counted, except after the last
 pub countable : (h : Held) (next version : ℕ) → IsKept h next version → version ≢ max_changes → Countable h next
 countable h next version k not_last = record {
   world = record { tree = k.tree; named = spot_at (slot_at h.cells); sound = tree_after_well h.capacity h.history k.tree k.made };
@@ -93,7 +93,7 @@ sees_history h next version k = record {
   only = λ w (row, is, encodes). same_tree h.capacity h.cells k.tree w.tree k.encodes (subst (λ (r : List ℕ). Encodes h.capacity r w.tree) is encodes.tree);
 }
 
--- what was told of the tree that the cells encode, while changes are counted
+-- what is known about the tree that the cells encode, while changes are counted
 module _ (h : Held) (next : ℕ) (n : Countable h next) where
   pub plannable : Plannable h.capacity (λ (row : List ℕ). row ≡ h.cells) next
   plannable = (h.cells, n.world, refl, n.stands, n.next_is)
@@ -126,7 +126,7 @@ module _ (h : Held) (next : ℕ) (n : Countable h next) where
       | inr is ↦ inl (refused errno is)
     ]
 
--- the parts once a change was made
+-- the parts after a change was made
 pub kept_next : (h : Held) (next version : ℕ) (change : Change) (plan : List Cell) (h' : Held) → IsKept h next version → IsPlanned h change plan → h'.capacity ≡ h.capacity → h'.history ≡ h.history ++ change ∷ [] → h'.cells ≡ write h.cells plan
     → IsKept h' (next_after next change) (version + 1)
 kept_next h next version change plan h' k ((w, stood, named, plans), (u, made, encodes)) capacity history cells =
@@ -146,7 +146,7 @@ kept_next h next version change plan h' k ((w, stood, named, plans), (u, made, e
 pub within : (capacity : ℕ) (cells : List ℕ) (history : List Change) (change : Change) (plan : List Cell) → IsPlan capacity cells history change plan → All (λ (cell : Cell). cell.place < row_length capacity) plan
 within capacity cells history change plan (w, made, stands, plans) = subst (λ (n : ℕ). All (λ (cell : Cell). cell.place < n) plan) stands.tree.long plans.lean.within
 
--- a keeper's parts, where they are worth a value
+-- a keeper's parts, where they make up this value
 pub kept_of : (table : TableId) (key : ℕ) (seat : RowSeat) (capacity next version : ℕ) (h : Held) → KeeperKnows table key seat capacity next version → held seat capacity ≡ h → IsKept h next version
 kept_of table key seat capacity next version h knows is = subst (λ (x : Held). IsKept x next version) is knows.kept
 

@@ -1,4 +1,4 @@
--- Each kind of step is allowed at the table: the rule's laws, said of the table's states.
+-- Each kind of step is allowed at the table: the rule's laws, stated for the table's states.
 use Rattle.std.proofs.Common.{◌≡◌, ℕ, ◌+◌, ◌%◌, ◌<◌, List, [], ◌∷◌, ◌++◌, get_or, set, Some, None, sym, refl, ap, ◌∙◌, subst, arith}
 use lib.Seq.{set-get_or}
 use mathlib.Core.Option.{some}
@@ -23,7 +23,7 @@ use Rattle.dentry_cache.proofs.Seeing.{sees_after}
 use Rattle.dentry_cache.specs.Seats.{Mine, walker_of, keeper_of, walking, keeping, IsWalking, IsKeeping}
 use Rattle.dentry_cache.specs.Told.{KeepsRule, HasEntered, HasBegun, HasRead, HasEnded, HasLooked, HasOpened, HasSet, HasClosed, lent_view, met_view, IsTold}
 
--- a seat that keeps just this
+-- a seat that keeps exactly this
 pub kept_as : (m : Mine) (k : KeeperView) → m ≡ keeping k → IsKeeping m × (keeper_of m.0 ≡ k)
 kept_as m k e = subst (λ (z : Mine). IsKeeping z × (keeper_of z.0 ≡ k)) (sym e) (refl, refl)
 

@@ -1,4 +1,4 @@
--- What a walk has seen that ended well.
+-- What a walk that ended well has seen.
 use Rattle.std.proofs.Common.{ℕ, List, refl}
 use Rattle.directory_tree.specs.declared.change.Change.{Change}
 use Rattle.directory_tree.proofs.Changes.{tree_after_well}
@@ -9,7 +9,7 @@ use Rattle.row_rule.specs.Row.{Agrees}
 use Rattle.row_plan.specs.Changes.{EncodesChanges}
 use Rattle.dentry_cache.specs.Told.{SeesAfter}
 
--- a row that encodes the changes makes a world
+-- a row that encodes the changes gives a world
 pub sees_after : (capacity : ℕ) (reads : List Cell) (changes : List Change) (cells : List ℕ) → EncodesChanges capacity cells changes → Agrees reads cells → SeesAfter capacity reads changes
 sees_after capacity reads changes cells (t, made, encodes) agrees = record {
   world = record { tree = t; named = spot_at (slot_at cells); sound = tree_after_well capacity changes t made };

@@ -23,13 +23,13 @@ pub pending_next : (change : Change) (plan : List Cell) (i : ℕ) (other : Cell)
     → ◌≡◌ {A = Pending} record { change = change; left = drop i plan } record { change = change; left = get_or plan i other ∷ drop (i + 1) plan }
 pending_next change plan i other within = ap (λ (cells : List Cell). let p : Pending = record { change = change; left = cells } in p) (next_left plan i other within)
 
--- one cell more is set
+-- one more cell is set
 pub set_next : (cells : List ℕ) (plan : List Cell) (i : ℕ) (other : Cell) → i < length plan
     → write cells (take (i + 1) plan) ≡ slice_set (write cells (take i plan)) (get_or plan i other).place (get_or plan i other).word
 set_next cells plan i other within =
     ap (λ (n : ℕ). write cells (take n plan)) (add-one i) ∙ (ap (write cells) (take-suc plan i other within) ∙ write_append cells (take i plan) (get_or plan i other ∷ []))
 
--- what a loop that sets cells keeps: so many are set, and the others are left
+-- the invariant of a loop that sets cells: the first `i` are set, and the others are left
 pub one_more_set : (k k' begun : KeeperView) (change : Change) (plan : List Cell) (i : ℕ) (other : Cell) → i < length plan → k' ≡ setting k (get_or plan i other)
     → k.history ≡ begun.history → k.pending ≡ Some record { change = change; left = drop i plan } → k.cells ≡ write begun.cells (take i plan)
     → (k'.history ≡ begun.history) × (k'.pending ≡ Some record { change = change; left = drop (i + 1) plan }) × (k'.cells ≡ write begun.cells (take (i + 1) plan))
@@ -40,7 +40,7 @@ one_more_set k k' begun change plan i other within is history pending cells =
       ap (λ (z : KeeperView). z.cells) is ∙ (ap (λ (cs : List ℕ). slice_set cs cell.place cell.word) cells ∙ sym (set_next begun.cells plan i other within)),
     )
 
--- the first cells, so many or all
+-- the first `most` cells, or all if there are fewer
 first_ones : (plan : List Cell) (most set : ℕ) → set ≡ min most (length plan) → (drop set plan ≡ drop most plan) × (take set plan ≡ take most plan)
 first_ones plan most set is = elim (nat_lt most (length plan)) as (λ (b : Bool). nat_lt most (length plan) ≡ b → (drop set plan ≡ drop most plan) × (take set plan ≡ take most plan)) [
   | true ↦ λ q. let few = ltb-true most (length plan) q in (ap (λ (n : ℕ). drop n plan) (omega (arith, is, few)), ap (λ (n : ℕ). take n plan) (omega (arith, is, few)))

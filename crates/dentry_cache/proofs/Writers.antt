@@ -1,4 +1,4 @@
--- Whoever doesn't keep writes nothing.
+-- A seat that isn't the keeper's writes nothing.
 use Rattle.std.proofs.Common.{◌≡◌, ℕ, List, ◌∷◌, set, sym, ap, ◌∙◌}
 use mathlib.Core.Option.{some, some-injective}
 use lib.ListN.{get_elem?}

@@ -1,4 +1,4 @@
--- What a keeper is once its look is given back.
+-- The keeper's value once its look is given back.
 use Rattle.std.specs.Borrow.{Lends, MutBor, Fml}
 use Rattle.row_look.specs.declared.look.RowLook.{RowLook}
 use Rattle.row_look.specs.contracts.look.RowLook as look

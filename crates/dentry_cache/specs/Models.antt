@@ -1,4 +1,4 @@
--- What contracts see of a keeper, a walker and an attempt, and what a keeper's calls come to.
+-- What contracts see of a keeper, a walker and an attempt, and the outcomes of a keeper's calls.
 use Rattle.std.specs.Prelude.{◌≡◌, ◌⊎◌, ℕ, ◌*◌, List, [], ◌∷◌, ◌++◌, length, drop, Some, Ok, Err, IsOk, ◌+◌, take}
 use Rattle.atomic_table.specs.Seated.{TableId}
 use Rattle.names.specs.declared.errors.Errno.{Errno}
@@ -14,7 +14,7 @@ use Rattle.row_rule.specs.declared.view.WalkerView.{WalkerView}
 use Rattle.row_rule.specs.Row.{write}
 use Rattle.row_plan.specs.Changes.{EncodesChanges, IsPlan}
 
--- a keeper: which table it keeps, the count, the changes that it has made, oldest first, and the cells as they stand
+-- a keeper: which table it keeps, the count, the changes that it has made, oldest first, and the current cells
 pub record Held : Type 0 where
   pub table : TableId
   pub capacity : ℕ
@@ -37,8 +37,8 @@ unread a =
       view = record { seen = a.view.seen; count_reads = a.view.count_reads; noted = a.view.noted; last = a.view.last; reads = [] };
     }
 
--- the history is one change longer, the count two higher, and just the cells of a plan of the change are set, none of which stood
--- so before
+-- the history is one change longer, the count two higher, and only the cells of a plan of the change are set, none of which
+-- had that value before
 pub record Makes (old : Held) (change : Change) (new : Held) : Type 0 where
   pub table : new.table ≡ old.table
   pub capacity : new.capacity ≡ old.capacity
@@ -55,7 +55,7 @@ pub record Stopped : Type 0 where
   pub capacity : ℕ
   pub view : KeeperView
 
--- The change is open. The first cells of its plan are set, so many or all, and the rest is left.
+-- The change is open. The first `set` cells of its plan are set, or all if there are fewer, and the rest is left.
 pub record IsStopped (old : Held) (change : Change) (set : ℕ) (new : Stopped) : Type 0 where
   pub table : new.table ≡ old.table
   pub capacity : new.capacity ≡ old.capacity
@@ -66,21 +66,21 @@ pub record IsStopped (old : Held) (change : Change) (set : ℕ) (new : Stopped) 
   pub cells : new.view.cells ≡ write old.cells (take set plan)
   pub encodes : EncodesChanges old.capacity (write old.cells plan) (old.history ++ change ∷ [])
 
--- what the definition makes of the change behind the history
+-- what the definition makes of the change after the history
 abbrev pub Accepts : Held → Change → Type 0
 Accepts h change = IsOk (tree_after h.capacity (h.history ++ change ∷ []))
 
 abbrev pub Refuses : Held → Change → Errno → Type 0
 Refuses h change errno = tree_after h.capacity (h.history ++ change ∷ []) ≡ Err errno
 
--- it refuses the change by this number, or accepts it, and memory was refused
+-- it refuses the change with this errno, or accepts it, but an allocation failed
 abbrev pub Hinders : Held → Change → Errno → Type 0
 Hinders h change errno = Refuses h change errno ⊎ ((errno ≡ ENOMEM) × Accepts h change)
 
 abbrev pub SameEntries : Tree → Tree → Type 0
 SameEntries t u = (d : ℕ) (c : List ℕ) → find t.entries d c ≡ find u.entries d c
 
--- a look at these cells sees the tree that the history comes to, and none with other entries
+-- a look at these cells sees the tree after the history, and none with other entries
 pub record SeesHistory (h : Held) : Type 0 where
   pub world : World
   pub made : tree_after h.capacity h.history ≡ Ok world.tree

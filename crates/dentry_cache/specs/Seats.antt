@@ -10,7 +10,7 @@ use Rattle.row_rule.specs.Steps.{newcomer, at_rest}
 abbrev pub Mine : Type 0
 Mine = Me (Unit {0}) View
 
--- what a walker knows, and what the keeper does, whatever of the other kind of seat
+-- what a walker knows, and what the keeper knows; arbitrary for the other kind of seat
 abbrev pub walker_of : View → WalkerView
 walker_of (Keeps k) = newcomer
 walker_of (Walks w) = w

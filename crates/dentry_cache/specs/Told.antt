@@ -1,4 +1,4 @@
--- The rule of the table, and what each kind of step tells the seat that takes it.
+-- The rule of the table, and what the seat that takes a step learns from it, for each kind of step.
 use Rattle.std.specs.Prelude.{◌≡◌, ℕ, ◌+◌, ◌%◌, List, [], ◌∷◌, slice_index, Ok}
 use mathlib.Core.List.{IsPrefix}
 use Rattle.atomic_table.specs.Table.{State}
@@ -23,7 +23,7 @@ KeepsRule capacity s = Holds (EncodesChanges capacity) (row_length capacity) s.w
 abbrev pub first_view : ℕ → View
 first_view capacity = Keeps (at_rest [] (opening_row capacity))
 
--- some row that encodes what these changes come to agrees with all that was read
+-- some row that encodes the tree after these changes agrees with all that was read
 pub record SeesAfter (capacity : ℕ) (reads : List Cell) (changes : List Change) : Type 0 where
   pub world : World
   pub made : tree_after capacity changes ≡ Ok world.tree
@@ -41,7 +41,7 @@ abbrev pub HasRead : ℕ → Mine → ℕ → Mine → Type 0
 HasRead word before found after =
     (place : ℕ) → word ≡ place + 1 → after ≡ walking (reading (walker_of before.0) record { place = place; word = found })
 
--- where the count is the even one that was read first, no change was made in between
+-- if the count is the even one that was read first, no change was made in between
 abbrev pub HasEnded : ℕ → Mine → ℕ → Mine → Type 0
 HasEnded capacity before count after =
     (seen : List Change) × (after ≡ walking (ending (walker_of before.0) count seen)) × Sees (walker_of before.0) count seen
@@ -62,7 +62,7 @@ HasSet word to before after =
 abbrev pub HasClosed : Mine → Mine → Type 0
 HasClosed before after = after ≡ keeping (closing (keeper_of before.0))
 
--- a meeting: the keeper lends a walker's seat, takes in the walker's own, and is told what that one had seen
+-- a meeting: the keeper lends a walker's seat, takes in the walker's own, and learns what that one had seen
 abbrev pub lent_view : View → View
 lent_view keeper = Walks (lent_by (keeper_of keeper))
 

@@ -37,7 +37,7 @@ pub(crate) fn perform(
     steps::close(table, seat, count + 1);
 }
 
-/// Opens a change, and sets so many cells of its plan.
+/// Opens a change, and sets the first `set` cells of its plan.
 pub(crate) fn begin(
     table: &RowTable,
     seat: &mut RowSeat,

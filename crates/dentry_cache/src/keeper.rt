@@ -1,4 +1,4 @@
-//! The one who changes the row.
+//! The keeper, which changes the row.
 ghost use Rattle.std.specs.Prelude.{◌≡◌, ◌≤◌, [], length, IfOk, OnOk, IfErr, ◌*◌};
 ghost use mathlib.Core.List.{IsPrefix};
 ghost use Rattle.tree_row.specs.OpeningRow.{opening_row};
@@ -21,10 +21,10 @@ use std::alloc::Global;
 use std::marker::Model;
 use tree_row::{Cells, MOST_ENTRIES};
 
-/// What the row tells of the tree, by the keeper's own reads.
+/// The keeper's view of the tree, by its own reads of the row.
 pub type KeeperLook = RowLook<KeptRow>;
 
-/// It alone may change the row. It is seen as its table, the row's capacity, the changes that were made, and the cells.
+/// The only one that may change the row. Contracts see it as its table, the row's capacity, the changes made, and the cells.
 #[derive(Drop)]
 pub struct Keeper {
     alloc: Global,
@@ -40,7 +40,7 @@ impl Model for Keeper {
 }
 
 impl Keeper {
-    /// The row of the root alone, with room for so many entries. All memory of the row is taken here.
+    /// Returns the keeper of a row of the root alone, with room for `capacity` entries. All memory of the row is allocated here.
     pub fn new(alloc: Global, capacity: usize) -> Result<Keeper, NoMemory>
         requires { capacity ≤ MOST_ENTRIES }
         ensures { IfOk result (λ keeper. (keeper.capacity ≡ capacity) × (keeper.history ≡ []) × (keeper.cells ≡ opening_row capacity)) }
@@ -51,7 +51,7 @@ impl Keeper {
         })
     }
 
-    /// How many changes were made.
+    /// Returns the number of changes made.
     pub fn version(&self) -> u64
         ensures version { result ≡ length self.now.history }
         ensures count { self.now.count ≡ 2 * result }
@@ -59,7 +59,7 @@ impl Keeper {
         self.look.cells.version()
     }
 
-    /// The most entries, besides the root.
+    /// Returns the maximum number of entries, besides the root.
     pub fn capacity(&self) -> usize
         ensures capacity { result ≡ self.now.capacity }
         ensures small { result ≤ MOST_ENTRIES }
@@ -67,8 +67,8 @@ impl Keeper {
         self.look.cells.capacity()
     }
 
-    /// Makes a change, and answers how many were made then. Where it is refused, the number says why, and nothing was changed;
-    /// `ENOMEM` comes after all other refusals.
+    /// Makes a change, and returns the number of changes made so far. If it is refused, the errno says why, and nothing was
+    /// changed; `ENOMEM` comes after all other refusals.
     pub fn apply(&mut self, change: &Change<'_>) -> Result<u64, Errno>
         ensures ok { IfOk result (λ version. Makes self.old change.now self.new × (version ≡ length self.new.history)) }
         ensures same { IfErr result (λ _. self.new ≡ self.old) }
@@ -78,9 +78,9 @@ impl Keeper {
         Ok(self.look.cells.make(change, &plan))
     }
 
-    /// Opens a change, sets the first cells of its plan, so many or all, and stops there for good, as a keeper does whose thread
-    /// ends in the middle of a change. Where the change is refused, the keeper comes back as it was. A walk that reads the count
-    /// after this is busy, as the tests show; its walker has to be made before.
+    /// Opens a change, sets the first `set` cells of its plan, or all if there are fewer, and stops there for good, like a keeper
+    /// whose thread ends in the middle of a change. If the change is refused, the keeper is returned as it was. A walk that reads
+    /// the count after this is busy, as the tests show; its walker has to be made before.
     pub fn stop_amid(
         mut self,
         change: &Change<'_>,
@@ -95,7 +95,7 @@ impl Keeper {
         }
     }
 
-    /// Whether a change would be made now, or by which number it would be refused. It changes nothing, and takes no memory.
+    /// Whether a change would be made now, or the errno by which it would be refused. Changes nothing, and allocates no memory.
     pub fn test(&mut self, change: &Change<'_>) -> Result<(), Errno>
         ensures same { self.new ≡ self.old }
         ensures ok { OnOk result (Accepts self.old change.now) }
@@ -112,7 +112,7 @@ impl Keeper {
         }
     }
 
-    // The cells of a change, or by which number it is refused.
+    // Returns the cells of a change, or the errno by which it is refused.
     fn planned(&mut self, change: &Change<'_>) -> Result<Vec<Cell>, Errno>
         ensures same { self.new ≡ self.old }
         ensures ok { IfOk result (λ plan. IsPlanned self.old change.now plan.items) }
@@ -125,7 +125,7 @@ impl Keeper {
         }
     }
 
-    /// A new walker, which has seen nothing and may go to another thread.
+    /// Returns a new walker, which has seen nothing and may go to another thread.
     pub fn walker(&mut self) -> Result<Walker, NoSeat>
         ensures same { self.new ≡ self.old }
         ensures walker { IfOk result (λ walker. (walker.table ≡ self.old.table) × (walker.capacity ≡ self.old.capacity) × (walker.view ≡ newcomer)) }
@@ -133,7 +133,7 @@ impl Keeper {
         self.look.cells.walker()
     }
 
-    /// A walker of this row meets the keeper: the changes that it had seen were the first ones of the history, and now it has
+    /// Lets a walker of this row meet the keeper: the changes that it had seen were the first ones of the history, and now it has
     /// seen them all.
     pub fn meet(&mut self, walker: &mut Walker)
         requires { walker.old.table ≡ self.old.table }

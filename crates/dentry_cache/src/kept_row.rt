@@ -24,11 +24,11 @@ use std::marker::Model;
 use std::sync::Arc;
 use tree_row::{Cells, MOST_ENTRIES, SLOT_LENGTH};
 
-/// The most changes that are counted: 2^60 - 1.
+/// The maximum number of changes that are counted: 2^60 - 1.
 const MOST_CHANGES: u64 = 1152921504606846975;
 
-/// The row with the seat of its keeper, who knows all its cells. It is seen as its table, the row's capacity, the changes that
-/// were made, and the cells.
+/// The row with the seat of its keeper, which knows all its cells. Contracts see it as its table, the row's capacity, the
+/// changes made, and the cells.
 #[derive(Drop)]
 pub struct KeptRow {
     table: Arc<RowTable>,
@@ -36,7 +36,7 @@ pub struct KeptRow {
     capacity: usize,
     // The number of the next node.
     next: u64,
-    // How many changes were made.
+    // The number of changes made.
     version: u64,
 }
 
@@ -84,7 +84,7 @@ impl KeptRow {
         self.version
     }
 
-    /// The number of the next node, while one more change can be counted.
+    /// Returns the number of the next node, while one more change can be counted.
     pub(crate) fn next(&self) -> Result<u64, Errno>
         ensures ok { IfOk result (Countable self.now) }
         ensures err { IfErr result (λ errno. (change : Change) → Refuses self.now change errno) }
@@ -155,7 +155,7 @@ impl KeptRow {
         steps::learn(&self.table, &mut self.seat);
     }
 
-    /// What the row encodes, for contracts alone: it does nothing.
+    /// States what the row encodes, for contracts only: does nothing.
     pub(crate) fn encodes_history(&self)
         ensures { SeesHistory self.now }
     {

@@ -1,9 +1,9 @@
-//! A directory tree as a row of words that threads share: one keeper changes it, and walkers read it beside the keeper, without
-//! a lock. The first word is the count: two for each change that was made, and one more while a change is open. The cells of the
-//! row follow.
+//! A directory tree as a row of words that threads share: one keeper changes it, and walkers read it concurrently, without a
+//! lock. The first word is the count: two for each change that was made, plus one while a change is open. The cells of the row
+//! follow.
 //!
-//! The definitions to believe are those in `specs/Models.antt`, `specs/Told.antt` and `specs/Seats.antt`, and those of the crates below;
-//! the others are of private contracts and proofs.
+//! The definitions to believe are those in `specs/Models.antt`, `specs/Told.antt` and `specs/Seats.antt`, and those of the crates
+//! below; the others are of private contracts and proofs.
 #![tactic(auto)]
 
 mod changing;

@@ -7,8 +7,8 @@ ghost use Rattle.dentry_cache.specs.Models.{SeesHistory};
 use crate::keeper::{Keeper, KeeperLook};
 
 impl Keeper {
-    /// A look at the row as it stands, which sees the tree that the history comes to, and none with other entries. Once it ends,
-    /// the keeper is what the look left: as it was before, where it was only looked at.
+    /// Returns a look at the current row, which sees the tree after the history, and none with other entries. Once it ends, the
+    /// keeper is what the look left: unchanged, if the row was only looked at.
     pub fn look(&mut self) -> &mut KeeperLook
         ensures* writes_back { sem 𝓛 (LendsLook self.entry result) }
         ensures cells { result.now.cells ≡ self.old }

@@ -21,7 +21,7 @@ impl TableRule<(), View, u64> for RowRule {
     ghost first = { first_view };
 }
 
-/// The words: the count, and the cells behind it.
+/// The words: the count, followed by the cells.
 pub type RowTable = Table<(), View, u64, RowRule, Global>;
 
 /// The right to take steps, as the keeper or as a walker.
@@ -48,7 +48,7 @@ impl Play<(), View> for Reads {
     ghost then = { λ st. HasRead st.word };
 }
 
-/// The room of a row: a step can't read the table's key, and so its caller tells it.
+/// The capacity of a row: a step can't read the table's key, so its caller passes the capacity.
 pub trait Roomed {
     ghost capacity: { ℕ };
 }
@@ -73,7 +73,7 @@ impl Play<(), View> for Looks {
     ghost then = { λ st. HasLooked st.word };
 }
 
-/// A change, and the cells of its plan: a step is told numbers alone, and so its caller tells it these.
+/// A change, and the cells of its plan: a step is passed only numbers, so its caller passes these.
 pub trait Planned {
     ghost change: { Change };
 
@@ -127,7 +127,7 @@ impl Join<View> for TakesIn {
     ghost spent = { Walks newcomer };
 }
 
-/// The keeper is told what the walker had seen.
+/// The keeper learns what the walker had seen.
 pub struct Learns;
 
 impl Play<(), View> for Learns {

@@ -135,7 +135,7 @@ pub(crate) fn lend(table: &RowTable, seat: &mut RowSeat) -> RowSeat
     table.shared.split_seat::<Lends>(seat)
 }
 
-/// The second: the keeper takes in the seat that the walker had.
+/// The second load: the keeper takes in the seat that the walker had.
 pub(crate) fn take_in(table: &RowTable, seat: &mut RowSeat, other: RowSeat)
     requires own { seat.old.table_id ≡ table.now.shared.table_id }
     requires other { (other.table_id ≡ table.now.shared.table_id) × IsWalking other.me }
@@ -148,7 +148,7 @@ pub(crate) fn take_in(table: &RowTable, seat: &mut RowSeat, other: RowSeat)
     table.shared.join_seat::<TakesIn>(seat, other);
 }
 
-/// The third: the keeper learns that what the walker had seen is a beginning of its history.
+/// The third load: the keeper learns that what the walker had seen is a prefix of its history.
 pub(crate) fn learn(table: &RowTable, seat: &mut RowSeat)
     requires own { seat.old.table_id ≡ table.now.shared.table_id }
     requires words { 0 < table.now.shared.table_id.words }

@@ -6,8 +6,8 @@ use crate::rule::{RowSeat, RowTable};
 use std::marker::Model;
 use std::sync::Arc;
 
-/// The row's one right to change it, after its keeper opened a change and set some of its cells, and nothing more. Nobody can go
-/// on with that change or close it.
+/// The only right to change the row, after its keeper opened a change, set some of its cells, and stopped. Nobody can continue
+/// or close that change.
 #[derive(Drop)]
 pub struct StoppedKeeper {
     table: Arc<RowTable>,

@@ -1,4 +1,4 @@
-//! Those who read the row beside its keeper.
+//! The readers of the row, concurrent with its keeper.
 ghost use Rattle.std.specs.Prelude.{◌≡◌, ◌≢◌, ◌⊎◌, ◌+◌, ◌%◌, ◌<◌, length, IfOk, IfErr};
 ghost use Rattle.std.specs.Arc.{arc_value};
 ghost use Rattle.tree_row.specs.Rows.{row_length};
@@ -15,7 +15,7 @@ use std::mem;
 use std::sync::Arc;
 use tree_row::Cells;
 
-/// It may read the row. It is seen as its table, the row's capacity, and what it knows.
+/// A reader of the row. Contracts see it as its table, the row's capacity, and what it knows.
 #[derive(Drop)]
 pub struct Walker {
     table: Arc<RowTable>,
@@ -35,8 +35,8 @@ impl Model for Walker {
     ghost invariant = { λ w. WalkerKnows (arc_value w.table).shared.table_id (arc_value w.table).shared.key w.seat w.capacity };
 }
 
-/// A walk that has read the count, and reads cells. They may be those of a change that is being made: what was read is worth
-/// something once the walk has ended well.
+/// A walk that has read the count, and reads cells. They may be those of a change in progress: what was read is meaningful
+/// only once the walk has ended well.
 #[derive(Drop)]
 pub struct Attempt {
     table: Arc<RowTable>,
@@ -71,7 +71,7 @@ impl Walker {
         }
     }
 
-    // Takes this seat, and gives its own.
+    // Takes this seat, and returns its own.
     pub(crate) fn replace_seat(&mut self, seat: RowSeat) -> RowSeat
         requires { (seat.table_id ≡ self.old.table) × IsWalking seat.me }
         ensures new { self.new ≡ walk seat self.old.capacity }
@@ -102,14 +102,14 @@ impl Walker {
 }
 
 impl Attempt {
-    /// The count that the walk began with. Where it is odd, a change is being made, and the walk will end busy.
+    /// Returns the count that the walk began with. If it is odd, a change is in progress, and the walk will end busy.
     pub fn began(&self) -> u64
         ensures { result ≡ self.now.view.noted }
     {
         self.began
     }
 
-    /// The word at a place of the row.
+    /// Reads the word at a place of the row.
     fn read(&mut self, place: usize) -> u64
         requires { place < row_length self.old.capacity }
         ensures same { (self.new.table ≡ self.old.table) × (self.new.capacity ≡ self.old.capacity) }
@@ -118,9 +118,9 @@ impl Attempt {
         steps::read_cell(&self.table, &mut self.seat, place)
     }
 
-    /// Ends the walk: reads the count again. Where it is the even one that the walk began with, half as many changes were made,
-    /// all of which the walk has seen, and some row that encodes what they come to agrees with all that was read: their number
-    /// is the version answered. Else the walk was beside a change.
+    /// Ends the walk: reads the count again. If it is the same even number that the walk began with, half that many changes were
+    /// made, all of which the walk has seen, and some row that encodes the tree after them agrees with all that was read; their
+    /// number is returned as the version. Else the walk was concurrent with a change.
     pub fn end(self) -> (Walker, Result<u64, Busy>)
         ensures same { (result.0.table ≡ self.table) × (result.0.capacity ≡ self.capacity) }
         ensures seen { Sees self.view result.0.view.last result.0.view.seen }
@@ -144,7 +144,7 @@ impl Attempt {
         )
     }
 
-    /// Gives up the walk, with no further step.
+    /// Abandons the walk, with no further step.
     pub fn stop(self) -> Walker
         ensures { result ≡ self }
     {

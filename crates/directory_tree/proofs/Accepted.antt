@@ -1,4 +1,4 @@
--- What an accepted move does to the entries, and what it says of the tree before it.
+-- What an accepted move does to the entries, and what it says about the tree before it.
 use Rattle.std.proofs.Common.{◌≡◌, ℕ, ◌==◌, Bool, true, false, List, Some, None, Option, sym, refl, ap, ◌∙◌, eqb-true}
 use mathlib.Core.Logic.{inl, inr}
 use Rattle.std.specs.Prelude.{if◌then◌else◌, Ok, Err, IfSome, ◌≢◌}
@@ -11,18 +11,18 @@ use Rattle.directory_tree.proofs.Basics.{some_inj, none_is_some, ok_inj, err_is_
 use Rattle.directory_tree.proofs.Standing.{own_key}
 use Rattle.directory_tree.proofs.Placing.{key_apart, after_moved}
 
--- a directory that stood at the new place was empty
+-- a directory that was at the new place was empty
 abbrev pub Loose : Tree → ℕ → List ℕ → Type 0
 Loose t into name = (new : Entry) → find t.entries into name ≡ Some new → is_directory new.kind ≡ true → is_empty t.entries new.node ≡ true
 
--- the tree afterwards is that of the move, whose new place is another, not in what moves, and free or given up
+-- the tree afterwards is that of the move, whose new place is another, not in what moves, and free or replaced
 pub record IsAccepted (t u : Tree) (d : ℕ) (c : List ℕ) (into : ℕ) (name : List ℕ) (old : Entry) : Type 0 where
   pub tree : moved t d c into name ≡ u
   pub above : goes_below t.entries old into ≡ false
   pub apart : Apart d c into name
   pub loose : Loose t into name
 
--- what stands at the new place gives way only where it is no directory, or an empty one
+-- what is at the new place is replaced only if it isn't a directory, or is an empty one
 pub gives_way : (directory onto empty : Bool) (m u : Tree) → (if directory then (if onto then (if empty then Ok m else Err ENOTEMPTY) else Err ENOTDIR) else (if onto then Err EISDIR else Ok m)) ≡ Ok u → (m ≡ u) × (onto ≡ true → empty ≡ true)
 gives_way true true true m u h = (ok_inj m u h, λ p. refl)
 gives_way true true false m u h = absurd (err_is_ok ENOTEMPTY u h)
@@ -77,7 +77,7 @@ module _ (t : Tree) (d : ℕ) (c : List ℕ) (old : Entry) (is : find t.entries 
   pub at_old : (e : Entry) → Has t e.of e.component e → is_at d c e ≡ true → e ≡ old
   at_old e found q = let k = at_once d c e.of e.component q in some_inj e old (sym found ∙ (λ i. find t.entries (k.0 i) (k.1 i)) ∙ is)
 
-  -- what is found after the move was there, at its place or at the old one
+  -- what is found after the move was there before, at its place or at the old one
   pub found_before : (into : ℕ) (name : List ℕ) → Apart d c into name → (f : Entry) → Has (moved t d c into name) f.of f.component f → (e : Entry) × Has t e.of e.component e × (f ≡ place_one d c into name e)
   found_before into name other f h = elim (after_moved t d c into name old is other f.of f.component f h) [
     | inl same ↦ (old, own_key t.entries d c old is, same ∙ sym (own_entry_old into name))

@@ -11,7 +11,7 @@ use Rattle.directory_tree.specs.Name.{name_up}
 use Rattle.directory_tree.specs.Components.{slash}
 use Rattle.directory_tree.proofs.Basics.{some_inj, none_is_some}
 
--- a directory just so many steps below the root
+-- a directory exactly this many steps below the root
 abbrev pub Deep : List Entry → ℕ → ℕ → Type 0
 Deep es zero d = d ≡ 1
 Deep es (suc n) d = (e : Entry) × (own_entry es d ≡ Some e) × (d ≢ 1) × Deep es n e.of

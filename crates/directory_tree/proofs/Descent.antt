@@ -8,7 +8,7 @@ use Rattle.directory_tree.proofs.Standing.{placed_at}
 use Rattle.directory_tree.proofs.Placing.{root_nowhere}
 
 module _ (t : Tree) (well : WellFormed t) (low m : ℕ) (deep_low : Deep t.entries m low) where
-  -- what so many steps up from the directory of an entry tell
+  -- what this many steps up from the directory of an entry say
   abbrev climb : ℕ → Option Entry → Bool
   climb n o = elim o as (λ _. Bool) [ None ↦ false | Some e ↦ is_below t.entries n low e.of ]
 
@@ -16,7 +16,7 @@ module _ (t : Tree) (well : WellFormed t) (low m : ℕ) (deep_low : Deep t.entri
   other_depth : (k x : ℕ) → k < m → Deep t.entries k x → (x == low) ≡ false
   other_depth k x less up = ne_eqb x low (λ p. let same = one_depth t.entries k m low (subst (Deep t.entries k) p up) deep_low in absurd (omega arith))
 
-  -- A climb from a directory of less depth never comes to this one.
+  -- A climb from a directory of less depth never reaches this one.
   not_met : (n k x : ℕ) → k < m → Deep t.entries k x → is_below t.entries n low x ≡ false
   not_met zero k x less up = other_depth k x less up
   not_met (suc n) zero x less up =

@@ -1,4 +1,4 @@
--- An entry that goes, of a file, a link or an empty directory, leaves the tree well-formed.
+-- Removing an entry of a file, a link or an empty directory leaves the tree well-formed.
 use Rattle.std.proofs.Common.{◌≡◌, ℕ, zero, suc, ◌==◌, ◌&&◌, Bool, true, false, List, [], ◌∷◌, Some, None, Option, sym, refl, ap, ◌∙◌, subst}
 use Rattle.std.specs.Prelude.{if◌then◌else◌, Ok, Err}
 use Rattle.names.specs.declared.errors.Errno.TheVariants.{ENOENT, EISDIR, ENOTDIR, ENOTEMPTY}
@@ -8,7 +8,7 @@ use Rattle.directory_tree.proofs.Found.{found_at, at_once, is_at-same, Apart, fi
 use Rattle.directory_tree.proofs.Basics.{some_inj, none_is_some, ok_inj, err_is_ok, true_is_false}
 use Rattle.directory_tree.proofs.Walks.{own_entry_found}
 
--- one found entry at a key: whether it stands at another key too
+-- one found entry at a key: whether it is at another key too
 pub apart_from : (es : List Entry) (d : ℕ) (c : List ℕ) (d' : ℕ) (c' : List ℕ) (z : Entry) → find es d' c' ≡ Some z → is_at d c z ≡ false → Apart d c d' c'
 apart_from es d c d' c' z h other = λ a b. let k = found_at es d' c' z h in true_is_false (sym (is_at-same d c z (k.0 ∙ a) (k.1 ∙ b)) ∙ other)
 
@@ -48,12 +48,12 @@ own_entry-without (y ∷ es) d c x e h other =
       ]
     ] refl h
 
--- some entry stands in this directory
+-- this directory has some entry
 abbrev pub HasEntry : List Entry → ℕ → Type 0
 HasEntry es x = (c : List ℕ) × (e : Entry) × (find es x c ≡ Some e)
 
 module _ (t : Tree) (well : WellFormed t) (d : ℕ) (c : List ℕ) (e : Entry) (is : find t.entries d c ≡ Some e) (loose : is_directory e.kind ≡ true → is_empty t.entries e.node ≡ true) where
-  -- no climb from an entry goes through what goes
+  -- no climb from an entry goes through what is removed
   pub kept_place : (x : ℕ) (z : Entry) → HasEntry t.entries x → own_entry t.entries x ≡ Some z → is_at d c z ≡ false
   kept_place x z (c', y, there) h = elim (is_at d c z) as (λ (b : Bool). is_at d c z ≡ b → b ≡ false) [
     | true ↦ λ q.

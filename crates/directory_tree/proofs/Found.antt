@@ -22,7 +22,7 @@ find-append_new (y ∷ es) x d c h =
       | false ↦ λ p. find-append_new es x d c p
     ] h
 
--- what is found stands at the key
+-- what is found is at the key
 pub found_at : (es : List Entry) (d : ℕ) (c : List ℕ) (e : Entry) → find es d c ≡ Some e → (e.of ≡ d) × (e.component ≡ c)
 found_at [] d c e h = cc
 found_at (y ∷ es) d c e h =

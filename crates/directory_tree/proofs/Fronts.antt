@@ -59,7 +59,7 @@ module _ (t : Tree) (well : WellFormed t) (d : ℕ) (c : List ℕ) (into : ℕ) 
   abbrev new : Entry
   new = entry into name old.node old.kind
 
-  -- a directory in which an entry stands didn't give way
+  -- a directory that has an entry wasn't replaced
   pub kept_there : (x : ℕ) → HasEntry t.entries x → is_gone (find t.entries into name) x ≡ false
   kept_there x (q, y, there) = elim (is_gone (find t.entries into name) x) as (λ (b : Bool). is_gone (find t.entries into name) x ≡ b → b ≡ false) [
     | true ↦ λ g. let (e, at, node) = gone_found t into name x g in let k = node_same e x node in
@@ -67,11 +67,11 @@ module _ (t : Tree) (well : WellFormed t) (d : ℕ) (c : List ℕ) (into : ℕ) 
     | false ↦ λ g. refl
   ] refl
 
-  -- the directory above another didn't give way
+  -- the directory above another wasn't replaced
   above_kept : (x : ℕ) (e : Entry) → own_entry t.entries x ≡ Some e → is_gone (find t.entries into name) e.of ≡ false
   above_kept x e at = kept_there e.of (e.component, e, (own_entry_found t.entries x e well.distinct at).found)
 
-  -- where another directory stands doesn't change
+  -- the place of another directory doesn't change
   same_place : (x : ℕ) → x ≢ old.node → is_gone (find t.entries into name) x ≡ false → own_entry u.entries x ≡ own_entry t.entries x
   same_place x far kept = own_entry_moved t d c into name old is other well later x
       ∙ ap (λ (b : Bool). if b && is_directory old.kind then Some new else (if is_gone (find t.entries into name) x then None else own_entry t.entries x)) (ne_eqb old.node x (λ p. far (sym p)))
@@ -112,7 +112,7 @@ module _ (t : Tree) (well : WellFormed t) (d : ℕ) (c : List ℕ) (into : ℕ) 
           new_name ∙ ap (λ (z : List ℕ). z ++ slash ∷ name) unmoved ∙ sym (append-nil (place_name t into name)),
         )
 
-    -- of a directory in what moves the front is the new place's
+    -- the name of a directory in what moves begins with the new place's
     pub near_name : (k m n x : ℕ) → is_gone (find t.entries into name) x ≡ false → is_below t.entries k old.node x ≡ true → Deep t.entries m x → Deep u.entries n x
         → (rest : List ℕ) × (directory_name t x ≡ place_name t d c ++ rest) × (directory_name u x ≡ place_name t into name ++ rest)
     near_name zero m n x kept below up up_u = top_name m n x (eqb-true x old.node below) up up_u

@@ -1,4 +1,4 @@
--- A walk is refused for links exactly where it meets one more link than it may follow.
+-- A walk is refused for links exactly if it meets one more link than it may follow.
 use Rattle.std.proofs.Common.{◌≡◌, ◌≢◌, ◌↔◌, ℕ, zero, suc, pred, ◌&&◌, Bool, true, false, List, [], ◌∷◌, ◌++◌, Some, None, Option, sym, refl, ap, ◌∙◌}
 use Rattle.std.specs.Prelude.{if◌then◌else◌, Ok, Err}
 use Rattle.names.specs.declared.errors.Errno.TheVariants.{ENOENT, ENOTDIR, ELOOP}
@@ -24,7 +24,7 @@ missing_no_loop h = absurd (cc h)
 file_no_loop : (let w : Walked = Err ENOTDIR in w) ≢ Err ELOOP
 file_no_loop h = absurd (cc h)
 
--- What a walk gives, by the first link that it follows: where it follows none it isn't refused for links.
+-- What a walk gives, by the first link that it follows: if it follows none it isn't refused for links.
 abbrev Meets : (ℕ → List Step → Walked) → Option Onward → Walked → Type 0
 Meets follow None w = w ≢ Err ELOOP
 Meets follow (Some next) w = w ≡ follow next.0 next.1
@@ -38,7 +38,7 @@ meets_kind follow (Link text) ends last found go on behind ok h =
     elim (ends && stays last) as (λ (b : Bool). Meets follow (if b then None else Some (behind text)) (if b then found else follow (behind text).0 (behind text).1)) [ true ↦ ok | false ↦ refl ]
 
 module _ (t : Tree) (last : Last) where
-  -- A walk goes on behind the first link that it follows.
+  -- A walk goes on after the first link that it follows.
   along : (follow : ℕ → List Step → Walked) (d : ℕ) (xs : List Step) → Meets follow (first_link t last d xs) (onward t last follow d xs)
   along follow d [] = ok_no_loop (spot_of t d)
   along follow d (Here ∷ xs) = along follow d xs
@@ -52,14 +52,14 @@ module _ (t : Tree) (last : Last) where
             (ok_no_loop (Held e)) (along follow e.node xs)
       ]
 
-  -- One link more is counted where a walk goes on behind it.
+  -- One more link is counted if a walk goes on after it.
   one_more : (n : ℕ) (follow : ℕ → List Step → Walked) (o : Option Onward) (w : Walked) → Meets follow o w
       → ((next : Onward) → (follow next.0 next.1 ≡ Err ELOOP) ↔ (links_followed t last n next.0 next.1 ≡ n))
       → (w ≡ Err ELOOP) ↔ ((elim o as (λ _. ℕ) [ None ↦ zero | Some next ↦ suc (links_followed t last n next.0 next.1) ]) ≡ suc n)
   one_more n follow None w h rest = ((λ q. absurd (h q)), (λ q. absurd (cc q)))
   one_more n follow (Some next) w h rest = ((λ q. ap suc ((rest next).0 (sym h ∙ q))), (λ q. h ∙ (rest next).1 (ap pred q)))
 
-  -- A walk that may follow so many links is refused for links exactly where there is one more.
+  -- A walk that may follow `n` links is refused for links exactly if there is one more.
   pub refused_past : (n d : ℕ) (xs : List Step) → (resolve t last n d xs ≡ Err ELOOP) ↔ (links_followed t last (suc n) d xs ≡ suc n)
   refused_past zero d xs = one_more zero (λ d xs. Err ELOOP) (first_link t last d xs) (onward t last (λ d xs. Err ELOOP) d xs) (along (λ d xs. Err ELOOP) d xs) (λ next. ((λ q. refl), (λ q. refl)))
   refused_past (suc n) d xs =

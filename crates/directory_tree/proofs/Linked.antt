@@ -29,7 +29,7 @@ target_whole : (x : List ℕ) (xs : List (List ℕ)) → (target_from x xs).befo
 target_whole x [] = refl
 target_whole x (y ∷ ys) = ap (λ (zs : List (List ℕ)). x ∷ zs) (target_whole y ys)
 
--- of a path that passed the tests, no slash is at the end, and these are its components
+-- a path that passed the tests has no slash at its end, and these are its components
 target_named : (refuse : Bool) (cs : List (List ℕ)) (a : Target) → target_of refuse cs ≡ Ok a → (refuse ≡ false) × (a.before ++ a.last ∷ [] ≡ cs)
 target_named refuse [] a h = absurd (err_is_ok EBUSY a h)
 target_named refuse (x ∷ xs) a h = elim refuse as (λ (k : Bool). (if k then Err EINVAL else tested (target_from x xs)) ≡ Ok a → (k ≡ false) × (a.before ++ a.last ∷ [] ≡ x ∷ xs)) [
@@ -70,20 +70,20 @@ link_made t u room d c into name h =
       | false ↦ λ p. absurd (err_is_ok ENOSPC u p)
     ] r
 
--- a file is no directory
+-- a file isn't a directory
 file_other : (k : NodeKind) → is_file k ≡ true → is_directory k ≡ false
 file_other Directory h = absurd (true_is_false (sym h))
 file_other File h = refl
 file_other (Link text) h = refl
 
--- a path leads to the file that stands where its directory was found
+-- a path leads to the file that is in the directory found for it
 came_to : (t u : Tree) → WellFormed t → IsGrown t u → (path : List ℕ) (a : Target) (d : ℕ) (e : Entry) → other_target path ≡ Ok a → parent_of t a ≡ Ok d → find u.entries d a.last ≡ Some e → is_file e.kind ≡ true
     → walk u Stay path ≡ Ok (Held e)
 came_to t u well grown path a d e is at found file =
     let (s, reached, directory) = and_then_inv (resolve t Follow max_links root (map step_of a.before)) directory_at d at in
     ap (resolve u Stay max_links root) (target_steps path a is) ∙ resolve_on t u well grown d a.last e found file max_links root (map step_of a.before) s refl directory reached
 
--- the tree with one entry of the file more
+-- the tree with one more entry of the file
 module _ (t : Tree) (into : ℕ) (name : List ℕ) (e : Entry) (file : is_file e.kind ≡ true) where
   abbrev added : Entry
   added = entry into name e.node e.kind
@@ -124,7 +124,7 @@ both_found t u well old new a b d into e is_a is_b at_d at_into found file free 
       ap judged (name_added t into b.last e file n l) ∙ sym (named_target t new b into is_b at_into),
     )
 
--- what stands behind an accepted link
+-- what holds after an accepted link
 pub links_found : (t u : Tree) (room : Bool) (old new : List ℕ) → WellFormed t → apply t room (change.Link old new) ≡ Ok u
     → (from to : Entry) × (walk t Stay old ≡ Ok (Held from)) × (walk u Stay new ≡ Ok (Held to)) × (to.node ≡ from.node) × (judged_name u (Held to) ≡ named_place t new)
 links_found t u room old new well h =

@@ -1,4 +1,4 @@
--- A node stands as long as it has an entry, and is what it was.
+-- A node exists as long as it has an entry, and stays what it was.
 use Rattle.std.proofs.Common.{◌≡◌, ◌≢◌, ◌↔◌, ℕ, ◌+◌, ◌==◌, Bool, true, false, List, Some, None, Option, sym, refl, ap, ◌∙◌, arith, eqb-true, eq-eqb}
 use Rattle.std.specs.Prelude.{if◌then◌else◌, Ok}
 use mathlib.Core.Logic.{◌⊎◌, inl, inr}
@@ -21,7 +21,7 @@ module _ (t : Tree) (well : WellFormed t) where
   kind_there : (n : ℕ) (k : NodeKind) → HasNode t n k → kind_of t n ≡ Some k
   kind_there n k (d, c, e, is, node, kind) = ap (kind_of t) (sym node) ∙ kind_by_entry t d c e well is ∙ ap Some kind
 
-  -- A node that stands is the root, or has an entry.
+  -- A node that exists is the root, or has an entry.
   stands_by : (n : ℕ) (k : NodeKind) → kind_of t n ≡ Some k → (n ≡ root) ⊎ HasNode t n k
   stands_by n k h =
       elim (n == root) as (λ (b : Bool). (n == root) ≡ b → (n ≡ root) ⊎ HasNode t n k) [
@@ -31,7 +31,7 @@ module _ (t : Tree) (well : WellFormed t) where
             inr (e.of, e.component, e, is, node, kind)
       ] refl
 
-  -- A node is gone where it isn't the root and has no entry.
+  -- A node is gone exactly if it isn't the root and has no entry.
   pub gone_without_entry : (n : ℕ) → (kind_of t n ≡ None) ↔ ((n ≢ root) × ((d : ℕ) (c : List ℕ) (e : Entry) → find t.entries d c ≡ Some e → e.node ≢ n))
   gone_without_entry n = (
     (λ h. (
@@ -54,7 +54,7 @@ module _ (t : Tree) (well : WellFormed t) where
     | inr (d, c, e, there, node, kind) ↦ let low = (well.low d c e there).1 in absurd (omega arith)
   ]
 
--- A node that stands after a change was there before with its kind, or is the next.
+-- A node that exists after a change was there before with its kind, or is the next.
 came : (t u : Tree) (room : Bool) (change : Change) (n : ℕ) (k : NodeKind) → WellFormed t → apply t room change ≡ Ok u → kind_of u n ≡ Some k → (kind_of t n ≡ Some k) ⊎ ((n ≡ t.next) × (u.next ≡ t.next + 1))
 came t u room change n k well h is = elim (stands_by u (apply_keeps t u room change well h) n k is) [
   | inl p ↦ inl (root_kind t well n p ∙ sym (root_kind u (apply_keeps t u room change well h) n p) ∙ is)
@@ -64,7 +64,7 @@ came t u room change n k well h is = elim (stands_by u (apply_keeps t u room cha
   ]
 ]
 
--- A node that stands is what it was, or is gone after a change.
+-- A node that exists is what it was, or is gone after a change.
 pub kept_or_gone : (t u : Tree) (room : Bool) (change : Change) (n : ℕ) (kind : NodeKind) → WellFormed t → apply t room change ≡ Ok u → kind_of t n ≡ Some kind → (kind_of u n ≡ Some kind) ⊎ (kind_of u n ≡ None)
 kept_or_gone t u room change n kind well h stood =
     elim (kind_of u n) as (λ (o : Option NodeKind). kind_of u n ≡ o → (o ≡ Some kind) ⊎ (o ≡ None)) [

@@ -11,7 +11,7 @@ use Rattle.directory_tree.proofs.Walks.{own_entry_found}
 use Rattle.directory_tree.proofs.Depth.{Deep, deep}
 use Rattle.directory_tree.proofs.Dropping.{apart_from, at_key}
 
--- a climb to the root of just so many steps that doesn't meet the node a
+-- a climb to the root of exactly this many steps that doesn't meet the node a
 abbrev pub Avoids : List Entry → ℕ → ℕ → ℕ → Type 0
 Avoids es a zero d = d ≡ root
 Avoids es a (suc n) d = (e : Entry) × (own_entry es d ≡ Some e) × (d ≢ root) × (d ≢ a) × Avoids es a n e.of
@@ -91,7 +91,7 @@ module _ (u : Tree) (well : WellFormed u) (d : ℕ) (c : List ℕ) (into : ℕ) 
   Distinct-placed [] h none = tt
   Distinct-placed (y ∷ xs) h none = stays_at y xs none h.0 (Distinct-placed xs h.1 (none_rest y xs none))
 
-  -- what is found after the move: what stood there, but not the old entry; or the new one
+  -- what is found after the move: what was there, but not the old entry; or the new one
   after_found : (d' : ℕ) (c' : List ℕ) (z : Entry) → find after d' c' ≡ Some z → ((find es d' c' ≡ Some z) × (is_at d c z ≡ false)) ⊎ ((d' ≡ into) × (z ≡ new))
   after_found d' c' z h =
       elim (is_at into name z) as (λ (b : Bool). is_at into name z ≡ b → ((find es d' c' ≡ Some z) × (is_at d c z ≡ false)) ⊎ ((d' ≡ into) × (z ≡ new))) [
@@ -129,7 +129,7 @@ module _ (u : Tree) (well : WellFormed u) (d : ℕ) (c : List ℕ) (into : ℕ) 
         | false ↦ λ q. let (k, l) = deep_leads n e.of up in (suc k, one_up k x e apart at ∙ ap (λ (b : Bool). leads after k (if b then entry into name e.node e.kind else e).of) q ∙ l)
       ] refl
 
-  -- the entry that one is after the move
+  -- the entry that this one was before the move
   before : (d' : ℕ) (c' : List ℕ) (z : Entry) → find after d' c' ≡ Some z → (a : ℕ) × (b : List ℕ) × (y : Entry) × (find es a b ≡ Some y) × (y.node ≡ z.node) × (y.kind ≡ z.kind)
   before d' c' z h = elim (after_found d' c' z h) [
     | inl k ↦ (d', c', z, k.0, refl, refl)

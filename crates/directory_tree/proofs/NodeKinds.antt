@@ -18,7 +18,7 @@ has_kind (y ∷ es) d c e h =
       ] h
     ] refl
 
--- the kind of a node is that of an entry which it has
+-- the kind of a node is that of an entry that it has
 pub kind_found : (es : List Entry) (n : ℕ) (k : NodeKind) → Distinct es → entry_kind es n ≡ Some k → (z : Entry) × (find es z.of z.component ≡ Some z) × (z.node ≡ n) × (z.kind ≡ k)
 kind_found [] n k distinct h = absurd (none_is_some k h)
 kind_found (y ∷ es) n k distinct h =

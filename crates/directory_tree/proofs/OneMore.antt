@@ -1,4 +1,4 @@
--- A history with one change more.
+-- A history with one more change.
 use Rattle.std.proofs.Common.{◌≡◌, ℕ, ◌+◌, List, [], ◌∷◌, ◌++◌, length, refl, ◌∙◌, arith}
 use Rattle.std.specs.Prelude.{Ok, Err}
 use Rattle.directory_tree.specs.declared.change.Change.{Change}

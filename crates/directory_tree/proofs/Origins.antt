@@ -1,4 +1,4 @@
--- Where an entry comes from that a tree has after a change.
+-- Where an entry of a tree after a change comes from.
 use Rattle.std.proofs.Common.{◌≡◌, ℕ, ◌+◌, ◌==◌, Bool, true, false, List, Some, None, Option, sym, refl, ap, ◌∙◌, subst, eq-eqb}
 use Rattle.std.specs.Prelude.{if◌then◌else◌, Result, Ok, Err}
 use mathlib.Core.Logic.{◌⊎◌, inl, inr}
@@ -29,7 +29,7 @@ Origin t u z = HasNode t z.node z.kind ⊎ ((z.node ≡ t.next) × (u.next ≡ t
 abbrev pub Comes : Tree → Tree → Type 0
 Comes t u = (d : ℕ) (c : List ℕ) (z : Entry) → find u.entries d c ≡ Some z → Origin t u z
 
--- Where nothing was done each entry was there.
+-- If nothing was done, each entry was there.
 comes_same : (t u : Tree) → t ≡ u → Comes t u
 comes_same t u same = subst (Comes t) same (λ d c z h. inl (d, c, z, h, refl, refl))
 
@@ -80,7 +80,7 @@ link_comes t u room d c into name h =
       ] q
     ] refl h
 
--- No node comes where an entry goes.
+-- No node is added when an entry is removed.
 unlink_comes : (t u : Tree) (d : ℕ) (c : List ℕ) → unlink t d c ≡ Ok u → Comes t u
 unlink_comes t u d c h =
     elim (find t.entries d c) as (λ (o : Option Entry). unlink_at t d c o ≡ Ok u → Comes t u) [
@@ -91,7 +91,7 @@ unlink_comes t u d c h =
       ] q
     ] h
 
--- No node comes where a directory goes.
+-- No node is added when a directory is removed.
 rmdir_comes : (t u : Tree) (d : ℕ) (c : List ℕ) → rmdir t d c ≡ Ok u → Comes t u
 rmdir_comes t u d c h =
     elim (find t.entries d c) as (λ (o : Option Entry). rmdir_at t d c o ≡ Ok u → Comes t u) [
@@ -105,7 +105,7 @@ rmdir_comes t u d c h =
       ] q
     ] h
 
--- No node comes where an entry moves.
+-- No node is added when an entry moves.
 rename_comes : (t u : Tree) (d : ℕ) (c : List ℕ) (into : ℕ) (name : List ℕ) → rename t d c into name ≡ Ok u → Comes t u
 rename_comes t u d c into name h =
     elim (find t.entries d c) as (λ (o : Option Entry). find t.entries d c ≡ o → rename_from t d c into name o ≡ Ok u → Comes t u) [

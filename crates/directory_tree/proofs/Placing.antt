@@ -1,4 +1,4 @@
--- Where a directory stands, by what is found; and what is found after each change, at every place.
+-- The place of a directory, by what is found; and what is found after each change, at every place.
 use Rattle.std.proofs.Common.{◌≡◌, ℕ, suc, ◌+◌, ◌==◌, ◌&&◌, Bool, true, false, List, [], ◌∷◌, ◌++◌, length, Some, None, Option, sym, refl, ap, ◌∙◌, arith, eqb-true, eq-eqb}
 use Rattle.std.specs.Prelude.{if◌then◌else◌, bytes_eq}
 use mathlib.Core.Logic.{◌⊎◌, inl, inr}
@@ -35,7 +35,7 @@ own_entry_same t u d well_t well_u there back = elim (own_entry u.entries d) as 
   | Some e ↦ λ is. sym (own_entry_some t d e well_t (back e (own_entry_found u.entries d e well_u.distinct is)))
 ] refl
 
--- the root stands nowhere
+-- the root has no place
 pub root_nowhere : (t : Tree) → WellFormed t → own_entry t.entries root ≡ None
 root_nowhere t well = own_entry_none t root well (λ e p. let low = (well.low e.of e.component e p.found).0 in let same = p.node in absurd (omega arith))
 
@@ -81,7 +81,7 @@ module _ (t : Tree) (x : Entry) (next : ℕ) (free : find t.entries x.of x.compo
         ])
   ] refl
 
--- an entry goes
+-- an entry is removed
 module _ (t : Tree) (of : ℕ) (c : List ℕ) (e : Entry) (is : find t.entries of c ≡ Some e) where
   pub find_dropped : (d : ℕ) (q : List ℕ) → find (without of c t.entries) d q ≡ (if is_key of c d q then None else find t.entries d q)
   find_dropped d q = elim (is_key of c d q) as (λ (b : Bool). is_key of c d q ≡ b → find (without of c t.entries) d q ≡ (if b then None else find t.entries d q)) [
@@ -89,7 +89,7 @@ module _ (t : Tree) (of : ℕ) (c : List ℕ) (e : Entry) (is : find t.entries o
     | false ↦ λ h. find-without_other t.entries of c d q (key_apart of c d q h)
   ] refl
 
-  -- what stands at this key is e
+  -- what is at this key is e
   at_e : WellFormed t → (z : Entry) → is_key of c z.of z.component ≡ true → find t.entries z.of z.component ≡ Some z → z ≡ e
   at_e well z h found = let k = key_same of c z.of z.component h in some_inj z e (sym found ∙ sym (λ i. find t.entries (k.0 i) (k.1 i)) ∙ is)
 
@@ -150,7 +150,7 @@ module _ (t : Tree) (of : ℕ) (c : List ℕ) (into : ℕ) (name : List ℕ) (ol
     ] refl
   ] refl
 
-  -- what is found after the move is the entry that moved, or stood there before, at neither place
+  -- what is found after the move is the entry that moved, or was there before, at neither place
   pub after_moved : (d : ℕ) (q : List ℕ) (z : Entry) → find after d q ≡ Some z → (z ≡ new) ⊎ ((find t.entries d q ≡ Some z) × (is_key of c d q ≡ false) × (is_key into name d q ≡ false))
   after_moved d q z h = elim (is_key into name d q) as (λ (b : Bool). is_key into name d q ≡ b → (if b then Some new else (if is_key of c d q then None else find t.entries d q)) ≡ Some z → (z ≡ new) ⊎ ((find t.entries d q ≡ Some z) × (is_key of c d q ≡ false) × (b ≡ false))) [
     | true ↦ λ k g. inl (sym (some_inj new z g))
@@ -160,7 +160,7 @@ module _ (t : Tree) (of : ℕ) (c : List ℕ) (into : ℕ) (name : List ℕ) (ol
     ] g
   ] refl (sym (find_moved d q) ∙ h)
 
-  -- what stood at neither place is found after the move
+  -- what was at neither place is found after the move
   stays : (z : Entry) → find t.entries z.of z.component ≡ Some z → is_key of c z.of z.component ≡ false → is_key into name z.of z.component ≡ false → find after z.of z.component ≡ Some z
   stays z found one two = find_moved z.of z.component ∙ (λ i. if two i then Some new else (if one i then None else find t.entries z.of z.component)) ∙ found
 

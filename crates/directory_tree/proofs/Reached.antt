@@ -1,4 +1,4 @@
--- A walk that came to a directory comes there too where one entry of a file more stands, and goes on to an entry there.
+-- A walk that reached a directory also reaches it with one more entry of a file in the tree, and goes on to an entry there.
 use Rattle.std.proofs.Common.{◌≡◌, ℕ, zero, suc, ◌≤◌, ◌==◌, ◌&&◌, Bool, true, false, List, [], ◌∷◌, ◌++◌, length, Some, None, Option, sym, refl, ap, ◌∙◌, arith, ne_eqb, append_assoc}
 use Rattle.std.specs.Prelude.{if◌then◌else◌, Ok, Err}
 use Rattle.names.specs.declared.errors.Errno.TheVariants.{ENOENT, ENOTDIR, ELOOP}
@@ -22,7 +22,7 @@ use Rattle.directory_tree.proofs.Standing.{placed_at}
 use Rattle.directory_tree.proofs.Walks.{own_entry_found}
 use Rattle.directory_tree.proofs.Standing.{spot_node}
 
--- what stood stands, and the places of directories are the same
+-- what was there is still there, and the places of directories are the same
 pub record IsGrown (t u : Tree) : Type 0 where
   pub finds : (d : ℕ) (c : List ℕ) (e : Entry) → find t.entries d c ≡ Some e → find u.entries d c ≡ Some e
   pub places : (d : ℕ) → own_entry u.entries d ≡ own_entry t.entries d
@@ -31,7 +31,7 @@ pub record IsGrown (t u : Tree) : Type 0 where
 pub grown_same : (t : Tree) → IsGrown t t
 grown_same t = record { finds = λ d c e h. h; places = λ d. refl }
 
--- what is no directory is nobody's place
+-- an entry that isn't a directory's isn't the place of a directory
 place-append_other : (es : List Entry) (x : Entry) (d : ℕ) → is_directory x.kind ≡ false → own_entry (es ++ x ∷ []) d ≡ own_entry es d
 place-append_other [] x d h = ap (λ (b : Bool). if b then Some x else None) (and_no (x.node == d) (is_directory x.kind) h)
   where
@@ -44,7 +44,7 @@ place-append_other (y ∷ es) x d h = ap (λ (o : Option Entry). if (y.node == d
 pub grown_more : (t : Tree) (x : Entry) (next : ℕ) → is_directory x.kind ≡ false → IsGrown t (with_entry t x next)
 grown_more t x next h = record { finds = λ d c e is. find-append_old t.entries x d c e is; places = λ d. place-append_other t.entries x d h }
 
--- as far as so many steps up tell, the names of directories are the same
+-- the names of directories are the same, as far as `n` steps up say
 name_grown : (t u : Tree) → IsGrown t u → (n d : ℕ) → name_up u.entries n d ≡ name_up t.entries n d
 name_grown t u grown zero d = refl
 name_grown t u grown (suc n) d =
@@ -98,12 +98,12 @@ directory_node (Held e) n h = elim (is_directory e.kind) as (λ (b : Bool). (if 
   | false ↦ λ q. absurd (err_is_ok ENOTDIR n q)
 ] h
 
--- a step that one more follows isn't the last
+-- a step that is followed by another isn't the last
 last_more : (xs : List Step) (y : Step) → is_last (xs ++ y ∷ []) ≡ false
 last_more [] y = refl
 last_more (x ∷ xs) y = refl
 
--- where a walk comes to a directory, the entries on its way are directories and links that it follows
+-- if a walk reaches a directory, the entries on its way are directories and links that it follows
 module _ (e : Entry) (n : ℕ) where
   on_kind : (k : NodeKind) → e.kind ≡ k → (ends : Bool) (go go' : Walked) (follow follow' : List ℕ → Walked) (s : Spot) (r : Walked) → directory_at s ≡ Ok n
       → (is_directory k ≡ true → go ≡ Ok s → go' ≡ r) → ((text : List ℕ) → follow text ≡ Ok s → follow' text ≡ r)
@@ -118,7 +118,7 @@ module _ (e : Entry) (n : ℕ) where
     | false ↦ λ q. link text q
   ] h
 
--- a walk to the directory n goes the same way in the other tree, and on to the file that stands there
+-- a walk to the directory n goes the same way in the other tree, and on to the file that is there
 module _ (t u : Tree) (well : WellFormed t) (grown : IsGrown t u) (n : ℕ) (c : List ℕ) (z : Entry) (there : find u.entries n c ≡ Some z) (file : is_file z.kind ≡ true) where
   file_here : (k : NodeKind) (go : Walked) (follow : List ℕ → Walked) → is_file k ≡ true → at_kind true Stay (Ok (Held z)) go follow k ≡ Ok (Held z)
   file_here Directory go follow h = absurd (true_is_false (sym h))

@@ -18,7 +18,7 @@ use Rattle.directory_tree.proofs.Placing.{is_gone, find_new}
 use Rattle.directory_tree.proofs.Accepted.{Loose, accepted, own_entry_other, own_entry_old, at_old, found_still, found_before}
 use Rattle.directory_tree.proofs.Fronts.{kept_there, far_name, near_name}
 
--- the entry e is f after the move, and of its name the front alone changes
+-- the entry e is f after the move, and only the front of its name changes
 abbrev MovesTo : Tree → Tree → ℕ → List ℕ → ℕ → List ℕ → Entry → Entry → Type 0
 MovesTo t u d c into name e f = Has u f.of f.component f × (rest : List ℕ) × (name_of t (Held e) ≡ place_name t d c ++ rest) × (name_of u (Held f) ≡ place_name t into name ++ rest)
 
@@ -33,7 +33,7 @@ module _ (t : Tree) (well : WellFormed t) (d : ℕ) (c : List ℕ) (old : Entry)
   abbrev tail : Entry → List ℕ
   tail e = e.component ++ (if is_directory e.kind then slash ∷ [] else [])
 
-  -- the directory of an entry didn't give way
+  -- the directory of an entry wasn't replaced
   stays : (e : Entry) → Has t e.of e.component e → is_gone (find t.entries into name) e.of ≡ false
   stays e found = kept_there t well d c into name old is other loose later e.of (e.component, e, found)
 
@@ -44,7 +44,7 @@ module _ (t : Tree) (well : WellFormed t) (d : ℕ) (c : List ℕ) (old : Entry)
       let (m, avoids) = climbs t well d c old is k e.of l far in
       ap (λ (z : List ℕ). z ++ slash ∷ tail e) (far_name t well d c into name old is other loose later m e.of (stays e found) avoids)
 
-  -- the new place's directory didn't give way
+  -- the new place's directory wasn't replaced
   into_stays : is_gone (find t.entries into name) into ≡ false
   into_stays = elim (find t.entries into name) as (λ (o : Option Entry). find t.entries into name ≡ o → is_gone o into ≡ false) [
     | None ↦ λ there. refl
@@ -123,7 +123,7 @@ others t u d c into name n old e well up proper is h move found beyond free =
     let later = subst WellFormed (sym a.tree) (rename_keeps t u d c into name n well up proper h) in
     subst (λ (v : Tree). Has v e.of e.component e × (name_of v (Held e) ≡ name_of t (Held e))) a.tree (remains t well d c old is into name n up a.above a.apart a.loose later e found beyond free)
 
--- every entry afterwards is one of before, moved or not
+-- every entry after the move is one from before, moved or not
 pub all : (t u : Tree) (d : ℕ) (c : List ℕ) (into : ℕ) (name : List ℕ) (old f : Entry) → WellFormed t → Has t d c old → rename t d c into name ≡ Ok u → IsMove t old into name → Has u f.of f.component f
     → (e : Entry) × Has t e.of e.component e × (f ≡ place_one d c into name e)
 all t u d c into name old f well is h move found =

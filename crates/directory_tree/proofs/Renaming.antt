@@ -13,7 +13,7 @@ use Rattle.directory_tree.proofs.Dropping.{HasEntry, own_entry-without, kept_pla
 use Rattle.directory_tree.proofs.Accepted.{gives_way}
 use Rattle.directory_tree.proofs.Moving.{Avoids, not_below, move_keeps}
 
--- no climb meets a node that is no directory
+-- no climb meets a node that isn't a directory
 file_avoids : (t : Tree) → WellFormed t → (d : ℕ) (c : List ℕ) (old : Entry) → find t.entries d c ≡ Some old → is_directory old.kind ≡ false → (m x : ℕ) → Deep t.entries m x → Avoids t.entries old.node m x
 file_avoids t well d c old is file zero x up = up
 file_avoids t well d c old is file (suc m) x (e, at, apart, up) =

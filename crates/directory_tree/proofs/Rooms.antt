@@ -1,4 +1,4 @@
--- What a history makes of the root alone it makes at any capacity that is as long as the history: a change makes one entry at most.
+-- A history that is accepted results in the same tree at any capacity of at least its length: a change makes at most one entry.
 use Rattle.std.proofs.Common.{◌≡◌, ℕ, ◌+◌, ◌≤◌, Bool, true, false, List, [], ◌∷◌, ◌++◌, length, Some, None, Option, refl, ap, ◌∙◌, arith, length-append}
 use Rattle.std.proofs.lemmas.Bool.{lt-ltb}
 use Rattle.std.specs.Prelude.{Result, Ok, Err, nat_lt, if◌then◌else◌, ◌==◌}
@@ -15,7 +15,7 @@ use Rattle.directory_tree.proofs.Basics.{ok_inj, err_is_ok}
 abbrev good : Tree → Changed
 good t = Ok t
 
--- what comes after a first step that went well
+-- what follows a first step that succeeded
 then_gives : {X : Type 0} (r : Result X Errno) (f : X → Changed) (u : Tree) (P : Type 0) → ((x : X) → f x ≡ Ok u → P) → and_then r f ≡ Ok u → P
 then_gives (Err e) f u P h k = absurd (err_is_ok e u k)
 then_gives (Ok x) f u P h k = h x k
@@ -65,7 +65,7 @@ with_room : (t : Tree) (room : Bool) (c : Change) (u : Tree) → apply t room c 
 with_room t true c u h = h
 with_room t false c u h = no_room t c u h
 
--- one entry more at most
+-- at most one more entry
 abbrev Grows : Tree → Tree → Type 0
 Grows t u = length u.entries ≤ length t.entries + 1
 

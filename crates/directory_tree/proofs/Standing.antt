@@ -1,4 +1,4 @@
--- What a walk leads to stands in the tree, and its name leads back to it.
+-- What a walk leads to is in the tree, and its name leads back to it.
 use Rattle.std.proofs.Common.{◌≡◌, ℕ, zero, suc, ◌==◌, ◌&&◌, Bool, true, false, List, [], ◌∷◌, ◌++◌, map, length, Some, None, Option, sym, refl, ap, ◌∙◌, subst, arith, eqb-true, eq-eqb, ne_eqb, append_assoc}
 use Rattle.std.specs.Prelude.{if◌then◌else◌, Ok, Err}
 use Rattle.std.proofs.lemmas.List.{append-nil}
@@ -21,7 +21,7 @@ use Rattle.directory_tree.proofs.Depth.{enough}
 use Rattle.directory_tree.proofs.Texts.{ends_open}
 use Rattle.directory_tree.proofs.Walks.{steps, own_entry_found, steps_more, steps_closed, one_down, back}
 
--- what is found stands at its own key
+-- what is found is at its own key
 pub own_key : (es : List Entry) (d : ℕ) (c : List ℕ) (e : Entry) → find es d c ≡ Some e → find es e.of e.component ≡ Some e
 own_key es d c e h = let k = found_at es d c e h in (λ i. find es (k.0 i) (k.1 i)) ∙ h
 

@@ -25,7 +25,7 @@ parts_one : (c : List ℕ) → list_any (λ b. b == slash) c ≡ false → slice
 parts_one [] h = refl
 parts_one (b ∷ c) h = let k = both_false _ _ h in ap (λ (z : Bool). cond z ([] ∷ slice_split is_slash c) (onto_first b (slice_split is_slash c))) k.0 ∙ ap (onto_first b) (parts_one c k.1)
 
--- one component more
+-- one more component
 pub names_more : (xs c : List ℕ) → is_filled c ≡ true → list_any (λ b. b == slash) c ≡ false → filled_parts (xs ++ slash ∷ c) ≡ filled_parts xs ++ c ∷ []
 names_more xs c filled none =
     ap (filter some) (split_joined xs c ∙ ap (λ (zs : List (List ℕ)). slice_split is_slash xs ++ zs) (parts_one c none))
@@ -42,6 +42,6 @@ ends_closed xs = ap is_slash (get_or_at xs slash [] 0 (length (xs ++ slash ∷ [
 pub ends_open : (xs c : List ℕ) → is_filled c ≡ true → list_any (λ b. b == slash) c ≡ false → ends_with_slash (xs ++ slash ∷ c) ≡ false
 ends_open xs c filled none = let long = filled_long c filled in ends_joined xs c long ∙ none_passes is_slash c none (length c - 1) 0 (omega arith)
 
--- the text before the last component has no component but its filled_parts
+-- the text before the last component has only its filled_parts as components
 pub steps_before : (text : List ℕ) → ends_with_slash text ≡ false → steps_of text ≡ map step_of (filled_parts text)
 steps_before text unclosed = ap (λ (b : Bool). map step_of (filled_parts text ++ (if b then dot ∷ [] else []))) unclosed ∙ ap (map step_of) (append-nil (filled_parts text))

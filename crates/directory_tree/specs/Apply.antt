@@ -37,7 +37,7 @@ make_at t room kind of component None = if room then Ok (with_entry t (entry of 
 abbrev pub make : Tree → Bool → NodeKind → ℕ → List ℕ → Changed
 make t room kind of component = make_at t room kind of component (find t.entries of component)
 
--- One more entry of a file (link(2)). A symbolic link has just one (our choice; EPERM for a directory is link(2)'s).
+-- One more entry of a file (link(2)). A symbolic link has exactly one (our choice; EPERM for a directory is link(2)'s).
 abbrev pub is_file : NodeKind → Bool
 is_file Directory = false
 is_file File = true
@@ -54,7 +54,7 @@ link_from t room into name (Some old) = if is_file old.kind then link_to t room 
 abbrev pub link : Tree → Bool → ℕ → List ℕ → ℕ → List ℕ → Changed
 link t room of component into name = link_from t room into name (find t.entries of component)
 
--- the entries but those at this place
+-- the entries except those at this place
 abbrev pub without : ℕ → List ℕ → List Entry → List Entry
 without of component [] = []
 without of component (e ∷ es) = if is_at of component e then without of component es else e ∷ without of component es
@@ -62,7 +62,7 @@ without of component (e ∷ es) = if is_at of component e then without of compon
 abbrev pub dropped : Tree → ℕ → List ℕ → Tree
 dropped t of component = record { entries = without of component t.entries; next = t.next }
 
--- An entry of a file or a link goes (unlink(2)).
+-- An entry of a file or a link is removed (unlink(2)).
 abbrev pub unlink_at : Tree → ℕ → List ℕ → Option Entry → Changed
 unlink_at t of component None = Err ENOENT
 unlink_at t of component (Some e) = if is_directory e.kind then Err EISDIR else Ok (dropped t of component)
@@ -70,7 +70,7 @@ unlink_at t of component (Some e) = if is_directory e.kind then Err EISDIR else 
 abbrev pub unlink : Tree → ℕ → List ℕ → Changed
 unlink t of component = unlink_at t of component (find t.entries of component)
 
--- An empty directory goes (rmdir(2)).
+-- An empty directory is removed (rmdir(2)).
 abbrev pub rmdir_at : Tree → ℕ → List ℕ → Option Entry → Changed
 rmdir_at t of component None = Err ENOENT
 rmdir_at t of component (Some e) =
@@ -79,7 +79,7 @@ rmdir_at t of component (Some e) =
 abbrev pub rmdir : Tree → ℕ → List ℕ → Changed
 rmdir t of component = rmdir_at t of component (find t.entries of component)
 
--- An entry moves (rename(2)). What stood at the new place goes.
+-- An entry moves (rename(2)). What was at the new place is removed.
 abbrev pub place_one : ℕ → List ℕ → ℕ → List ℕ → Entry → Entry
 place_one of component into name e = if is_at of component e then entry into name e.node e.kind else e
 
@@ -94,7 +94,7 @@ moved t of component into name = record { entries = placed of component into nam
 abbrev pub goes_below : List Entry → Entry → ℕ → Bool
 goes_below es old into = is_directory old.kind && is_below es (length es) old.node into
 
--- a directory may stand at the new place only where it is empty and gives way to a directory
+-- a directory may be at the new place only if it is empty and a directory replaces it
 abbrev pub onto_kind : List Entry → Entry → Entry → Changed → Changed
 onto_kind es old new go =
     if is_directory old.kind
@@ -135,7 +135,7 @@ abbrev pub target_of : Bool → List (List ℕ) → Result Target Errno
 target_of refuse_slash [] = Err EBUSY
 target_of refuse_slash (component ∷ rest) = if refuse_slash then Err EINVAL else tested (target_from component rest)
 
--- of a directory's path: a slash may stand at its end
+-- for a directory's path: it may end with a slash
 abbrev pub directory_target : List ℕ → Result Target Errno
 directory_target path = target_of false (filled_parts path)
 
@@ -168,7 +168,7 @@ text_of text =
     else (if nat_lt max_text (length text) || has_long_component text then Err ENAMETOOLONG
     else Ok text))
 
--- `room`: an entry is free
+-- `room`: whether an entry is free
 abbrev pub apply : Tree → Bool → Change → Changed
 apply t room (change.Mkdir path) = at_one t (directory_target path) (make t room Directory)
 apply t room (change.Create path) = at_one t (other_target path) (make t room File)
@@ -178,22 +178,22 @@ apply t room (change.Unlink path) = at_one t (other_target path) (unlink t)
 apply t room (change.Rmdir path) = at_one t (directory_target path) (rmdir t)
 apply t room (change.Rename old new) = at_two t (other_target old) (other_target new) (rename t)
 
--- so many changes are counted (our choice)
+-- at most this many changes are counted (our choice)
 abbrev pub max_changes : ℕ
 max_changes = 1152921504606846975
 
--- an entry is free as long as fewer stand than the capacity
+-- an entry is free as long as there are fewer than the capacity
 abbrev pub has_room : ℕ → Tree → Bool
 has_room capacity t = nat_lt (length t.entries) capacity
 
 abbrev pub apply_counted : ℕ → ℕ → Tree → Change → Changed
 apply_counted capacity count t c = if nat_lt count max_changes then apply t (has_room capacity t) c else Err EOVERFLOW
 
--- the tree after changes, the first of them on this tree, after so many others
+-- the tree after changes, the first of them on this tree, after `count` earlier ones
 abbrev pub after_from : ℕ → ℕ → Tree → List Change → Changed
 after_from capacity count t [] = Ok t
 after_from capacity count t (c ∷ cs) = and_then (apply_counted capacity count t c) (λ u. after_from capacity (count + 1) u cs)
 
--- the tree after these changes of the root alone; no tree where one of them is refused
+-- the tree after these changes of the root alone; no tree if one of them is refused
 abbrev pub tree_after : ℕ → List Change → Changed
 tree_after capacity cs = after_from capacity 0 root_alone cs

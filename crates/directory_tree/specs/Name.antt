@@ -7,7 +7,7 @@ use Rattle.directory_tree.specs.Tree.{Tree, Entry, root, own_entry, is_directory
 use Rattle.directory_tree.specs.Walk.{Spot}
 use Rattle.directory_tree.specs.Walk.Spot.{Root, Held}
 
--- the components from the root to a directory, each with a slash before it, as far as that many steps up tell
+-- the components from the root to a directory, each with a slash before it, up to this many steps up
 abbrev pub name_up : List Entry → ℕ → ℕ → List ℕ
 name_up es zero d = []
 name_up es (suc n) d = if d == root then [] else elim (own_entry es d) [ None ↦ [] | Some e ↦ name_up es n e.of ++ slash ∷ e.component ]
@@ -16,7 +16,7 @@ name_up es (suc n) d = if d == root then [] else elim (own_entry es d) [ None �
 abbrev pub directory_name : Tree → ℕ → List ℕ
 directory_name t d = name_up t.entries (length t.entries) d
 
--- a directory's name ends with a slash (apparmor.d(5): so a rule's path tells a directory from a file)
+-- a directory's name ends with a slash (apparmor.d(5): this is how a rule's path distinguishes a directory from a file)
 abbrev pub name_of : Tree → Spot → List ℕ
 name_of t Root = slash ∷ []
 name_of t (Held e) = directory_name t e.of ++ slash ∷ (e.component ++ (if is_directory e.kind then slash ∷ [] else []))

@@ -1,4 +1,4 @@
--- The tree in plain memory: what it is worth to contracts, and what a change makes of it.
+-- The tree in plain memory: its view in contracts, and what a change makes of it.
 use Rattle.std.specs.Prelude.{◌≡◌, ◌⊎◌, ℕ, List, [], ◌∷◌, ◌++◌, length, Ok, Err, IsOk}
 use Rattle.names.specs.declared.errors.Errno.{Errno}
 use Rattle.names.specs.declared.errors.Errno.TheVariants.{ENOMEM}
@@ -6,23 +6,23 @@ use Rattle.directory_tree.specs.declared.change.Change.{Change}
 use Rattle.directory_tree.specs.Tree.{Tree, root_alone}
 use Rattle.directory_tree.specs.Apply.{Changed, apply_counted, tree_after}
 
--- the number of entries that there is room for, and the changes that were accepted so far, the first of them first
+-- the number of entries that there is room for, and the changes that were accepted so far, oldest first
 pub record Plain : Type 0 where
   pub capacity : ℕ
   pub history : List Change
 
--- the tree as it stands (a plain tree accepts no change after which there is none)
+-- the current tree (a plain tree accepts no change after which there is none)
 abbrev pub tree_of : Plain → Tree
 tree_of p = elim (tree_after p.capacity p.history) [ Ok t ↦ t | Err e ↦ root_alone ]
 
 abbrev pub new_plain : ℕ → Plain
 new_plain capacity = record { capacity = capacity; history = [] }
 
--- with one change more
+-- with one more change
 abbrev pub changed : Plain → Change → Plain
 changed p change = record { capacity = p.capacity; history = p.history ++ change ∷ [] }
 
--- the tree after one change more, or why it is refused
+-- the tree after one more change, or why it is refused
 abbrev pub outcome : Plain → Change → Changed
 outcome p change = apply_counted p.capacity (length p.history) (tree_of p) change
 

@@ -1,4 +1,4 @@
--- What a script of changes answers, one after the other: for worked rows.
+-- The answers to a script of changes, one after the other: for worked rows.
 use Rattle.std.specs.Prelude.{ℕ, zero, suc, ◌+◌, List, [], ◌∷◌, ◌++◌, codes, Result, Ok, Err}
 use Rattle.names.specs.declared.errors.Errno.{Errno}
 use Rattle.directory_tree.specs.declared.change.Change.{Change}
@@ -21,7 +21,7 @@ answers_from capacity count t (c ∷ cs) = elim (apply_counted capacity count t 
 abbrev pub answers : ℕ → List Change → List (Result ℕ Errno)
 answers capacity cs = answers_from capacity 0 root_alone cs
 
--- the name that is judged where a path is opened after these changes
+-- the name that is judged when a path is opened after these changes
 abbrev pub opened : ℕ → List Change → List ℕ → Result (List ℕ) Errno
 opened capacity cs path = and_then (tree_after capacity cs) (λ t. and_then (walk t Follow path) (judged_name t))
 
@@ -29,7 +29,7 @@ opened capacity cs path = and_then (tree_after capacity cs) (λ t. and_then (wal
 abbrev pub moved_directory : List Change
 moved_directory = change.Mkdir (codes "/a") ∷ change.Create (codes "/a/f") ∷ change.Rename (codes "/a") (codes "/b") ∷ []
 
--- every reason of a refusal between two directories and a file
+-- every reason for a refusal between two directories and a file
 abbrev pub refusals : List Change
 refusals =
     change.Mkdir (codes "/a") ∷ change.Mkdir (codes "/b") ∷ change.Create (codes "/b/f") ∷ change.Rename (codes "/a") (codes "/b")
@@ -55,7 +55,7 @@ full =
 abbrev pub numbered : ℕ → List ℕ
 numbered n = codes "/l" ++ (100 + n) ∷ []
 
--- so many links, each to the one of the next lower number, and the link of number 0 to a file
+-- a link of number 0 to a file, and this many more links, each to the one of the next lower number
 abbrev pub chain : ℕ → List Change
 chain zero = change.Create (codes "/f") ∷ change.Symlink (codes "/f") (numbered 0) ∷ []
 chain (suc n) = chain n ++ change.Symlink (numbered n) (numbered (suc n)) ∷ []
@@ -64,7 +64,7 @@ chain (suc n) = chain n ++ change.Symlink (numbered n) (numbered (suc n)) ∷ []
 abbrev pub through_link : List Change
 through_link = change.Mkdir (codes "/a") ∷ change.Create (codes "/a/f") ∷ change.Symlink (codes "a") (codes "/l") ∷ []
 
--- as many bytes
+-- this many bytes
 abbrev pub run_of : ℕ → ℕ → List ℕ
 run_of b zero = []
 run_of b (suc n) = b ∷ run_of b n
@@ -78,7 +78,7 @@ abbrev pub deep : ℕ → List Change
 deep zero = []
 deep (suc n) = deep n ++ change.Mkdir (deep_path (suc n)) ∷ []
 
--- fifteen such directories, links that each stand for three of them more, and a file of so many bytes in the last
+-- fifteen such directories, links that each stand for three more of them, and a file with a component of `n` bytes in the last
 abbrev pub long_name : ℕ → List Change
 long_name n =
     deep 15 ++ change.Symlink (deep_path 3) (codes "/d1") ∷ change.Symlink (codes "/d1" ++ deep_path 3) (codes "/d2")

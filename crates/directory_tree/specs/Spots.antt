@@ -1,4 +1,4 @@
--- What is told of the root, or of an entry, that a path leads to (path_resolution(7), inode(7)).
+-- What is reported about the root, or an entry, that a path leads to (path_resolution(7), inode(7)).
 use Rattle.std.specs.Prelude.{ℕ, List, [], Option, Some, None}
 use Rattle.std.specs.Option.{option_map}
 use Rattle.directory_tree.specs.declared.node.Kind.{Kind}
@@ -33,7 +33,7 @@ abbrev pub component_at : Spot → List ℕ
 component_at Root = []
 component_at (Held e) = e.component
 
--- the directory that has the entry; none has the root
+-- the directory that has the entry; the root has none
 abbrev pub directory_of : Tree → Spot → Option Spot
 directory_of t Root = None
 directory_of t (Held e) = Some (spot_of t e.of)

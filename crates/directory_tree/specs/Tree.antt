@@ -1,11 +1,11 @@
--- A directory tree as the list of its entries (path_resolution(7), inode(7)). Node 1 is the root, a directory that has no
--- entry. The kind of a node stands in each of its entries, so a node whose last entry goes is gone.
+-- A directory tree as the list of its entries (path_resolution(7), inode(7)). Node 1 is the root, a directory that has no entry.
+-- The kind of a node is stored in each of its entries, so a node is gone once its last entry is removed.
 use Rattle.std.specs.Prelude.{◌≡◌, ℕ, zero, suc, ◌<◌, ◌==◌, ◌&&◌, Bool, true, false, List, [], ◌∷◌, Option, Some, None, if◌then◌else◌, bytes_eq}
 use Rattle.directory_tree.specs.declared.node.NodeKind.{NodeKind}
 use Rattle.directory_tree.specs.declared.node.NodeKind.TheVariants.{Directory, File, Link}
 use Rattle.directory_tree.specs.Components.{IsComponent}
 
--- an entry: the number of the directory that has it, its component there, and the node that it stands for
+-- an entry: the number of the directory that has it, its component there, and the node that it refers to
 pub record Entry : Type 0 where
   pub of : ℕ
   pub component : List ℕ
@@ -34,7 +34,7 @@ is_link Directory = false
 is_link File = false
 is_link (Link text) = true
 
--- the entry stands at this place
+-- the entry is at this place
 abbrev pub is_at : ℕ → List ℕ → Entry → Bool
 is_at of component e = (e.of == of) && bytes_eq e.component component
 
@@ -56,17 +56,17 @@ entry_kind (e ∷ es) node = if e.node == node then Some e.kind else entry_kind 
 abbrev pub kind_of : Tree → ℕ → Option NodeKind
 kind_of t node = if node == root then Some Directory else entry_kind t.entries node
 
--- no entry stands in this directory
+-- this directory has no entry
 abbrev pub is_empty : List Entry → ℕ → Bool
 is_empty [] of = true
 is_empty (e ∷ es) of = if e.of == of then false else is_empty es of
 
--- whether x is d or lies below it, as far as that many steps up tell
+-- whether x is d or lies below it, within this many steps up
 abbrev pub is_below : List Entry → ℕ → ℕ → ℕ → Bool
 is_below es zero d x = x == d
 is_below es (suc n) d x = if x == d then true else elim (own_entry es x) [ None ↦ false | Some e ↦ is_below es n d e.of ]
 
--- whether that many steps up, or less, lead from a directory to the root
+-- whether this many steps up, or fewer, lead from a directory to the root
 abbrev pub leads : List Entry → ℕ → ℕ → Bool
 leads es zero d = d == root
 leads es (suc n) d = if d == root then true else elim (own_entry es d) [ None ↦ false | Some e ↦ leads es n e.of ]
@@ -80,9 +80,9 @@ Distinct (e ∷ es) = (find es e.of e.component ≡ None) × Distinct es
 abbrev pub Has : Tree → ℕ → List ℕ → Entry → Type 0
 Has t d c e = find t.entries d c ≡ Some e
 
--- What every change keeps. No two entries stand at one place; each entry's node is over that of the root and below the
--- next number; the entries of a node agree on its kind; a directory has one entry; what has an entry leads up to the
--- root; and the component is one that an entry can have.
+-- What every change keeps. No two entries are at one place; each entry's node is over that of the root and below the next number;
+-- the entries of a node agree on its kind; a directory has one entry; what has an entry leads up to the root; and the component is
+-- one that an entry can have.
 pub record WellFormed (t : Tree) : Type 0 where
   pub distinct : Distinct t.entries
   pub past_root : root < t.next

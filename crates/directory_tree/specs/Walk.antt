@@ -39,8 +39,8 @@ stays Follow = false
 abbrev pub start_of : List ℕ → ℕ → ℕ
 start_of text d = if begins_with_slash text then root else d
 
--- what the entry of a component gives: a walk goes on in a directory; a file ends it, and nothing may follow; a link is
--- followed, but where it is last and is to stay. `ends`: no component follows.
+-- what the entry of a component gives: a walk goes on in a directory; a file ends it, and nothing may follow; a link is followed,
+-- unless it is last and is to stay. `ends`: no component follows.
 abbrev pub at_kind : Bool → Last → Walked → Walked → (List ℕ → Walked) → NodeKind → Walked
 at_kind ends last found go follow Directory = go
 at_kind ends last found go follow File = if ends then found else Err ENOTDIR
@@ -51,14 +51,14 @@ at_entry ends last go follow None = Err ENOENT
 at_entry ends last go follow (Some e) = at_kind ends last (Ok (Held e)) (go e.node) follow e.kind
 
 module _ (t : Tree) (last : Last) where
-  -- the walk along components from a directory; `follow` goes on from there where a link was met
+  -- the walk along components from a directory; `follow` goes on from there when a link is met
   abbrev pub onward : (ℕ → List Step → Walked) → ℕ → List Step → Walked
   onward follow d [] = Ok (spot_of t d)
   onward follow d (Here ∷ xs) = onward follow d xs
   onward follow d (Up ∷ xs) = onward follow (above t d) xs
   onward follow d (Down c ∷ xs) = at_entry (is_last xs) last (λ n. onward follow n xs) (λ text. follow (start_of text d) (steps_of text ++ xs)) (find t.entries d c)
 
-  -- with so many links left: a link's components are put in front of the rest
+  -- with this many links left: a link's components are put in front of the rest
   abbrev pub resolve : ℕ → ℕ → List Step → Walked
   resolve zero = onward (λ d xs. Err ELOOP)
   resolve (suc links) = onward (λ d xs. resolve links d xs)

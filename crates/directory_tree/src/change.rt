@@ -18,7 +18,7 @@ impl<'a> Model for LinkBytes<'a> {
 impl<'a> LinkBytes<'a> {
     ghost use Rattle.std.specs.Prelude.{◌≡◌};
 
-    /// Any bytes: they are tested where a link is made of them.
+    /// Any bytes: they are tested when a link is made of them.
     pub fn new(bytes: &'a [u8]) -> LinkBytes<'a>
         ensures { result ≡ bytes.now }
     {
@@ -33,7 +33,7 @@ impl<'a> LinkBytes<'a> {
     }
 }
 
-/// A change of the tree. Its paths name the entries that are made, taken away or moved.
+/// A change of the tree. Its paths name the entries that are made, removed or moved.
 #[derive(Debug, Drop)]
 pub enum Change<'a> {
     /// A new directory (mkdir(2)).
@@ -44,9 +44,9 @@ pub enum Change<'a> {
     Symlink(LinkBytes<'a>, Path<'a>),
     /// One more entry of the first path's file (link(2)).
     Link(Path<'a>, Path<'a>),
-    /// An entry of a file or a symbolic link goes (unlink(2)).
+    /// An entry of a file or a symbolic link is removed (unlink(2)).
     Unlink(Path<'a>),
-    /// An empty directory goes (rmdir(2)).
+    /// An empty directory is removed (rmdir(2)).
     Rmdir(Path<'a>),
     /// The entry of the first path moves to the second (rename(2)).
     Rename(Path<'a>, Path<'a>),

@@ -1,5 +1,5 @@
-//! Worked examples: what the definitions of `specs/` answer for short scripts of changes. The functions do nothing: each
-//! stands for its contract.
+//! Worked examples: what the definitions of `specs/` answer for short scripts of changes. The functions do nothing: each exists
+//! only for its contract.
 ghost use Rattle.std.specs.Prelude.{◌≡◌, List, [], ◌∷◌, ◌++◌, codes, Ok, Err};
 ghost use Rattle.names.specs.declared.errors.Errno.TheVariants.{EPERM, ENOENT, EBUSY, EEXIST, ENOTDIR, EISDIR, EINVAL, ENOSPC, ELOOP, ENOTEMPTY, ENAMETOOLONG};
 ghost use Rattle.directory_tree.specs.Components.{slash};
@@ -30,7 +30,7 @@ pub fn paths_are_walked()
     ensures one_link_more { opened 99 (chain 40) (numbered 40) ≡ Err ELOOP }
 {}
 
-/// A name of 4,095 bytes, and one of a byte more.
+/// A name of 4,095 bytes, and one that is a byte longer.
 pub fn long_names_are_told()
     ensures longest { opened 99 (long_name 254) (codes "/d5/" ++ run_of 98 254) ≡ Ok (deep_path 15 ++ slash ∷ run_of 98 254) }
     ensures too_long { opened 99 (long_name 255) (codes "/d5/" ++ run_of 98 255) ≡ Err ENAMETOOLONG }

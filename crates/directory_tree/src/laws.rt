@@ -1,4 +1,4 @@
-//! Laws that show the definitions of `specs/` sane. The functions do nothing: each stands for its contract.
+//! Laws that show that the definitions of `specs/` are sane. The functions do nothing: each exists only for its contract.
 ghost use Rattle.std.specs.Prelude.{◌≡◌, Bool, true, false, List, ℕ, suc, ◌≢◌, Some, Ok, Err, codes};
 ghost use Rattle.names.specs.declared.errors.Errno.TheVariants.{ELOOP};
 ghost use Rattle.directory_tree.specs.declared.node.NodeKind.{NodeKind};
@@ -40,13 +40,13 @@ pub fn link_keeps_well_formed()
         WellFormed t → leads t.entries n into ≡ true → IsComponent name → link t room d c into name ≡ Ok u → WellFormed u }
 {}
 
-/// An entry that goes leaves a tree well-formed.
+/// Removing an entry leaves a tree well-formed.
 pub fn removal_keeps_well_formed()
     ensures unlink { (t u : Tree) (d : ℕ) (c : List ℕ) → WellFormed t → unlink t d c ≡ Ok u → WellFormed u }
     ensures rmdir { (t u : Tree) (d : ℕ) (c : List ℕ) → WellFormed t → rmdir t d c ≡ Ok u → WellFormed u }
 {}
 
-/// A move leaves a tree well-formed: no directory comes to lie below itself.
+/// A move leaves a tree well-formed: no directory ends up below itself.
 pub fn rename_keeps_well_formed()
     ensures { (t u : Tree) (d : ℕ) (c : List ℕ) (into : ℕ) (name : List ℕ) (n : ℕ) →
         WellFormed t → leads t.entries n into ≡ true → IsComponent name → rename t d c into name ≡ Ok u → WellFormed u }
@@ -78,7 +78,7 @@ pub fn name_leads_back()
     ensures root { (t : Tree) (last : Last) → walk t last (name_of t Root) ≡ Ok Root }
 {}
 
-/// What a walk of a well-formed tree leads to stands in the tree.
+/// What a walk of a well-formed tree leads to is in the tree.
 pub fn walk_stays_in_tree()
     ensures { (t : Tree) (last : Last) (text : List ℕ) (e : Entry) → WellFormed t → walk t last text ≡ Ok (Held e) →
         find t.entries e.of e.component ≡ Some e }
@@ -96,7 +96,7 @@ pub fn root_is_above_itself()
     ensures walk { (t : Tree) (last : Last) → walk t last (codes "/..") ≡ Ok Root }
 {}
 
-/// A walk that may follow one link more answers alike, but where it had none left.
+/// A walk that may follow one more link gives the same answer, unless it had none left.
 pub fn more_links_change_no_answer()
     ensures { (t : Tree) (last : Last) (links d : ℕ) (steps : List Step) (answer : Walked) → answer ≢ Err ELOOP →
         resolve t last links d steps ≡ answer → resolve t last (suc links) d steps ≡ answer }

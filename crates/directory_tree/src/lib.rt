@@ -1,6 +1,6 @@
 //! A directory tree as the list of its entries: what a walk of a path leads to, the names of entries, what a change makes of
 //! the tree or why it is refused, and the laws of all this. The functions of the laws and of the examples do nothing: each
-//! stands for its contract.
+//! exists only for its contract.
 //!
 //! The definitions to believe are those in `specs/`, worked examples among them.
 #![tactic(auto)]

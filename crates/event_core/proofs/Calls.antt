@@ -43,7 +43,7 @@ pub record Counted (capacity : ℕ) (events : List Event) (deeds : List Deed) (s
   pub polled : Polled capacity events deeds s p
   pub count : Happened capacity polled.span (read_count s) (IsCount w.noted)
 
--- where the counts were one even number, a row that agrees with what was read encodes the tree of what was seen
+-- if the counts were the same even number, a row that agrees with what was read encodes the tree of what was seen
 abbrev pub SawTree : ℕ → WalkerView → Type 0
 SawTree room w = IsStill w → (row : List ℕ) × Agrees w.reads row × EncodesChanges room row w.seen
 
@@ -63,7 +63,7 @@ IsCall capacity events deeds room s (checked p w) = Rechecked capacity events de
 abbrev pub AreCalls : ℕ → List Event → Machine → Type 0
 AreCalls capacity events m = (s : ℕ) → IsCall capacity events m.deeds m.capacity s (m.sessions s).stage
 
--- one event more, of which no call of the session begins
+-- one more event, with which no call of the session begins
 one_all : (P : Event → Type 0) (e : Event) → P e → All P (e ∷ [])
 one_all P e p = All-cons P e [] p (All-nil P)
 

@@ -1,4 +1,4 @@
--- The worked runs in which the keeper opens a change are legal, and answered so.
+-- The worked runs in which the keeper opens a change are legal, and get these answers.
 use Rattle.std.proofs.Common.{ℕ, ◌≤◌, List, [], ◌∷◌, Some, None, refl, arith, inl, inr}
 use Rattle.std.specs.Prelude.{Ok}
 use Rattle.mediation.specs.Deeds.{Deed, published}

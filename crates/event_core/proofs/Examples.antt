@@ -1,4 +1,4 @@
--- The worked runs are legal, and answered so.
+-- The worked runs are legal, and get these answers.
 use Rattle.std.proofs.Common.{◌≡◌, ◌≢◌, ℕ, List, [], ◌∷◌, Some, None, refl, subst, arith, inr}
 use Rattle.std.specs.Prelude.{Result, Ok, Err}
 use Rattle.names.specs.declared.errors.Errno.{Errno}
@@ -39,7 +39,7 @@ rewalked = ending walked 0 []
 pub no_nil : (d : Deed) → d ∷ [] ≢ []
 no_nil d e = subst (λ (l : List Deed). elim l as (λ _. Type 0) [ [] ↦ ⊥ | y ∷ ys ↦ Unit {0} ]) e tt
 
--- with any answer that the whole call may be given, once it has read no cell
+-- for any answer that may be given to the whole call, which reads no cell
 whole : (capacity : ℕ) (ask : Perms) (end : Result Reached Errno) (told : Answer) (name : List ℕ) → ((t : Tree) → reached t (47 ∷ []) ask ≡ end)
     → Tells capacity (asked ask) rewalked told name → (m : Machine) × Legal capacity (whole_call ask) ((1, told) ∷ []) m
 whole capacity ask end told name ends tells =

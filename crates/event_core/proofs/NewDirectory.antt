@@ -26,7 +26,8 @@ use Rattle.row_plan.proofs.Encoding.{encodes_filled}
 use Rattle.row_plan.specs.Changes.{EncodesChanges, IsPlan}
 use Rattle.event_core.specs.Examples.{mkdir_b}
 
--- a directory, of node 2, with a component of one byte, which is `b`; that it is in the root's slot stands there already
+-- a directory, of node 2, with a component of one byte, which is `b`; the word that says that it is in the root's slot is already
+-- there
 abbrev pub four_cells : List Cell
 four_cells =
     record { place = 164; word = 1 } ∷ record { place = 165; word = 2 } ∷ record { place = 167; word = 1 } ∷ record { place = 168; word = 98 } ∷ []
@@ -38,7 +39,7 @@ letter : packed (98 ∷ []) 0 ≡ 98
 unfolding packed
 letter = refl
 
--- the act that the change comes to: a directory is made in the root
+-- the act that the change amounts to: a directory is made in the root
 abbrev make_b : Act RowEntry
 make_b = act.Make record { directory = record { slot = 0 }; component = record { ref_ptr = (0, 0); now = 98 ∷ [] } } new.Directory
 
@@ -61,7 +62,7 @@ module _ (capacity : ℕ) (room : 1 ≤ capacity) where
   long : length row ≡ row_length capacity
   long = length-opening capacity
 
-  -- past the root's two words all is 0
+  -- after the root's two words all is 0
   zero_at : (k : ℕ) → 1 < k → k < 328 → slice_index row k ≡ 0
   zero_at k past l =
       let m = row_length capacity in
@@ -126,7 +127,7 @@ module _ (capacity : ℕ) (room : 1 ≤ capacity) where
         others = λ k out. kept_after k (λ e. grind arith) (λ e. grind arith) (λ e. grind arith) (λ e. grind arith);
       })
 
-  -- no cell too many: each is added to those before it
+  -- no superfluous cell: each is added to those before it
   lean : IsLean row four_cells
   lean =
       let l = long in
@@ -139,7 +140,7 @@ module _ (capacity : ℕ) (room : 1 ≤ capacity) where
       (λ e. let z = zero_at 168 (omega arith) (omega arith) in absurd (omega arith)) in
       four.lean
 
-  -- the slot of the directory is the word that stands there
+  -- the slot of the directory is the word that is there already
   parent_stays : slice_set second 166 0 ≡ second
   parent_stays =
       let z : slice_index second 166 ≡ 0 =

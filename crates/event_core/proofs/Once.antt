@@ -19,7 +19,7 @@ use Rattle.event_core.proofs.Rightly.{calls_kept}
 abbrev with_name : Answer → List ℕ → Answer × List ℕ
 with_name a x = (a, x)
 
--- what a still walk tells that reached this
+-- the answer of a still walk that reached this
 told_still : Policed → WalkerView → Result Reached Errno → Answer × List ℕ
 told_still p w (Ok file) = (Judged (verdict_by p.judge file.name p.call.ask) file.node (w.last / 2) p.policy_version, file.name)
 told_still p w (Err errno) = (Failed errno (w.last / 2), [])
@@ -44,7 +44,7 @@ busy_tells room p w (Judged verdict node tree policy) name d (still, half, polic
 busy_tells room p w (NoProfile policy) name d none = absurd none
 busy_tells room p w NoEntry name d none = absurd none
 
--- still or disturbed, by what is told
+-- still or disturbed, by the answer
 which : (room : ℕ) (p : Policed) (w : WalkerView) (told : Answer) (name : List ℕ) → Tells room p w told name → IsStill w ⊎ IsDisturbed w
 which room p w (Busy began ended) name (disturbed, first_is, last_is, none) = inr disturbed
 which room p w (Failed errno tree) name (still, half, decides, none) = inl still

@@ -1,4 +1,4 @@
--- What a row encodes is a proposition: an entry stands in one slot only.
+-- What a row encodes is a proposition: an entry is in one slot only.
 use Rattle.std.proofs.Common.{◌≡◌, ℕ, ◌+◌, List, length, sym, ◌∙◌, subst}
 use Rattle.std.specs.Prelude.{Ok}
 use Rattle.std.specs.Coded.{codes}

@@ -33,7 +33,7 @@ pub calls_kept : (capacity : ℕ) (events : List Event) (answers : List (ℕ × 
 calls_kept capacity events answers m legal =
     by_steps capacity (AreCalls capacity) (takes_calls capacity) [] [] (first capacity) events answers m (refl, refl) (first_kept capacity) (λ s. tt) legal
 
--- where it holds of the machine that one thing does, another does
+-- the machine also had each property that follows from the one that it had when the event happened
 stood_so : (capacity : ℕ) (events : List Event) (s : ℕ) (call : Call) (span : Span events s call) (what : Event) (P Q : Machine → Type 0) → ((m : Machine) → P m → Q m) → Happened capacity span what P → Happened capacity span what Q
 stood_so capacity events s call span what P Q f (front, rest, answers, m, parts, legal, stood) = (front, rest, answers, m, parts, legal, f m stood)
 
@@ -49,7 +49,7 @@ seen_tree capacity history seen version t begins long made =
     let first_ones : take version history ≡ seen = ap (λ (h : List Change). take version h) (sym begins.1) ∙ ap (λ (n : ℕ). take n (seen ++ begins.0)) (sym long) ∙ take-append_seam seen begins.0 in
     (omega arith, ap (λ (h : List Change). tree_after (length history) h) first_ones ∙ roomy_after (length history) capacity seen t (omega arith) made)
 
--- what the words that were read decide is so in the tree that was seen
+-- what the words that were read decide holds in the tree that was seen
 decided_tree : (m : Machine) (p : Policed) (w : WalkerView) (version : ℕ) (end : Result Reached Errno) (events : List Event) (capacity s : ℕ) → FitsWalker m.keeper w → Rechecked capacity events m.deeds m.capacity s p w → IsStill w → version ≡ w.last / 2
     → Decides m.capacity p.call w.reads end → (t : Tree) × IsTreeAt m.keeper.history version t × (reached t p.call.path p.call.ask ≡ end)
 decided_tree m p w version end events capacity s f k still half decides =

@@ -1,4 +1,4 @@
--- Runs of one event more, and what each legal step keeps holds after a run.
+-- Runs of one more event, and what each legal step keeps holds after a run.
 use Rattle.std.proofs.Common.{ℕ, List, [], ◌∷◌, ◌++◌, Option, sym, refl, ap, ◌∙◌, subst, append_assoc, append-nil}
 use Rattle.justification.specs.declared.answer.Answer.{Answer}
 use Rattle.event_core.specs.Machine.{Event, Machine, first}
@@ -49,7 +49,7 @@ runs_on from (e ∷ es) more_events answers more m to (told, between, later, tak
   ap (λ (a : List (ℕ × Answer)). a ++ more) is ∙ append_assoc (told_by e told) later more,
 )
 
--- and it holds after each run from where it holds
+-- and it holds after each run that begins where it holds
 pub runs_keep : (from : Machine) (events : List Event) (answers : List (ℕ × Answer)) (to : Machine) → KeepsRule from → Runs from events answers to → KeepsRule to
 runs_keep from [] answers to rule (none, same) = subst KeepsRule (sym same) rule
 runs_keep from (e ∷ es) answers to rule (told, between, later, takes, runs, is) = runs_keep between es later to (takes_keep from between e told rule takes) runs

@@ -1,4 +1,4 @@
--- Events, as code tells them.
+-- Events, as code represents them.
 use Rattle.std.specs.Prelude.{map}
 use Rattle.mediation.specs.PolicyChanges.{deed_of}
 use Rattle.event_core.specs.declared.event.Event as code

@@ -42,7 +42,7 @@ publishes (open_change change) = []
 publishes set_cell = []
 publishes close_change = []
 
--- and all of them, the first event first
+-- the same for a list of events, the first event first
 abbrev pub opened_by : List Event → List Change
 opened_by [] = []
 opened_by (event ∷ events) = opens event ++ opened_by events

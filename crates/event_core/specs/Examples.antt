@@ -1,4 +1,5 @@
--- Worked runs: the calls of session 1 in the root. Nobody else does anything, but that the keeper opens a change in some of them.
+-- Worked runs: the calls of session 1 in the root. Nobody else does anything, except that the keeper opens a change in some of
+-- them.
 use Rattle.std.specs.Prelude.{true, false, List, [], ◌∷◌}
 use Rattle.names.specs.declared.permissions.Perms.{Perms}
 use Rattle.directory_tree.specs.declared.change.Change.{Change}
@@ -22,7 +23,7 @@ root_for ask = record { profile = 112 ∷ []; path = 47 ∷ []; ask = ask }
 abbrev pub unpublished_call : List Event
 unpublished_call = begin 1 (root_for to_read) ∷ read_policy 1 ∷ answer 1 ∷ []
 
--- `p` is published without rules, and then the call is made whole
+-- `p` is published without rules, and then the whole call is made
 abbrev pub whole_call : Perms → List Event
 whole_call ask =
     publish (published (112 ∷ []) (by_rules []) ∷ []) ∷ begin 1 (root_for ask) ∷ read_policy 1 ∷ read_count 1 ∷ check_count 1 ∷ answer 1 ∷ []
@@ -37,7 +38,7 @@ busy_call =
     publish (published (112 ∷ []) (by_rules []) ∷ []) ∷ begin 1 (root_for to_read) ∷ read_policy 1 ∷ open_change mkdir_b ∷ read_count 1
     ∷ check_count 1 ∷ answer 1 ∷ []
 
--- The keeper opens the change once the count was read: it is even first, and odd when it is checked.
+-- The keeper opens the change after the count was read: the count is even first, and odd when it is checked.
 abbrev pub overtaken_call : List Event
 overtaken_call =
     publish (published (112 ∷ []) (by_rules []) ∷ []) ∷ begin 1 (root_for to_read) ∷ read_policy 1 ∷ read_count 1 ∷ open_change mkdir_b

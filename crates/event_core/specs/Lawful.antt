@@ -15,8 +15,8 @@ use Rattle.event_core.specs.Takes.{Moves, Takes}
 abbrev pub IsLawful : Machine → Event → Type 0
 IsLawful old event = (told : Option Answer) × (new : Machine) × Takes old event told new
 
--- It is a session's turn to take the event: its call has come to just that. A machine that goes on with each call takes each event
--- whose turn it is. Nothing is said of the keeper's events and of publications.
+-- It is a session's turn to take the event: its call has reached exactly this step. A machine that goes on with each call takes
+-- each event whose turn it is. This says nothing about the keeper's events and publications.
 abbrev pub HasTurn : Machine → Event → Type 0
 HasTurn m (begin s call) = (m.sessions s).stage ≡ resting
 HasTurn m (read_policy s) = (call : Call) × ((m.sessions s).stage ≡ begun call)
@@ -30,13 +30,13 @@ HasTurn m set_cell = ⊥
 HasTurn m close_change = ⊥
 HasTurn m (publish deeds) = ⊥
 
--- so many readings of a cell
+-- this many readings of a cell
 abbrev pub cell_reads : ℕ → ℕ → List Event
 cell_reads s zero = []
 cell_reads s (suc count) = read_cell s ∷ cell_reads s count
 
--- Of a change, while none is open: it may be opened, and so many cells are to be set until it may be closed; or the definition
--- refuses it by this number, that of too many changes among them.
+-- About a change, while none is open: it may be opened, and this many cells are to be set until it may be closed; or the definition
+-- refuses it with this errno, including the one for too many changes.
 abbrev pub IsTested : Machine → Change → Result ℕ Errno → Type 0
 IsTested m change (Ok count) = IsLawful m (open_change change) × ((new : Machine) → Moves m (open_change change) new → length (left_of new.keeper.pending) ≡ count)
 IsTested m change (Err errno) = (m.keeper.pending ≡ None) × (tree_after m.capacity (m.keeper.history ++ change ∷ []) ≡ Err errno)

@@ -38,8 +38,8 @@ pub record Policed : Type 0 where
   pub policy_version : ℕ
   pub judge : Judge
 
--- Where a session stands in its call. A walk that goes on has chosen what it does next: it reads the word at a place, or, where
--- no place is given, the count.
+-- The stage of a session's call. A walk that goes on has chosen what it does next: it reads the word at a place, or, if no place is
+-- given, the count.
 pub data Stage : Type 0 where
   resting : Stage
   begun : Call → Stage
@@ -48,7 +48,7 @@ pub data Stage : Type 0 where
   walking : Policed → WalkerView → Option ℕ → Stage
   checked : Policed → WalkerView → Stage
 
--- The name is that which the last answer judged, empty where it judged none.
+-- The name is the one that the last answer judged, empty if it judged none.
 pub record Session : Type 0 where
   pub name : List ℕ
   pub stage : Stage

@@ -30,14 +30,14 @@ pub record Span (events : List Event) (s : ℕ) (call : Call) : Type 0 where
   pub parts : events ≡ before ++ begin s call ∷ within
   pub last : All (λ (event : Event). ¬ (BeginsCall s event)) within
 
--- In the span this event happened, and when it happened the machine stood so.
+-- This event happened in the span, and this held of the machine when it happened.
 abbrev pub Happened : ℕ → {events : List Event} {s : ℕ} {call : Call} → Span events s call → Event → (Machine → Type 0) → Type 0
 Happened capacity {s = s} {call = call} span event Stood =
     (front rest : List Event) × (answers : List (ℕ × Answer)) × (m : Machine) × (span.within ≡ front ++ event ∷ rest)
     × Legal capacity (span.before ++ begin s call ∷ front) answers m × Stood m
 
--- The version of the tree is that of so many closed changes, with none open; the version of the policy is that of so many
--- published ones.
+-- The version of the tree is the number of closed changes, with none open; the version of the policy is the number of published
+-- ones.
 abbrev pub IsTreeVersion : ℕ → Machine → Type 0
 IsTreeVersion version m = (m.keeper.pending ≡ None) × (length m.keeper.history ≡ version)
 
@@ -47,8 +47,8 @@ IsPolicyVersion version m = length m.deeds ≡ version
 abbrev pub IsCount : ℕ → Machine → Type 0
 IsCount count m = count_of m.keeper ≡ count
 
--- The versions of an answer were current at the very events that read the count and the policy; the counts of a Busy one are those
--- that were read. NoEntry is never answered.
+-- The versions of an answer were current at exactly the events that read the count and the policy; the counts of a Busy answer are
+-- those that were read. NoEntry is never answered.
 abbrev pub IsOfSpan : ℕ → {events : List Event} (s : ℕ) {call : Call} → Span events s call → Answer → Type 0
 IsOfSpan capacity s span (Judged verdict node tree policy) =
     Happened capacity span (read_count s) (IsTreeVersion tree) × Happened capacity span (read_policy s) (IsPolicyVersion policy)
@@ -58,14 +58,14 @@ IsOfSpan capacity s span (Busy began ended) =
     Happened capacity span (read_count s) (IsCount began) × Happened capacity span (check_count s) (IsCount ended)
 IsOfSpan capacity s span NoEntry = ⊥
 
--- An answer of a session after these events, which leave the machine so.
+-- An answer of a session after these events, which lead to this machine.
 pub record IsRight (capacity : ℕ) (events : List Event) (m : Machine) (s : ℕ) (told : Answer) : Type 0 where
   pub call : Call
   pub span : Span events s call
   pub justified : Justified call.profile call.path call.ask m.keeper.history m.deeds told
   pub of_span : IsOfSpan capacity s span told
 
--- Among these events one answers the session so, and the answer is right where it is given.
+-- One of these events gives the session this answer, and the answer is right where it is given.
 pub record IsToldIn (capacity : ℕ) (events : List Event) (s : ℕ) (told : Answer) : Type 0 where
   pub before : List Event
   pub after : List Event

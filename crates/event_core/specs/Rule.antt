@@ -1,4 +1,4 @@
--- The rule of the row, as a machine keeps it: it is the rule that a row keeps which threads share.
+-- The rule of the row, as a machine keeps it: the same rule that a row shared by threads keeps.
 use Rattle.std.specs.Prelude.{ℕ, [], ◌∷◌}
 use Rattle.row_rule.specs.declared.view.WalkerView.{WalkerView}
 use Rattle.row_rule.specs.declared.view.View.TheVariants.{Keeps, Walks}
@@ -9,7 +9,7 @@ use Rattle.row_plan.specs.Changes.{EncodesChanges}
 use Rattle.event_core.specs.Machine.{Stage, Machine}
 use Rattle.event_core.specs.Machine.Stage.{resting, begun, unpublished, policed, walking, checked}
 
--- what a session's walk knows; outside of one, nothing
+-- what a session's walk knows; nothing outside of a walk
 abbrev pub view_of : Stage → WalkerView
 view_of resting = newcomer
 view_of (begun call) = newcomer
@@ -18,7 +18,7 @@ view_of (policed p) = newcomer
 view_of (walking p w next) = w
 view_of (checked p w) = w
 
--- the rule holds for the keeper beside each session
+-- the rule holds for the keeper together with each session
 abbrev pub KeepsRule : Machine → Type 0
 KeepsRule m = (s : ℕ) → KeptBy (EncodesChanges m.capacity) (row_length m.capacity) m.keeper (count_of m.keeper ∷ m.keeper.cells)
     (Keeps m.keeper ∷ Walks (view_of (m.sessions s).stage) ∷ [])

@@ -1,4 +1,4 @@
--- Legal runs: lists of events each of which is a legal step where it happens, from the root alone on.
+-- Legal runs: lists of events each of which is a legal step where it happens, beginning with the root alone.
 use Rattle.std.specs.Prelude.{◌≡◌, ℕ, List, [], ◌∷◌, ◌++◌, Option, Some, None}
 use Rattle.justification.specs.declared.answer.Answer.{Answer}
 use Rattle.event_core.specs.Machine.{Event, Machine, first}
@@ -19,7 +19,7 @@ told_by set_cell told = []
 told_by close_change told = []
 told_by (publish deeds) told = []
 
--- these events happen one after the other, are answered so, and leave the machine so
+-- these events happen one after the other, give these answers, and lead to this machine
 abbrev pub Runs : Machine → List Event → List (ℕ × Answer) → Machine → Type 0
 Runs from [] answers to = (answers ≡ []) × (to ≡ from)
 Runs from (event ∷ events) answers to = (told : Option Answer) × (between : Machine) × (later : List (ℕ × Answer))

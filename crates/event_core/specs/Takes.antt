@@ -1,4 +1,4 @@
--- The legal steps: which event may happen where, what is answered, and how the machine stands then.
+-- The legal steps: which event may happen when, what is answered, and the machine after it.
 use Rattle.std.specs.Prelude.{◌≡◌, ◌≢◌, ℕ, ◌<◌, ◌^◌, List, [], ◌∷◌, ◌++◌, length, slice_get, Option, Some, None}
 use Rattle.directory_tree.specs.declared.change.Change.{Change}
 use Rattle.mediation.specs.Deeds.{policy_after}
@@ -14,28 +14,28 @@ use Rattle.event_core.specs.Machine.Event.{begin, read_policy, read_count, read_
 use Rattle.event_core.specs.Machine.Stage.{resting, begun, unpublished, policed, walking, checked}
 use Rattle.event_core.specs.Walking.{MayDo, MayAnswer}
 
--- where a call stands that has read this of its profile in the policy of a version
+-- the stage of a call that has read this about its profile in the policy of a version
 abbrev pub after_policy : Call → ℕ → Option Judge → Stage
 after_policy call version None = unpublished call version
 after_policy call version (Some judge) = policed record { call = call; policy_version = version; judge = judge }
 
--- Each event but an answer's changes the machine alone.
+-- Each event except an answer only changes the machine.
 abbrev pub Moves : Machine → Event → Machine → Type 0
 -- Only a session at rest begins a call.
 Moves old (begin s call) new = ((old.sessions s).stage ≡ resting) × (new ≡ moved_on old s (begun call))
 -- Then it reads the policy: its version, and what it says of the profile's name.
 Moves old (read_policy s) new = (call : Call) × ((old.sessions s).stage ≡ begun call)
     × (new ≡ moved_on old s (after_policy call (length old.deeds) (policy_after old.deeds call.profile)))
--- Where the profile was published it reads the count, and chooses what it does next.
+-- If the profile was published, it reads the count, and chooses what it does next.
 Moves old (read_count s) new = (p : Policed) × (next : Option ℕ) × ((old.sessions s).stage ≡ policed p)
     × MayDo old.capacity p.call (beginning newcomer (count_of old.keeper) old.keeper.history) next
     × (new ≡ moved_on old s (walking p (beginning newcomer (count_of old.keeper) old.keeper.history) next))
--- It reads the word that stands at the place that it chose, and chooses anew.
+-- It reads the word at the place that it chose, and chooses again.
 Moves old (read_cell s) new = (p : Policed) × (w : WalkerView) × (place word : ℕ) × (next : Option ℕ)
     × ((old.sessions s).stage ≡ walking p w (Some place)) × (slice_get old.keeper.cells place ≡ Some word)
     × MayDo old.capacity p.call (reading w record { place = place; word = word }) next
     × (new ≡ moved_on old s (walking p (reading w record { place = place; word = word }) next))
--- It reads the count again where it chose to.
+-- It reads the count again if it chose to.
 Moves old (check_count s) new = (p : Policed) × (w : WalkerView) × ((old.sessions s).stage ≡ walking p w None)
     × (new ≡ moved_on old s (checked p (ending w (count_of old.keeper) old.keeper.history)))
 Moves old (answer s) new = ⊥
@@ -47,10 +47,10 @@ Moves old (open_change change) new = (plan : List Cell) × (old.keeper.pending �
 -- It sets the next cell of the plan.
 Moves old set_cell new = (change : Change) × (cell : Cell) × (left : List Cell)
     × (old.keeper.pending ≡ Some record { change = change; left = cell ∷ left }) × (new ≡ with_keeper old (setting old.keeper cell))
--- It closes the change where no cell is left.
+-- It closes the change if no cell is left.
 Moves old close_change new = (change : Change) × (old.keeper.pending ≡ Some record { change = change; left = [] })
     × (new ≡ with_keeper old (closing old.keeper))
--- One or more changes of the policy are published, as long as there are fewer than 2 ^ 60 of them with these.
+-- One or more changes of the policy are published, as long as there are fewer than 2 ^ 60 of them including these.
 Moves old (publish deeds) new = (deeds ≢ []) × (length (old.deeds ++ deeds) < 2 ^ 60) × (new ≡ with_deeds old (old.deeds ++ deeds))
 
 -- An answer leaves its session at rest, with the name that it judged.

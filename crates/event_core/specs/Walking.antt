@@ -1,5 +1,5 @@
--- What a walk may do next, and what it comes to, by the words that it has read: whatever it read, it may have read while the
--- tree was being changed.
+-- What a walk may do next, and its outcome, by the words that it has read: whatever it read, it may have read while the tree was
+-- being changed.
 use Rattle.std.specs.Prelude.{◌≡◌, ◌≢◌, ◌⊎◌, ℕ, ◌/◌, ◌%◌, ◌<◌, true, List, [], Option, Some, None, Result, Ok, Err}
 use Rattle.std.specs.List.{All}
 use Rattle.names.specs.declared.errors.Errno.{Errno}
@@ -25,8 +25,8 @@ Decides capacity call reads end = InEach capacity (Agrees reads) (λ row t. reac
 abbrev pub IsSound : Call → Type 0
 IsSound call = (can_be_asked call.ask ≡ true) × (path_fault call.path ≡ None)
 
--- After an even count a walk may read the word at any place of the row that it has not read. It may read the count again after
--- an odd one at once, and else once the words read decide.
+-- After an even count a walk may read the word at any place of the row that it has not read yet. It may read the count again at
+-- once after an odd count, and otherwise once the words that it has read decide.
 abbrev pub MayRead : ℕ → Call → WalkerView → ℕ → Type 0
 MayRead capacity call w place =
     (w.noted % 2 ≡ 0) × IsSound call × (place < row_length capacity) × All (λ (read : Cell). read.place ≢ place) w.reads
@@ -38,15 +38,15 @@ abbrev pub MayDo : ℕ → Call → WalkerView → Option ℕ → Type 0
 MayDo capacity call w (Some place) = MayRead capacity call w place
 MayDo capacity call w None = MayCheck capacity call w
 
--- The counts that the walk began and ended with are one even number, or they are not.
+-- The counts that the walk began and ended with are the same even number, or they are not.
 abbrev pub IsStill : WalkerView → Type 0
 IsStill w = (w.noted % 2 ≡ 0) × (w.last ≡ w.noted)
 
 abbrev pub IsDisturbed : WalkerView → Type 0
 IsDisturbed w = (w.noted % 2 ≡ 1) ⊎ (w.last ≢ w.noted)
 
--- The answer once the count was read again, and the name that it judges: Busy with both counts; or what the words decide, at
--- half the count and the version of the policy that was read.
+-- The answer after the count was read again, and the name that it judges: Busy with both counts; or what the words decide, at half
+-- the count and the version of the policy that was read.
 abbrev pub Tells : ℕ → Policed → WalkerView → Answer → List ℕ → Type 0
 Tells capacity p w (Busy began ended) name = IsDisturbed w × (began ≡ w.noted) × (ended ≡ w.last) × (name ≡ [])
 Tells capacity p w (Failed errno tree) name =
@@ -57,7 +57,7 @@ Tells capacity p w (Judged verdict node tree policy) name =
 Tells capacity p w (NoProfile policy) name = ⊥
 Tells capacity p w NoEntry name = ⊥
 
--- A call answers where its profile was not published when it read the policy, or once it has read the count again.
+-- A call answers if its profile was not published when it read the policy, or once it has read the count again.
 abbrev pub MayAnswer : ℕ → Stage → Answer → List ℕ → Type 0
 MayAnswer capacity (unpublished call version) told name = (told ≡ NoProfile version) × (name ≡ [])
 MayAnswer capacity (checked p w) told name = Tells capacity p w told name

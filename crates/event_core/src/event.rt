@@ -12,7 +12,7 @@ pub enum Event<'a> {
         path: &'a [u8],
         ask: Perms,
     },
-    /// The session enters the published policy, and reads what it has of its profile.
+    /// The session enters the published policy, and reads what it has for its profile.
     PolicyRead(u32),
     /// It reads the row's count, to begin its walk.
     CountRead(u32),
@@ -35,8 +35,8 @@ pub enum Event<'a> {
 /// Why an event isn't taken. The machine is unchanged.
 #[derive(Clone, Copy, Debug, PartialEq, Eq)]
 pub enum StepFault {
-    /// The event isn't lawful as the machine stands.
+    /// The event isn't lawful in the machine's present state.
     NotNow,
-    /// Memory was refused.
+    /// Out of memory.
     NoMemory,
 }

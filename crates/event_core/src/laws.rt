@@ -16,28 +16,28 @@ ghost use Rattle.justification.specs.declared.answer.Answer.TheVariants.{Judged,
 ghost use Rattle.event_core.specs.Examples.{to_read, nothing, unpublished_call, whole_call, busy_call, overtaken_call};
 ghost use Rattle.event_core.specs.Deeds.{opened_by, closed_by, published_by};
 
-/// Every answer of a legal run is right: it is justified by the changes of the tree and of the policy made until then, at a
-/// version of each that was current at an event of its own call. In whatever order the steps of opens, of the keeper and of
-/// publications happen, an open judged by a compiled profile answers what its rules say of a name that its file had.
+/// Every answer of a legal run is right: it is justified by the changes of the tree and of the policy made until then, at a version
+/// of each that was current at an event of its own call. In whatever order the steps of opens, of the keeper and of publications
+/// happen, an open judged by a compiled profile answers what its rules say about a name that its file had.
 pub fn answers_are_right()
     ensures { (capacity : ℕ) (events : List Event) (answers : List (ℕ × Answer)) (m : Machine) (s : ℕ) (told : Answer) (new : Machine) →
         Legal capacity events answers m → Takes m (answer s) (Some told) new → IsRight capacity events m s told }
 {}
 
-/// Wherever an answer stands in the list of a legal run's answers, one of its events gave it, and it was right there.
+/// Each answer in the list of a legal run's answers was given by one of its events, and was right there.
 pub fn listed_answers_are_right()
     ensures { (capacity : ℕ) (events : List Event) (answers before after : List (ℕ × Answer)) (m : Machine) (s : ℕ) (told : Answer) →
         Legal capacity events answers m → answers ≡ before ++ (s, told) ∷ after → IsToldIn capacity events s told }
 {}
 
-/// There is one answer to a call: after a legal run a session is answered in one way, and the machine then stands in one way.
+/// There is one answer to a call: after a legal run there is one way to answer a session, and one machine that results.
 pub fn answers_are_the_only_ones()
     ensures { (capacity : ℕ) (events : List Event) (answers : List (ℕ × Answer)) (m : Machine) (s : ℕ) (told other : Answer) (new another : Machine) →
         Legal capacity events answers m → Answers m s told new → Answers m s other another → (told ≡ other) × (new ≡ another) }
 {}
 
-/// A session begins a call only once the one before was answered: between two beginnings of its calls it answers. So of its calls
-/// at most one is open at a time.
+/// A session begins a call only once the one before was answered: between two beginnings of its calls it answers. So at most one of
+/// its calls is open at a time.
 pub fn one_call_at_a_time()
     ensures { (capacity : ℕ) (before middle after : List Event) (answers : List (ℕ × Answer)) (m : Machine) (s : ℕ) (call next : Call) →
         Legal capacity (before ++ begin s call ∷ middle ++ begin s next ∷ after) answers m → Contains middle (answer s) }
@@ -51,7 +51,7 @@ pub fn runs_keep_rule()
         Legal capacity events answers m → m.keeper.pending ≡ None → EncodesChanges m.capacity m.keeper.cells m.keeper.history }
 {}
 
-/// A legal step keeps the rule of the row, and so does a run of them, from wherever they begin.
+/// A legal step keeps the rule of the row, and so does a run of legal steps, wherever they begin.
 pub fn steps_keep_rule()
     ensures step { (old : Machine) (event : Event) (told : Option Answer) (new : Machine) →
         KeepsRule old → Takes old event told new → KeepsRule new }
@@ -70,7 +70,7 @@ pub fn runs_do_what_events_say()
         Legal capacity events answers m → m.deeds ≡ published_by events }
 {}
 
-/// No version falls, and what was done isn't undone; the capacity stays.
+/// No version decreases, and what was done isn't undone; the capacity stays the same.
 pub fn versions_never_fall()
     ensures tree { (from : Machine) (events : List Event) (answers : List (ℕ × Answer)) (to : Machine) →
         Runs from events answers to → IsPrefix from.keeper.history to.keeper.history }
@@ -80,15 +80,15 @@ pub fn versions_never_fall()
         Runs from events answers to → to.capacity ≡ from.capacity }
 {}
 
-/// A legal run goes on with a legal step.
+/// A legal run that is continued by legal steps is legal.
 pub fn steps_go_on_runs()
     ensures { (capacity : ℕ) (events later : List Event) (answers more : List (ℕ × Answer)) (m to : Machine) →
         Legal capacity events answers m → Runs m later more to → Legal capacity (events ++ later) (answers ++ more) to }
 {}
 
 /// Runs that are legal, and how they are answered: a profile that isn't published; one that is, without rules; a call that asks for
-/// nothing; and, where the row has room for an entry, calls during which the keeper opens a change, before the count is read and
-/// after that.
+/// nothing; and, where the row has room for an entry, calls during which the keeper opens a change, before and after the count is
+/// read.
 pub fn calls_are_answered()
     ensures no_profile { (capacity : ℕ) → (m : Machine) × Legal capacity unpublished_call ((1, NoProfile 0) ∷ []) m }
     ensures judged { (capacity : ℕ) → (m : Machine) × Legal capacity (whole_call to_read) ((1, Judged (NoRule to_read) 1 0 1) ∷ []) m }

@@ -1,4 +1,4 @@
-//! A machine over events, as definitions and laws: opens by any number of sessions beside one keeper of the tree and
+//! A machine over events, as definitions and laws: opens by any number of sessions, together with one keeper of the tree and
 //! publications of policy, in every order of their steps. The functions of the laws do nothing: each stands for its contract.
 //! [`EventMachine`] is what code that takes the events promises.
 //!

@@ -1,4 +1,4 @@
-//! What takes events.
+//! Machines that take events.
 ghost use Rattle.std.specs.Prelude.{◌≡◌, ◌≤◌, ◌<◌, ℕ, [], None, IfOk, IfErr, OnErr, is_some, length};
 ghost use Rattle.event_core.specs.Machine.{Machine};
 ghost use Rattle.event_core.specs.Machine.Event.{read_cell};
@@ -14,27 +14,27 @@ use names::Errno;
 
 /// A machine that takes events, one at a time.
 pub trait EventMachine {
-    // How it stands.
+    // Its state.
     ghost machine: { Self → Machine };
 
-    /// Takes an event where it is lawful, and answers what it answers: an answer of the session, or nothing. Where the event
-    /// isn't lawful, or memory is refused, nothing changes. An event of a session is lawful where it is its turn.
+    /// Takes an event if it is lawful, and returns its answer: that of the session, or nothing. If the event isn't lawful, or
+    /// memory runs out, nothing changes. An event of a session is lawful if it is its turn.
     fn step(&mut self, event: &Event<'_>) -> Result<Option<Answer>, StepFault>
         ensures ok { IfOk result (λ told. Takes (machine self.old) (event_of event.now) told (machine self.new)) }
         ensures same { OnErr result (machine self.new ≡ machine self.old) }
         ensures not_now { IfErr result (λ fault. fault ≡ StepFault.NotNow → ¬ (IsLawful (machine self.old) (event_of event.now))) }
         ensures turn { IfErr result (λ fault. fault ≡ StepFault.NotNow → ¬ (HasTurn (machine self.old) (event_of event.now))) };
 
-    /// Takes as many events [`Event::CellRead`] of a session as are lawful one after the other, at most so many. Answers how
-    /// many there were. Where memory is refused, those before it were taken.
+    /// Takes events [`Event::CellRead`] of a session, as many as are lawful one after the other, but at most `most`. Returns their
+    /// number. If memory runs out, those before that were taken.
     fn read_cells(&mut self, session: u32, most: usize) -> Result<usize, StepFault>
         ensures ok { IfOk result (λ count. (count ≤ most) × Runs (machine self.old) (cell_reads session count) [] (machine self.new)) }
         ensures all { IfOk result (λ count. count < most → ¬ (IsLawful (machine self.new) (read_cell session))) }
         ensures turn { IfOk result (λ count. count < most → ¬ (HasTurn (machine self.new) (read_cell session))) }
         ensures err { IfErr result (λ fault. (fault ≡ StepFault.NoMemory) × ((count : ℕ) × (count < most) × Runs (machine self.old) (cell_reads session count) [] (machine self.new))) };
 
-    /// How many cells a change would set: so many events [`Event::CellSet`] there are from its [`Event::Open`] to its
-    /// [`Event::Close`]. Or by which number it is refused. Not now while another one is open. It changes nothing.
+    /// How many cells a change would set, which is the number of events [`Event::CellSet`] from its [`Event::Open`] to its
+    /// [`Event::Close`]; or the errno that it is refused with. Not possible while another change is open. Changes nothing.
     fn test(&mut self, change: &Change<'_>) -> Result<Result<usize, Errno>, StepFault>
         ensures same { machine self.new ≡ machine self.old }
         ensures ok { IfOk result (IsTested (machine self.old) change.now) }
@@ -52,7 +52,7 @@ pub trait EventMachine {
     fn policy_version(&self) -> u64
         ensures { result ≡ length (machine self.now).deeds };
 
-    /// The name that the session's last answer judged, empty where it judged none.
+    /// The name that the session's last answer judged, empty if it judged none.
     fn name(&self, session: u32) -> &[u8]
         ensures { result.now ≡ ((machine self.now).sessions session).name };
 }

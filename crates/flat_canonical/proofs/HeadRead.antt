@@ -29,7 +29,7 @@ reads_brace : (read : List PartValue) (rest : List ℕ) → head_rest (reading r
 unfolding head_rest
 reads_brace read rest = let none = takes_none parts.Blank read (123 ∷ rest) in rw (none, none) refl
 
--- the head behind its name
+-- the head after its name
 reads_named : (read : List PartValue) (name rest : List ℕ) → is_name name ≡ true → ends_with_backslash name ≡ false
     → named_head (reading read (34 ∷ (name ++ 34 ∷ 32 ∷ 123 ∷ rest)))
     ≡ Ok (reading (((read ++ (part_of parts.Name (in_quotes name) ∷ [])) ++ (part_of parts.Blank (codes " ") ∷ [])) ++ (part_of parts.Open (codes "{") ∷ [])) rest)

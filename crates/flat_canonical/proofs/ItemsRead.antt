@@ -27,9 +27,9 @@ use Rattle.flat_canonical.proofs.PartsRead.{reading, reads_blank}
 use Rattle.flat_canonical.proofs.HeadRead.{reads_head}
 use Rattle.flat_canonical.proofs.RulesRead.{body_text, reads_rule}
 
--- ---- one item and those behind it
+-- ---- one item and those after it
 
--- these bytes are some
+-- there are some bytes
 abbrev SomeBytes : List ℕ → Type 0
 SomeBytes bytes = (b : ℕ) × (more : List ℕ) × (bytes ≡ b ∷ more)
 
@@ -50,7 +50,7 @@ item_inside bytes = item_at (behind_item items.Profile at_start) (reading [] byt
 abbrev ReadsInside : List ℕ → List ItemValue → Type 0
 ReadsInside bytes read = ReadsFrom (behind_item items.Profile at_start) bytes read None
 
--- a rule, and what stands behind its comma
+-- a rule, and what comes after its comma
 abbrev rule_bytes : RuleValue → List ℕ → List ℕ
 rule_bytes r rest = qualifier_text r.kind ++ body_text r rest
 
@@ -77,7 +77,7 @@ rule_there : (r : RuleValue) (rest : List ℕ) → is_rule r ≡ true → ends_w
     → item_inside (rule_bytes r rest) ≡ Ok (items.Rule, reading (rule_item r).parts rest)
 rule_there r rest h e = rule_of r.kind r rest ∙ reads_rule r rest h e
 
--- what stands behind the opening brace
+-- what comes after the opening brace
 abbrev inner_text : List RuleValue → List ℕ
 inner_text rules = 10 ∷ (flat_map rule_line rules ++ codes "}\n")
 
@@ -91,7 +91,7 @@ line_parts r behind = at r.kind
     at Allow = ap (λ (x : List ℕ). 32 ∷ 32 ∷ x) (body (path_text r.items) (letters r.perms))
     at Deny = ap (λ (x : List ℕ). codes "  deny " ++ x) (body (path_text r.items) (letters r.perms))
 
--- The blank before a rule begins with the LF behind the rule before it, or behind the brace.
+-- The blank before a rule begins with the LF after the rule before it, or after the brace.
 first_line : (r : RuleValue) (rules : List RuleValue) → inner_text (r ∷ rules) ≡ 10 ∷ 32 ∷ 32 ∷ rule_bytes r (inner_text rules)
 first_line r rules =
     ap (λ (x : List ℕ). 10 ∷ x) (append_assoc (rule_line r) (flat_map rule_line rules) (codes "}\n") ∙ line_parts r (flat_map rule_line rules ++ codes "}\n"))

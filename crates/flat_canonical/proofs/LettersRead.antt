@@ -1,4 +1,4 @@
--- The letters of each set of permissions are read as it.
+-- The letters of each set of permissions are read as that set.
 use Rattle.std.proofs.Common.{◌≡◌, Some, arith}
 use Rattle.names.specs.declared.permissions.Perms.{Perms}
 use Rattle.names.specs.Permissions.{letters}

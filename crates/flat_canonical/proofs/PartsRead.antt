@@ -31,7 +31,7 @@ takes_to kind read b front rest =
     let some : (length (b ∷ front) == 0) ≡ false = ne_eqb (length (b ∷ front)) 0 (λ e. absurd (omega (arith, e))) in
     rw (front_taken (b ∷ front) rest, front_left (b ∷ front) rest, some) refl
 
--- some bytes that stand before others
+-- some bytes that come before others
 pub takes_front : (kind : PartKind) (read : List PartValue) (front rest : List ℕ) → (length front == 0) ≡ false
     → taken kind (length front) (reading read (front ++ rest)) ≡ reading (read ++ (part_of kind front ∷ [])) rest
 takes_front kind read front rest some = rw (take-append_seam front rest, drop-append_seam front rest, some) refl

@@ -12,7 +12,7 @@ use Rattle.rule_writer.proofs.CanonCells.{stands, is_special}
 use Rattle.flat_words.specs.Words.{quoted_at, word_end}
 use Rattle.flat_canonical.specs.CanonicalItems.{behind_backslash, ends_with_backslash, path_text}
 
--- Directly behind a backslash or not: neither byte 0 nor LF is among these bytes, and a backslash stands before each quote.
+-- Directly after a backslash or not: neither byte 0 nor LF is among these bytes, and a backslash comes before each quote.
 abbrev pub are_hidden : Bool → List ℕ → Bool
 are_hidden before [] = true
 are_hidden before (b ∷ bytes) = can_stand b && (before || not (b == 34)) && are_hidden (b == 92) bytes
@@ -52,7 +52,7 @@ word_ends bytes rest h e = quoted_ends false bytes rest h e
 
 -- ---- names
 
--- A backslash that takes the byte behind it stands directly before it.
+-- A backslash that escapes the byte after it comes directly before it.
 name_hidden : (escaped before : Bool) (bytes : List ℕ) → (escaped && not before) ≡ false → are_name_bytes escaped bytes ≡ true → are_hidden before bytes ≡ true
 name_hidden escaped before [] e h = refl
 name_hidden escaped before (b ∷ bytes) e h =
@@ -77,7 +77,7 @@ name_is_hidden name h = name_hidden false false name refl h
 
 -- ---- the texts of paths
 
--- hidden wherever they stand
+-- hidden wherever they are
 abbrev pub Hidden : List ℕ → Type 0
 Hidden bytes = (before : Bool) → are_hidden before bytes ≡ true
 
@@ -94,7 +94,7 @@ or_true : (b : Bool) → (b || true) ≡ true
 or_true true = refl
 or_true false = refl
 
--- one byte that is no quote
+-- one byte that isn't a quote
 plain_hidden : (b : ℕ) → can_stand b ≡ true → (b == 34) ≡ false → Hidden (b ∷ [])
 plain_hidden b h e = λ before. rw (h, e, or_true before) refl
 

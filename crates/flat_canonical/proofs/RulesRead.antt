@@ -102,7 +102,7 @@ reads_body denies read r rest h e =
       reads_end three rest,
     ) (ap (λ (x : List PartValue). Ok (reading x rest)) parted)
 
--- a rule of this kind, with what stands behind its qualifier
+-- a rule of this kind, with what comes after its qualifier
 reads_kind : (kind : RuleKind) (r : RuleValue) (rest : List ℕ) → readable.is_rule r ≡ true → ends_with_backslash (path_text r.items) ≡ false
     → rules.rule_item (reading [] (qualifier_text kind ++ body_text r rest)) ≡ Ok (items.Rule, reading (qualifier_parts kind ++ body_parts r) rest)
 unfolding rules.rule_item rules.unqualified_item rules.body_part
@@ -111,7 +111,7 @@ reads_kind Deny r rest h e =
     let read = part_of parts.Deny (codes "deny") ∷ [] in
     rw (takes_to parts.Blank read 32 [] (body_text r rest), reads_body true (qualifier_parts Deny) r rest h e) refl
 
--- a rule, and what is left behind its comma
+-- a rule, and what is left after its comma
 pub reads_rule : (r : RuleValue) (rest : List ℕ) → readable.is_rule r ≡ true → ends_with_backslash (path_text r.items) ≡ false
     → rules.rule_item (reading [] (qualifier_text r.kind ++ body_text r rest)) ≡ Ok (items.Rule, reading (rule_item r).parts rest)
 reads_rule r rest h e = reads_kind r.kind r rest h e

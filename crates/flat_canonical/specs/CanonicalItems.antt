@@ -1,5 +1,5 @@
 -- The items of the canonical text of a profile, read as a flattened text (apparmor.d(5), "Format"), and which profiles have
--- these: flattened texts end a word in quotes at the first quote that no backslash stands directly before.
+-- these: flattened texts end a word in quotes at the first quote that has no backslash directly before it.
 use Rattle.std.specs.Prelude.{◌≡◌, ℕ, List, [], ◌∷◌, ◌++◌, codes, None, Bool, false, ◌==◌}
 use Rattle.std.specs.List.{flat_map}
 use Rattle.names.specs.declared.permissions.Perms.{Perms}
@@ -16,7 +16,7 @@ use Rattle.flat_text.specs.declared.part.PartKind.TheVariants as parts
 use Rattle.flat_text.specs.declared.part.ItemKind.TheVariants as items
 use Rattle.flat_text.specs.Parts.{PartValue, ItemValue}
 
--- the bytes of a path, as they stand within quotes
+-- the bytes of a path, as they are within quotes
 abbrev pub path_text : List Token → List ℕ
 path_text tokens = flat_map token_text tokens
 
@@ -39,7 +39,7 @@ head_item name = record {
       ∷ part_of parts.Blank (codes " ") ∷ part_of parts.Open (codes "{") ∷ [];
 }
 
--- what stands before the path
+-- what comes before the path
 abbrev pub qualifier_parts : RuleKind → List PartValue
 qualifier_parts Allow = []
 qualifier_parts Deny = part_of parts.Deny (codes "deny") ∷ part_of parts.Blank (codes " ") ∷ []
@@ -55,7 +55,7 @@ rule_item r = record {
 abbrev pub close_item : ItemValue
 close_item = record { kind = items.Close; parts = part_of parts.Close (codes "}") ∷ [] }
 
--- What is behind the opening brace: each rule stands on a line of its own behind two spaces, and the closing brace on the last.
+-- What follows the opening brace: each rule is on a line of its own after two spaces, and the closing brace on the last.
 abbrev pub inner_items : List RuleValue → List ItemValue
 inner_items [] = blank_item (codes "\n") ∷ close_item ∷ blank_item (codes "\n") ∷ []
 inner_items (r ∷ rules) = blank_item (codes "\n  ") ∷ rule_item r ∷ inner_items rules
@@ -65,7 +65,7 @@ canonical_items p = head_item p.name ∷ inner_items p.rules
 
 -- ---- words in quotes
 
--- These bytes stand directly behind a backslash (92) or not: what stands behind them is directly behind one.
+-- Whether what follows these bytes is directly after a backslash (92), given whether these bytes are.
 abbrev pub behind_backslash : Bool → List ℕ → Bool
 behind_backslash before [] = before
 behind_backslash before (b ∷ bytes) = behind_backslash (b == 92) bytes
@@ -73,7 +73,7 @@ behind_backslash before (b ∷ bytes) = behind_backslash (b == 92) bytes
 abbrev pub ends_with_backslash : List ℕ → Bool
 ends_with_backslash bytes = behind_backslash false bytes
 
--- Neither the name nor the text of a path ends with a backslash. (A backslash stands directly before each quote within.)
+-- Neither the name nor the text of a path ends with a backslash. (A backslash comes directly before each quote within.)
 pub record CanBeQuoted (p : ProfileValue) : Type 0 where
   pub name : ends_with_backslash p.name ≡ false
   pub paths : Each (λ (r : RuleValue). ends_with_backslash (path_text r.items) ≡ false) p.rules

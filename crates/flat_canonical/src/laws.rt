@@ -16,7 +16,7 @@ pub fn canonical_texts_have_their_items()
     ensures { (p : ProfileValue) → IsTrue (is_profile p) → CanBeQuoted p → ReadsItems (canonical p) (canonical_items p) None }
 {}
 
-/// The letters that a set of permissions is written with in a canonical text are read as the same set, and nothing besides.
+/// The letters that a set of permissions is written with in a canonical text are read as the same set, and nothing else.
 pub fn canonical_letters_are_read()
     ensures { (perms : Perms) → letters_of (letters perms) ≡ Some (plain_letters perms) }
 {}

@@ -1,4 +1,4 @@
--- What an account says of the parts of a file rule (our choice of words).
+-- What an account says about the parts of a file rule (our choice of words).
 use Rattle.std.specs.Prelude.{ℕ, List, [], ◌∷◌, ◌++◌, Option, Some, None, is_some, Bool, true, false, not, ◌&&◌, if◌then◌else◌}
 use Rattle.std.specs.List.{flat_map}
 use Rattle.std.specs.Str.{bytes_eq}
@@ -33,7 +33,7 @@ marks_of pattern parts = record {
 abbrev pub if_so : Bool → What → List What
 if_so b w = if b then w ∷ [] else []
 
--- what is told of a part of this kind
+-- what is reported about a part of this kind
 abbrev pub part_whats : Marks → PartKind → List What
 part_whats m kinds.Audit = whats.Audit ∷ []
 part_whats m kinds.Owner = whats.Owner ∷ []
@@ -49,11 +49,11 @@ part_whats m kinds.Permissions =
 part_whats m kinds.Arrow = if_so (not m.link && m.binds) whats.Link ++ if_so (not m.link && not m.binds) whats.Target
 part_whats m _ = []
 
--- what is told of a rule of which nothing stays, in the order of its parts
+-- what is reported about a rule of which nothing is kept, in the order of its parts
 abbrev pub rule_whats : Marks → List PartValue → List What
 rule_whats m parts = flat_map (λ p. part_whats m p.kind) parts
 
--- ---- effects of the parts of a rule that stays
+-- ---- effects of the parts of a rule that is kept
 
 abbrev pub no_effect : Subject → Effect
 no_effect chosen = record { chosen = chosen; on_chosen = Exact; on_other = Exact }

@@ -83,24 +83,24 @@ perms_of_rule parts =
     else if has_part is_permissions parts then (letters_in parts).perms
     else set_of (λ p. true)
 
--- the permissions stand before the path
+-- the permissions come before the path
 abbrev pub permissions_lead : List PartValue → Bool
 permissions_lead [] = false
 permissions_lead (p ∷ parts) = if is_path p.kind then false else is_permissions p.kind || permissions_lead parts
 
--- An arrow binds link where the word link stands before it, or letters with l and then the path. Elsewhere it says what an
--- execution leads to, and nothing of files.
+-- An arrow binds link if the word link comes before it, or letters with l and then the path. Otherwise it says what an execution
+-- leads to, and nothing about files.
 abbrev pub may_bind_link : List PartValue → Bool
 may_bind_link parts = has_part is_link parts || (permissions_lead parts && has (perms_of_rule parts) Link)
 
--- what stands behind white and comments, within a comment or not
+-- what follows white space and comments, within a comment or not
 abbrev pub past_blank : Bool → List ℕ → List ℕ
 past_blank comment [] = []
 past_blank true (b ∷ bytes) = past_blank (not (b == 10)) bytes
 past_blank false (b ∷ bytes) =
     if is_white b then past_blank false bytes else if is_hash b then past_blank true bytes else b ∷ bytes
 
--- the word behind an arrow, which a blank may stand before
+-- the word after an arrow, which a blank may precede
 abbrev pub target_text : List ℕ → List ℕ
 target_text arrow = content (past_blank false (drop 2 arrow))
 

@@ -1,4 +1,4 @@
-//! What a file rule of a flattened profile text says, and what of it isn't in the imported text as it stands.
+//! What a file rule of a flattened profile text says, and what of it isn't in the imported text unchanged.
 //!
 //! The definitions to believe are those in `specs/`.
 #![tactic(auto)]

@@ -1,4 +1,4 @@
-//! What an account says of the parts of a file rule.
+//! What an account says about the parts of a file rule.
 ghost use Rattle.std.specs.Prelude.{◌≡◌, ◌++◌, [], ◌∷◌, IfOk, option_map};
 ghost use Rattle.std.specs.List.{flat_map};
 ghost use Rattle.flat_rules.specs.RuleParts.{if_so, part_whats, part_effect, rule_whats, no_effect, has_long_slashes};
@@ -12,21 +12,21 @@ use profile_variables::one_slash;
 use std::alloc::Global;
 use subject_rules::{Change, Effect, RuleShape, Subject};
 
-/// What of a rule has its parts told.
+/// What decides what is reported about the parts of a rule.
 #[derive(Clone, Copy, Debug)]
 pub struct Marks {
     pub letters: Letters,
     /// Some run of slashes in the path becomes one.
     pub slashes: bool,
-    /// The path may be read otherwise, which is why the rule goes.
+    /// The path may be read in another way, which is why the rule is dropped.
     pub pattern: bool,
-    /// The word `link` stands before the path.
+    /// The word `link` comes before the path.
     pub link: bool,
     /// An arrow binds link.
     pub binds: bool,
 }
 
-/// One word more, if it is told.
+/// Adds a word, if it is reported.
 fn push_if(whats: &mut Vec<What>, told: bool, what: What) -> Result<(), NoMemory>
     ensures { IfOk result (λ _. whats.new.items ≡ whats.old.items ++ if_so told what) }
 {
@@ -53,7 +53,7 @@ impl Marks {
     ghost use Rattle.std.specs.Prelude.{◌≡◌, ◌++◌, IfOk};
     ghost use Rattle.flat_rules.specs.RuleParts.{part_whats, marks_of};
 
-    /// The marks of a rule of these parts, which goes because of its path or not.
+    /// The marks of a rule of these parts; `pattern` says whether it is dropped because of its path.
     pub fn of(alloc: Global, parts: &[Part<'_>], pattern: bool) -> Result<Marks, NoMemory>
         ensures { IfOk result (λ marks. marks ≡ marks_of pattern parts.now) }
     {
@@ -67,7 +67,7 @@ impl Marks {
         })
     }
 
-    /// Adds what is told of a part of this kind.
+    /// Adds what is reported about a part of this kind.
     pub fn put(self, kind: PartKind, whats: &mut Vec<What>) -> Result<(), NoMemory>
         ensures { IfOk result (λ _. whats.new.items ≡ whats.old.items ++ part_whats self kind) }
     {
@@ -98,7 +98,7 @@ impl Marks {
     }
 }
 
-/// What is told of a rule of which nothing stays, in the order of its parts.
+/// What is reported about a rule of which nothing is kept, in the order of its parts.
 pub fn rule_whats(alloc: Global, marks: Marks, parts: &[Part<'_>]) -> Result<Vec<What>, NoMemory>
     ensures { IfOk result (λ whats. whats.items ≡ rule_whats marks parts.now) }
 {
@@ -109,7 +109,7 @@ pub fn rule_whats(alloc: Global, marks: Marks, parts: &[Part<'_>]) -> Result<Vec
     Ok(whats)
 }
 
-/// What it changes, in a rule that stays, that a part of this kind is left out.
+/// What it changes, in a rule that is kept, to leave out a part of this kind.
 pub fn part_effect(chosen: Subject, shape: RuleShape, kind: PartKind) -> Effect
     ensures { result ≡ part_effect chosen shape kind }
 {

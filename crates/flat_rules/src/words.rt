@@ -24,7 +24,7 @@ pub fn content(bytes: &[u8]) -> &[u8]
 pub struct RuleWords<'t> {
     pub kind: RuleKind,
     pub applies_to: AppliesTo,
-    /// What it holds of r, w, l, k and m.
+    /// Which of r, w, l, k and m it has.
     pub perms: Perms,
     /// The letters that are written.
     pub letters: Letters,
@@ -96,7 +96,7 @@ fn permissions_word<'t>(parts: &[Part<'t>]) -> Option<&'t [u8]>
     Some(part.bytes())
 }
 
-/// An arrow and the word behind it.
+/// An arrow and the word after it.
 fn arrow_of<'t>(parts: &[Part<'t>]) -> Option<&'t [u8]>
     ensures { option_map (λ bytes. bytes.now) result ≡ first_bytes is_arrow_part parts.now }
 {
@@ -106,7 +106,7 @@ fn arrow_of<'t>(parts: &[Part<'t>]) -> Option<&'t [u8]>
     Some(part.bytes())
 }
 
-/// The word behind an arrow.
+/// The word after an arrow.
 fn target_text(arrow: &[u8]) -> &[u8]
     ensures { result.now ≡ target_text arrow.now }
 {
@@ -116,7 +116,7 @@ fn target_text(arrow: &[u8]) -> &[u8]
     }
 }
 
-/// What stands behind white and comments.
+/// What follows white space and comments.
 fn past_blank(bytes: &[u8]) -> &[u8]
     ensures { result.now ≡ past_blank false bytes.now }
 {
@@ -135,7 +135,7 @@ fn past_blank(bytes: &[u8]) -> &[u8]
     rest
 }
 
-/// Whether the permissions stand before the path.
+/// Whether the permissions come before the path.
 fn permissions_lead(parts: &[Part<'_>]) -> bool
     ensures { result ≡ permissions_lead parts.now }
 {
@@ -193,7 +193,7 @@ fn all_perms() -> Perms
         .with(Permission::Map)
 }
 
-/// What a rule holds of r, w, l, k and m: its letters; with none written, `l` behind the word `link`, and all behind `file`.
+/// Which of r, w, l, k and m a rule has: its letters; if none are written, `l` after the word `link`, and all after `file`.
 fn perms_of(parts: &[Part<'_>], letters: Letters) -> Perms
     requires { letters ≡ letters_in parts.now }
     ensures { result ≡ perms_of_rule parts.now }

@@ -131,7 +131,7 @@ guarded_shortens denies s t e =
     let a = bind_ok (optional_choice parts.Safe (codes "safe") parts.Unsafe (codes "unsafe") s) _ t e in
     on_shorter s a.0 t (choice_goes parts.Safe parts.Unsafe (λ b. absurd cc) (λ b. absurd cc) (codes "safe") (codes "unsafe") s a.0 a.1) (body_shortens denies a.0 t a.2)
 
--- a word of some letters stands here, so something is left
+-- a word of some letters is here, so something is left
 named_there : (name bytes : List ℕ) → 0 < length name → is_word name bytes ≡ true → 0 < length bytes
 named_there name bytes some e =
     let same = (bytes_eq-Decides (word bytes) name).0 e in

@@ -19,7 +19,7 @@ use Rattle.flat_words.proofs.Shorter.{BlankBefore, blank_before, word_shorter, o
 use Rattle.flat_words.proofs.Steps.{bind_ok, chosen, ok_is, not_ok}
 use Rattle.flat_text.proofs.Going.{Goes, going_stays, going_on, going_taken, going_shortens}
 
--- a front part is what stands before the rest
+-- a front part is what comes before the rest
 pub front_taken : (front rest : List ℕ) → take (length (front ++ rest) - length rest) (front ++ rest) ≡ front
 front_taken front rest =
     let n : length (front ++ rest) - length rest ≡ length front = (let a = length-append front rest in omega (arith, a)) in

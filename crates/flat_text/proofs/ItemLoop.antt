@@ -11,7 +11,7 @@ use Rattle.flat_text.specs.Texts.{item_at, behind_item, ReadsFrom, stops, goes_o
 use Rattle.flat_text.proofs.GoingWords.{front_taken}
 use Rattle.flat_text.proofs.GoingRules.{item_shortens}
 
--- what is read from here on stands behind these items
+-- what is read from here on comes after these items
 abbrev pub Behind : List ℕ → Position → List ItemValue → Position → List ℕ → Type 0
 Behind text start read position rest =
     (others : List ItemValue) (end : Option Stop) → ReadsFrom position rest others end → ReadsFrom start text (read ++ others) end
@@ -42,7 +42,7 @@ depth_behind items.Assignment position = omega arith
 depth_behind items.Statement position = omega arith
 depth_behind items.Rule position = omega arith
 
--- the bytes of an item are what stands before the rest
+-- the bytes of an item are what comes before the rest
 pub item_taken : (position : Position) (bytes : List ℕ) (kind : ItemKind) (s : Reading) → 0 < length bytes → item_at position (record { parts = []; rest = bytes }) ≡ Ok (kind, s)
     → take (length bytes - length s.rest) bytes ≡ bytes_of_parts s.parts
 item_taken position bytes kind s there e =

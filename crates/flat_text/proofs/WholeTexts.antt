@@ -77,7 +77,7 @@ one_from position text read others end other (goes_on p b bytes kind s rest end_
 abbrev pub Outcome : Position → List ℕ → Type 0
 Outcome position text = (read : List ItemValue) × (end : Option Stop) × ReadsFrom position text read end
 
--- with so much room for what is left
+-- with `room` greater than the length of what is left
 pub some_from : (room : ℕ) (position : Position) (text : List ℕ) → length text < room → Outcome position text
 some_from zero position text h = absurd (omega (arith, h))
 some_from (suc room) position [] h = at (may_end position) refl

@@ -9,11 +9,11 @@ use Rattle.flat_text.specs.declared.part.PartKind.TheVariants as parts
 use Rattle.flat_text.specs.Readings.{Reading, taken, taken_to}
 use Rattle.flat_text.specs.WordParts.{word_part}
 
--- what parts values, if anything of it stands here
+-- what separates values, if any of it is here
 abbrev pub separators_part : Reading → Reading
 separators_part s = taken_to parts.Separator (past_separators s.rest) s
 
--- at most so many values more, up to the line's end
+-- at most n values more, up to the line's end
 abbrev pub values_at : ℕ → Reading → Result Reading Stop
 values_at zero s = Ok s
 values_at (suc n) s =
@@ -24,15 +24,15 @@ values_at (suc n) s =
 unfoldable pub values_part : Reading → Result Reading Stop
 values_part s = word_part parts.Value (separators_part s) >>= λ behind. values_at (suc (length behind.rest)) behind
 
--- white, if any stands here
+-- white space, if any is here
 abbrev pub white_part : Reading → Reading
 white_part s = taken_to parts.Blank (after is_white s.rest) s
 
--- = or +=, one of which stands here
+-- = or +=, one of which is here
 abbrev pub operator_part : Reading → Reading
 operator_part s = if starts_with nat_eq s.rest (codes "=") then taken parts.Equals 1 s else taken parts.Adds 2 s
 
--- an assignment; it stands here
+-- an assignment; it is here
 unfoldable pub assignment_part : Reading → Result Reading Stop
 assignment_part s = elim (past_use s.rest) [
   | None ↦ syntax_here s.rest

@@ -1,4 +1,4 @@
--- What stands before the rules of a profile, of a child or of a hat (apparmor.d(5), "Format"): a name, an attachment, extended
+-- What comes before the rules of a profile, of a child or of a hat (apparmor.d(5), "Format"): a name, an attachment, extended
 -- attributes, flags, and a brace.
 use Rattle.std.specs.Prelude.{ℕ, ◌-◌, List, length, codes, Result, Ok, Option, Some, None, Bool, ◌==◌, if◌then◌else◌, take}
 use Rattle.rule_reader.specs.TextBytes.{begins}
@@ -13,14 +13,14 @@ use Rattle.flat_text.specs.WordParts.{blank_part, word_part, name_part, literal_
 
 -- ---- conditions
 
--- the flags up to these bytes, of which each is known
+-- the flags up to these bytes, each of which is known
 abbrev pub flags_to : List ℕ → Reading → Result Reading Stop
 flags_to rest s = elim (unknown_flag (take (length s.rest - length rest) s.rest)) [
   | None ↦ Ok (taken_to parts.Flags rest s)
   | Some w ↦ fault_here (left_out w) s.rest
 ]
 
--- a condition, if one stands here
+-- a condition, if one is here
 abbrev pub condition_part : Reading → Result Reading Stop
 condition_part s =
     if is_word (codes "xattrs") s.rest then (past_word s.rest >>= λ behind. past_condition behind >>= λ rest. Ok (taken_to parts.Xattrs rest s))
@@ -30,14 +30,14 @@ condition_part s =
 
 -- ---- headers
 
--- An attachment, if one stands here. None begins with a colon, in quotes or not.
+-- An attachment, if one is here. None begins with a colon, in quotes or not.
 abbrev pub attachment_part : Reading → Result Reading Stop
 attachment_part s =
     if is_path s.rest then word_part parts.Attachment s
     else if begins is_colon (within_quotes s.rest) then fault_here (left_out (codes ":")) (within_quotes s.rest)
     else Ok s
 
--- behind the name and the attachment: at most two conditions, and the brace
+-- after the name and the attachment: at most two conditions, and the brace
 unfoldable pub head_rest : Reading → Result Reading Stop
 head_rest s = do
   first ← condition_part s
@@ -46,7 +46,7 @@ head_rest s = do
   brace ← blank_part second
   literal_part parts.Open (codes "{") brace
 
--- a name, an attachment if one stands there, and what is behind it
+-- a name, an attachment if there is one, and what follows it
 unfoldable pub named_head : Reading → Result Reading Stop
 named_head s = do
   name ← name_part parts.Name s

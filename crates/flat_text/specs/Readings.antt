@@ -8,12 +8,12 @@ pub record Reading : Type 0 where
   pub parts : List PartValue
   pub rest : List ℕ
 
--- the first n bytes of what is left are a part more, unless there are none
+-- the first n bytes of what is left become a part, unless there are none
 abbrev pub taken : PartKind → ℕ → Reading → Reading
 taken kind n s =
     if length (take n s.rest) == 0 then s
     else record { parts = s.parts ++ (record { kind = kind; bytes = take n s.rest } ∷ []); rest = drop n s.rest }
 
--- the bytes before these, with which what is left ends, are a part more
+-- the bytes before these, with which what is left ends, become a part
 abbrev pub taken_to : PartKind → List ℕ → Reading → Reading
 taken_to kind rest s = taken kind (length s.rest - length rest) s

@@ -21,22 +21,22 @@ use Rattle.flat_text.specs.Statements.{statement_part}
 
 -- ---- words
 
--- this word and the blank behind it, if it stands here
+-- this word and the blank after it, if it is here
 abbrev pub optional_word : PartKind → List ℕ → Reading → Result Reading Stop
 optional_word kind name s = if is_word name s.rest then blank_part (taken kind (length name) s) else Ok s
 
--- one of two words and the blank behind it, if one stands here
+-- one of two words and the blank after it, if one is here
 abbrev pub optional_choice : PartKind → List ℕ → PartKind → List ℕ → Reading → Result Reading Stop
 optional_choice kind name other_kind other_name s =
     if is_word name s.rest then blank_part (taken kind (length name) s) else optional_word other_kind other_name s
 
--- the word that stands here is not supported
+-- the word here is not supported
 abbrev pub word_left_out : {A : Type 0} → List ℕ → Result A Stop
 word_left_out bytes = fault_here (left_out (word bytes)) bytes
 
 -- ---- permissions
 
--- The word of permissions that stands here, in a rule that denies or not. Letters that are none are this fault.
+-- The word of permissions here, in a rule that denies or not. Letters that are no permissions are this fault.
 abbrev pub permissions_word : Bool → Stop → List ℕ → Result Letters Stop
 permissions_word denies unknown bytes =
     if length (word bytes) == 0 then syntax_here bytes
@@ -51,7 +51,7 @@ permissions_part s = taken parts.Permissions (length (word s.rest)) s
 
 -- ---- arrows and the comma
 
--- an arrow, which stands here, and the word behind it: one part
+-- an arrow, which is here, and the word after it: one part
 abbrev pub target_part : Reading → Result Reading Stop
 target_part s =
     blank_at false (drop 2 s.rest) >>= λ word. word_end word >>= λ rest. blank_part (taken_to parts.Arrow rest s)
@@ -59,7 +59,7 @@ target_part s =
 abbrev pub comma_part : Reading → Result Reading Stop
 comma_part s = literal_part parts.Comma (codes ",") s
 
--- what stands behind path and permissions: an arrow, if one is there, and the comma
+-- what follows path and permissions: an arrow, if there is one, and the comma
 unfoldable pub rule_end : Reading → Result Reading Stop
 rule_end s = blank_part s >>= λ at. (if is_arrow at.rest then target_part at else Ok at) >>= λ comma. comma_part comma
 
@@ -81,7 +81,7 @@ is_mode_there (Some m) = true
 abbrev pub links_and_runs : Letters → Bool
 links_and_runs l = has l.perms Link && is_mode_there l.exec
 
--- PERMISSIONS PATH. Letters that are none are a word that is not supported.
+-- PERMISSIONS PATH. Letters that are no permissions are a word that is not supported.
 unfoldable pub permissions_first : Bool → Reading → Result Reading Stop
 permissions_first denies s = do
   letters ← permissions_word denies (record { kind = left_out (word s.rest); left = length s.rest }) s.rest
@@ -106,13 +106,13 @@ body_part denies s =
     else if begins is_left_out_byte s.rest then fault_here (left_out (take 1 s.rest)) s.rest
     else syntax_here s.rest
 
--- safe or unsafe, if one stands here, and path and permissions
+-- safe or unsafe, if one is here, and path and permissions
 abbrev pub guarded_body : Bool → Reading → Result Reading Stop
 guarded_body denies s =
     optional_choice parts.Safe (codes "safe") parts.Unsafe (codes "unsafe") s >>= λ body. body_part denies body
 
--- the word file by itself allows every file, and denies none; else it is no more than a word. So many bytes are left from the
--- word deny on.
+-- the word file by itself allows every file, and denies none; else it is only a word. `from_deny` bytes are left from the word
+-- deny on.
 unfoldable pub file_rule : Bool → ℕ → Reading → Result Reading Stop
 file_rule denies from_deny s = blank_part (taken parts.File 4 s) >>= λ at.
     if begins is_comma at.rest then (if denies then Err (record { kind = permissions; left = from_deny }) else comma_part at)
@@ -131,7 +131,7 @@ link_rule s = do
 abbrev pub of_kind : ItemKind → Result Reading Stop → Result (ItemKind × Reading) Stop
 of_kind kind s = s >>= λ s. Ok (kind, s)
 
--- behind the qualifiers, one of which denies or not: a statement or a file rule
+-- after the qualifiers, one of which denies or not: a statement or a file rule
 unfoldable pub unqualified_item : Bool → ℕ → Reading → Result (ItemKind × Reading) Stop
 unqualified_item denies from_deny s =
     if is_word (codes "include") s.rest then fault_here include s.rest
@@ -141,7 +141,7 @@ unqualified_item denies from_deny s =
     else if is_word (codes "file") s.rest then file_rule denies from_deny s
     else guarded_body denies s)
 
--- audit, then allow or deny, then owner or other, and what they stand before
+-- audit, then allow or deny, then owner or other, and what follows them
 unfoldable pub rule_item : Reading → Result (ItemKind × Reading) Stop
 rule_item s = do
   audited ← optional_word parts.Audit (codes "audit") s

@@ -9,6 +9,6 @@ use Rattle.flat_text.specs.Readings.{Reading, taken_to}
 abbrev pub statement_part : Reading → Result Reading Stop
 statement_part s = statement_at nothing_open s.rest >>= λ rest. Ok (taken_to parts.Statement rest s)
 
--- a boolean, whose $ stands here
+-- a boolean, whose $ is here
 abbrev pub boolean_part : Reading → Result Reading Stop
 boolean_part s = boolean_at (drop 1 s.rest) >>= λ rest. Ok (taken_to parts.Statement rest s)

@@ -50,7 +50,7 @@ item_at position s =
     else if position.depth == 0 then outer_item position.begun s
     else inner_item s
 
--- where one is behind an item of this kind
+-- the position after an item of this kind
 abbrev pub behind_item : ItemKind → Position → Position
 behind_item items.Profile position = record { depth = position.depth + 1; begun = true }
 behind_item items.Hat position = record { depth = position.depth + 1; begun = true }
@@ -60,7 +60,7 @@ behind_item items.Assignment position = position
 behind_item items.Statement position = position
 behind_item items.Rule position = position
 
--- the text may end here: behind a profile, and in none
+-- the text may end here: after a profile, and in none
 abbrev pub may_end : Position → Bool
 may_end position = position.begun && (position.depth == 0)
 

@@ -8,7 +8,7 @@ use Rattle.flat_text.specs.declared.part.PartKind.{PartKind}
 use Rattle.flat_text.specs.declared.part.PartKind.TheVariants as parts
 use Rattle.flat_text.specs.Readings.{Reading, taken, taken_to}
 
--- white and comments, if any stand here
+-- white space and comments, if any are here
 abbrev pub blank_part : Reading → Result Reading Stop
 blank_part s = blank_at false s.rest >>= λ rest. Ok (taken_to parts.Blank rest s)
 
@@ -20,7 +20,7 @@ gap_part s = if begins opens_blank s.rest then blank_part s else syntax_here s.r
 abbrev pub word_part : PartKind → Reading → Result Reading Stop
 word_part kind s = word_end s.rest >>= λ rest. Ok (taken_to kind rest s)
 
--- what stands here, behind a quote if one does
+-- what is here, after a quote if there is one
 abbrev pub within_quotes : List ℕ → List ℕ
 within_quotes bytes = if begins is_quote bytes then drop 1 bytes else bytes
 
@@ -37,7 +37,7 @@ literal_part kind literal s =
 abbrev pub begins_no_name : ℕ → Bool
 begins_no_name b = is_open_brace b || is_close_brace b || is_comma b || b == 40
 
--- A word that is a name: some bytes, of which the first is no colon.
+-- A word that is a name: at least one byte, the first of which isn't a colon.
 abbrev pub name_part : PartKind → Reading → Result Reading Stop
 name_part kind s =
     if begins is_colon (within_quotes s.rest) then fault_here (left_out (codes ":")) (within_quotes s.rest)

@@ -10,7 +10,7 @@ impl<'t> Reader<'t> {
     ghost use Rattle.flat_words.specs.Gives.{Gives};
     ghost use Rattle.std.specs.Prelude.{Ok};
 
-    /// What parts values, if anything of it stands here.
+    /// What separates values, if any of it is here.
     fn separators(&mut self) -> Result<(), Failure<'t>>
         ensures { Gives (λ _. self.new) result (Ok (separators_part self.old)) }
     {
@@ -40,7 +40,7 @@ impl<'t> Reader<'t> {
         self.more_values()
     }
 
-    /// `=` or `+=`, one of which stands here.
+    /// `=` or `+=`, one of which is here.
     fn operator(&mut self) -> Result<(), Failure<'t>>
         ensures { Gives (λ _. self.new) result (Ok (operator_part self.old)) }
     {
@@ -51,7 +51,7 @@ impl<'t> Reader<'t> {
         }
     }
 
-    /// An assignment, which stands here.
+    /// An assignment, which is here.
     #[tactic(auto, unfolding(crate::specs::Assignments::assignment_part))]
     pub(crate) fn assignment(&mut self) -> Result<(), Failure<'t>>
         ensures { Gives (λ _. self.new) result (assignment_part self.old) }

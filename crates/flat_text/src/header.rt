@@ -1,4 +1,4 @@
-//! What stands before the rules of a profile, of a child or of a hat.
+//! What comes before the rules of a profile, of a child or of a hat.
 
 use crate::part::PartKind;
 use crate::reader::{Reader, failure_here, within_quotes};
@@ -11,7 +11,7 @@ impl<'t> Reader<'t> {
     ghost use Rattle.flat_text.specs.Headers.{flags_to, condition_part, attachment_part, head_rest, named_head, profile_head, hat_head, caret_head};
     ghost use Rattle.flat_words.specs.Gives.{Gives};
 
-    /// The flags up to these bytes, of which each has to be known.
+    /// The flags up to these bytes, each of which must be known.
     fn flags_to(&mut self, rest: &[u8]) -> Result<(), Failure<'t>>
         ensures { Gives (λ _. self.new) result (flags_to rest.now self.old) }
     {
@@ -23,7 +23,7 @@ impl<'t> Reader<'t> {
         }
     }
 
-    /// Extended attributes or flags, if they stand here.
+    /// Extended attributes or flags, if they are here.
     fn condition(&mut self) -> Result<(), Failure<'t>>
         ensures { Gives (λ _. self.new) result (condition_part self.old) }
     {
@@ -39,7 +39,7 @@ impl<'t> Reader<'t> {
         }
     }
 
-    /// An attachment, if one stands here. One that begins with a colon would be the name of a namespace.
+    /// An attachment, if one is here. One that begins with a colon would be the name of a namespace.
     fn attachment(&mut self) -> Result<(), Failure<'t>>
         ensures { Gives (λ _. self.new) result (attachment_part self.old) }
     {
@@ -53,7 +53,7 @@ impl<'t> Reader<'t> {
         }
     }
 
-    /// What stands behind the name and the attachment, up to the brace.
+    /// What follows the name and the attachment, up to the brace.
     #[tactic(auto, unfolding(crate::specs::Headers::head_rest))]
     fn head_rest(&mut self) -> Result<(), Failure<'t>>
         ensures { Gives (λ _. self.new) result (head_rest self.old) }
@@ -65,7 +65,7 @@ impl<'t> Reader<'t> {
         self.literal(PartKind::Open, b"{")
     }
 
-    /// A name and what stands behind it, up to the brace.
+    /// A name and what follows it, up to the brace.
     #[tactic(auto, unfolding(crate::specs::Headers::named_head))]
     pub(crate) fn named_head(&mut self) -> Result<(), Failure<'t>>
         ensures { Gives (λ _. self.new) result (named_head self.old) }
@@ -77,7 +77,7 @@ impl<'t> Reader<'t> {
         self.head_rest()
     }
 
-    /// `profile NAME`, whose first word stands here.
+    /// `profile NAME`, whose first word is here.
     pub(crate) fn profile_head(&mut self) -> Result<(), Failure<'t>>
         ensures { Gives (λ _. self.new) result (profile_head self.old) }
     {
@@ -86,7 +86,7 @@ impl<'t> Reader<'t> {
         self.named_head()
     }
 
-    /// `hat NAME`, whose first word stands here.
+    /// `hat NAME`, whose first word is here.
     pub(crate) fn hat_head(&mut self) -> Result<(), Failure<'t>>
         ensures { Gives (λ _. self.new) result (hat_head self.old) }
     {
@@ -95,7 +95,7 @@ impl<'t> Reader<'t> {
         self.named_head()
     }
 
-    /// `^NAME`, whose first byte stands here.
+    /// `^NAME`, whose first byte is here.
     pub(crate) fn caret_head(&mut self) -> Result<(), Failure<'t>>
         ensures { Gives (λ _. self.new) result (caret_head self.old) }
     {

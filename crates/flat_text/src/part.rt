@@ -6,7 +6,7 @@ use std::marker::Model;
 /// What a part of a text is there for.
 #[derive(Clone, Copy, Debug, PartialEq, Eq)]
 pub enum PartKind {
-    /// White and comments.
+    /// White space and comments.
     Blank,
     /// `@{NAME}` before an operator.
     Variable,
@@ -14,11 +14,11 @@ pub enum PartKind {
     Equals,
     /// `+=`
     Adds,
-    /// What parts the values of a variable.
+    /// What separates the values of a variable.
     Separator,
     /// A word that is a value of a variable.
     Value,
-    /// A whole statement, or what stands behind its qualifiers.
+    /// A whole statement, or what follows its qualifiers.
     Statement,
     /// The word `profile`.
     Profile,
@@ -60,7 +60,7 @@ pub enum PartKind {
     Path,
     /// The letters of a rule's permissions.
     Permissions,
-    /// `->` and the word behind it.
+    /// `->` and the word after it.
     Arrow,
     /// The comma that ends a file rule.
     Comma,
@@ -69,7 +69,7 @@ pub enum PartKind {
 /// What an item of a text is.
 #[derive(Clone, Copy, Debug, PartialEq, Eq)]
 pub enum ItemKind {
-    /// White and comments.
+    /// White space and comments.
     Blank,
     /// An assignment to a variable.
     Assignment,

@@ -25,7 +25,7 @@ impl<'t> Model for Reader<'t> {
     ghost view = { λ r. record { parts = r.parts.items; rest = r.rest.now } };
 }
 
-/// What stands here, behind a quote if one does.
+/// What is here, after a quote if there is one.
 pub(crate) fn within_quotes(bytes: &[u8]) -> &[u8]
     ensures { result.now ≡ within_quotes bytes.now }
 {
@@ -35,14 +35,14 @@ pub(crate) fn within_quotes(bytes: &[u8]) -> &[u8]
     }
 }
 
-/// Whether no bare name begins so.
+/// Whether no bare name begins like this.
 fn begins_no_name(bytes: &[u8]) -> bool
     ensures { result ≡ begins begins_no_name bytes.now }
 {
     matches!(bytes, [b'{' | b'}' | b',' | b'(', ..])
 }
 
-/// The fault at the first of these bytes, as why something was not read.
+/// The fault at the first of these bytes, as the reason why something was not read.
 pub(crate) fn failure_here<'t>(kind: StopKind<'t>, bytes: &[u8]) -> Failure<'t>
     ensures { result ≡ Failure.At (record { kind = kind.entry; left = length bytes.now }) }
 {
@@ -75,7 +75,7 @@ impl<'t> Reader<'t> {
         (self.parts, self.rest)
     }
 
-    /// So many bytes are a part more, unless there are none.
+    /// Takes `count` bytes as a part, unless there are none.
     pub(crate) fn take(&mut self, kind: PartKind, count: usize) -> Result<(), Failure<'t>>
         ensures { Gives (λ _. self.new) result (Ok (taken kind count self.old)) }
     {
@@ -87,14 +87,14 @@ impl<'t> Reader<'t> {
         Ok(())
     }
 
-    /// The bytes before these, with which what is left ends, are a part more.
+    /// Takes as a part the bytes before `rest`, with which what is left ends.
     pub(crate) fn take_to(&mut self, kind: PartKind, rest: &[u8]) -> Result<(), Failure<'t>>
         ensures { Gives (λ _. self.new) result (Ok (taken_to kind rest.now self.old)) }
     {
         self.take(kind, self.rest.len().saturating_sub(rest.len()))
     }
 
-    /// White and comments, if any stand here.
+    /// White space and comments, if any are here.
     pub(crate) fn blank(&mut self) -> Result<(), Failure<'t>>
         ensures { Gives (λ _. self.new) result (blank_part self.old) }
     {
@@ -102,7 +102,7 @@ impl<'t> Reader<'t> {
         self.take_to(PartKind::Blank, rest)
     }
 
-    /// The same, where at least one byte of it has to stand.
+    /// The same, where at least one byte of it is required.
     pub(crate) fn gap(&mut self) -> Result<(), Failure<'t>>
         ensures { Gives (λ _. self.new) result (gap_part self.old) }
     {
@@ -143,7 +143,7 @@ impl<'t> Reader<'t> {
         }
     }
 
-    /// A word that is a name: some bytes. One that begins with a colon would be of a namespace.
+    /// A word that is a name: at least one byte. One that begins with a colon would be of a namespace.
     pub(crate) fn name(&mut self, kind: PartKind) -> Result<(), Failure<'t>>
         ensures { Gives (λ _. self.new) result (name_part kind self.old) }
     {

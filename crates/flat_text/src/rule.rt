@@ -16,21 +16,21 @@ use flat_words::{
 };
 use names::Permission;
 
-/// The word that stands here is not supported.
+/// The word here is not supported.
 pub(crate) fn word_left_out(bytes: &[u8]) -> Stop<'_>
     ensures { stop_value result ≡ record { kind = left_out (word bytes.now); left = length bytes.now } }
 {
     fault_here(StopKind::LeftOut(letter_word(bytes)), bytes)
 }
 
-/// Whether an arrow stands here.
+/// Whether an arrow is here.
 fn is_arrow(bytes: &[u8]) -> bool
     ensures { result ≡ is_arrow bytes.now }
 {
     bytes.starts_with(b"->")
 }
 
-/// The permissions that stand here, of a rule that denies or not. Letters that are none are the fault `unknown`.
+/// The permissions here, of a rule that denies or not. Letters that are no permissions are the fault `unknown`.
 fn permissions_word<'t>(
     denies: bool,
     unknown: Stop<'t>,
@@ -61,7 +61,7 @@ impl<'t> Reader<'t> {
     ghost use Rattle.flat_text.specs.Rules.{optional_word, optional_choice, permissions_part, target_part, comma_part, rule_end, path_first, permissions_first, body_part, guarded_body, file_rule, link_rule, unqualified_item, rule_item};
     ghost use Rattle.flat_words.specs.Gives.{Gives};
 
-    /// This word and the blank behind it, if it stands here.
+    /// This word and the blank after it, if it is here.
     fn optional_word(&mut self, kind: PartKind, name: &[u8]) -> Result<(), Failure<'t>>
         ensures { Gives (λ _. self.new) result (optional_word kind name.now self.old) }
     {
@@ -72,7 +72,7 @@ impl<'t> Reader<'t> {
         self.blank()
     }
 
-    /// `allow` or `deny` and the blank behind it, if one stands here.
+    /// `allow` or `deny` and the blank after it, if one is here.
     fn allow_or_deny(&mut self) -> Result<(), Failure<'t>>
         ensures { Gives (λ _. self.new) result (optional_choice PartKind.Allow (codes "allow") PartKind.Deny (codes "deny") self.old) }
     {
@@ -83,7 +83,7 @@ impl<'t> Reader<'t> {
         }
     }
 
-    /// `owner` or `other` and the blank behind it, if one stands here.
+    /// `owner` or `other` and the blank after it, if one is here.
     fn owner_or_other(&mut self) -> Result<(), Failure<'t>>
         ensures { Gives (λ _. self.new) result (optional_choice PartKind.Owner (codes "owner") PartKind.Other (codes "other") self.old) }
     {
@@ -94,7 +94,7 @@ impl<'t> Reader<'t> {
         }
     }
 
-    /// `safe` or `unsafe` and the blank behind it, if one stands here.
+    /// `safe` or `unsafe` and the blank after it, if one is here.
     fn safe_or_unsafe(&mut self) -> Result<(), Failure<'t>>
         ensures { Gives (λ _. self.new) result (optional_choice PartKind.Safe (codes "safe") PartKind.Unsafe (codes "unsafe") self.old) }
     {
@@ -105,14 +105,14 @@ impl<'t> Reader<'t> {
         }
     }
 
-    /// The letters of permissions, which stand here.
+    /// The letters of permissions, which are here.
     fn permissions(&mut self) -> Result<(), Failure<'t>>
         ensures { Gives (λ _. self.new) result (Ok (permissions_part self.old)) }
     {
         self.take(PartKind::Permissions, letter_word(self.rest()).len())
     }
 
-    /// An arrow, which stands here, and the word behind it: one part.
+    /// An arrow, which is here, and the word after it: one part.
     fn target(&mut self) -> Result<(), Failure<'t>>
         ensures { Gives (λ _. self.new) result (target_part self.old) }
     {
@@ -131,7 +131,7 @@ impl<'t> Reader<'t> {
         self.literal(PartKind::Comma, b",")
     }
 
-    /// What stands behind path and permissions: an arrow, if one is there, and the comma.
+    /// What follows path and permissions: an arrow, if there is one, and the comma.
     #[tactic(auto, unfolding(crate::specs::Rules::rule_end))]
     fn rule_end(&mut self) -> Result<(), Failure<'t>>
         ensures { Gives (λ _. self.new) result (rule_end self.old) }
@@ -143,7 +143,7 @@ impl<'t> Reader<'t> {
         self.comma()
     }
 
-    /// A rule from its path on, where that stands first.
+    /// A rule from its path on, where that comes first.
     #[tactic(auto, unfolding(crate::specs::Rules::path_first))]
     fn path_first(&mut self, denies: bool) -> Result<(), Failure<'t>>
         ensures { Gives (λ _. self.new) result (path_first denies self.old) }
@@ -160,7 +160,7 @@ impl<'t> Reader<'t> {
         self.rule_end()
     }
 
-    /// A rule from its permissions on, where these stand first.
+    /// A rule from its permissions on, where these come first.
     #[tactic(auto, unfolding(crate::specs::Rules::permissions_first))]
     fn permissions_first(&mut self, denies: bool) -> Result<(), Failure<'t>>
         ensures { Gives (λ _. self.new) result (permissions_first denies self.old) }
@@ -182,7 +182,7 @@ impl<'t> Reader<'t> {
         self.rule_end()
     }
 
-    /// A rule's path and permissions, in either order, and what stands behind them.
+    /// A rule's path and permissions, in either order, and what follows them.
     #[tactic(auto, unfolding(crate::specs::Rules::body_part))]
     fn body(&mut self, denies: bool) -> Result<(), Failure<'t>>
         ensures { Gives (λ _. self.new) result (body_part denies self.old) }
@@ -196,7 +196,7 @@ impl<'t> Reader<'t> {
         }
     }
 
-    /// The same behind `safe` or `unsafe`, if one stands here.
+    /// The same after `safe` or `unsafe`, if one is here.
     fn guarded_body(&mut self, denies: bool) -> Result<(), Failure<'t>>
         ensures { Gives (λ _. self.new) result (guarded_body denies self.old) }
     {
@@ -204,7 +204,7 @@ impl<'t> Reader<'t> {
         self.body(denies)
     }
 
-    /// A rule from the word `file` on, which stands here. So many bytes are left from the word `deny` on.
+    /// A rule from the word `file` on, which is here. `from_deny` bytes are left from the word `deny` on.
     #[tactic(auto, unfolding(crate::specs::Rules::file_rule))]
     fn file_rule(&mut self, denies: bool, from_deny: usize) -> Result<(), Failure<'t>>
         ensures { Gives (λ _. self.new) result (file_rule denies from_deny self.old) }
@@ -223,7 +223,7 @@ impl<'t> Reader<'t> {
         self.guarded_body(denies)
     }
 
-    /// A rule from the word `link` on, which stands here.
+    /// A rule from the word `link` on, which is here.
     #[tactic(auto, unfolding(crate::specs::Rules::link_rule))]
     fn link_rule(&mut self) -> Result<(), Failure<'t>>
         ensures { Gives (λ _. self.new) result (link_rule self.old) }
@@ -240,7 +240,7 @@ impl<'t> Reader<'t> {
         self.comma()
     }
 
-    /// What stands behind the qualifiers, one of which denies or not; so many bytes are left from that one on.
+    /// What follows the qualifiers, one of which denies or not; `from_deny` bytes are left from that one on.
     #[tactic(auto, unfolding(crate::specs::Rules::unqualified_item))]
     fn unqualified_item(&mut self, denies: bool, from_deny: usize) -> Result<ItemKind, Failure<'t>>
         ensures { Gives (λ kind. (kind, self.new)) result (unqualified_item denies from_deny self.old) }

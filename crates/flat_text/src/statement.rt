@@ -16,7 +16,7 @@ impl<'t> Reader<'t> {
         self.take_to(PartKind::Statement, rest)
     }
 
-    /// `$NAME = WORD`, whose `$` stands here.
+    /// `$NAME = WORD`, whose `$` is here.
     pub(crate) fn boolean(&mut self) -> Result<(), Failure<'t>>
         ensures { Gives (λ _. self.new) result (boolean_part self.old) }
     {

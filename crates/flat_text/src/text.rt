@@ -56,7 +56,7 @@ impl<'t> Reader<'t> {
         self.rule_item()
     }
 
-    /// What begins here outside of profiles, where one has begun before or not.
+    /// What begins here outside of profiles, whether or not one has begun before.
     #[tactic(auto, unfolding(crate::specs::Texts::outer_item))]
     fn outer_item(&mut self, begun: bool) -> Result<ItemKind, Failure<'t>>
         ensures { Gives (λ kind. (kind, self.new)) result (outer_item begun self.old) }
@@ -115,7 +115,7 @@ impl Position {
     ghost use Rattle.flat_text.specs.Texts.{behind_item, may_end};
     ghost use Rattle.flat_text.specs.inner.Counts.{max_count};
 
-    /// Where one is behind an item of this kind.
+    /// The position after an item of this kind.
     fn behind(self, kind: ItemKind) -> Position
         requires { self.depth < max_count }
         ensures { result ≡ behind_item kind self }
@@ -154,7 +154,7 @@ fn stop_at_end<'t>(position: Position) -> Option<Stop<'t>>
     })
 }
 
-/// What begins at the front of these bytes, which are some, and what is left after it.
+/// The item at the front of these bytes, which aren't empty, and what is left after it.
 fn next_item(
     alloc: Global,
     position: Position,
@@ -170,7 +170,7 @@ fn next_item(
     Ok((Item::new(kind, parts, taken), rest))
 }
 
-/// One item more.
+/// Adds an item.
 fn add<'t>(items: &mut Vec<Item<'t>>, item: Item<'t>) -> Result<(), NoMemory>
     ensures { IfOk result (λ _. items.new.items ≡ items.old.items ++ (item.entry ∷ [])) }
 {

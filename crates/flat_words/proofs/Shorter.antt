@@ -1,4 +1,4 @@
--- What is left behind a part of a text is shorter than what was there.
+-- What is left after a part of a text is shorter than what was there.
 use Rattle.std.proofs.Common.{◌≡◌, ℕ, zero, suc, ◌≤◌, ◌<◌, ◌-◌, ◌+◌, Bool, true, false, not, cond, List, [], ◌∷◌, ◌++◌, length, take, drop, Option, Some, None, Result, Ok, Err, refl, sym, ap, subst, ◌∙◌, ◌⊎◌, inl, inr, ◌==◌, eqb, eq-eqb, arith}
 use Rattle.std.specs.Prelude.{◌&&◌, ◌||◌, nat_eq, codes}
 use Rattle.std.specs.List.{starts_with}
@@ -17,7 +17,7 @@ use Rattle.flat_words.proofs.Steps.{bind_ok, chosen, ok_is, not_ok}
 
 -- ---- blanks
 
--- what is left ends the bytes, and what stands before it is blank
+-- what is left is the end of the bytes, and what precedes it is blank
 abbrev pub BlankBefore : Bool → List ℕ → List ℕ → Type 0
 BlankBefore comment bytes rest = (front : List ℕ) × (bytes ≡ front ++ rest) × (is_blank comment front ≡ true)
 
@@ -97,7 +97,7 @@ word_shorter (b ∷ bytes) rest e =
     less_or_same : (n m : ℕ) → n ≤ m → (n < m) ⊎ (n ≡ m)
     less_or_same n m h = elim (cases_lt n m) [ inl l ↦ inl l | inr g ↦ inr (omega (arith, g, h)) ]
 
--- what begins with a blank is shorter behind it
+-- bytes that begin with a blank are shorter after it
 blank_shorter : (comment : Bool) (bytes rest : List ℕ) → blank_at comment bytes ≡ Ok rest → length rest ≤ length bytes
 blank_shorter comment bytes rest e =
     let h = blank_before comment bytes rest e in
@@ -184,7 +184,7 @@ boolean_shorter bytes rest e =
 
 -- ---- assignments
 
--- white is blank
+-- whitespace is blank
 pub leading_white : (bytes : List ℕ) → is_blank false (leading is_white bytes) ≡ true
 leading_white [] = refl
 leading_white (b ∷ bytes) = at (is_white b) refl (leading_white bytes)

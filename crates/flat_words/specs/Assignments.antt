@@ -1,11 +1,11 @@
--- Where an assignment to a variable begins, and what parts its values (apparmor.d(5), "Variables").
+-- Where an assignment to a variable begins, and what separates its values (apparmor.d(5), "Variables").
 use Rattle.std.specs.Prelude.{ℕ, List, [], ◌∷◌, length, codes, Option, Some, None, Bool, true, false, not, ◌&&◌, ◌||◌, ◌==◌, if◌then◌else◌, drop, nat_eq}
 use Rattle.std.specs.List.{starts_with}
 use Rattle.rule_reader.specs.TextBytes.{begins, is_white}
 use Rattle.rule_reader.specs.ReadWords.{word, after_word, after}
 use Rattle.flat_words.specs.Statements.{is_space}
 
--- what is left after @{NAME}, if it stands here (125 is the closing brace)
+-- what is left after @{NAME}, if it is at the front (125 is the closing brace)
 abbrev pub past_use : List ℕ → Option (List ℕ)
 past_use bytes =
     if starts_with nat_eq bytes (codes "@{") && not (length (word (drop 2 bytes)) == 0) && begins (λ b. b == 125) (after_word (drop 2 bytes))
@@ -16,7 +16,7 @@ past_use bytes =
 abbrev pub is_operator : List ℕ → Bool
 is_operator bytes = starts_with nat_eq bytes (codes "=") || starts_with nat_eq bytes (codes "+=")
 
--- @{NAME}, white or none, and an operator
+-- @{NAME}, optional whitespace, and an operator
 abbrev pub is_assignment : List ℕ → Bool
 is_assignment bytes = elim (past_use bytes) [ Some rest ↦ is_operator (after is_white rest) | None ↦ false ]
 
@@ -24,7 +24,7 @@ is_assignment bytes = elim (past_use bytes) [ Some rest ↦ is_operator (after i
 abbrev pub is_separator : ℕ → Bool
 is_separator b = is_space b || b == 13
 
--- what parts values: these, and line feeds (10) with a backslash (92) before them
+-- what separates values: these, and line feeds (10) preceded by a backslash (92)
 abbrev pub past_separators : List ℕ → List ℕ
 past_separators [] = []
 past_separators (b ∷ []) = if is_separator b then [] else b ∷ []

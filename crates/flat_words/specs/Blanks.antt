@@ -1,8 +1,8 @@
--- White and comments.
+-- Whitespace and comments.
 use Rattle.std.specs.Prelude.{ℕ, List, [], ◌∷◌, Bool, true, false, not, ◌&&◌, ◌==◌, if◌then◌else◌}
 use Rattle.rule_reader.specs.TextBytes.{is_white, is_hash}
 
--- white and comments alone, within a comment or outside one
+-- only whitespace and comments, starting within a comment or outside one
 abbrev pub is_blank : Bool → List ℕ → Bool
 is_blank comment [] = true
 is_blank true (b ∷ bytes) = is_blank (not (b == 10)) bytes

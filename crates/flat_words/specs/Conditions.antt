@@ -1,4 +1,4 @@
--- What stands in the head of a profile besides its names: extended attributes and flags (apparmor.d(5), "Format").
+-- The contents of the head of a profile besides its names: extended attributes and flags (apparmor.d(5), "Format").
 use Rattle.std.specs.Prelude.{ℕ, List, [], ◌∷◌, codes, Result, Ok, Option, Some, None, Bool, true, false, not, ◌&&◌, ◌||◌, ◌==◌, if◌then◌else◌, find}
 use Rattle.rule_reader.specs.TextBytes.{is_white, is_quote, is_comma}
 use Rattle.rule_reader.specs.ReadWords.{leading, after}
@@ -7,8 +7,8 @@ use Rattle.flat_words.specs.Statements.{is_one_of, past_byte}
 
 -- ---- conditions: xattrs=( .. ), flags=( .. ), and flags without the word
 
--- behind an opening parenthesis, within quotes or not, and directly behind a backslash or not: what is left after the closing
--- one (41)
+-- after an opening parenthesis, within quotes or not, and directly after a backslash or not: what is left after the closing one
+-- (41)
 abbrev pub parentheses_at : Bool → Bool → List ℕ → Result (List ℕ) Stop
 parentheses_at quoted behind_backslash [] = syntax_here []
 parentheses_at quoted behind_backslash (b ∷ bytes) =
@@ -19,11 +19,11 @@ parentheses_at quoted behind_backslash (b ∷ bytes) =
 abbrev pub past_parentheses : List ℕ → Result (List ℕ) Stop
 past_parentheses bytes = past_byte 40 bytes >>= λ inside. parentheses_at false false inside
 
--- = (61) with white around it, and parentheses
+-- = (61), possibly surrounded by whitespace, and parentheses
 abbrev pub past_condition : List ℕ → Result (List ℕ) Stop
 past_condition bytes = past_byte 61 (after is_white bytes) >>= λ rest. past_parentheses (after is_white rest)
 
--- what flags are parted by, their parentheses among it
+-- what separates flags, including their parentheses
 abbrev pub parts_flags : ℕ → Bool
 parts_flags b = is_white b || is_comma b || b == 40 || b == 41
 
@@ -44,13 +44,13 @@ is_flag w = is_one_of allowing_flags w || is_one_of other_flags w
 abbrev pub is_flag_byte : ℕ → Bool
 is_flag_byte b = not (parts_flags b)
 
--- The flags of these bytes, directly behind what parts flags or not: one begins at each byte of a flag behind what parts them.
+-- The flags of these bytes, directly after a separator or not: one begins at each flag byte directly after a separator.
 abbrev pub flags_at : Bool → List ℕ → List (List ℕ)
 flags_at begins [] = []
 flags_at begins (b ∷ bytes) =
     if begins && is_flag_byte b then leading is_flag_byte (b ∷ bytes) ∷ flags_at false bytes else flags_at (parts_flags b) bytes
 
--- the flags of a list, with the word flags before it or without
+-- the flags of a list, with or without the word flags before it
 abbrev pub flags_of : List ℕ → List (List ℕ)
 flags_of bytes = flags_at true (after (λ b. not (b == 40)) bytes)
 

@@ -38,7 +38,7 @@ is_same_letter None (Some b) = false
 is_same_letter (Some a) None = false
 is_same_letter (Some a) (Some b) = a == b
 
--- The case of i doesn't count, nor that of u behind another letter.
+-- The case of i doesn't count, nor that of u after another letter.
 abbrev pub otherwise_letter : Option ℕ → ℕ → ℕ
 otherwise_letter change b = if to_ascii_lowercase b == 105 || is_letter_there change then to_ascii_lowercase b else b
 
@@ -49,7 +49,7 @@ is_same_mode m n = is_same_letter m.change n.change && is_same_letter m.otherwis
 abbrev pub inherits : ExecMode → Bool
 inherits m = is_same_letter m.otherwise (Some 105)
 
--- another mode than one before it
+-- the mode differs from one before it
 abbrev pub differs_from : ExecMode → Option ExecMode → Bool
 differs_from m None = false
 differs_from m (Some n) = not (is_same_mode m n)
@@ -77,8 +77,8 @@ with_letter l b =
     else option_map (λ p. record { perms = with_permission l.perms p; append = l.append; exec = l.exec; two_modes = l.two_modes; capitals = l.capitals || not (b == to_ascii_lowercase b) })
     (permission_of (to_ascii_lowercase b))
 
--- What was read once one letter more is: what the letters stand for, and the exec mode whose letters began. None where the
--- letter can't stand there.
+-- What was read after one more letter: what the letters stand for, and the exec mode whose letters began. None if the letter
+-- can't follow them.
 abbrev pub letter_step : Letters → ExecMode → ℕ → Option (Letters × ExecMode)
 letter_step l m b =
     if is_exec b then Some (with_mode l m, bare_mode)
@@ -87,7 +87,7 @@ letter_step l m b =
     else if is_bare m then option_map (λ n. (n, bare_mode)) (with_letter l b)
     else None
 
--- what these letters stand for, behind others; every mode ends with its x
+-- what these letters stand for, after others; every mode ends with its x
 abbrev pub letters_from : Letters → ExecMode → List ℕ → Option Letters
 letters_from l m [] = if is_bare m then Some l else None
 letters_from l m (b ∷ bytes) = elim (letter_step l m b) [ None ↦ None | Some x ↦ letters_from x.0 x.1 bytes ]
@@ -96,11 +96,11 @@ letters_from l m (b ∷ bytes) = elim (letter_step l m b) [ None ↦ None | Some
 unfoldable pub letters_of : List ℕ → Option Letters
 letters_of word = letters_from no_letters bare_mode word
 
--- an exec mode may stand in this rule: a bare x denies, any other mode allows
+-- the rule may have this exec mode: a bare x denies, any other mode allows
 abbrev pub mode_fits : Bool → Option ExecMode → Bool
 mode_fits denies None = true
 mode_fits denies (Some m) = if is_bare m then denies else not denies
 
--- no append beside write, and at most one exec mode, which fits
+-- no append together with write, and at most one exec mode, which fits
 abbrev pub are_fitting : Bool → Letters → Bool
 are_fitting denies l = not (l.append && has l.perms permissions.Write) && not l.two_modes && mode_fits denies l.exec

@@ -1,4 +1,4 @@
--- Statements: the rules of a profile that aren't about files (apparmor.d(5), "Format"). Where one ends.
+-- Statements, i.e. the rules of a profile that aren't about files (apparmor.d(5), "Format"), and where each ends.
 use Rattle.std.specs.Prelude.{ℕ, suc, ◌-◌, ◌+◌, List, [], ◌∷◌, length, codes, Result, Ok, Option, Some, None, Bool, true, false, not, ◌&&◌, ◌||◌, ◌==◌, if◌then◌else◌, drop, nat_eq}
 use Rattle.std.specs.List.{list_any, starts_with}
 use Rattle.std.specs.Str.{bytes_eq}
@@ -23,21 +23,21 @@ is_one_of words w = list_any (λ known. bytes_eq w known) words
 abbrev pub is_statement : List ℕ → Bool
 is_statement bytes = is_one_of statement_words (word bytes)
 
--- what stands behind a comma that ends a statement: white, #, a closing brace or the text's end
+-- what follows a comma that ends a statement: whitespace, #, a closing brace or the text's end
 abbrev pub ends_statement : List ℕ → Bool
 ends_statement [] = true
 ends_statement (b ∷ bytes) = is_white b || is_hash b || is_close_brace b
 
--- no parenthesis and no brace is open, and the statement goes on with plain bytes
+-- no parenthesis and no brace is open, and the statement continues with plain bytes
 abbrev pub nothing_open : Unclosed
 nothing_open = record { parentheses = 0; braces = 0; within = Plain }
 
--- the same parentheses and braces are open, and this is what the next byte stands in
+-- the same parentheses and braces are open, and this is the context of the next byte
 abbrev pub still : Unclosed → Within → Unclosed
 still unclosed within = record { parentheses = unclosed.parentheses; braces = unclosed.braces; within = within }
 
--- One byte that stands for itself, before others: what is open behind it. None where it ends the statement, which is at the
--- first comma outside of parentheses (40, 41), braces and quotes with the right byte behind it. One too many closes nothing.
+-- One byte that stands for itself, before others: what is open after it. None if it ends the statement, which is at the first
+-- comma outside of parentheses (40, 41), braces and quotes that the right byte follows. An unmatched closing one is a fault.
 abbrev pub plain_step : Unclosed → ℕ → List ℕ → Result (Option Unclosed) Stop
 plain_step unclosed b bytes =
     if b == 0 then syntax_here (b ∷ bytes)
@@ -53,8 +53,8 @@ plain_step unclosed b bytes =
     else if is_comma b && (unclosed.parentheses == 0) && (unclosed.braces == 0) && ends_statement bytes then Ok None
     else Ok (Some (still unclosed Plain))
 
--- One byte, wherever it stands. Behind white # opens a comment, which goes to the next LF; a backslash (92) goes with the byte
--- behind it; and quotes go to the next one that no backslash precedes, on one line.
+-- One byte, in any context. After whitespace # opens a comment, which extends to the next LF; a backslash (92) belongs with the
+-- byte after it; and quotes extend to the next one that no backslash precedes, on one line.
 abbrev pub statement_step : Unclosed → ℕ → List ℕ → Result (Option Unclosed) Stop
 statement_step unclosed b bytes = elim unclosed.within [
   | Plain ↦ plain_step unclosed b bytes
@@ -72,7 +72,7 @@ statement_step unclosed b bytes = elim unclosed.within [
       else Ok (Some (still unclosed (if b == 92 then QuotedBackslash else Quotes)))
 ]
 
--- what is left after a statement of which so much is open
+-- what is left after a statement of which this much is open
 abbrev pub statement_at : Unclosed → List ℕ → Result (List ℕ) Stop
 statement_at unclosed [] = syntax_here []
 statement_at unclosed (b ∷ bytes) = statement_step unclosed b bytes >>= λ next. elim next [ None ↦ Ok bytes | Some o ↦ statement_at o bytes ]
@@ -83,7 +83,7 @@ statement_at unclosed (b ∷ bytes) = statement_step unclosed b bytes >>= λ nex
 abbrev pub is_space : ℕ → Bool
 is_space b = b == 32 || b == 9
 
--- a word of letters, digits and _ stands here; what is left after it
+-- what is left after a word of letters, digits and _ at the front
 abbrev pub past_word : List ℕ → Result (List ℕ) Stop
 past_word bytes = if length (word bytes) == 0 then syntax_here bytes else Ok (after_word bytes)
 
@@ -91,7 +91,7 @@ past_word bytes = if length (word bytes) == 0 then syntax_here bytes else Ok (af
 abbrev pub past_byte : ℕ → List ℕ → Result (List ℕ) Stop
 past_byte b bytes = if begins (λ c. c == b) bytes then Ok (drop 1 bytes) else syntax_here bytes
 
--- = (61), and spaces before and behind it
+-- = (61), and spaces before and after it
 abbrev pub past_equals : List ℕ → Result (List ℕ) Stop
 past_equals bytes = past_byte 61 (after is_space bytes) >>= λ rest. Ok (after is_space rest)
 
@@ -100,6 +100,6 @@ abbrev pub past_boolean_name : List ℕ → Result (List ℕ) Stop
 past_boolean_name bytes =
     if begins is_open_brace bytes then (past_word (drop 1 bytes) >>= λ rest. past_byte 125 rest) else past_word bytes
 
--- behind the $
+-- after the $
 abbrev pub boolean_at : List ℕ → Result (List ℕ) Stop
 boolean_at bytes = past_boolean_name bytes >>= λ name. past_equals name >>= λ value. past_word value

@@ -1,4 +1,4 @@
--- A fault as code tells it, and as the definitions do.
+-- The code's faults as those of the definitions.
 use Rattle.std.specs.Prelude.{ℕ, List}
 use Rattle.flat_words.specs.declared.stop.Stop as told
 use Rattle.flat_words.specs.declared.stop.StopKind as told_kind

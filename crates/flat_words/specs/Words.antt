@@ -1,12 +1,12 @@
--- Blanks and words of a flattened text. What reads one answers the bytes behind it.
+-- Blanks and words of a flattened text. Reading one gives the bytes after it.
 use Rattle.std.specs.Prelude.{ℕ, List, [], ◌∷◌, length, codes, Result, Ok, Bool, true, false, not, ◌&&◌, ◌||◌, ◌==◌, if◌then◌else◌, drop, nat_eq}
 use Rattle.std.specs.List.{starts_with}
 use Rattle.rule_reader.specs.TextBytes.{begins, is_white, is_hash, is_include, is_quote, is_comma}
 use Rattle.flat_words.specs.Steps.{Stop, include, ◌>>=◌, fault_here, syntax_here}
 
--- ---- blanks: any run of white and comments
+-- ---- blanks: any run of whitespace and comments
 
--- Within a comment, or outside one. A comment goes to before the next LF or to the end.
+-- Within a comment, or outside one. A comment extends to before the next LF or to the end.
 abbrev pub blank_at : Bool → List ℕ → Result (List ℕ) Stop
 blank_at comment [] = Ok []
 blank_at true (b ∷ bytes) = blank_at (not (b == 10)) bytes
@@ -17,12 +17,12 @@ blank_at false (b ∷ bytes) =
 
 -- ---- words
 
--- what stands behind a comma that ends a bare word: white, a quote, a comma, ! or the text's end
+-- what follows a comma that ends a bare word: whitespace, a quote, a comma, ! or the text's end
 abbrev pub comma_ends : List ℕ → Bool
 comma_ends [] = true
 comma_ends (b ∷ bytes) = is_white b || is_quote b || is_comma b || b == 33
 
--- A bare word, directly behind a backslash or not: a backslash (92) goes with the byte behind it.
+-- A bare word, directly after a backslash or not: a backslash (92) belongs with the byte after it.
 abbrev pub bare_at : Bool → List ℕ → Result (List ℕ) Stop
 bare_at escaped [] = Ok []
 bare_at escaped (b ∷ bytes) =
@@ -30,7 +30,7 @@ bare_at escaped (b ∷ bytes) =
     else if not escaped && (is_white b || is_quote b || (is_comma b && comma_ends bytes)) then Ok (b ∷ bytes)
     else bare_at (not escaped && b == 92) bytes
 
--- The rest of a word in quotes, directly behind a backslash or not: up to the next quote that no backslash precedes.
+-- The rest of a word in quotes, directly after a backslash or not: up to the next quote that no backslash precedes.
 abbrev pub quoted_at : Bool → List ℕ → Result (List ℕ) Stop
 quoted_at behind_backslash [] = syntax_here []
 quoted_at behind_backslash (b ∷ bytes) =

@@ -1,4 +1,4 @@
-//! Where an assignment to a variable begins, and what parts its values.
+//! Where an assignment to a variable begins, and what separates its values.
 ghost use Rattle.std.specs.Prelude.{◌≡◌, option_map};
 ghost use Rattle.flat_words.specs.Assignments.{past_use, is_operator, is_assignment, is_separator, past_separators, line_ends};
 
@@ -6,7 +6,7 @@ use crate::bytes::is_space;
 use crate::condition::after_white;
 use crate::words::cut_word;
 
-/// What is left after `@{NAME}`, if it stands here.
+/// Returns what is left after `@{NAME}`, if it is at the front.
 pub fn after_use(bytes: &[u8]) -> Option<&[u8]>
     ensures { option_map (λ x. x.now) result ≡ past_use bytes.now }
 {
@@ -33,14 +33,14 @@ pub fn is_assignment(bytes: &[u8]) -> bool
     }
 }
 
-/// Space, tab and CR.
+/// Whether the byte is a space, a tab or a CR.
 fn is_separator(byte: u8) -> bool
     ensures { result ≡ is_separator byte }
 {
     is_space(byte) || byte == b'\r'
 }
 
-/// What is left after the spaces, the CRs and the escaped line feeds that part values.
+/// Returns what is left after the spaces, the tabs, the CRs and the escaped line feeds that separate values.
 pub fn after_separators(bytes: &[u8]) -> &[u8]
     ensures { result.now ≡ past_separators bytes.now }
 {

@@ -10,7 +10,7 @@ use crate::bytes::is_white;
 use crate::stop::{Stop, StopKind, fault_here};
 use crate::words::{is_one_of, past_byte};
 
-/// What is left after the closing parenthesis, where the opening one was read.
+/// Returns what is left after the closing parenthesis; the opening one was already read.
 fn after_inside(bytes: &[u8]) -> Result<&[u8], Stop<'_>>
     ensures { Reads (λ x. x.now) result (parentheses_at false false bytes.now) }
 {
@@ -31,14 +31,14 @@ fn after_inside(bytes: &[u8]) -> Result<&[u8], Stop<'_>>
     Err(fault_here(StopKind::Syntax, rest))
 }
 
-/// What is left after parentheses.
+/// Returns what is left after parentheses.
 pub fn after_parentheses(bytes: &[u8]) -> Result<&[u8], Stop<'_>>
     ensures { Reads (λ x. x.now) result (past_parentheses bytes.now) }
 {
     after_inside(past_byte(b'(', bytes)?)
 }
 
-/// What is left after any white.
+/// Returns what is left after any whitespace.
 pub fn after_white(bytes: &[u8]) -> &[u8]
     ensures { result.now ≡ after is_white bytes.now }
 {
@@ -51,7 +51,7 @@ pub fn after_white(bytes: &[u8]) -> &[u8]
     rest
 }
 
-/// What is left after `=`, with white around it, and parentheses.
+/// Returns what is left after `=`, possibly surrounded by whitespace, and parentheses.
 pub fn after_condition(bytes: &[u8]) -> Result<&[u8], Stop<'_>>
     ensures { Reads (λ x. x.now) result (past_condition bytes.now) }
 {
@@ -59,17 +59,17 @@ pub fn after_condition(bytes: &[u8]) -> Result<&[u8], Stop<'_>>
     after_parentheses(after_white(rest))
 }
 
-/// Whether the byte parts flags.
+/// Whether the byte separates flags.
 fn parts_flags(byte: u8) -> bool
     ensures { result ≡ parts_flags byte }
 {
     is_white(byte) || matches!(byte, b',' | b'(' | b')')
 }
 
-/// Flags by which what no rule allows is allowed.
+/// The flags that allow what no rule allows.
 const ALLOWING_FLAGS: [&str; 4] = ["complain", "unconfined", "default_allow", "prompt"];
 
-/// Flags by which that isn't so.
+/// The flags that don't.
 const OTHER_FLAGS: [&str; 11] = [
     "enforce",
     "kill",
@@ -84,7 +84,7 @@ const OTHER_FLAGS: [&str; 11] = [
     "chroot_no_attach",
 ];
 
-/// Whether by the flag what no rule allows is allowed.
+/// Whether the flag allows what no rule allows.
 pub fn is_allowing_flag(word: &[u8]) -> bool
     ensures { result ≡ is_one_of allowing_flags word.now }
 {
@@ -98,7 +98,7 @@ fn is_flag(word: &[u8]) -> bool
     is_allowing_flag(word) || is_one_of(&OTHER_FLAGS, word)
 }
 
-/// What stands from the first opening parenthesis on.
+/// Returns the bytes from the first opening parenthesis on.
 fn from_parenthesis(bytes: &[u8]) -> &[u8]
     ensures { result.now ≡ after (λ b. not (b == 40)) bytes.now }
 {
@@ -111,7 +111,7 @@ fn from_parenthesis(bytes: &[u8]) -> &[u8]
     rest
 }
 
-/// How many bytes of a flag stand at the front.
+/// Returns the number of flag bytes at the front.
 fn flag_length(bytes: &[u8]) -> usize
     ensures { result ≡ length (leading is_flag_byte bytes.now) }
 {
@@ -122,7 +122,7 @@ fn flag_length(bytes: &[u8]) -> usize
     length
 }
 
-/// The flag that stands at the front.
+/// Returns the flag at the front.
 #[tactic(auto, using(crate::proofs::Runs::leading_cut))]
 fn flag_here(bytes: &[u8]) -> &[u8]
     ensures { result.now ≡ leading is_flag_byte bytes.now }
@@ -130,7 +130,7 @@ fn flag_here(bytes: &[u8]) -> &[u8]
     bytes.split_at(flag_length(bytes)).0
 }
 
-/// The first flag of a list that is not known.
+/// Returns the first unknown flag of a list.
 pub fn unknown_flag(bytes: &[u8]) -> Option<&[u8]>
     ensures { option_map (λ w. w.now) result ≡ unknown_flag bytes.now }
 {

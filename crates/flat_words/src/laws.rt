@@ -1,4 +1,4 @@
-//! Laws of what reading answers. The functions do nothing: each stands for its contract.
+//! Laws of the results of reading. The functions do nothing: each exists for its contract.
 ghost use Rattle.std.specs.Prelude.{◌≡◌, ℕ, List, Result, Ok};
 ghost use Rattle.flat_words.specs.declared.stop.Failure.TheVariants as failures;
 ghost use Rattle.flat_words.specs.declared.stop.Stop as told;
@@ -6,7 +6,7 @@ ghost use Rattle.flat_words.specs.Gives.{Fails, Gives, Reads};
 ghost use Rattle.flat_words.specs.Steps.{Stop};
 ghost use Rattle.flat_words.specs.Stops.{stop_value};
 
-/// A reading has one answer, refused memory aside: one value, or one fault at one place, and no fault where there is a value.
+/// A reading has one result, apart from failed allocations: one value, or one fault at one place, and no fault if there is a value.
 pub fn readings_have_one_answer()
     ensures value { (read : Result (List ℕ) Stop) (one other : List ℕ) →
         Reads (λ x. x) (Ok one) read → Reads (λ x. x) (Ok other) read → one ≡ other }

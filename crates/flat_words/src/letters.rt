@@ -16,7 +16,7 @@ pub struct ExecMode {
 /// What the letters of a rule's permissions stand for.
 #[derive(Clone, Copy, Debug, PartialEq, Eq)]
 pub struct Letters {
-    /// Those of r, w, l, k and m, where a mode with `i` counts as `m` too.
+    /// Those of r, w, l, k and m; a mode with `i` also counts as `m`.
     pub perms: Perms,
     /// The letter `a`.
     pub append: bool,
@@ -24,25 +24,25 @@ pub struct Letters {
     pub exec: Option<ExecMode>,
     /// There are two exec modes that differ.
     pub two_modes: bool,
-    /// Some of r, w, a, l, k and m is written in upper case.
+    /// Any of r, w, a, l, k and m is written in upper case.
     pub capitals: bool,
 }
 
-/// `p` or `c`, in either case.
+/// Whether the byte is `p` or `c`, in either case.
 fn is_change(byte: u8) -> bool
     ensures { result ≡ is_change byte }
 {
     matches!(byte.to_ascii_lowercase(), b'p' | b'c')
 }
 
-/// `i` or `u`, in either case.
+/// Whether the byte is `i` or `u`, in either case.
 fn is_otherwise(byte: u8) -> bool
     ensures { result ≡ is_otherwise byte }
 {
     matches!(byte.to_ascii_lowercase(), b'i' | b'u')
 }
 
-/// The case of `i` doesn't count, nor that of `u` behind another letter.
+/// The case of `i` doesn't count, nor that of `u` after another letter.
 fn otherwise_letter(change: Option<u8>, byte: u8) -> u8
     ensures { result ≡ otherwise_letter change byte }
 {
@@ -64,7 +64,7 @@ impl ExecMode {
         otherwise: None,
     };
 
-    /// Whether no letter stands before the `x`.
+    /// Whether no letter precedes the `x`.
     pub fn is_bare(self) -> bool
         ensures { result ≡ is_bare self }
     {
@@ -78,7 +78,7 @@ impl ExecMode {
         self.otherwise == Some(b'i')
     }
 
-    /// Whether this is another mode than one before it.
+    /// Whether this differs from a mode before it.
     fn differs_from(self, before: Option<ExecMode>) -> bool
         ensures { result ≡ differs_from self before }
     {
@@ -103,7 +103,7 @@ impl Letters {
         }
     }
 
-    /// One exec mode more.
+    /// Returns the letters with one more exec mode.
     fn with_mode(self, mode: ExecMode) -> Letters
         ensures { result ≡ with_mode self mode }
     {
@@ -120,7 +120,7 @@ impl Letters {
         }
     }
 
-    /// One letter more that is of no exec mode, if this is one.
+    /// Returns the letters with one more letter that belongs to no exec mode, if this is one.
     fn with_letter(self, byte: u8) -> Option<Letters>
         ensures { result ≡ with_letter self byte }
     {
@@ -151,7 +151,7 @@ impl Letters {
         }
     }
 
-    /// Whether a rule that denies or not may have these letters: no append beside write, and at most one exec mode, which
+    /// Whether a rule that denies or not may have these letters: no append together with write, and at most one exec mode, which
     /// fits.
     pub fn are_fitting(self, denies: bool) -> bool
         ensures { result ≡ are_fitting denies self }
@@ -162,7 +162,7 @@ impl Letters {
     }
 }
 
-/// One letter more, behind some and behind the letters of an exec mode that began. None where it can't stand there.
+/// Adds one letter after these letters and those of an exec mode that began. `None` if it can't follow them.
 fn letter_step(letters: Letters, mode: ExecMode, byte: u8) -> Option<(Letters, ExecMode)>
     ensures { result ≡ letter_step letters mode byte }
 {
@@ -188,7 +188,7 @@ fn letter_step(letters: Letters, mode: ExecMode, byte: u8) -> Option<(Letters, E
     Some((letters.with_letter(byte)?, ExecMode::BARE))
 }
 
-/// The letters of a word. None where it is no word of permissions.
+/// Returns the letters of a word, or `None` if it is no word of permissions.
 #[tactic(auto, unfolding(crate::specs::Letters::letters_of))]
 pub fn letters_of(word: &[u8]) -> Option<Letters>
     ensures { result ≡ letters_of word.now }

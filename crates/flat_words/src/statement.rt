@@ -1,4 +1,4 @@
-//! Statements: rules that aren't about files. Where each ends.
+//! Statements, i.e. rules that aren't about files, and where each ends.
 ghost use Rattle.std.specs.Prelude.{◌≡◌, ◌≤◌, ◌+◌, ◌∷◌, length, IfOk, IfSome};
 ghost use Rattle.flat_words.specs.inner.Counts.{max_count, OpensAtMostOne};
 ghost use Rattle.flat_words.specs.Statements.{is_statement, ends_statement, nothing_open, still, plain_step, statement_step, statement_at, past_equals, past_boolean_name, boolean_at};
@@ -37,21 +37,21 @@ pub fn is_statement(bytes: &[u8]) -> bool
     is_one_of(&STATEMENT_WORDS, letter_word(bytes))
 }
 
-/// What a byte of a statement stands in.
+/// The context of a byte of a statement.
 #[derive(Clone, Copy)]
 pub(crate) enum Within {
     Plain,
-    /// Behind white.
+    /// After whitespace.
     White,
-    /// Behind a backslash.
+    /// After a backslash.
     Backslash,
     Quotes,
-    /// In quotes, behind a backslash.
+    /// In quotes, after a backslash.
     QuotedBackslash,
     Comment,
 }
 
-/// What of a statement is open at some place.
+/// What is open in a statement at some place.
 #[derive(Clone, Copy)]
 pub(crate) struct Unclosed {
     parentheses: usize,
@@ -63,7 +63,7 @@ impl Unclosed {
     ghost use Rattle.std.specs.Prelude.{◌≡◌, ◌<◌};
     ghost use Rattle.flat_words.specs.Statements.{still};
 
-    /// The same with another place of the next byte.
+    /// Returns the same with another context for the next byte.
     fn still(self, within: Within) -> Unclosed
         ensures { result ≡ still self within }
     {
@@ -71,7 +71,7 @@ impl Unclosed {
     }
 }
 
-/// Whether what stands behind a comma has it end a statement.
+/// Whether a comma followed by these bytes ends a statement.
 fn ends_statement(behind: &[u8]) -> bool
     ensures { result ≡ ends_statement behind.now }
 {
@@ -81,7 +81,7 @@ fn ends_statement(behind: &[u8]) -> bool
     }
 }
 
-/// What is open behind the first of these bytes, which stands for itself. None where it ends the statement.
+/// Returns what is open after the first of these bytes, which stands for itself. `None` if it ends the statement.
 fn plain_step<'t>(
     unclosed: Unclosed,
     byte: u8,
@@ -125,7 +125,7 @@ fn plain_step<'t>(
     Ok(Some(next))
 }
 
-/// What is open behind a byte, wherever it stands, the first of the bytes `from`. None where it ends the statement.
+/// Returns what is open after a byte in any context, the first of the bytes `from`. `None` if it ends the statement.
 fn statement_step<'t>(
     unclosed: Unclosed,
     byte: u8,
@@ -161,7 +161,7 @@ fn statement_step<'t>(
     Ok(Some(unclosed.still(within)))
 }
 
-/// What is left after a statement.
+/// Returns what is left after a statement.
 pub fn after_statement(bytes: &[u8]) -> Result<&[u8], Stop<'_>>
     ensures { Reads (λ x. x.now) result (statement_at nothing_open bytes.now) }
 {
@@ -181,7 +181,7 @@ pub fn after_statement(bytes: &[u8]) -> Result<&[u8], Stop<'_>>
     Err(fault_here(StopKind::Syntax, rest))
 }
 
-/// What is left after space and tab.
+/// Returns what is left after spaces and tabs.
 fn after_spaces(bytes: &[u8]) -> &[u8]
     ensures { result.now ≡ after is_space bytes.now }
 {
@@ -194,7 +194,7 @@ fn after_spaces(bytes: &[u8]) -> &[u8]
     rest
 }
 
-/// What is left after `=` and the spaces before and behind it.
+/// Returns what is left after `=` and the spaces before and after it.
 fn after_equals(bytes: &[u8]) -> Result<&[u8], Stop<'_>>
     ensures { Reads (λ x. x.now) result (past_equals bytes.now) }
 {
@@ -202,7 +202,7 @@ fn after_equals(bytes: &[u8]) -> Result<&[u8], Stop<'_>>
     Ok(after_spaces(rest))
 }
 
-/// What is left after `NAME` or `{NAME}`.
+/// Returns what is left after `NAME` or `{NAME}`.
 fn after_boolean_name(bytes: &[u8]) -> Result<&[u8], Stop<'_>>
     ensures { Reads (λ x. x.now) result (past_boolean_name bytes.now) }
 {
@@ -212,7 +212,7 @@ fn after_boolean_name(bytes: &[u8]) -> Result<&[u8], Stop<'_>>
     }
 }
 
-/// What is left of a boolean whose `$` was read.
+/// Returns what is left after a boolean whose `$` was read.
 pub fn after_boolean(bytes: &[u8]) -> Result<&[u8], Stop<'_>>
     ensures { Reads (λ x. x.now) result (boolean_at bytes.now) }
 {

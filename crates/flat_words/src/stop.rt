@@ -7,13 +7,13 @@ use std::alloc::{AllocError, AllocFailed};
 /// What is wrong with a text.
 #[derive(Clone, Copy, Debug)]
 pub enum StopKind<'t> {
-    /// The grammar doesn't go on so.
+    /// The grammar doesn't allow what follows.
     Syntax,
     /// An include: the text is not flattened.
     Include,
     /// A word, a byte or a flag that is not supported.
     LeftOut(&'t [u8]),
-    /// Letters that are no permissions, or none of this rule.
+    /// Letters that are no permissions, or not allowed in this rule.
     Permissions,
 }
 
@@ -24,10 +24,10 @@ pub struct Stop<'t> {
     pub left: usize,
 }
 
-/// Why something of a text was not read, where reading it takes memory.
+/// Why a part of a text was not read, if reading it allocates memory.
 #[derive(Drop)]
 pub enum Failure<'t> {
-    /// Memory was refused.
+    /// An allocation failed.
     NoMemory,
     /// The text has a fault.
     At(Stop<'t>),
@@ -57,7 +57,7 @@ impl<'t> From<Stop<'t>> for Failure<'t> {
     }
 }
 
-/// The fault at the first of these bytes.
+/// Returns the fault at the first of these bytes.
 pub fn fault_here<'t>(kind: StopKind<'t>, bytes: &[u8]) -> Stop<'t>
     ensures { result ≡ record { kind = kind.entry; left = length bytes.now } }
 {

@@ -10,7 +10,7 @@ ghost use Rattle.flat_words.specs.Words.{blank_at, comma_ends, bare_at, quoted_a
 use crate::bytes::{is_include, is_white};
 use crate::stop::{Stop, StopKind, fault_here};
 
-/// What is left after any white and comments.
+/// Returns what is left after any whitespace and comments.
 pub fn after_blank(bytes: &[u8]) -> Result<&[u8], Stop<'_>>
     ensures { Reads (λ x. x.now) result (blank_at false bytes.now) }
 {
@@ -39,7 +39,7 @@ pub fn begins_gap(bytes: &[u8]) -> bool
     matches!(bytes, [byte, ..] if is_white(*byte) || *byte == b'#')
 }
 
-/// Whether what stands behind a comma has it end a bare word.
+/// Whether a comma followed by these bytes ends a bare word.
 fn comma_ends(behind: &[u8]) -> bool
     ensures { result ≡ comma_ends behind.now }
 {
@@ -49,7 +49,7 @@ fn comma_ends(behind: &[u8]) -> bool
     }
 }
 
-/// What is left after a bare word.
+/// Returns what is left after a bare word.
 fn after_bare(bytes: &[u8]) -> Result<&[u8], Stop<'_>>
     ensures { Reads (λ x. x.now) result (bare_at false bytes.now) }
 {
@@ -69,7 +69,7 @@ fn after_bare(bytes: &[u8]) -> Result<&[u8], Stop<'_>>
     Ok(rest)
 }
 
-/// What is left after a word in quotes, of which the first was read.
+/// Returns what is left after a word in quotes; the opening quote was already read.
 fn after_quoted(bytes: &[u8]) -> Result<&[u8], Stop<'_>>
     ensures { Reads (λ x. x.now) result (quoted_at false bytes.now) }
 {
@@ -86,7 +86,7 @@ fn after_quoted(bytes: &[u8]) -> Result<&[u8], Stop<'_>>
     Err(fault_here(StopKind::Syntax, rest))
 }
 
-/// What is left after a word, in quotes or of at least one byte.
+/// Returns what is left after a word, in quotes or of at least one byte.
 #[tactic(auto, unfolding(crate::specs::Words::word_end))]
 pub fn after_word(bytes: &[u8]) -> Result<&[u8], Stop<'_>>
     ensures { Reads (λ x. x.now) result (word_end bytes.now) }
@@ -118,7 +118,7 @@ pub fn is_path(bytes: &[u8]) -> bool
     }
 }
 
-/// How many letters, digits and `_` stand at the front.
+/// Returns the number of letters, digits and `_` at the front.
 fn word_length(bytes: &[u8]) -> usize
     ensures { result ≡ length (leading is_word_byte bytes.now) }
 {
@@ -129,7 +129,7 @@ fn word_length(bytes: &[u8]) -> usize
     length
 }
 
-/// The word that stands here, which is letters, digits and `_` of which the first is a letter, and what is left after it.
+/// Returns the word at the front, of letters, digits and `_` beginning with a letter, and what is left after it.
 #[tactic(auto, using(crate::proofs::Runs::leading_cut))]
 pub fn cut_word(bytes: &[u8]) -> Option<(&[u8], &[u8])>
     ensures none { result ≡ None → word bytes.now ≡ [] }
@@ -141,7 +141,7 @@ pub fn cut_word(bytes: &[u8]) -> Option<(&[u8], &[u8])>
     }
 }
 
-/// The word that stands here, which is empty where none does.
+/// Returns the word at the front, or an empty one if there is none.
 pub fn letter_word(bytes: &[u8]) -> &[u8]
     ensures { result.now ≡ word bytes.now }
 {
@@ -163,14 +163,14 @@ pub fn is_one_of(words: &[&str], word: &[u8]) -> bool
     false
 }
 
-/// Whether this word stands here.
+/// Whether this word is at the front.
 pub fn is_word(wanted: &[u8], bytes: &[u8]) -> bool
     ensures { result ≡ is_word wanted.now bytes.now }
 {
     letter_word(bytes) == wanted
 }
 
-/// What is left after the word that stands here.
+/// Returns what is left after the word at the front.
 pub fn past_word(bytes: &[u8]) -> Result<&[u8], Stop<'_>>
     ensures { Reads (λ x. x.now) result (past_word bytes.now) }
 {
@@ -180,7 +180,7 @@ pub fn past_word(bytes: &[u8]) -> Result<&[u8], Stop<'_>>
     }
 }
 
-/// What is left after this byte.
+/// Returns what is left after this byte.
 pub fn past_byte(byte: u8, bytes: &[u8]) -> Result<&[u8], Stop<'_>>
     ensures { Reads (λ x. x.now) result (past_byte byte bytes.now) }
 {

@@ -80,7 +80,7 @@ kept_row chart old new set row kept is = record {
       );
 }
 
--- what stands in a list with one element more
+-- what is in a list with one more element
 module _ {X : Type 0} (xs : List X) (x d : X) where
   earlier : (i : ℕ) → i < length xs → slice_index_or (xs ++ x ∷ []) i d ≡ slice_index_or xs i d
   earlier i lt = get_or_append_left xs (x ∷ []) d i lt

@@ -18,7 +18,7 @@ get_left [] more i lt = absurd (omega (arith, lt))
 get_left (x ∷ xs) more zero lt = refl
 get_left (x ∷ xs) more (suc i) lt = get_left xs more i (omega (arith, lt))
 
--- behind the first list stands the one element more
+-- after the first list is the one additional element
 pub get_last : {X : Type 0} (xs : List X) (x : X) → slice_get (xs ++ x ∷ []) (length xs) ≡ Some x
 get_last [] x = refl
 get_last (y ∷ xs) x = get_last xs x
@@ -63,7 +63,7 @@ still_in new old e q agree (one_side _ _ first other _ h more) =
 still_in new old e q agree (other_side _ _ first other _ h more) =
     other_side new e first other q (agree e (slice_get_within old e _ h) ∙ h) (still_in new old other q agree more)
 
--- What is live behind a pattern counts by the numbers alone.
+-- What is live after a pattern counts by the numbers alone.
 pub starts_by : (g : Glob) (base : ℕ) (K L : Numbers) → ((q : ℕ) → K q → L q) → (q : ℕ) → Starts g base K q → Starts g base L q
 starts_by empty base K L f q h = f q h
 starts_by (one set) base K L f q h = h

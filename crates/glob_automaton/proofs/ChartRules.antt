@@ -28,7 +28,7 @@ RefersWithin chart = (p : ℕ) (place : ChartPlace) → slice_get chart.places.i
 abbrev pub end_place : ChartPlace
 end_place = record { takes = label.Nothing; behind = 0 }
 
--- a rule that stands in the chart stays when the chart grows
+-- a rule that is in the chart stays when the chart grows
 pub kept_rule : (old new : Chart) (rule : RuleValue) (d : ChartRule) → IsOrdered old.entries.items → RefersWithin old →
     Grows old.places.items new.places.items → Grows old.entries.items new.entries.items → Grows old.classes.items new.classes.items →
     HasRule old rule d → HasRule new rule d
@@ -54,7 +54,7 @@ kept_rule old new rule d ordered within more_places more_entries more_classes ha
           (λ u. was.0 (stays.0 u), λ u. stays.1 (was.1 u));
     }
 
--- the rules that stand in the chart, and one more
+-- the rules that are in the chart, and one more
 pub more_rules : (old new : Chart) (at : ℕ) (rules : List RuleValue) (ds : List ChartRule) (rule : RuleValue) (d : ChartRule) →
     ((r : RuleValue) (e : ChartRule) → HasRule old r e → HasRule new r e) → d.end ≡ length old.places.items → HasRule new rule d →
     length new.places.items ≡ length old.places.items + places (pattern rule) + 1 → HasRules old at rules ds →
@@ -65,7 +65,7 @@ more_rules old new at (r ∷ rules) [] rule d kept is has count h = absurd h
 more_rules old new at (r ∷ rules) (x ∷ ds) rule d kept is has count h =
     (h.0, kept r x h.1, more_rules old new (at + places (pattern r) + 1) rules ds rule d kept is has count h.2)
 
--- the rule that was drawn stands in the chart
+-- the rule that was drawn is in the chart
 pub new_rule : (s0 s2 s3 : Chart) (all : Vec ChartRule Global) (rule : RuleValue) (d : ChartRule) (last : ℕ) →
     s2.places.items ≡ s0.places.items ++ end_place ∷ [] → d.end ≡ length s0.places.items → d.kind ≡ rule.kind → d.perms ≡ rule.perms →
     ((q : ℕ) → IsIn s2.entries.items last q ↔ (q ≡ d.end)) → IsDrawn s2 s3 (pattern rule) last d.start → HasRule (with_rules s3 all) rule d

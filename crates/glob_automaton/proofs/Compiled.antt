@@ -205,7 +205,7 @@ module _ (first : LiveAtFirst) (after : LiveAfterByte) (by_steps : LeftFirst) (r
   not_built slashes TooManyStates h = too_many slashes h
   not_built slashes NoMemory h = tt
 
--- want of memory says nothing of the rules
+-- out of memory says nothing about the rules
 pub no_memory : {T : Type 0} (rules : List RuleValue) (r : Result T CompileFault) → IsErrAnd r (λ fault. fault ≡ NoMemory) → IfErr r (IsCompileFault rules)
 no_memory rules (Ok x) h = tt
 no_memory rules (Err fault) h = subst (IsCompileFault rules) (sym h) tt

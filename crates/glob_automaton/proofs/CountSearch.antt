@@ -65,7 +65,7 @@ none_found rules = record {
   some_bytes = All-nil (λ z. 0 < length z);
 }
 
--- there are more than so many, or not
+-- there are more than n, or not
 decided_more : TakesByCuts → LiveAfterByte → LeftFirst → (n : ℕ) (rules : List RuleValue) → Decided (AreMoreThan n rules)
 decided_more by_cuts after by_steps n rules = ⊎_elim
     (λ t. inl (t.0, t.1.different, omega (arith, t.2)))

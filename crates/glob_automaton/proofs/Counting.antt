@@ -44,7 +44,7 @@ values_below f (suc k) n h q is =
       | false ↦ λ e r. values_below f k n (λ i lt. h i (omega (arith, lt))) q r
     ] refl is
 
--- so many different numbers below a bound are at most as many as the bound
+-- the number of different numbers below a bound is at most the bound
 pub few_values : (f : ℕ → ℕ) (k n : ℕ) → ((i j : ℕ) → i < j → j < k → f i ≢ f j) → ((i : ℕ) → i < k → f i < n) → k ≤ n
 few_values f k n differ below =
     omega (arith, length-values f k, length-le_from_distinct_below (values f k) n (values_differ f k differ) (values_below f k n below))

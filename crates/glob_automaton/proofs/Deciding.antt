@@ -103,7 +103,7 @@ decided_pairs P m n d past =
 
 -- ---- the ways to cut a list
 
--- a cut is before the first byte or behind it
+-- a cut is before the first byte or after it
 cut_cases : (P : List ℕ → List ℕ → Type 0) (b : ℕ) (bytes front back : List ℕ) → b ∷ bytes ≡ front ++ back → P front back →
     P [] (b ∷ bytes) ⊎ ((more : List ℕ) × (rest : List ℕ) × (bytes ≡ more ++ rest) × P (b ∷ more) rest)
 cut_cases P b bytes [] back e h = inl (subst (λ z. P [] z) (sym e) h)

@@ -42,7 +42,7 @@ pub live_as_before : (old new : List Entry) (e q : ℕ) → IsOrdered old → Gr
 live_as_before old new e q ordered g lt =
     (was_in new old e q ordered (grown_agree old new g) lt, still_in new old e q (grown_agree old new g))
 
--- an element of the grown list stood before, or is new
+-- an element of the grown list was there before, or is new
 pub old_or_new : {X : Type 0} (old new : List X) (i : ℕ) (x : X) → Grows old new → slice_get new i ≡ Some x →
     ((slice_get old i ≡ Some x) × (i < length old)) ⊎ (length old ≤ i)
 old_or_new old new i x g h = ⊎_elim
@@ -78,7 +78,7 @@ ordered_on old new x ordered below grown e y h = ⊎_elim
     subst (λ z. refers_below z y) (sym w.0) (subst (λ z. refers_below (length old) z) w.1 below))
     (old_or_new old new e y (x ∷ [], grown) h)
 
--- What is live at an entry, by its kind: nothing, a place, a run's place and what is behind it, or either.
+-- What is live at an entry, by its kind: nothing, a place, a run's place and what is after it, or either.
 pub in_nothing : (entries : List Entry) (e q : ℕ) → slice_get entries e ≡ Some entry.Nothing → IsIn entries e q → ⊥
 in_nothing entries e q is (at_place _ _ _ h) = absurd (cc (is, h))
 in_nothing entries e q is (at_run _ _ _ behind h) = absurd (cc (is, h))
@@ -490,7 +490,7 @@ strict_stars crosses strict e = ap (λ z. stars_glob crosses z) (sym e)
 pub free_stars : (crosses strict : Bool) → strict ≡ false → run (in_stars crosses) ≡ stars_glob crosses strict
 free_stars crosses strict e = ap (λ z. stars_glob crosses z) (sym e)
 
--- one byte more is told
+-- the table is right for one more byte
 pub told_more : (f : ℕ → Bool) (table : List Bool) (n : ℕ) (r : Bool) → n < length table →
     ((k : ℕ) → k < n → slice_index_or table k false ≡ f k) → r ≡ f n →
     (k : ℕ) → k < n + 1 → slice_index_or (slice_set table n r) k false ≡ f k
@@ -501,7 +501,7 @@ told_more f table n r within told e k lt = ⊎_elim
     subst (λ z. slice_index_or (slice_set table n r) z false ≡ f z) same (get_or-set_same table n r false within ∙ e))
     (cases_lt k n)
 
--- a class is told, and the place that takes it is drawn
+-- a class is recorded, and the place that takes it is drawn
 pub drawn_class : {E : Type 0} (old mid new : Chart) (r : Result ℕ E) (set : ByteSet) (table : List Bool) (number behind : ℕ) →
     number ≡ length old.classes.items → mid.classes.items ≡ old.classes.items ++ table ∷ [] →
     mid.places ≡ old.places → mid.entries ≡ old.entries → mid.rules ≡ old.rules →

@@ -64,7 +64,7 @@ end_at chart j d at =
       get_or-map (λ (z : ChartRule). z.end) chart.rules.items j d 0 within ∙ ap (λ (z : ChartRule). z.end) (get_or_from_slice_get chart.rules.items j d d at),
     )
 
--- a rule stands at each index
+-- a rule is at each index
 rule_there : (chart : Chart) (j : ℕ) → j < length chart.rules.items → (d : ChartRule) × (slice_get chart.rules.items j ≡ Some d)
 rule_there chart j within = ⊎_elim
     (λ h. (h.0, h.2))
@@ -76,7 +76,7 @@ module _ (chart : Chart) (set : List ℕ) where
   pub ends-none : IsRecordBefore chart set 0 no_hits
   ends-none kind p = inl (none-of kind p, λ m s. let lt = s.6.1 in omega (arith, lt))
 
-  -- behind the last place the number of a kind is that of all
+  -- after the last place the number of a kind is that of all
   all_of : (i : ℕ) (r : Record) → length set ≤ i → IsRecordBefore chart set i r → (kind : RuleKind) (p : Permission) →
       IsLeastOrNone (EndsIn chart set kind p) (number_of kind (hits_of r p))
   all_of i r le least kind p = least-same (EndsBefore chart set i kind p) (EndsIn chart set kind p) (number_of kind (hits_of r p))

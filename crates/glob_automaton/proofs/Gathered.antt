@@ -28,7 +28,7 @@ sorted_ascends xs ys up kept i j lt within =
     (λ a b less. below_from_sorted (dedup nat_eq xs) a b 0 (sorted_from_strictly_increasing (dedup nat_eq xs) (IsStrictlyIncreasing-dedup xs up)) less)
     i j lt within
 
--- sorting, and then leaving out what stands twice, keeps each place
+-- sorting, and then leaving out what occurs twice, keeps each place
 pub sorted_places : (xs sorted ys : List ℕ) → IsPermutation xs sorted → IsFiltered (DiffersFromLast nat_eq) [] sorted ys →
     (q : ℕ) → Contains ys q ↔ Contains xs q
 sorted_places xs sorted ys same kept q = (
@@ -41,12 +41,12 @@ sorted_places xs sorted ys same kept q = (
 abbrev pub MarksAre : List Bool → List ℕ → Type 0
 MarksAre marks entries = (e : ℕ) → slice_index_or marks e false ≡ true → Contains entries e
 
--- what is first or behind is in the list
+-- what is first or after it is in the list
 contains_behind : (x : ℕ) (xs : List ℕ) (e : ℕ) → Contains (x ∷ xs) e → (x ≡ e) ⊎ Contains xs e
 contains_behind x xs e (zero, lt, is) = inl is
 contains_behind x xs e (suc k, lt, is) = inr (k, omega (arith, lt), is)
 
--- once an entry is unmarked, those behind it are left
+-- once an entry is unmarked, those after it are left
 pub marks_left : (marks : List Bool) (entries : List ℕ) (k : ℕ) → k < length entries → slice_index_or entries k 0 < length marks →
     MarksAre marks (drop k entries) → MarksAre (set marks (slice_index_or entries k 0) false) (drop (k + 1) entries)
 marks_left marks entries k within room before e marked = ⊎_elim
@@ -57,7 +57,7 @@ marks_left marks entries k within room before e marked = ⊎_elim
     (before e (sym (get_or-set_other marks (slice_index_or entries k 0) e false false apart.1) ∙ marked)))))
     (eqb_tells e (slice_index_or entries k 0))
 
--- what stands at an index is in the list
+-- what is at an index is in the list
 pub stands_there : (entries : List ℕ) (k : ℕ) → k < length entries → Contains entries (slice_index_or entries k 0)
 stands_there entries k within = (k, within, get_or_default entries k (slice_index_or entries k 0) 0 within)
 
@@ -82,7 +82,7 @@ nothing_gathered chart g long unmarked none = record {
 abbrev pub with_places : Gathering → Vec ℕ Global → Gathering
 with_places g places = record { is_taken = g.is_taken; taken = g.taken; places = places }
 
--- the set stays gathered as places come to it
+-- the set stays gathered as places are added to it
 pub grown : (chart : Chart) (g : Gathering) (places : Vec ℕ Global) (p : ℕ) → IsGathering chart g → places.items ≡ g.places.items ++ p ∷ [] →
     IsGathering chart (with_places g places)
 grown chart g places p is more = record {
@@ -100,7 +100,7 @@ pushed xs ys p is q = (
       (⊎_elim (λ t. Contains-append_left xs (p ∷ []) q t) (λ same. subst (λ z. Contains (xs ++ p ∷ []) z) same (Contains-push xs p)) h),
 )
 
--- what is live at the entry has come to the places of a gathered set
+-- what is live at the entry was added to the places of a gathered set
 pub record Entered (chart : Chart) (old new : Gathering) (e : ℕ) : Type 0 where
   pub gathering : IsGathering chart new
   pub places : (q : ℕ) → Contains new.places.items q ↔ (Contains old.places.items q ⊎ IsIn chart.entries.items e q)

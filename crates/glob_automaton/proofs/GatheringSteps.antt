@@ -17,7 +17,7 @@ use Rattle.glob_automaton.proofs.RuleNumbers.{rule_of, rule_stands}
 abbrev pub StartsBefore : Chart → ℕ → ℕ → Type 0
 StartsBefore chart i q = (n : ℕ) × (d : ChartRule) × (n < i) × (slice_get chart.rules.items n ≡ Some d) × IsIn chart.entries.items d.start q
 
--- q is live behind one of the first i places of the set, which takes the byte
+-- q is live after one of the first i places of the set, which takes the byte
 abbrev pub StepsBefore : Chart → List ℕ → ℕ → ℕ → ℕ → Type 0
 StepsBefore chart set b i q = (k : ℕ) × (place : ChartPlace) × (k < i) × (k < length set) × (slice_get chart.places.items (get_or set k 0) ≡ Some place)
     × IsTrue (takes_byte chart.classes.items place.takes b) × IsIn chart.entries.items place.behind q
@@ -28,7 +28,7 @@ start_there chart part i d at =
     let rule = rule_of chart part.0 chart.rules.items 0 part.1.drawn i d at in
     (rule_stands chart part.0 chart.rules.items 0 part.1.drawn i rule.0 d rule.1 at).start_there
 
--- what stands at an index of a list is in it
+-- what is at an index of a list is in it
 member_at : (set : List ℕ) (i : ℕ) → i < length set → Contains set (get_or set i 0)
 member_at set i lt = (i, lt, get_or_default set i (get_or set i 0) 0 lt)
 
@@ -81,7 +81,7 @@ module _ (chart : Chart) where
     pub number_there : ArePlaces chart set → (i : ℕ) → i < length set → get_or set i 0 < length chart.places.items
     number_there are i lt = are (get_or set i 0) (member_at set i lt)
 
-    -- The place takes the byte, and what is live behind it comes in.
+    -- The place takes the byte, and what is live after it comes in.
     pub steps_more : (old new : List ℕ) (i : ℕ) (place : ChartPlace) → i < length set → slice_get chart.places.items (get_or set i 0) ≡ Some place →
         takes_byte chart.classes.items place.takes b ≡ true → ((q : ℕ) → Contains old q ↔ StepsBefore chart set b i q) →
         ((q : ℕ) → Contains new q ↔ (Contains old q ⊎ IsIn chart.entries.items place.behind q)) →

@@ -18,13 +18,13 @@ use Rattle.verdicts.specs.Least.{hits_of, IsLeastOrNone}
 use Rattle.glob_automaton.specs.Least.{IsLeastRecord}
 use Rattle.glob_automaton.proofs.LeastSteps.{least-same}
 
--- the record after more rules, numbered behind i, of which those whose number passes the test match
+-- the record after more rules, numbered after i, of which those whose number passes the test match
 abbrev pub record_over : (ℕ → Bool) → ℕ → Record → List RuleValue → Record
 record_over matches i r [] = r
 record_over matches i r (rule ∷ rules) =
     record_over matches (i + 1) (if matches (i + 1) then record_with r rule.kind rule.perms (i + 1) else r) rules
 
--- the test tells which rules take the name
+-- the test says which rules take the name
 abbrev pub AreMatches : List RuleValue → List ℕ → (ℕ → Bool) → Type 0
 AreMatches rules name matches = (n : ℕ) (rule : RuleValue) → IsRuleAt rules n rule → IsTrue (matches n) ↔ Takes (pattern rule) name
 
@@ -52,7 +52,7 @@ first-kept old n nonzero = ⊎_elim
     (λ f. ap (λ b. if b then n else old) f)
     (cases_Bool (old == 0))
 
--- One rule more hits, behind all hits so far.
+-- One more rule hits, after all hits so far.
 pub least-first : (S T : ℕ → Type 0) (old n : ℕ) → ((m : ℕ) → S m → T m) → T n → ((m : ℕ) → T m → S m ⊎ (m ≡ n)) →
     ((m : ℕ) → S m → (m ≢ 0) × (m ≤ n)) → IsLeastOrNone S old → IsLeastOrNone T (first_number old n)
 least-first S T old n to here back range least = ⊎_elim
@@ -168,7 +168,7 @@ module _ (rules : List RuleValue) (name : List ℕ) where
       let e = is ∙ ap (λ z. record_with r z perms (i + 1)) same_kind ∙ ap (λ z. record_with r rule.kind z (i + 1)) same_perms in
       subst (IsLeastUpTo rules name (i + 1)) (sym e) (adds i r rule at takes least)
 
-  -- behind the last rule the record is that of all
+  -- after the last rule the record is that of all
   pub upto-all : (i : ℕ) (r : Record) → length rules ≤ i → IsLeastUpTo rules name i r → IsLeastRecord rules name r
   upto-all i r le least p = (
     least-same (HitsUpTo rules name i Allow p) (Hits rules Allow p name) (hits_of r p).allow
@@ -177,7 +177,7 @@ module _ (rules : List RuleValue) (name : List ℕ) where
         (λ m s. s.1) (λ m t. (omega (arith, le, t.1.1), t)) (least Deny p),
   )
 
-  -- the rules of a list stand behind the first i
+  -- the rules of a list come after the first i
   abbrev AreBehind : ℕ → List RuleValue → Type 0
   AreBehind i rest = (length rules ≤ i + length rest) × ((n : ℕ) (rule : RuleValue) → IsRuleAt rest n rule → IsRuleAt rules (i + n) rule)
 
@@ -196,7 +196,7 @@ module _ (rules : List RuleValue) (name : List ℕ) where
         at.2 ∙ ap (λ z. get_or rest z x) one ∙ sym (ap (λ z. get_or (rule ∷ rest) z x) two),
       )
 
-  -- what is behind the next rule
+  -- what comes after the next rule
   rest_of : (i : ℕ) (rule : RuleValue) (rest : List RuleValue) → AreBehind i (rule ∷ rest) → AreBehind (i + 1) rest
   rest_of i rule rest behind = (
     omega (arith, behind.0),

@@ -17,7 +17,7 @@ pub record NamedBefore (chart : Chart) (set : List ℕ) (named : List Bool) (i :
   pub each : (k b : ℕ) (place : ChartPlace) → k < i → k < length set → slice_get chart.places.items (get_or set k 0) ≡ Some place → place.takes ≡ label.Byte b → b < 256 →
       slice_index_or named b false ≡ true
 
--- a mark that stands stays, whichever is set beside it
+-- a mark that is set stays, whichever other one is set
 mark_stays : (named : List Bool) (byte b : ℕ) → b < length named → slice_index_or named b false ≡ true → slice_index_or (set named byte true) b false ≡ true
 mark_stays named byte b room marked = ⊎_elim
     (λ same. get_or-set_at named byte b true false same.1 (omega (arith, room, same.1)))

@@ -107,7 +107,7 @@ module _ (by_cuts : TakesByCuts) (by_steps : LeftFirst) (rules : List RuleValue)
       (λ slash. inr (47 ∷ [], found_more rules prefixes (47 ∷ []) h (refl, All-nil (λ c. (0 < c) × (c < 256))) (omega arith) slash))
       (counted_or_new prefixes (47 ∷ []))
 
-  -- so many new sets more, or all that there are
+  -- `fuel` more new sets, or all that there are
   pub search_on : (fuel : ℕ) (prefixes : List (List ℕ)) → AreFound rules prefixes →
       ((found : List (List ℕ)) × AreFound rules found × (length found ≡ fuel + length prefixes))
       ⊎ ((found : List (List ℕ)) × AreFound rules found × AreClosed rules found)

@@ -7,7 +7,7 @@ use Rattle.rule_globs.specs.Follow.{Numbers, Starts, TakesAt, Goes}
 use Rattle.rule_profile.specs.Readable.{begins_with_slash}
 use Rattle.rule_globs.specs.Tokens.{Token, byte, any_byte, bracket, stars, opening, between, closing, pattern_of}
 
--- what is live where a pattern begins is a place of it, or is live behind it
+-- what is live where a pattern begins is a place of it, or is live after it
 pub starts_within : (g : Glob) (base : ℕ) (behind : Numbers) (q : ℕ) → Starts g base behind q → ((base ≤ q) × (q < base + places g)) ⊎ behind q
 starts_within empty base behind q h = inr h
 starts_within (one set) base behind q h = inl (omega (arith, h), omega (arith, h))

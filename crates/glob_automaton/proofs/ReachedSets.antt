@@ -16,7 +16,7 @@ use Rattle.glob_automaton.proofs.LiveNumbers.{LiveAtFirst, LiveAfterByte, IsNumb
 use Rattle.glob_automaton.proofs.PatternPlaces.{live_within}
 use Rattle.glob_automaton.proofs.RuleNumbers.{drawn_of, one_rule}
 
--- the rule with a number stands at the index one less
+-- the rule with a number is at the index one less
 pub at_index : (rules : List RuleValue) (n : ℕ) (rule : RuleValue) → IsRuleAt rules n rule → slice_get rules (n - 1) ≡ Some rule
 at_index rules n rule h = slice_get_read rules _ (n - 1) rule refl (omega (arith, h.0, h.1)) h.2
 
@@ -36,7 +36,7 @@ same_rule rules i rule other one two =
     let e : i + 1 - 1 ≡ i = omega arith in
     same_Some other rule (sym (at_index rules (i + 1) other two) ∙ ap (λ z. slice_get rules z) e ∙ one)
 
--- a number goes along where all that is live after the one is live after the other
+-- a number carries over if all that is live after the one is live after the other
 moved : (rules : List RuleValue) (chart : Chart) (x y : List ℕ) →
     ((n p : ℕ) → IsLiveByParts rules x n p → IsLiveByParts rules y n p) → (q : ℕ) → IsNumber rules chart x q → IsNumber rules chart y q
 moved rules chart x y go q n =

@@ -18,7 +18,7 @@ IsEmptyOrReached chart set = (set ≡ []) ⊎ ((bytes : List ℕ) × IsReached c
 length_more : (sets : List (List ℕ)) (set : List ℕ) → length (sets ++ set ∷ []) ≡ length sets + 1
 length_more sets set = length-append sets (set ∷ [])
 
--- what stands at an index is in the list
+-- what is at an index is in the list
 pub set_there : (sets : List (List ℕ)) (i : ℕ) → i < length sets → Contains sets (slice_index_or sets i [])
 set_there sets i lt = (i, lt, get_or_default sets i (slice_index_or sets i []) [] lt)
 
@@ -32,7 +32,7 @@ last_is sets set i lt le =
     let at : i ≡ length sets = omega (arith, lt, le, length_more sets set) in
     ap (λ z. slice_index_or (sets ++ set ∷ []) z []) at ∙ get_or-append_seam sets set [] []
 
--- A set that bytes reach and that isn't there yet comes behind the others.
+-- A set that bytes reach and that isn't there yet comes after the others.
 pub one_more : (chart : Chart) (sets : List (List ℕ)) (bytes set : List ℕ) → AreSets chart sets → IsReached chart bytes set →
     ¬ (Contains sets set) → AreSets chart (sets ++ set ∷ [])
 one_more chart sets bytes set are reached new = record {
@@ -54,7 +54,7 @@ one_more chart sets bytes set are reached new = record {
 pub empty_there : (chart : Chart) (sets : List (List ℕ)) → AreSets chart sets → Contains sets []
 empty_there chart sets are = (0, are.some, are.empty)
 
--- A set that isn't there yet comes behind the others, if bytes reach it. (The empty one is there.)
+-- A set that isn't there yet comes after the others, if bytes reach it. (The empty one is there.)
 pub one_more_of : (chart : Chart) (sets : List (List ℕ)) (set : List ℕ) → AreSets chart sets → IsEmptyOrReached chart set →
     ¬ (Contains sets set) → AreSets chart (sets ++ set ∷ [])
 one_more_of chart sets set are from new = ⊎_elim

@@ -1,4 +1,4 @@
--- The sets so far as a list: where a set stands in it, and what it is with one more.
+-- The sets so far as a list: where a set is in it, and what it is with one more.
 use Rattle.std.specs.Cmp.Lexicographic.{pointwise, same_text}
 use Rattle.std.proofs.Common.{◌≡◌, ◌≢◌, inl, inr, ⊎_elim, ℕ, ◌+◌, ◌<◌, ◌≤◌, Bool, true, false, true≢false, nat_eq, List, [], ◌∷◌, ◌++◌, length, map, Some, slice_get, get_or, refl, sym, ap, ◌∙◌, arith}
 use Rattle.std.specs.List.{Contains, IsDistinct, list_any, position}
@@ -14,7 +14,7 @@ use Rattle.glob_automaton.specs.inner.States.{AreDistinct, IsNumbered}
 
 module _ {V : Type 0} (items : V → List ℕ) (eq : List ℕ → List ℕ → Bool) (same : (a b : List ℕ) → eq a b ≡ true → a ≡ b)
     (itself : (a : List ℕ) → eq a a ≡ true) where
-  -- what stands at an index
+  -- what is at an index
   key_at : (keys : List V) (i : ℕ) → i < length keys → (v : V) × (slice_get keys i ≡ Some v)
   key_at keys i lt = ⊎_elim
       (λ h. (h.0, h.2))
@@ -73,7 +73,7 @@ module _ {V : Type 0} (items : V → List ℕ) (eq : List ℕ → List ℕ → B
   length_behind [] v = refl
   length_behind (k ∷ keys) v = omega (arith, length_behind keys v)
 
-  -- a set that is put behind the others has its number
+  -- a set that is put after the others has its number
   pub numbered_new : (keys new : List V) (set : List ℕ) (v : V) (i : ℕ) → items v ≡ set → new ≡ keys ++ v ∷ [] →
       ((k : V) × (slice_get new i ≡ Some k) × (eq (items v) (items k) ≡ true)) →
       IsDistinct (λ x y. eq (items x) (items y)) new → list_any (λ k. eq set (items k)) keys ≡ false →

@@ -1,4 +1,4 @@
--- What a record of least hits tells is the verdict of the rules.
+-- What a record of least hits says is the verdict of the rules.
 use Rattle.std.proofs.Common.{◌≢◌, ℕ, ◌≤◌, List, refl, sym, ◌∙◌, subst, arith}
 use Rattle.names.specs.declared.permissions.Permission.{Permission}
 use Rattle.names.specs.declared.permissions.Perms.{Perms}
@@ -22,19 +22,19 @@ module _ (rules : List RuleValue) (name : List ℕ) (r : Record) (ask : Perms) (
   allow-above : (p : Permission) (n : ℕ) → Hits rules Allow p name n → n ≢ 0
   allow-above p n h zero = let e : ⊥ = omega (arith, h.1.0, zero) in e
 
-  -- a number that is told is a rule that denies
+  -- a number that is reported is that of a rule that denies
   told-denies : (n : ℕ) → ToldDenied r ask n → Denies rules name ask n
   told-denies n t =
       let some = least_some (Hits rules Deny t.1.0 name) (hits_of r t.1.0).deny (least t.1.0).1 (λ z. t.0 (sym t.1.2 ∙ z)) in
       (t.1.0, t.1.1, subst (Hits rules Deny t.1.0 name) t.1.2 some)
 
-  -- below a rule that denies, or at it, a number is told
+  -- below a rule that denies, or at it, a number is reported
   denies-told : (m : ℕ) → Denies rules name ask m → (n : ℕ) × ToldDenied r ask n × (n ≤ m)
   denies-told m d =
       let there = least_there (Hits rules Deny d.0 name) (hits_of r d.0).deny m (least d.0).1 d.2 in
       ((hits_of r d.0).deny, (hit-above d.0 (hits_of r d.0).deny there.0, (d.0, d.1, refl)), there.1)
 
-  -- where no number is told no rule denies
+  -- if no number is reported, no rule denies
   nothing-denied : NothingToldDenied r ask → (n : ℕ) → Denies rules name ask n → ⊥
   nothing-denied nothing n d = let t = denies-told n d in nothing t.0 t.1
 

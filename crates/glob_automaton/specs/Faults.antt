@@ -1,4 +1,4 @@
--- The numbers by which faults of compiling are told.
+-- The numbers by which faults of compiling are reported.
 use Rattle.std.specs.Prelude.{ℕ}
 use Rattle.glob_automaton.specs.declared.fault.CompileFault.{CompileFault}
 use Rattle.glob_automaton.specs.declared.fault.CompileFault.TheVariants.{TooManyStates, NoMemory}

@@ -18,7 +18,7 @@ SameSet rules one other = (n p : ℕ) → IsLive rules one n p ↔ IsLive rules 
 abbrev pub NoneLive : List RuleValue → List ℕ → Type 0
 NoneLive rules bytes = (n p : ℕ) → ¬ (IsLive rules bytes n p)
 
--- a front part of a name: nothing, or bytes but 0 of which the first is a slash
+-- a prefix of a name: nothing, or bytes other than 0, the first of which is a slash
 abbrev pub IsPrefixOfName : List ℕ → Type 0
 IsPrefixOfName [] = Unit {0}
 IsPrefixOfName (b ∷ bytes) = (b ≡ 47) × All (λ c. (0 < c) × (c < 256)) bytes
@@ -35,6 +35,6 @@ IsCount rules n =
     ((prefixes : List (List ℕ)) → AreDifferent rules prefixes → length prefixes + 1 ≤ n)
     × ((prefixes : List (List ℕ)) × AreDifferent rules prefixes × (length prefixes + 1 ≡ n))
 
--- there are more than so many
+-- there are more than n
 abbrev pub AreMoreThan : ℕ → List RuleValue → Type 0
 AreMoreThan n rules = (prefixes : List (List ℕ)) × AreDifferent rules prefixes × (n < length prefixes + 1)

@@ -5,8 +5,8 @@ ghost use Rattle.glob_automaton.specs.Automata.{IsWhole, target, state_after};
 use std::marker::Model;
 use verdicts::Record;
 
-/// The deterministic automaton of a profile's rules (apparmor.d(5), "Globbing"): for each state a row of 256 targets, one for
-/// each byte, and a record of least hits. In state 0 nothing is live any more. Its readers take no memory.
+/// The deterministic automaton of a profile's rules (apparmor.d(5), "Globbing"): for each state a row of 256 targets, one for each
+/// byte, and a record of least hits. In state 0 nothing is live any more. Reading it allocates nothing.
 #[derive(Drop)]
 pub struct Dfa {
     pub(crate) rows: Vec<[u32; 256]>,
@@ -25,7 +25,7 @@ impl Model for Dfa {
 }
 
 impl Dfa {
-    /// How many states there are, 1 to 16,384. They have the numbers from 0 on.
+    /// The number of states, 1 to 16,384. They are numbered from 0 on.
     pub fn states(&self) -> u32
         ensures count { result ≡ length self.now.rows }
         ensures whole { IsWhole self.now }
@@ -41,7 +41,7 @@ impl Dfa {
         self.start
     }
 
-    /// The state after one byte more, from a state whose number is below that of the states.
+    /// The state after one more byte, from a state whose number is below the number of states.
     pub fn target(&self, state: u32, byte: u8) -> u32
         requires { state < length self.now.rows }
         ensures target { result ≡ target self.now state byte }
@@ -50,7 +50,7 @@ impl Dfa {
         self.rows[state as usize][byte as usize]
     }
 
-    /// The least hits of what leads to a state, whose number is below that of the states.
+    /// The least hits of what leads to a state, whose number is below the number of states.
     pub fn record_at(&self, state: u32) -> Record
         requires { state < length self.now.rows }
         ensures { slice_get self.now.records state ≡ Some result }

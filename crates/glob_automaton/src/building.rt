@@ -26,7 +26,7 @@ struct Sets {
     sets: IndexSet<Vec<usize>>,
 }
 
-/// The rows and records of the sets that were gone over, and the number of the set at the start.
+/// The rows and records of the sets that have been processed, and the number of the set at the start.
 #[derive(Drop)]
 struct States {
     rows: Vec<[u32; 256]>,
@@ -142,7 +142,7 @@ impl Sets {
     }
 }
 
-// One more at the end of a list; with its own contract, so that rows and records go the same way.
+// Appends to a list; with its own contract, so that rows and records are handled in the same way.
 fn keep<T: Drop>(list: &mut Vec<T>, value: T) -> Result<(), AllocError>
     ensures { OnOk result (list.new.items ≡ list.old.items ++ value ∷ []) }
 {
@@ -165,7 +165,7 @@ fn gather_start(chart: &Chart, gathering: &mut Gathering) -> Result<(), AllocErr
     Ok(())
 }
 
-// Gathers what is live after a byte more.
+// Gathers what is live after one more byte.
 fn gather_step(
     chart: &Chart,
     set: &[usize],
@@ -264,7 +264,7 @@ fn row_of(
     Ok(row)
 }
 
-// The ends of the rules, in their order; taken once, so that each set can be sought in them.
+// The ends of the rules, in order; collected once, so that the places of each set can be looked up in them.
 fn ends_of(alloc: Global, chart: &Chart) -> Result<Vec<usize>, AllocError>
     ensures { IfOk result (λ ends. ends.items ≡ map (λ d. d.end) chart.now.rules.items) }
 {
@@ -275,8 +275,8 @@ fn ends_of(alloc: Global, chart: &Chart) -> Result<Vec<usize>, AllocError>
     Ok(ends)
 }
 
-// The least hits of a set: those of the rules whose ends are in it. The set is gone over, not the rules, since there may be
-// far more rules than places. The ends ascend, so the rule of a place is found by halving; the set ascends too, so the hits
+// The least hits of a set: those of the rules whose ends are in it. Iterates over the set, not over the rules, since there may be
+// far more rules than places. The ends ascend, so the rule of a place is found by binary search; the set ascends too, so the hits
 // come in the order of their numbers.
 fn record_of(chart: &Chart, ends: &[usize], set: &[usize]) -> Record
     requires chart { IsPartOfChart chart.now }

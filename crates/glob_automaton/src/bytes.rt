@@ -1,17 +1,17 @@
-//! Classes of bytes that all places take alike, places that take one byte alone aside.
+//! Classes of bytes that all places take alike, apart from places that take a single byte.
 ghost use Rattle.std.specs.Prelude.{◌≡◌, ◌==◌, ◌<◌, ℕ, false, slice_index_or};
 ghost use Rattle.glob_automaton.specs.inner.Alike.{IsAlike, AreAlike, IsSplit};
 
 use crate::chart::Chart;
 
-/// For each byte the least of its class: each place takes both or neither, places that take one byte alone aside.
+/// For each byte the least of its class: each place takes both or neither, apart from places that take a single byte.
 #[derive(Clone, Copy)]
 pub(crate) struct ByteClasses {
     pub least: [u8; 256],
 }
 
 impl ByteClasses {
-    /// The least alike byte of each, by the places of a chart.
+    /// The least byte alike to each, by the places of a chart.
     pub(crate) fn of(chart: &Chart) -> ByteClasses
         ensures { AreAlike chart.now result.least }
     {
@@ -34,12 +34,12 @@ fn only(byte: u8) -> [bool; 256]
     taken
 }
 
-// Parts the bytes that are taken from those that aren't.
+// Separates the bytes that are taken from those that aren't.
 fn split(least: &mut [u8; 256], taken: &[bool; 256])
     requires { IsAlike least.old }
     ensures { IsSplit least.old taken.now least.new }
 {
-    // For each least byte the first of its class of which `taken` says something else.
+    // For each least byte, the first byte of its class for which `taken` differs.
     let mut other: [Option<u8>; 256] = [None; 256];
     for byte in 0..256 {
         let old = least[byte] as usize;

@@ -13,7 +13,7 @@ use rule_profile::{Profile, Rule};
 use std::alloc::{AllocError, Global};
 use verdicts::RuleKind;
 
-/// Which bytes a place takes.
+/// Which bytes a place takes. No place takes byte 0.
 #[derive(Clone, Copy)]
 pub(crate) enum Label {
     /// That byte.
@@ -28,20 +28,20 @@ pub(crate) enum Label {
     Nothing,
 }
 
-/// A point that a match can come to, by what is live there. An entry refers to entries before it alone.
+/// A point that a match can reach, given by what is live there. An entry refers only to entries before it.
 #[derive(Clone, Copy)]
 pub(crate) enum Entry {
     /// Nothing.
     Nothing,
     /// This place.
     Place(usize),
-    /// This place, that of a run, and what is live behind it.
+    /// This place, that of a run, and what is live after it.
     Run { place: usize, behind: usize },
     /// What is live at one point or at the other.
     Either(usize, usize),
 }
 
-/// A place: the bytes that it takes, and the entry behind it.
+/// A place: the bytes that it takes, and the entry after it.
 #[derive(Clone, Copy)]
 pub(crate) struct ChartPlace {
     pub takes: Label,
@@ -85,13 +85,13 @@ impl Chart {
         Ok(chart)
     }
 
-    // Draws one rule more.
+    // Draws one more rule.
     fn draw_rule(&mut self, rule: &Rule) -> Result<(), AllocError>
         requires { IsPartOfChart self.old }
         ensures { OnOk result (HasOneMore self.old self.new (rule_value rule.now)) }
     {
         let end = self.places.len();
-        // An end takes nothing, so nothing goes on from it, whatever stands behind.
+        // An end takes nothing, so nothing goes on from it, whatever follows.
         self.places.push(ChartPlace {
             takes: Label::Nothing,
             behind: 0,
@@ -107,7 +107,7 @@ impl Chart {
         Ok(())
     }
 
-    // Draws items before an entry, and answers the entry before them.
+    // Draws items before an entry, and returns the entry before them.
     #[cycle(draw)]
     fn draw_items(&mut self, items: &[Item], behind: usize) -> Result<usize, AllocError>
         requires { IsReady self.old behind }
@@ -210,7 +210,7 @@ impl Chart {
         Ok(entry)
     }
 
-    /// Whether a byte is one of those.
+    /// Whether the label takes a byte.
     pub(crate) fn takes(&self, takes: Label, byte: u8) -> bool
         requires { IsKnown self.now takes }
         ensures { result ≡ takes_byte self.now.classes.items takes byte }
@@ -224,7 +224,7 @@ impl Chart {
         }
     }
 
-    // One entry more.
+    // Adds an entry.
     fn entry(&mut self, entry: Entry) -> Result<usize, AllocError>
         ensures number { IfOk result (λ number. number ≡ length self.old.entries.items) }
         ensures entries { IfOk result (λ _. self.new.entries.items ≡ self.old.entries.items ++ entry ∷ []) }

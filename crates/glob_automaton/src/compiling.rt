@@ -13,8 +13,8 @@ use std::alloc::Global;
 use verdicts::records_are_their_hits;
 
 /// Compiles a profile's rules (apparmor.d(5), "Globbing" and "Rule Qualifiers"). The automaton has one state for each set of
-/// places that is live after a prefix of a name, and state 0 for the empty set, whether or not a prefix has it. Refused
-/// exactly where these are more than 16,384, want of memory aside.
+/// places that is live after a prefix of a name, and state 0 for the empty set, whether or not a prefix has it. Refused exactly if
+/// there are more than 16,384 of these, or if it runs out of memory.
 pub fn compile(alloc: Global, profile: &Profile) -> Result<Dfa, CompileFault>
     ensures ok { IfOk result (λ dfa. IsAutomatonOf (profile_value profile.now).rules dfa) }
     ensures err { IfErr result (IsCompileFault (profile_value profile.now).rules) }

@@ -11,7 +11,7 @@ pub enum CompileFault {
     /// The prefixes of names have more than 16,384 different sets of live places, the empty set counted.
     #[error("too many states")]
     TooManyStates,
-    /// Memory was refused; nothing is said of the profile.
+    /// Memory was refused; nothing is said about the profile.
     #[error("{}", NoMemory)]
     NoMemory,
 }

@@ -13,7 +13,7 @@ ghost use Rattle.glob_automaton.specs.Sets.{IsCount, AreMoreThan};
 use rule_globs::{live_is_left_first, live_places_go_on, takes_by_cuts};
 use verdicts::records_are_their_hits;
 
-/// A record of least hits tells the verdict of the rules.
+/// A record of least hits determines the verdict of the rules.
 pub fn least_hits_tell_the_verdict()
     ensures { (rules : List RuleValue) (name : List ℕ) (r : Record) (ask : Perms) (v : Verdict) →
         IsLeastRecord rules name r → IsTold r ask v → IsVerdict rules name ask v }
@@ -29,7 +29,7 @@ pub fn names_have_one_least_record()
     records_are_their_hits();
 }
 
-/// Rules have one count at most, and there are more sets than a number exactly where the count is greater.
+/// Rules have at most one count, and there are more sets than a number exactly if the count is greater.
 pub fn rules_have_one_count()
     ensures one { (rules : List RuleValue) (m n : ℕ) → IsCount rules m → IsCount rules n → m ≡ n }
     ensures more { (rules : List RuleValue) (n limit : ℕ) → IsCount rules n → AreMoreThan limit rules ↔ (limit < n) }

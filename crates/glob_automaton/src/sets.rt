@@ -43,7 +43,7 @@ impl Gathering {
         self.places.clear();
     }
 
-    /// Label in what is live at an entry.
+    /// Adds the places that are live at an entry.
     pub(crate) fn enter(&mut self, chart: &Chart, entry: usize) -> Result<(), AllocError>
         requires gathering { IsGathering chart.now self.old }
         requires ordered { IsOrdered chart.now.entries.items }

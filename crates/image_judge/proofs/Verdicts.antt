@@ -37,7 +37,7 @@ zero_of_none s none =
     let m = zero_if (has s Map) 16 (none Map) in
     omega arith
 
--- the numbers that are chosen are those of a verdict on the grounds
+-- the numbers that are selected are those of a verdict on the grounds
 pub chosen : (g : Grounds) (steps verdict told missing : ℕ) (is_denied : Bool) → (is_denied ≡ true → g.rule ≢ 0) →
     (is_denied ≡ false → g.rule ≡ 0) → missing ≡ number_of g.missing →
     verdict ≡ (if is_denied then 2 else (if missing == 0 then 1 else 3)) → told ≡ (if is_denied then 0 else missing) →

@@ -14,12 +14,12 @@ use Rattle.image_judge.specs.declared.answer.Answer.{Answer}
 use Rattle.image_judge.specs.declared.verifying.Counts.{Counts}
 use Rattle.image_judge.specs.declared.verifying.Fault.{Fault}
 
--- an image is accepted exactly where its table is in bounds; else its first fault is told
+-- an image is accepted exactly if its table is in bounds; otherwise its first fault is reported
 abbrev pub IsVerified : List ℕ → Fault → Type 0
 IsVerified image told = ((t : Table) × IsLoaded image t × (told ≡ record { number = 0; place = 0 }))
     ⊎ ((f : ImageFault) × IsLoadFault image f × (told ≡ record { number = fault_number f; place = fault_place f }))
 
--- no bytes, as of a holder that C has cleared, or an image that was accepted
+-- no bytes, as in a holder that C has cleared, or an image that was accepted
 abbrev pub IsNoneOrLoaded : List ℕ → Type 0
 IsNoneOrLoaded image = (length image ≡ 0) ⊎ ((t : Table) × IsLoaded image t)
 
@@ -36,13 +36,12 @@ answer_of Allowed steps = record { steps = steps; verdict = 1; rule = 0; missing
 answer_of (Denied rule) steps = record { steps = steps; verdict = 2; rule = rule; missing = 0 }
 answer_of (NoRule missing) steps = record { steps = steps; verdict = 3; rule = 0; missing = number_of missing }
 
--- the verdict that the record of the name's last state tells, and one step for each byte of the name
+-- the verdict by the record of the name's last state, and one step for each byte of the name
 abbrev pub IsToldByTable : Table → Perms → List ℕ → Answer → Type 0
 IsToldByTable t ask name a = (r : Record) × (record_after t name ≡ Some r)
     × (v : Verdict) × IsTold r ask v × (a ≡ answer_of v (length name))
 
--- What is told of a name by an image: nothing where nothing is asked that has a meaning, or there is no image; else what its
--- table tells.
+-- What an image answers for a name: nothing if what is asked has no meaning, or there is no image; otherwise what its table says.
 abbrev pub IsAnswerOf : List ℕ → Option Perms → List ℕ → Answer → Type 0
 IsAnswerOf image None name a = a ≡ no_answer
 IsAnswerOf image (Some ask) name a = ((length image ≡ 0) × (a ≡ no_answer)) ⊎ ((t : Table) × IsLoaded image t × IsToldByTable t ask name a)

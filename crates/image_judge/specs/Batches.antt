@@ -5,7 +5,7 @@ use Rattle.image_judge.specs.Answers.{IsAnswerOf, no_answer}
 use Rattle.image_judge.specs.Sets.{set_of_number}
 use Rattle.image_judge.specs.declared.answer.Answer.{Answer}
 
--- what stands in a text from one place to another, if there is such a part of it
+-- the part of a text from one place to another, if there is one
 abbrev pub part_of : List ℕ → ℕ → ℕ → Option (List ℕ)
 part_of text begin end = if nat_le begin end && nat_le end (length text) then Some (slice_range text begin end) else None
 

@@ -12,6 +12,6 @@ abbrev pub number_of : Perms → ℕ
 number_of s = number_if (has s Read) 1 + number_if (has s Write) 2 + number_if (has s Link) 4 + number_if (has s Lock) 8
     + number_if (has s Map) 16
 
--- the set whose permissions' numbers sum to a number; none of 0, and of what is no such sum
+-- the set whose permissions' numbers sum to a number; none for 0, and for what is no such sum
 abbrev pub set_of_number : ℕ → Option Perms
 set_of_number n = if n == 0 then None else if nat_lt n (2 ^ permission_count) then Some (set_of (λ p. n / 2 ^ index p % 2 == 1)) else None

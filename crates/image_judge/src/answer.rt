@@ -7,7 +7,7 @@ ghost use Rattle.image_judge.specs.Answers.{answer_of, no_answer};
 use crate::permissions::number_of;
 use verdicts::Grounds;
 
-// Nothing was judged. It is 0, so that memory which C has cleared tells no verdict.
+// Nothing was judged. It is 0, so that memory that C has cleared holds no verdict.
 const NO_ANSWER: u16 = 0;
 
 const ALLOWED: u16 = 1;
@@ -24,9 +24,9 @@ pub struct Answer {
     pub steps: u64,
     /// 0 nothing was judged, 1 allowed, 2 denied, 3 there is no rule for something that was asked.
     pub verdict: u16,
-    /// The least rule that denies something that was asked, counted from 1; else 0.
+    /// The least rule that denies something that was asked, counted from 1; otherwise 0.
     pub rule: u16,
-    /// The sum of the numbers of the permissions that no rule allows; else 0.
+    /// The sum of the numbers of the permissions that no rule allows; otherwise 0.
     pub missing: u16,
 }
 
@@ -43,8 +43,8 @@ pub(crate) fn no_answer() -> Answer
 }
 
 /// The verdict on these grounds in numbers, and how many steps it took.
-// What depends on the rules is chosen, and not branched on: a processor foretells badly which verdict a name has, and waits
-// for each branch that it foretold wrongly until the record was read.
+// What depends on the rules is selected without branching: a processor predicts badly which verdict a name has, and waits for each
+// branch that it mispredicted until the record was read.
 pub(crate) fn answer_on(grounds: Grounds, steps: u64) -> Answer
     ensures { (v : Verdict) × IsVerdictOn grounds v × (result ≡ answer_of v steps) }
 {

@@ -7,8 +7,8 @@ ghost use Rattle.image_judge.specs.Batches.{AreAnswersOf, IsAnswerAt, name_at};
 use crate::answer::{Answer, no_answer};
 use crate::judging::judge;
 
-/// What an image that was accepted says of a name for each answer. The names stand in one text, each from an offset to the next
-/// one. Where there are no two such offsets, or they descend or leave the text, nothing is judged.
+/// What an image that was accepted says about a name, for each answer. The names are in one text, each from an offset to the next
+/// one. If there are no two such offsets, or they descend or leave the text, nothing is judged.
 pub fn judge_all(image: &[u8], names: &[u8], offsets: &[usize], asked: u32, answers: &mut [Answer])
     requires { IsNoneOrLoaded image.now }
     ensures { AreAnswersOf image.now asked names.now offsets.now answers.old answers.new }

@@ -1,4 +1,4 @@
-//! Names judged.
+//! Judging of names.
 ghost use Rattle.image_judge.specs.Answers.{IsAnswerOf, IsNoneOrLoaded, IsToldByTable};
 ghost use Rattle.image_judge.specs.Sets.{set_of_number};
 
@@ -9,9 +9,9 @@ use table_runner::record_by_image;
 use table_verifier::{Steps, VerifiedImage};
 use verdicts::grounds_of;
 
-/// What an image that was accepted says of a name for which permissions are asked by the sum of their numbers.
-// The answer goes out through a pointer: a result would be put together on the stack, and read again in larger parts than it
-// was written in, for which the processor waits.
+/// What an image that was accepted says about a name, for permissions that are asked by the sum of their numbers.
+// The answer is returned through a pointer: a result would be put together on the stack, and read again in larger parts than it was
+// written in, which makes the processor wait.
 pub fn judge(image: &[u8], name: &[u8], asked: u32, answer: &mut Answer)
     requires { IsNoneOrLoaded image.now }
     ensures { IsAnswerOf image.now (set_of_number asked) name.now answer.new }

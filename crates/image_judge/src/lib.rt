@@ -1,5 +1,5 @@
-//! An image verified once, and names judged by it with all answers in numbers, as C has them, by any number of threads. It takes
-//! no memory. `coqetwal` exports these functions to C.
+//! An image verified once, and names judged by it with all answers in numbers, as C has them, by any number of threads. Allocates
+//! nothing. `coqetwal` exports these functions to C.
 //!
 //! The definitions to believe are those in `specs/`.
 #![tactic(auto)]

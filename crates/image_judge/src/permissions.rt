@@ -4,7 +4,7 @@ ghost use Rattle.image_judge.specs.Sets.{number_if, number_of, set_of_number};
 
 use names::{Permission, Perms, permissions_are_numbered};
 
-/// The set that a number stands for; none of 0, and of what is no sum of permissions' numbers.
+/// The set that a number stands for; none for 0, and for what is no sum of permissions' numbers.
 pub(crate) fn set_of_number(number: u32) -> Option<Perms>
     ensures { result ≡ set_of_number number }
 {

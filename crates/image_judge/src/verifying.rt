@@ -1,4 +1,4 @@
-//! Images verified.
+//! Verifying of images.
 ghost use Rattle.std.specs.Prelude.{◌≡◌};
 ghost use Rattle.image_judge.specs.Answers.{IsCountsOf, IsNoneOrLoaded, IsVerified};
 
@@ -8,13 +8,13 @@ use table_verifier::{VerifiedImage, verify_image};
 #[repr(C)]
 #[derive(Clone, Copy, Debug, PartialEq, Eq)]
 pub struct Fault {
-    /// Its number, 1 to 10; 0 where there is none.
+    /// Its number, 1 to 10; 0 if there is none.
     pub number: u16,
-    /// The state or cell of the faults 7 to 10; else 0.
+    /// The state or cell of the faults 7 to 10; otherwise 0.
     pub place: u32,
 }
 
-/// How much there is in an image.
+/// The numbers of an image's parts.
 #[repr(C)]
 #[derive(Clone, Copy, Debug, PartialEq, Eq)]
 pub struct Counts {
@@ -23,7 +23,7 @@ pub struct Counts {
     pub records: u32,
 }
 
-/// Accepts an image whose tables no index leaves, whoever made it; else its first fault.
+/// Accepts an image if no index leaves its tables, whoever made it; otherwise returns its first fault.
 pub fn verify(image: &[u8]) -> Fault
     ensures { IsVerified image.now result }
 {
@@ -39,7 +39,7 @@ pub fn verify(image: &[u8]) -> Fault
     }
 }
 
-/// How many states, cells and records an image has that was accepted; of no bytes none.
+/// How many states, cells and records an accepted image has; all 0 for no bytes.
 pub fn count(image: &[u8]) -> Counts
     requires { IsNoneOrLoaded image.now }
     ensures { IsCountsOf image.now result }

@@ -1,4 +1,4 @@
--- The words by which an account says why a part of a text isn't in the imported text as it stands.
+-- The words by which an account says why a part of a text isn't in the imported text unchanged.
 use Rattle.std.specs.Prelude.{ℕ, List, [], ◌∷◌, ◌++◌, codes, Option, Some, None, find}
 use Rattle.std.specs.Str.{bytes_eq}
 use Rattle.import_account.specs.declared.what.What.{What}

@@ -1,4 +1,4 @@
-//! Laws of what an account shows. The functions do nothing: each stands for its contract.
+//! Laws of what an account shows. The functions do nothing: each exists for its contract.
 ghost use Rattle.std.specs.Prelude.{◌≡◌, ◌≤◌, ◌<◌, ℕ, List, Some, All, length};
 ghost use Rattle.import_account.specs.ShownTexts.{shown_byte, shown_text};
 ghost use Rattle.import_account.specs.Whats.{statement_what, statements, what_word};
@@ -10,7 +10,7 @@ pub fn shown_texts_are_safe()
     ensures short { (bytes : List ℕ) → length (shown_text bytes) ≤ 72 }
 {}
 
-/// The word of each statement is read as that statement, and as no other.
+/// The word of each statement is read as that statement, and no other.
 pub fn statements_have_their_words()
     ensures { All (λ what. statement_what (what_word what) ≡ Some what) statements }
 {}

@@ -1,5 +1,5 @@
 //! The account that an import of a profile gives: why each part of the text that isn't in the imported text was left out or
-//! changed, and how that is told.
+//! changed, and how that is reported.
 //!
 //! The definitions to believe are those in `specs/`.
 #![tactic(auto)]

@@ -6,10 +6,10 @@ ghost use Rattle.import_account.specs.ShownTexts.{shown_byte, on_one_line, short
 use names::NoMemory;
 use std::alloc::Global;
 
-/// The most bytes that are shown whole.
+/// The maximum number of bytes shown in full.
 const MOST: usize = 72;
 
-/// How many bytes of more are shown.
+/// The number of bytes shown of a longer text.
 const FRONT: usize = 70;
 
 fn is_white(byte: u8) -> bool
@@ -18,7 +18,7 @@ fn is_white(byte: u8) -> bool
     matches!(byte, b' ' | b'\t' | b'\n' | b'\r')
 }
 
-/// A byte as it is shown: a control byte as `?`, so that no text can drive a terminal by it.
+/// Returns a byte as it is shown: a control byte as `?`, so that no text can control a terminal with it.
 pub fn shown_byte(byte: u8) -> u8
     ensures { result ≡ shown_byte byte }
 {
@@ -29,7 +29,7 @@ pub fn shown_byte(byte: u8) -> u8
     }
 }
 
-/// One byte more.
+/// Pushes one more byte.
 fn push(line: &mut Vec<u8>, byte: u8) -> Result<(), NoMemory>
     ensures { IfOk result (λ _. line.new.items ≡ line.old.items ++ (byte ∷ [])) }
 {
@@ -39,7 +39,7 @@ fn push(line: &mut Vec<u8>, byte: u8) -> Result<(), NoMemory>
     }
 }
 
-/// The bytes with each run of white as one space, and none at the start and at the end.
+/// Returns the bytes with each run of whitespace as one space, and none at the start or at the end.
 fn on_one_line(alloc: Global, bytes: &[u8]) -> Result<Vec<u8>, NoMemory>
     ensures { IfOk result (λ line. line.items ≡ on_one_line false false bytes.now) }
 {
@@ -59,7 +59,7 @@ fn on_one_line(alloc: Global, bytes: &[u8]) -> Result<Vec<u8>, NoMemory>
     Ok(line)
 }
 
-/// A part of a text as an account shows it: on one line, without control bytes, and shortened.
+/// Returns a part of a text as an account shows it: on one line, without control bytes, and shortened.
 #[tactic(auto, unfolding(crate::specs::ShownTexts::shown_text))]
 pub fn shown_text(alloc: Global, bytes: &[u8]) -> Result<Vec<u8>, NoMemory>
     ensures { IfOk result (λ line. line.items ≡ shown_text bytes.now) }

@@ -1,9 +1,9 @@
-//! Why a part of a text isn't in the imported text as it stands.
+//! Why a part of a text isn't in the imported text unchanged.
 ghost use Rattle.std.specs.Prelude.{◌≡◌, find};
 ghost use Rattle.std.specs.Str.{bytes_eq};
 ghost use Rattle.import_account.specs.Whats.{what_word};
 
-/// Why a part of a text isn't in the imported text as it stands: the construct that it is (apparmor.d(5)), or what is done to it.
+/// Why a part of a text isn't in the imported text unchanged: the construct that it is (apparmor.d(5)), or what is done to it.
 #[derive(Clone, Copy, Debug, PartialEq, Eq)]
 pub enum What {
     Audit,
@@ -15,7 +15,7 @@ pub enum What {
     Subset,
     /// A link pair: `l` is bound to a target.
     Link,
-    /// An arrow and a word that restrict nothing but an execution.
+    /// An arrow and a word that restrict only executions.
     Target,
     /// An exec mode.
     Exec,
@@ -23,9 +23,9 @@ pub enum What {
     Append,
     /// Letters of permissions in upper case.
     Capitals,
-    /// Slashes that are one.
+    /// A run of slashes that counts as one.
     Slashes,
-    /// A path that may be read otherwise.
+    /// A path that may be read differently.
     Pattern,
     Flags,
     Xattrs,
@@ -35,7 +35,7 @@ pub enum What {
     Child,
     /// A hat of the profile.
     Hat,
-    /// What stands around the profile in the one that it is a child of.
+    /// What surrounds the profile in the one that it is a child of.
     Parent,
     /// A hat's head, by which rules are added.
     Implied,
@@ -82,7 +82,7 @@ impl What {
     ghost use Rattle.std.specs.Prelude.{◌≡◌};
     ghost use Rattle.import_account.specs.Whats.{what_word, statement_what};
 
-    /// The word by which it is told.
+    /// Returns the word by which it is reported.
     pub fn word(self) -> &'static [u8]
         ensures { result.now ≡ what_word self }
     {
@@ -128,7 +128,7 @@ impl What {
         }
     }
 
-    /// What a statement that begins with this word is told by, if there is such a statement.
+    /// Returns what a statement that begins with this word is reported as, if there is such a statement.
     pub fn of_statement(word: &[u8]) -> Option<What>
         ensures { result ≡ statement_what word.now }
     {
@@ -136,7 +136,7 @@ impl What {
     }
 }
 
-/// The first of these that is told by this word.
+/// Returns the first of these that is reported by this word.
 fn told_by(whats: &[What], word: &[u8]) -> Option<What>
     ensures { result ≡ find (λ w. bytes_eq word.now (what_word w)) whats.now }
 {

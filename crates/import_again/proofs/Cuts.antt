@@ -1,4 +1,4 @@
--- How the items of a canonical text are cut: into spans of which none is told.
+-- How the items of a canonical text are cut: into spans of which none is reported.
 use Rattle.std.proofs.Common.{◌≡◌, ℕ, ◌+◌, ◌-◌, ◌==◌, Bool, true, false, ◌&&◌, List, [], ◌∷◌, ◌++◌, map, length, Option, None, refl, sym, ap, ◌∙◌, subst, if◌then◌else◌}
 use Rattle.std.specs.Prelude.{codes}
 use Rattle.std.proofs.lemmas.Bool.{and_right}
@@ -33,7 +33,7 @@ use Rattle.import_again.proofs.Lists.{each_append}
 use Rattle.import_again.proofs.Imported.{IsImported}
 use Rattle.import_again.proofs.RuleItems.{plain_rule, plain_reading, says_itself, is_told}
 
--- how far a canonical text is cut: in this phase, so deep; nothing was told, and nothing asks for more rules
+-- the state of cutting a canonical text: this phase and this depth; nothing was reported, and nothing adds more rules
 pub record IsCut (chosen : Subject) (within : Phase) (deep : ℕ) (s : CutState) : Type 0 where
   pub subject : s.choice.subject ≡ chosen
   pub phase : s.phase ≡ within
@@ -66,7 +66,7 @@ module _ (chosen : Subject) (phase : Phase) (depth : ℕ) where
 
 -- ---- items
 
--- an item by the phase that it stands in
+-- an item, by the phase that it is in
 abbrev in_phase : Phase → RuleReading → ItemValue → CutState → CutState
 in_phase phase reading item s = if is_chosen phase && is_rule item.kind then chosen_rule reading item s else plain_item phase item s
 
@@ -93,7 +93,7 @@ blank_behind chosen reading bytes s g = blank_put Outer chosen 0 reading bytes s
 abbrev pub first_choice : Subject → Choice
 first_choice chosen = record { subject = chosen; profile = 0; outermost = 0 }
 
--- a span can be put before the profile is opened, or behind that
+-- a span can be put before or after the profile is opened
 commutes : (kind : SpanKind) (count : ℕ) (s : CutState) → put kind (pass count (opened (enter Chosen s))) ≡ opened (enter Chosen (put kind (pass count s)))
 commutes kind count s = at (s.from == s.at + count)
   where
@@ -132,7 +132,7 @@ if_stays : (P : CutState → Type 0) (b : Bool) (one other : CutState) → b ≡
 if_stays P true one other e h = h
 if_stays P false one other e h = absurd cc
 
--- what stays doesn't ask what it would be told as
+-- what stays doesn't depend on what it would be reported as
 as_it_stays : (P : CutState → Type 0) (b : Bool) (one left other : CutState) → b ≡ true → P (if b then one else left) → P (if b then one else other)
 as_it_stays P true one left other e h = h
 as_it_stays P false one left other e h = absurd cc
@@ -170,7 +170,7 @@ close_cut chosen reading s g =
 -- ---- all items
 
 module _ (variables : List Variable) (chosen : Subject) where
-  -- an item more
+  -- the state after one more item
   abbrev behind : ItemValue → CutState → CutState
   behind item s = cut_item (item_reading variables chosen item) item s
 

@@ -37,7 +37,7 @@ use Rattle.profile_import.specs.Restated.{PlacedValue, cut_for, all_rules, resta
 use Rattle.import_again.proofs.Lists.{each_append, each_made, each_mapped}
 use Rattle.import_again.proofs.Names.{all_named, named_at}
 
--- a rule as an import gives it: it holds something, and its path can be read and is settled
+-- a rule as an import gives it: it has some permission, and its path can be read and is settled
 pub record IsImported (r : RuleValue) : Type 0 where
   pub perms : has_some r.perms ≡ true
   pub path : is_path r.items ≡ true
@@ -97,7 +97,7 @@ in_items variables chosen (item ∷ items) s =
     let next = cut_item (item_reading variables chosen item) item s in
     each_append HasPaths (rules_at variables item s) (rules_in variables chosen items next) (at_item variables item s) (in_items variables chosen items next)
 
--- what AppArmor adds, too, is brought to paths from its text
+-- the rules that AppArmor adds also have paths converted from their texts
 queried : (place : ℕ) → Each HasPaths (queries place)
 queried place = (imported_settle (codes "/proc/*/attr/apparmor/"), (imported_settle (codes "/sys/module/apparmor/parameters/enabled"), tt))
 

@@ -40,7 +40,7 @@ no_stop s all end (at_path t item others q fault h g) e = absurd cc
 no_stop s all end (later t item others last h a r) e =
     ap (λ (o : Option Fault). elim o [ None ↦ head_stop (behind t item) others | Some fault ↦ Some fault ]) h ∙ no_stop (behind t item) others last r e
 
--- where no fault is found, each head has a name that can be said
+-- if no fault is found, each head has a name that can be said
 pub all_named : (s : ScopeState) (all : List ItemValue) → FirstFault s all None → AreNamed s.profiles → AreNamed (behind_all s all).profiles
 all_named s all first h = subst (λ (t : ScopeState). AreNamed t.profiles) (last_is_behind s all (no_stop s all None first refl)) (named_last s all h)
 

@@ -1,4 +1,4 @@
--- A text in which no variable opens is the text that it has with its variables in place.
+-- A text in which no variable opens is unchanged by putting variables in place.
 use Rattle.std.proofs.Common.{◌≡◌, ◌≤◌, ◌-◌, ℕ, Bool, true, false, cond, ◌&&◌, ◌==◌, List, [], ◌∷◌, ◌++◌, length, Some, None, refl, sym, ap, ap₂, ◌∙◌, subst, ⊎_elim, append_assoc}
 use Rattle.std.specs.List.{flat_map}
 use Rattle.std.proofs.lemmas.Bool.{or_parts, cases_eq, ne_eqb}
@@ -31,12 +31,12 @@ begun : (b : ℕ) (bytes : Text) (p : Piece) → first_piece b bytes ≡ p → A
 unfolding pieces_behind
 begun b bytes p e h = subst (λ (q : Piece). AreBytes (q ∷ pieces_behind (length (written q) - 1) bytes)) (sym e) h
 
--- an @ with no { behind it begins no use
+-- an @ without a { after it begins no use
 no_use : (bytes : Text) → opens_from false true bytes ≡ false → used_name bytes ≡ None
 no_use [] h = refl
 no_use (b ∷ bytes) h = let p = or_parts (b == 123) _ h in ap (λ t. cond t (closed_name bytes) None) p.0
 
--- where the first byte was told with a backslash before it, or wasn't told
+-- how many bytes already belong to a piece: one if a backslash precedes the first byte, else none
 abbrev told : Bool → ℕ
 told true = 1
 told false = 0

@@ -45,7 +45,7 @@ quoted_content bytes =
 
 -- ---- the path
 
--- what it is that a path is settled
+-- what it means that a path's text is settled
 record Settles (text : List ℕ) : Type 0 where
   one : bytes_eq (one_slash text) text ≡ true
   plain : opens_variable text ≡ false
@@ -112,9 +112,9 @@ says_itself variables r h =
     ap (λ (t : List ℕ). path_as t (imported_paths t)) (text_is variables r h) ∙ ap (path_as (path_text r.items)) (imported_as_it_is r.items h.path h.settled) in
     λ i. record { kind = kind_is r r.kind i; applies_to = for_all r r.kind i; perms = perms_are r r.kind i; target = no_target r r.kind i; path = path i }
 
--- ---- how it is told
+-- ---- how it is reported
 
--- nothing of it is
+-- nothing of it is reported
 abbrev pub plain_marks : RuleValue → Marks
 plain_marks r = record { letters = plain_letters r.perms; slashes = false; pattern = false; link = false; binds = false }
 

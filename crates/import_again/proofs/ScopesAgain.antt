@@ -17,7 +17,7 @@ use Rattle.import_again.proofs.RuleItems.{own_text, quoted_content}
 abbrev pub head_of : List ℕ → Head
 head_of name = record { name = name; is_hat = false; outermost = 0 }
 
--- within the profile, and behind it
+-- within the profile, and after it
 abbrev inside : Head → ℕ → ScopeState
 inside head before = record { declared = []; profiles = head ∷ []; within = 0 ∷ []; before = before }
 

@@ -7,7 +7,7 @@ ghost use Rattle.profile_import.specs.Imports.{ImportValue, Imports};
 ghost use Rattle.import_again.specs.Untold.{IsUntold};
 
 /// The canonical text of an imported profile is imported as that profile, with an empty account, for each subject and strictly
-/// or not: with no values given beforehand, and with no name asked for or the profile's own.
+/// or not: with no values given in advance, and with no name requested or the profile's own.
 pub fn imports_are_imported_as_themselves()
     ensures { (options again : ImportOptions) (text : List ℕ) (value : ImportValue) → Imports options text (Ok value) →
         again.defines.now ≡ [] →

@@ -1,4 +1,4 @@
-//! The law that what was imported is imported as itself. The function does nothing: it stands for its contract.
+//! The law that what was imported is imported as itself. The function does nothing: it exists for its contract.
 //!
 //! The definitions to believe are those in `specs/`, and those of `profile_import`.
 #![tactic(auto)]

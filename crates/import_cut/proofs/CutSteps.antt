@@ -1,5 +1,5 @@
--- What each step of cutting keeps: the spans cover the bytes so far but for a run that goes on, blank ones are blank, and what is
--- so of a list of spans and of one with a span more.
+-- What each step of cutting preserves: the spans cover the bytes so far except for a run that goes on, blank ones are blank, and
+-- any property of a list of spans that a further span preserves.
 use Rattle.std.proofs.Common.{◌≡◌, ℕ, ◌+◌, ◌≤◌, ◌<◌, ◌==◌, Bool, true, false, cond, List, [], ◌∷◌, ◌++◌, length, drop, refl, sym, ap, ◌∙◌, subst, append_assoc, true≢false, arith}
 use Rattle.std.proofs.lemmas.Bool.{eqb-true, eqb-false, and_parts}
 use Rattle.std.proofs.lemmas.List.{append-nil, length-append}
@@ -58,7 +58,7 @@ part_blank (OfRule reading) chosen p e = rule_blank chosen reading p.kind e
 
 -- ---- what is kept
 
--- Behind these bytes, with the spans up to one of them; blank ones are blank if B.
+-- After these bytes, with the spans up to one of them; blank ones are blank if B.
 pub record Fine (B : Type 0) (Q : List Span → Type 0) (c : Choice) (before : List ℕ) (of : Choice) (place from : ℕ) (spans : List Span) : Type 0 where
   pub choice : of ≡ c
   pub at : place ≡ length before

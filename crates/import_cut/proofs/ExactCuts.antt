@@ -1,4 +1,4 @@
--- What is so of the changes that all spans of a text are told to make is so of those of each rule of the chosen profile.
+-- What holds of the changes that are reported for all spans of a text holds of the change of each rule of the chosen profile.
 use Rattle.std.proofs.Common.{◌≡◌, Bool, cond, List, [], ◌∷◌, ◌++◌, refl, ap, subst}
 use Rattle.flat_text.specs.Parts.{ItemValue, bytes_of_parts, bytes_of_items}
 use Rattle.subject_rules.specs.declared.effect.Change.{Change}
@@ -36,7 +36,7 @@ module _ (R : Change → Type 0) (exact : R Exact) (reading : ItemValue → Rule
   abbrev behind : CutState
   behind = cut_item (reading item) item there
 
-  -- before the rule nothing is known of what is told
+  -- before the rule nothing is known of what is reported
   good_there : Good ⊥ (λ _. Unit {0}) (λ _ _ _. tt) choice ([] ++ bytes_of_items before) there
   good_there = all_go ⊥ (λ _. Unit {0}) (λ _ _ _. tt) choice reading before [] (at_start choice) (λ none. absurd none) (start_is_good ⊥ (λ _. Unit {0}) (λ _ _ _. tt) choice tt)
 

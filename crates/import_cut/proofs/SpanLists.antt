@@ -13,7 +13,7 @@ pub covers_forward : (spans : List Span) (a b : ℕ) → Covers spans a b → a 
 covers_forward spans a b (stops place) = omega arith
 covers_forward spans a b (goes_on span others end less more) = let h = covers_forward others span.end end more in omega (arith, h, less)
 
--- one span more
+-- the spans with one more
 abbrev pub one_more : ℕ → ℕ → SpanKind → List Span → List Span
 one_more from at kind spans = spans ++ (record { start = from; end = at; kind = kind } ∷ [])
 

@@ -1,4 +1,4 @@
--- What a rule changes for the chosen subject is told of some span.
+-- What a rule changes for the chosen subject is reported of some span.
 use Rattle.std.proofs.Common.{◌≡◌, ◌<◌, ◌==◌, Bool, true, false, not, ◌&&◌, ◌||◌, cond, List, [], ◌∷◌, ◌++◌, length, Option, Some, None, is_some, find, inl, inr, refl, sym, ap, ◌∙◌, subst, true≢false, arith}
 use Rattle.std.proofs.lemmas.Bool.{eqb-true, and_parts, cases_Bool}
 use Rattle.std.proofs.lemmas.List.{length-append}
@@ -53,7 +53,7 @@ some_mapped : {A C : Type 0} (f : A → C) (o : Option A) → is_some (option_ma
 some_mapped f None e = e
 some_mapped f (Some x) e = refl
 
--- where there is a target, an arrow stands there, and binds it
+-- where there is a target, there is an arrow, which binds it
 bound : (parts : List PartValue) → is_some (target_of parts) ≡ true → (may_bind_link parts ≡ true) × (has_part is_arrow_part parts ≡ true)
 bound parts e = at (may_bind_link parts) refl e
   where
@@ -62,7 +62,7 @@ bound parts e = at (may_bind_link parts) refl e
     at true is e = (is, some_part is_arrow_part parts (some_mapped (λ (p : PartValue). p.bytes) (find (λ p. is_arrow_part p.kind) parts) (some_mapped target_text (first_bytes is_arrow_part parts) e)))
     at false is e = absurd cc
 
--- what an arrow that binds a target is told to change
+-- the change that is reported for an arrow that binds a target
 arrow_told : (chosen : Subject) (reading : RuleReading) → reading.marks.link ≡ false → reading.marks.binds ≡ true
     → change_told (rule_kind chosen reading kinds.Arrow) ≡ change chosen chosen (for_everybody reading.shape)
 arrow_told chosen reading no_link binds = at reading.marks.link reading.marks.binds no_link binds
@@ -92,7 +92,7 @@ stays chosen shape e = at (applies_to shape.applies_to chosen) shape.is_read (ha
     at true false l link m n e = absurd cc
     at false r l link m n e = absurd cc
 
--- behind the word link, with a target, nothing stays
+-- after the word link, with a target, nothing stays
 no_link_stays : (perms : Perms) (parts : List PartValue) → perms ≡ perms_of_rule parts → has_part is_link parts ≡ true
     → has_some (restated_perms perms true) ≡ false
 no_link_stays perms parts is there =

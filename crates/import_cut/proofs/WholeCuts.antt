@@ -15,7 +15,7 @@ use Rattle.import_cut.specs.Cutting.{rest_kind, finished, cut_item, cut_items, c
 use Rattle.import_cut.specs.Spans.{stops}
 use Rattle.import_cut.proofs.CutSteps.{Good, Is, putting, put_settles, items_go}
 
--- what is in no span yet is no blank
+-- what is in no span yet isn't blank
 rest_is_no_blank : (s : CutState) (phase : Phase) → rest_kind s.choice.subject phase ≡ Blank → ⊥
 rest_is_no_blank s (Skipping run) e = cc
 rest_is_no_blank s _ e = cc

@@ -1,4 +1,4 @@
--- How far the items of a text are cut, and the single steps of it.
+-- How far the items of a text are cut, and the single steps of cutting.
 use Rattle.std.specs.Prelude.{ℕ, ◌+◌, ◌-◌, ◌==◌, List, [], ◌∷◌, ◌++◌, length, Option, Some, None, if◌then◌else◌}
 use Rattle.std.specs.Option.{option_or}
 use Rattle.flat_text.specs.Parts.{PartValue, ItemValue, bytes_of_parts}
@@ -15,7 +15,7 @@ pub record CutState : Type 0 where
   -- how many profiles are open, and how many began
   pub depth : ℕ
   pub heads : ℕ
-  -- how many bytes there were, and how many of them are in spans: all, but for those of a run
+  -- how many bytes there were, and how many of them are in spans: all except those of a run
   pub at : ℕ
   pub from : ℕ
   pub phase : Phase
@@ -38,17 +38,17 @@ at_start choice = record {
   has_hat = None;
 }
 
--- so many bytes more
+-- `count` more bytes
 abbrev pub pass : ℕ → CutState → CutState
 pass count s = record s { at = s.at + count }
 
--- the bytes that are in no span yet are one, if there are any
+-- with a span of the bytes that are in none yet, if there are any
 abbrev pub put : SpanKind → CutState → CutState
 put kind s =
     if s.from == s.at then s
     else record s { from = s.at; spans = s.spans ++ (record { start = s.from; end = s.at; kind = kind } ∷ []) }
 
--- here another phase begins
+-- another phase begins here
 abbrev pub enter : Phase → CutState → CutState
 enter phase s = record s { phase = phase }
 
@@ -59,11 +59,11 @@ opened s = record s { depth = s.depth + 1; heads = s.heads + 1 }
 abbrev pub closed : CutState → CutState
 closed s = record s { depth = s.depth - 1 }
 
--- here begins a hat or a child
+-- a hat or a child begins here
 abbrev pub with_hat : CutState → CutState
 with_hat s = record s { has_hat = option_or s.has_hat (Some s.at) }
 
--- here begins a statement change_profile
+-- a statement change_profile begins here
 abbrev pub with_change : CutState → CutState
 with_change s = record s { changes_profile = option_or s.changes_profile (Some s.at) }
 

@@ -32,17 +32,17 @@ run_effect chosen _ = no_effect chosen
 abbrev pub run_kind : Subject → What → SpanKind
 run_kind chosen what = told (what ∷ []) (run_effect chosen what)
 
--- here begins a run: the items to the one that closes what this head opens
+-- a run begins here: the items up to the one that closes what this head opens
 unfoldable pub start_run : What → ItemValue → CutState → CutState
 start_run what item s = passed item (opened (enter (Skipping (record { what = what; floor = s.depth })) s))
 
--- where a run with this floor ends
+-- the phase after a run with this floor
 abbrev pub behind_run : ℕ → Phase
 behind_run floor = if floor == 0 then Outer else Chosen
 
 -- ---- heads
 
--- a hat's head begins here, or another
+-- a head begins here, which is marked if it is a hat's
 abbrev pub marked : ItemKind → CutState → CutState
 marked items.Hat s = with_hat s
 marked _ s = s
@@ -84,13 +84,13 @@ chosen_close item s =
 
 -- ---- statements and rules
 
--- a statement, told as one
+-- a statement, reported as one
 unfoldable pub statement_item : ItemValue → CutState → CutState
 statement_item item s =
     put_item (told (statement_whats item.parts) (statement_effect s.choice.subject (statement_whats item.parts))) item
     (if changes_profile (statement_whats item.parts) then with_change s else s)
 
--- a rule of the chosen profile: if it stays, its parts are told, else all of it
+-- a rule of the chosen profile: if it stays, its parts are reported, else all of it
 unfoldable pub chosen_rule : RuleReading → ItemValue → CutState → CutState
 chosen_rule reading item s =
     if is_restated s.choice.subject reading.shape then put_parts (OfRule reading) item.parts s
@@ -113,7 +113,7 @@ run_item run items.Hat item s = run_head run.what item s
 run_item run items.Close item s = run_close run item s
 run_item run _ item s = passed item s
 
--- directly in the chosen profile, but for rules
+-- directly in the chosen profile, except rules
 unfoldable pub chosen_item : ItemKind → ItemValue → CutState → CutState
 chosen_item items.Blank item s = put_parts Plain item.parts s
 chosen_item items.Statement item s = statement_item item s
@@ -122,7 +122,7 @@ chosen_item items.Hat item s = child_head whats.Hat item s
 chosen_item items.Close item s = chosen_close item s
 chosen_item _ item s = put_item Kept item s
 
--- any but a rule of the chosen profile, by where it is
+-- any item except a rule of the chosen profile, by where it is
 unfoldable pub plain_item : Phase → ItemValue → CutState → CutState
 plain_item Outer item s = outer_item item.kind item s
 plain_item (Skipping run) item s = run_item run item.kind item s
@@ -147,7 +147,7 @@ cut_item reading item s =
 
 -- ---- texts
 
--- the kind of what is in no span yet: of a run that is still open, if one is. Elsewhere no byte is left.
+-- the kind of what is in no span yet: that of a run that is still open, if there is one. Otherwise no byte is left.
 abbrev pub rest_kind : Subject → Phase → SpanKind
 rest_kind chosen (Skipping run) = run_kind chosen run.what
 rest_kind chosen _ = Kept

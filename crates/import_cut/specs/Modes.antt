@@ -9,7 +9,7 @@ use Rattle.flat_text.specs.Parts.{PartValue}
 use Rattle.subject_rules.specs.declared.mode.Mode.{Mode}
 use Rattle.subject_rules.specs.declared.mode.Mode.TheVariants.{Enforcing, Permissive, Unconfined}
 
--- unconfined refuses nothing; complain, default_allow and prompt may allow what no rule does, but for what is denied
+-- unconfined refuses nothing; complain, default_allow and prompt may allow what no rule does, except what is denied
 abbrev pub flag_mode : List ℕ → Mode
 flag_mode word =
     if bytes_eq word (codes "unconfined") then Unconfined
@@ -28,11 +28,11 @@ abbrev pub mode_with : Mode → List (List ℕ) → Mode
 mode_with mode [] = mode
 mode_with mode (word ∷ words) = mode_with (more_permissive mode (flag_mode word)) words
 
--- that of a list of flags, with the word flags before it or without
+-- the mode of a list of flags, with or without the word flags before it
 abbrev pub mode_of_flags : List ℕ → Mode
 mode_of_flags bytes = mode_with Enforcing (flags_of bytes)
 
--- the flags of a part, if it has any
+-- the mode of a part's flags, if it has any
 abbrev pub part_mode : PartKind → List ℕ → Mode
 part_mode kinds.Flags bytes = mode_of_flags bytes
 part_mode _ bytes = Enforcing
@@ -41,6 +41,6 @@ abbrev pub mode_with_parts : Mode → List PartValue → Mode
 mode_with_parts mode [] = mode
 mode_with_parts mode (p ∷ parts) = mode_with_parts (more_permissive mode (part_mode p.kind p.bytes)) parts
 
--- that of a profile with a head of these parts
+-- the mode of a profile with a head of these parts
 abbrev pub mode_of_head : List PartValue → Mode
 mode_of_head parts = mode_with_parts Enforcing parts

@@ -1,4 +1,4 @@
--- What becomes of a single part of a text for one of its profiles (our choice), and what is told of it.
+-- What becomes of a single part of a text for one of its profiles (our choice), and what is reported of it.
 use Rattle.std.specs.Prelude.{ℕ, List, [], ◌∷◌, ◌==◌, length, Some, None, Bool, true, false, if◌then◌else◌}
 use Rattle.std.specs.List.{flat_map, list_any}
 use Rattle.names.specs.declared.permissions.Permission.TheVariants.{Write}
@@ -40,7 +40,7 @@ added_effect chosen = effect chosen added_rule
 
 -- ---- statements
 
--- that of a statement with these bytes; one that begins with no such word is a boolean
+-- what a statement with these bytes is reported by; one that begins with no known word is a boolean
 abbrev pub what_of_statement : List ℕ → What
 what_of_statement bytes = elim (statement_what (word bytes)) [ None ↦ whats.Boolean | Some what ↦ what ]
 
@@ -51,7 +51,7 @@ statement_part_whats kinds.Other bytes = whats.Other ∷ []
 statement_part_whats kinds.Statement bytes = what_of_statement bytes ∷ []
 statement_part_whats _ bytes = []
 
--- what is told of a statement of these parts
+-- what is reported of a statement of these parts
 abbrev pub statement_whats : List PartValue → List What
 statement_whats parts = flat_map (λ p. statement_part_whats p.kind p.bytes) parts
 
@@ -68,7 +68,7 @@ statement_effect chosen all = if changes_profile all then added_effect chosen el
 
 -- ---- parts that each are a span
 
--- one that isn't told
+-- one that isn't reported
 abbrev pub plain_kind : PartKind → SpanKind
 plain_kind kinds.Blank = Blank
 plain_kind _ = Kept

@@ -1,4 +1,4 @@
--- Rules of the chosen profile, and what is told of the spans that their text is cut into.
+-- Rules of the chosen profile, and what is reported of the spans that their text is cut into.
 use Rattle.std.specs.Prelude.{◌≡◌, List, is_some, true}
 use Rattle.flat_text.specs.Laws.{IsItem}
 use Rattle.flat_text.specs.Parts.{PartValue, ItemValue}
@@ -13,7 +13,7 @@ use Rattle.import_cut.specs.declared.span.SpanKind.TheVariants.{Kept, Blank, Tol
 use Rattle.import_cut.specs.CutStates.{at_start}
 use Rattle.import_cut.specs.Cutting.{is_chosen_rule, cut_items}
 
--- what is told to change for the chosen subject
+-- the change that is reported for the chosen subject
 abbrev pub change_told : SpanKind → Change
 change_told Kept = Exact
 change_told Blank = Exact
@@ -25,7 +25,7 @@ pub record IsReadingOf (parts : List PartValue) (reading : RuleReading) : Type 0
   pub target : reading.shape.has_target ≡ is_some (target_of parts)
   pub marks : reading.marks ≡ marks_of reading.marks.pattern parts
 
--- behind these items this one is a rule of the chosen profile, and it is read as it is written
+-- after these items this one is a rule of the chosen profile, and it is read as it is written
 pub record IsReadRule (reading : ItemValue → RuleReading) (choice : Choice) (before : List ItemValue) (item : ItemValue) : Type 0 where
   pub written : IsItem item
   pub chosen : is_chosen_rule item (cut_items reading before (at_start choice)) ≡ true

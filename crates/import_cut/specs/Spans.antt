@@ -10,6 +10,6 @@ pub data Covers : List Span → ℕ → ℕ → Type 0 where
   goes_on : (span : Span) (spans : List Span) (end : ℕ) → span.start < span.end → Covers spans span.end end →
       Covers (span ∷ spans) span.start end
 
--- one that is called blank is white and comments alone
+-- one of kind Blank is white space and comments alone
 abbrev pub IsRight : List ℕ → Span → Type 0
 IsRight bytes span = span.kind ≡ Blank → is_blank false (take (span.end - span.start) (drop span.start bytes)) ≡ true

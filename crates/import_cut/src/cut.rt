@@ -21,7 +21,7 @@ use subject_rules::{Effect, Subject};
 /// Some items, one after another, that are one span.
 #[derive(Clone, Copy)]
 pub(crate) struct Run {
-    /// What it is told by.
+    /// What it is reported as.
     what: What,
     /// How many profiles are open where it ends.
     floor: usize,
@@ -49,7 +49,7 @@ pub struct Cut {
     heads: usize,
     /// How many bytes there were.
     at: usize,
-    /// How many of them are in spans: all, but for those of a run.
+    /// How many of them are in spans: all except those of a run.
     from: usize,
     phase: Phase,
     spans: Vec<Span>,
@@ -75,7 +75,7 @@ impl Model for Cut {
     } };
 }
 
-/// The spans of a text, from its first byte to its last, and where what adds rules to the chosen profile begins.
+/// The spans of a text, from its first byte to its last, and where the parts that add rules to the chosen profile begin.
 #[derive(Debug, Drop)]
 pub struct CutText {
     pub spans: Vec<Span>,
@@ -85,7 +85,7 @@ pub struct CutText {
     pub has_hat: Option<usize>,
 }
 
-/// There is no memory for more than can be counted.
+/// Adds two counts. An overflow is `NoMemory`: there is no memory for more than can be counted.
 fn sum(one: usize, other: usize) -> Result<usize, NoMemory>
     ensures ok { IfOk result (λ sum. sum ≡ one + other) }
     ensures err { OnErr result (2 ^ 64 ≤ one + other) }
@@ -93,7 +93,7 @@ fn sum(one: usize, other: usize) -> Result<usize, NoMemory>
     one.checked_add(other).ok_or(NoMemory)
 }
 
-/// One span more.
+/// Appends a span.
 fn add(spans: &mut Vec<Span>, span: Span) -> Result<(), NoMemory>
     ensures { IfOk result (λ _. spans.new.items ≡ spans.old.items ++ (span ∷ [])) }
 {
@@ -103,7 +103,7 @@ fn add(spans: &mut Vec<Span>, span: Span) -> Result<(), NoMemory>
     }
 }
 
-/// What a run that is told so changes: it is left out, but for the rules that it adds.
+/// The effect of a run that is reported as `what`. It is left out, except for the rules that it adds.
 fn run_effect(chosen: Subject, what: What) -> Effect
     ensures { result ≡ run_effect chosen what }
 {
@@ -113,7 +113,7 @@ fn run_effect(chosen: Subject, what: What) -> Effect
     }
 }
 
-/// Where a run with this floor ends.
+/// The phase after a run with this floor.
 fn behind_run(floor: usize) -> Phase
     ensures { result ≡ behind_run floor }
 {
@@ -125,7 +125,7 @@ fn behind_run(floor: usize) -> Phase
 }
 
 impl Cut {
-    /// Before a text.
+    /// The state before a text.
     pub fn new(alloc: Global, choice: Choice) -> Cut
         ensures { result ≡ at_start choice }
     {
@@ -166,7 +166,7 @@ impl Cut {
         Ok(())
     }
 
-    /// The bytes that are in no span yet are one, if there are any.
+    /// Makes a span of the bytes that are in none yet, if there are any.
     fn put(&mut self, kind: SpanKind) -> Result<(), NoMemory>
         ensures { IfOk result (λ _. self.new ≡ put kind self.old) }
     {
@@ -203,14 +203,14 @@ impl Cut {
         self.depth = self.depth.saturating_sub(1);
     }
 
-    /// Here begins a hat or a child.
+    /// Marks the place as the start of a hat or a child, if it is the first.
     fn mark_hat(&mut self)
         ensures { self.new ≡ with_hat self.old }
     {
         self.has_hat = self.has_hat.or(Some(self.at));
     }
 
-    /// Here begins a statement `change_profile`.
+    /// Marks the place as the start of a statement `change_profile`, if it is the first.
     fn mark_change(&mut self)
         ensures { self.new ≡ with_change self.old }
     {
@@ -223,7 +223,7 @@ impl Cut {
         self.pass(item.text().len())
     }
 
-    /// The item is one span.
+    /// Makes the item one span.
     fn put_item(&mut self, kind: SpanKind, item: &Item<'_>) -> Result<(), NoMemory>
         ensures { IfOk result (λ _. self.new ≡ put_item kind item.now self.old) }
     {
@@ -231,7 +231,7 @@ impl Cut {
         self.put(kind)
     }
 
-    /// The parts each are a span.
+    /// Makes each part a span.
     fn put_parts(&mut self, telling: PartTelling, parts: &[Part<'_>]) -> Result<(), NoMemory>
         ensures { IfOk result (λ _. self.new ≡ put_parts telling parts.now self.old) }
     {
@@ -255,7 +255,7 @@ impl Cut {
         self.pass_item(item)
     }
 
-    /// The bytes of a run are a span, if there are any.
+    /// Makes a span of the bytes of a run, if there are any.
     fn end_run(&mut self, what: What) -> Result<(), NoMemory>
         ensures { IfOk result (λ _. self.new ≡ put (run_kind self.old.choice.subject what) self.old) }
     {
@@ -402,7 +402,7 @@ impl Cut {
         }
     }
 
-    /// The next item, which is no rule of the chosen profile.
+    /// Cuts the next item, which isn't a rule of the chosen profile.
     pub fn item(&mut self, item: &Item<'_>) -> Result<(), NoMemory>
         requires { is_chosen_rule item.now self.old ≡ false }
         ensures { IfOk result (λ _. (reading : RuleReading) → self.new ≡ cut_item reading item.now self.old) }
@@ -410,7 +410,7 @@ impl Cut {
         self.plain_item(item)
     }
 
-    /// The next item, which is a rule of the chosen profile, and how it was read.
+    /// Cuts the next item, a rule of the chosen profile, by how it was read.
     #[tactic(auto, unfolding(crate::specs::Cutting::chosen_rule))]
     pub fn rule(&mut self, item: &Item<'_>, reading: RuleReading) -> Result<(), NoMemory>
         requires { is_chosen_rule item.now self.old ≡ true }
@@ -425,7 +425,7 @@ impl Cut {
         self.put_item(SpanKind::Told(Told::new(whats, effect)), item)
     }
 
-    /// The text ends here.
+    /// Ends the text, and returns how it was cut.
     pub fn finish(mut self) -> Result<CutText, NoMemory>
         ensures spans { IfOk result (λ text. text.spans.items ≡ (finished self).spans) }
         ensures changes_profile { IfOk result (λ text. text.changes_profile ≡ (finished self).changes_profile) }

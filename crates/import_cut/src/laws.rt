@@ -18,14 +18,14 @@ pub fn spans_cover_the_text()
         Covers (cut_of reading choice items).spans 0 (length (bytes_of_items items)) }
 {}
 
-/// A span that is called blank is white and comments alone.
+/// A span of kind `Blank` is white space and comments alone.
 pub fn blank_spans_are_blank()
     ensures { (reading : ItemValue → RuleReading) (choice : Choice) (items : List ItemValue) → Each IsItem items →
         Each (IsRight (bytes_of_items items)) (cut_of reading choice items).spans }
 {}
 
-/// Where all spans of a text are told to be exact for the chosen subject, so is each rule of the chosen profile; and where
-/// none is told to be wider or narrower for it, no rule is.
+/// Where all spans of a text are reported as exact for the chosen subject, each rule of the chosen profile is exact for it; where
+/// none is reported as wider for it, no rule is, and where none is reported as narrower, no rule is.
 pub fn exact_spans_mean_exact_rules()
     ensures exact { (reading : ItemValue → RuleReading) (choice : Choice) (before after : List ItemValue) (item : ItemValue) →
         IsReadRule reading choice before item →

@@ -1,5 +1,5 @@
 //! The items of a flattened AppArmor profile text, cut into spans for one of its profiles: what of the text stays, what is
-//! blank, and what an account tells, with its effect.
+//! blank, and what an account reports, with its effect.
 //!
 //! The definitions to believe are those in `specs/`.
 #![tactic(auto)]

@@ -31,14 +31,14 @@ fn more_permissive(mode: Mode, other: Mode) -> Mode
     }
 }
 
-/// Whether the byte parts flags.
+/// Whether the byte separates flags.
 fn parts_flags(byte: u8) -> bool
     ensures { result ≡ parts_flags byte }
 {
     matches!(byte, b' ' | b'\t' | b'\n' | b'\r' | b',' | b'(' | b')')
 }
 
-/// What stands from the first opening parenthesis on.
+/// The bytes from the first opening parenthesis on.
 fn from_parenthesis(bytes: &[u8]) -> &[u8]
     ensures { result.now ≡ after (λ b. not (b == 40)) bytes.now }
 {
@@ -51,7 +51,7 @@ fn from_parenthesis(bytes: &[u8]) -> &[u8]
     rest
 }
 
-/// How many bytes of a flag stand at the front.
+/// The length of the flag at the front.
 fn flag_length(bytes: &[u8]) -> usize
     ensures { result ≡ length (leading is_flag_byte bytes.now) }
 {
@@ -62,7 +62,7 @@ fn flag_length(bytes: &[u8]) -> usize
     length
 }
 
-/// The flag that stands at the front.
+/// The flag at the front.
 #[tactic(auto, using(flat_words::proofs::Runs::leading_cut))]
 fn flag_here(bytes: &[u8]) -> &[u8]
     ensures { result.now ≡ leading is_flag_byte bytes.now }
@@ -70,7 +70,7 @@ fn flag_here(bytes: &[u8]) -> &[u8]
     bytes.split_at(flag_length(bytes)).0
 }
 
-/// The mode that flags stand for, which are all known: of several, the one that allows most.
+/// The mode of a list of flags, all of which are known: of several, the one that allows most.
 pub fn mode_of_flags(bytes: &[u8]) -> Mode
     ensures { result ≡ mode_of_flags bytes.now }
 {
@@ -88,7 +88,7 @@ pub fn mode_of_flags(bytes: &[u8]) -> Mode
     mode
 }
 
-/// The mode that a part of a head stands for, if it is of flags.
+/// The mode of a part of a head: that of its flags, or `Enforcing` if it isn't of flags.
 fn part_mode(part: &Part<'_>) -> Mode
     ensures { result ≡ part_mode part.now.kind part.now.bytes }
 {

@@ -1,4 +1,4 @@
-//! For which profile a text is cut, and how a rule of it was read.
+//! Which profile a text is cut for, and how a rule of it was read.
 
 use flat_rules::Marks;
 use subject_rules::{RuleShape, Subject};
@@ -19,6 +19,6 @@ pub struct Choice {
 pub struct RuleReading {
     /// What decides whether it stays, and what that changes.
     pub shape: RuleShape,
-    /// What of its parts is told.
+    /// What is reported of its parts.
     pub marks: Marks,
 }

@@ -5,8 +5,8 @@ use import_account::What;
 use std::marker::Model;
 use subject_rules::Effect;
 
-/// What an account tells of a span: the constructs that it is, in the order of their parts, and what it changes that they
-/// aren't there as they were.
+/// What an account reports of a span: the constructs in it, in the order of their parts, and the effect of not keeping them as
+/// they were.
 #[derive(Debug, Drop)]
 pub struct Told {
     whats: Vec<What>,
@@ -28,14 +28,14 @@ impl Told {
         Told { whats, effect }
     }
 
-    /// The constructs that the span is.
+    /// The constructs in the span.
     pub fn whats(&self) -> &[What]
         ensures { result.now ≡ self.now.whats }
     {
         &self.whats
     }
 
-    /// What it changes that they aren't there as they were.
+    /// The effect of not keeping them as they were.
     pub fn effect(&self) -> Effect
         ensures { result ≡ self.now.effect }
     {
@@ -46,11 +46,11 @@ impl Told {
 /// What becomes of a span.
 #[derive(Debug, Drop)]
 pub enum SpanKind {
-    /// What it means stays.
+    /// Its meaning is kept.
     Kept,
-    /// It is white and comments.
+    /// It is white space and comments.
     Blank,
-    /// An account tells it.
+    /// An account reports it.
     Told(Told),
 }
 
@@ -59,7 +59,7 @@ pub enum SpanKind {
 pub struct Span {
     /// How many bytes are before the first.
     pub start: usize,
-    /// How many bytes are before the one behind the last.
+    /// How many bytes are before its end.
     pub end: usize,
     pub kind: SpanKind,
 }

@@ -1,4 +1,4 @@
-//! What becomes of a single part, and what is told of statements.
+//! What becomes of a single part, and what is reported of statements.
 ghost use Rattle.std.specs.Prelude.{◌≡◌, ◌++◌, ◌∷◌, [], IfOk};
 ghost use Rattle.import_cut.specs.PartSpans.{told, added_effect, what_of_statement, statement_part_whats, statement_whats, changes_profile, statement_effect, plain_kind, head_kind, rule_kind, part_kind};
 ghost use Rattle.flat_rules.specs.RuleParts.{no_effect};
@@ -15,10 +15,10 @@ use std::alloc::Global;
 use subject_rules::{AppliesTo, Change, Effect, RuleShape, Subject};
 use verdicts::RuleKind;
 
-/// What each part of an item is told by.
+/// How each part of an item is reported.
 #[derive(Clone, Copy)]
 pub(crate) enum PartTelling {
-    /// By nothing.
+    /// Not at all.
     Plain,
     /// As a part of the chosen profile's head.
     OfHead,
@@ -26,8 +26,8 @@ pub(crate) enum PartTelling {
     OfRule(RuleReading),
 }
 
-/// What it changes that rules are restated which AppArmor adds to a profile with a hat or a rule `change_profile`: those by
-/// which owners may write some files in `/proc`.
+/// The effect of restating the rules that AppArmor adds to a profile with a hat or a rule `change_profile`: those by which
+/// owners may write some files in `/proc`.
 pub fn added_effect(chosen: Subject) -> Effect
     ensures { result ≡ added_effect chosen }
 {
@@ -41,7 +41,7 @@ pub fn added_effect(chosen: Subject) -> Effect
     Effect::of(chosen, added)
 }
 
-/// Nothing changes.
+/// The effect of changing nothing.
 pub(crate) fn no_effect(chosen: Subject) -> Effect
     ensures { result ≡ no_effect chosen }
 {
@@ -52,7 +52,7 @@ pub(crate) fn no_effect(chosen: Subject) -> Effect
     }
 }
 
-/// One word more.
+/// Appends a word.
 fn add(whats: &mut Vec<What>, what: What) -> Result<(), NoMemory>
     ensures { IfOk result (λ _. whats.new.items ≡ whats.old.items ++ (what ∷ [])) }
 {
@@ -62,7 +62,7 @@ fn add(whats: &mut Vec<What>, what: What) -> Result<(), NoMemory>
     }
 }
 
-/// A span that is told by one word.
+/// A span that is reported by one word.
 pub(crate) fn told_by(alloc: Global, what: What, effect: Effect) -> Result<SpanKind, NoMemory>
     ensures { IfOk result (λ kind. kind ≡ told (what ∷ []) effect) }
 {
@@ -71,14 +71,14 @@ pub(crate) fn told_by(alloc: Global, what: What, effect: Effect) -> Result<SpanK
     Ok(SpanKind::Told(Told::new(whats, effect)))
 }
 
-/// What a statement of these bytes is told by.
+/// The word that a statement of these bytes is reported by.
 fn what_of_statement(bytes: &[u8]) -> What
     ensures { result ≡ what_of_statement bytes.now }
 {
     What::of_statement(letter_word(bytes)).unwrap_or(What::Boolean)
 }
 
-/// Adds what is told of a part of a statement.
+/// Adds what is reported of a part of a statement.
 fn put_statement_part(part: &Part<'_>, whats: &mut Vec<What>) -> Result<(), NoMemory>
     ensures { IfOk result (λ _. whats.new.items ≡ whats.old.items ++ statement_part_whats part.now.kind part.now.bytes) }
 {
@@ -91,7 +91,7 @@ fn put_statement_part(part: &Part<'_>, whats: &mut Vec<What>) -> Result<(), NoMe
     }
 }
 
-/// What is told of a statement of these parts.
+/// What is reported of a statement of these parts.
 pub(crate) fn statement_whats(alloc: Global, parts: &[Part<'_>]) -> Result<Vec<What>, NoMemory>
     ensures { IfOk result (λ whats. whats.items ≡ statement_whats parts.now) }
 {
@@ -102,7 +102,7 @@ pub(crate) fn statement_whats(alloc: Global, parts: &[Part<'_>]) -> Result<Vec<W
     Ok(whats)
 }
 
-/// Whether a statement that is told so is a rule `change_profile`.
+/// Whether a statement that is reported by these words is a rule `change_profile`.
 pub(crate) fn changes_profile(whats: &[What]) -> bool
     ensures { result ≡ changes_profile whats.now }
 {
@@ -111,7 +111,7 @@ pub(crate) fn changes_profile(whats: &[What]) -> bool
         .any(|what| matches!(*what, What::ChangeProfile))
 }
 
-/// What a statement that is told so changes: it is left out, but for the rules that it adds.
+/// The effect of a statement that is reported by these words. It is left out, except for the rules that it adds.
 pub(crate) fn statement_effect(chosen: Subject, whats: &[What]) -> Effect
     ensures { result ≡ statement_effect chosen whats.now }
 {
@@ -122,7 +122,7 @@ pub(crate) fn statement_effect(chosen: Subject, whats: &[What]) -> Effect
     }
 }
 
-/// What becomes of a part that isn't told.
+/// What becomes of a part that isn't reported.
 fn plain_kind(kind: PartKind) -> SpanKind
     ensures { result ≡ plain_kind kind }
 {

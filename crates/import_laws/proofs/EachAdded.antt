@@ -1,4 +1,4 @@
--- What is so of each rule that AppArmor adds.
+-- What holds of each rule that AppArmor adds.
 use Rattle.std.proofs.Common.{ℕ, List, [], ◌∷◌, ◌++◌, Option, Some, None, codes, cond}
 use Rattle.std.specs.Prelude.{nat_le}
 use Rattle.names.specs.declared.permissions.Permission.TheVariants.{Read, Write}

@@ -1,5 +1,5 @@
--- What is so of the changes that all spans are told to make is so of those of each rule of the chosen profile, and of each that
--- AppArmor adds.
+-- What holds of the changes that are reported for all spans holds of the change of each rule of the chosen profile, and of each
+-- that AppArmor adds.
 use Rattle.std.proofs.Common.{◌≡◌, ℕ, Bool, true, false, cond, List, [], ◌∷◌, ◌++◌, Option, refl, sym, subst, append_assoc}
 use Rattle.std.specs.List.{All}
 use Rattle.std.proofs.lemmas.List.Elements.{All-cons, All-nil}

@@ -1,4 +1,4 @@
--- An import that comes to a profile: of which items it is, and of which of their profiles.
+-- An import that results in a profile: which items it is of, and which of their profiles.
 use Rattle.std.proofs.Common.{◌≡◌, ℕ, Bool, true, false, List, map, length, Option, Some, None, Ok, Err, refl}
 use Rattle.std.specs.Prelude.{slice_get, option_map}
 use Rattle.flat_text.specs.Parts.{ItemValue}
@@ -15,7 +15,7 @@ use Rattle.profile_import.specs.Faults.{which, too_many_rules, not_exact}
 use Rattle.profile_import.specs.Restated.{PlacedValue, cut_for, all_rules, restated_rules}
 use Rattle.profile_import.specs.Imports.{ImportValue, Outcome, Imports, choice_of, chosen_number, first_change, strict_outcome, head_outcome, read_outcome}
 
--- behind all items
+-- after all items
 abbrev pub end_of : ImportOptions → List ItemValue → ScopeState
 end_of options items = behind_all (at_start options.defines.now) items
 

@@ -1,4 +1,4 @@
--- Spans are added behind others: what is so of all spans in the end was so of those before.
+-- Spans are appended: what holds of all spans at the end held of those before.
 use Rattle.std.proofs.Common.{◌≡◌, ◌==◌, Bool, true, false, cond, List, [], ◌∷◌, ◌++◌, length, refl}
 use Rattle.std.proofs.lemmas.Bool.{eqb-true}
 use Rattle.rule_globs.specs.Each.{Each}
@@ -42,7 +42,7 @@ rule_part reading chosen p = rule_kind chosen reading p.kind
 abbrev pub one_more : SpanKind → CutState → CutState
 one_more kind s = record s { from = s.at; spans = s.spans ++ (record { start = s.from; end = s.at; kind = kind } ∷ []) }
 
--- what is so with that span and without is so
+-- what holds with that span and without it holds
 pub put_cases : (P : CutState → Type 0) (kind : SpanKind) (s : CutState) → P s → P (one_more kind s) → P (put kind s)
 put_cases P kind s without with = at (s.from == s.at)
   where
@@ -55,7 +55,7 @@ each_before P [] x h = (tt, h.0)
 each_before P (y ∷ xs) x h = let g = each_before P xs x h.1 in ((h.0, g.0), g.1)
 
 module _ (R : Change → Type 0) where
-  -- so are all that these spans are told to change
+  -- R holds of each change that is reported for these spans
   abbrev pub Tells : List Span → Type 0
   Tells spans = Each (λ (span : Span). R (change_told span.kind)) spans
 

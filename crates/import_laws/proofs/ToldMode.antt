@@ -1,4 +1,4 @@
--- What is so of the changes that all spans are told to make is so of that of the chosen profile's mode.
+-- What holds of the changes that are reported for all spans holds of that of the chosen profile's mode.
 use Rattle.std.proofs.Common.{◌≡◌, ℕ, suc, ◌+◌, ◌-◌, ◌≤◌, ◌==◌, Bool, true, false, ◌&&◌, cond, List, [], ◌∷◌, length, refl, sym, ap, ap₂, ◌∙◌, subst, arith}
 use Rattle.std.proofs.lemmas.Bool.{eqb-true}
 use Rattle.rule_globs.specs.Each.{Each}
@@ -112,7 +112,7 @@ module _ (R : Change → Type 0) (exact : R Exact) (c : Choice) where
   putting_item : (heads : ℕ) (kind : SpanKind) (item : ItemValue) (s : CutState) → Is heads s → Is heads (put_item kind item s)
   putting_item heads kind item s f = putting heads kind (passed item s) (passing heads _ s f)
 
-  -- Behind an item, which is a head or not, and the chosen profile's or not: that one's mode is exact, or it is still to come.
+  -- After an item, which is a head or not, and the chosen profile's or not: that one's mode is exact, or it is still to come.
   abbrev Step : ℕ → ItemValue → Bool → Bool → CutState → Type 0
   Step heads item false is t = Is heads t
   Step heads item true false t = Is (suc heads) t

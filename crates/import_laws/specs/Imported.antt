@@ -1,4 +1,4 @@
--- An import, and what AppArmor's own rules and mode are that it is made of.
+-- An import, and AppArmor's own rules and mode that it is made of.
 use Rattle.std.specs.Prelude.{◌≡◌, ℕ, suc, ◌==◌, List, [], ◌∷◌, map, slice_get, Some, None, option_map, Bool, true, false, if◌then◌else◌}
 use Rattle.flat_text.specs.declared.part.ItemKind.{ItemKind}
 use Rattle.flat_text.specs.declared.part.ItemKind.TheVariants as items
@@ -20,7 +20,7 @@ opens_profile items.Profile = true
 opens_profile items.Hat = true
 opens_profile _ = false
 
--- the mode of the profile with this number, where so many began before
+-- the mode of the profile with this number, where `heads` profiles began before
 abbrev pub mode_from : ℕ → ℕ → List ItemValue → Mode
 mode_from number heads [] = Enforcing
 mode_from number heads (item ∷ items) =
@@ -30,7 +30,7 @@ mode_from number heads (item ∷ items) =
 abbrev pub plain_rules : List PlacedRule → List SubjectRule
 plain_rules rules = map (λ r. r.rule) rules
 
--- The text is imported so, and these are the chosen profile's rules, those that AppArmor adds among them, and its mode.
+-- This is the import of the text, and these are the chosen profile's rules, including those that AppArmor adds, and its mode.
 pub record IsImported (options : ImportOptions) (text : List ℕ) (value : ImportValue) (rules : List SubjectRule) (mode : Mode) : Type 0 where
   pub items : List ItemValue
   pub number : ℕ

@@ -1,4 +1,4 @@
-//! What an imported profile says, beside AppArmor's own rules.
+//! What an imported profile says, compared with AppArmor's own rules.
 ghost use Rattle.std.specs.Prelude.{◌≡◌, ◌≢◌, ◌↔◌, ℕ, List, Ok};
 ghost use Rattle.names.specs.declared.permissions.Perms.{Perms};
 ghost use Rattle.rule_globs.specs.Each.{Each};
@@ -22,7 +22,7 @@ use subject_rules::{
     wider_rules_allow_no_less,
 };
 
-/// What is imported of a text are its chosen profile's rules, restated for the chosen subject.
+/// The rules imported from a text are its chosen profile's, restated for the chosen subject.
 pub fn imports_are_restated_rules()
     ensures some { (options : ImportOptions) (text : List ℕ) (value : ImportValue) → Imports options text (Ok value) →
         (rules : List SubjectRule) × (mode : Mode) × IsImported options text value rules mode }
@@ -34,8 +34,8 @@ pub fn imports_are_restated_rules()
     texts_have_one_first_fault();
 }
 
-/// Where no span is told to change something for the chosen subject, the imported profile allows it just what the rules of the
-/// text allow, in their mode; where none is told to be wider, it allows nothing that they don't; and where none is told to be
+/// Where no span is reported to change anything for the chosen subject, the imported profile allows it just what the rules of the
+/// text allow, in their mode; where none is reported as wider, it allows nothing that they don't; and where none is reported as
 /// narrower, it allows all that they do. That holds however AppArmor reads what isn't read here.
 pub fn exact_imports_say_the_same()
     ensures exact { (options : ImportOptions) (text : List ℕ) (value : ImportValue) (rules : List SubjectRule) (mode : Mode) →

@@ -1,4 +1,4 @@
-//! What an import comes to, and its spans.
+//! The outcome of an import, and its spans.
 ghost use Rattle.std.specs.Prelude.{◌≡◌, ℕ, List, Ok, length, IsTrue};
 ghost use Rattle.rule_globs.specs.Each.{Each};
 ghost use Rattle.rule_reader.specs.Grammar.{ReadsAs};
@@ -14,7 +14,7 @@ use import_paths::imported_paths_can_be_read;
 use import_scope::texts_have_one_first_fault;
 use rule_writer::canonical_texts_are_read;
 
-/// An import of a text comes to one outcome.
+/// An import of a text has exactly one outcome.
 pub fn texts_have_one_import()
     ensures some { (options : ImportOptions) (text : List ℕ) → (outcome : Outcome) × Imports options text outcome }
     ensures one { (options : ImportOptions) (text : List ℕ) (one other : Outcome) →
@@ -25,7 +25,7 @@ pub fn texts_have_one_import()
 }
 
 /// The spans of an import go from the text's first byte to its last, each from where the one before it ends; and one that is
-/// blank is white and comments alone.
+/// blank is white space and comments alone.
 pub fn spans_are_the_text()
     ensures whole { (options : ImportOptions) (text : List ℕ) (value : ImportValue) →
         Imports options text (Ok value) → Covers value.spans 0 (length text) }

@@ -4,7 +4,7 @@ use Rattle.std.specs.Prelude.{codes}
 use Rattle.import_account.specs.declared.what.What.{What}
 use Rattle.import_account.specs.Whats.{joined}
 
--- what stands behind the words that were added, if some were
+-- what follows the words that were added, if some were
 abbrev pub behind : Bool → List What → List ℕ
 behind false whats = joined whats
 behind true [] = []

@@ -7,7 +7,7 @@ use Rattle.std.proofs.lemmas.List.Sums.{count_by_more_yes, count_by_more_no, suf
 use Rattle.rule_explain.specs.declared.place.Place.{Place}
 use Rattle.rule_explain.specs.Places.{is_line_feed, place_at}
 
--- a place by its parts
+-- a place, given its parts
 abbrev pub place_of : ℕ → ℕ → Place
 place_of line column = record { line = line; column = column }
 
@@ -17,7 +17,7 @@ length-after_last bytes =
     let small : suffix_len (λ b. not (is_line_feed b)) bytes ≤ length bytes = suffix_len-le-length (λ b. not (is_line_feed b)) bytes in
     omega (arith, length-drop (length bytes - suffix_len (λ b. not (is_line_feed b)) bytes) bytes)
 
--- behind a line feed a line begins
+-- after a line feed a new line begins
 pub place_behind_feed : (text : List ℕ) (i : ℕ) → i < length text → is_line_feed (get_or text i 0) ≡ true
     → place_at text (i + 1) ≡ place_of ((place_at text i).line + 1) 1
 place_behind_feed text i within here =
@@ -27,7 +27,7 @@ place_behind_feed text i within here =
     let column : length (after_last is_line_feed (take (i + 1) text)) ≡ 0 = length-after_last (take (i + 1) text) ∙ none in
     rw (line, column)
 
--- behind another byte the column is the next one
+-- after another byte the column is the next one
 pub place_behind_other : (text : List ℕ) (i : ℕ) → i < length text → is_line_feed (get_or text i 0) ≡ false
     → place_at text (i + 1) ≡ place_of (place_at text i).line ((place_at text i).column + 1)
 place_behind_other text i within here =
@@ -37,7 +37,7 @@ place_behind_other text i within here =
     let column : length (after_last is_line_feed (take (i + 1) text)) ≡ length (after_last is_line_feed (take i text)) + 1 = omega (arith, length-after_last (take (i + 1) text), length-after_last (take i text), rw back at more) in
     rw (line, column)
 
--- a byte of a part that begins and ends there stands in the text
+-- a byte of a part with this start and end is a byte of the text
 pub stands_in_text : (text : List ℕ) (start end i : ℕ) → end ≤ length text → i < length (take (end - start) (drop start text)) → start + i < length text
 stands_in_text text start end i within inside =
     omega (arith, length-take (end - start) (drop start text), length-drop start text)

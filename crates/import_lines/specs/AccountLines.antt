@@ -1,4 +1,4 @@
--- The lines of an import's account: where something stands that isn't taken as it stands, what it is, what that changes, and its text.
+-- The lines of an import's account: the place of something that isn't taken as written, what it is, what that changes, and its text.
 use Rattle.std.specs.Prelude.{ℕ, List, ◌++◌, codes, decimal}
 use Rattle.import_account.specs.declared.what.What.{What}
 use Rattle.import_account.specs.ShownTexts.{shown_text}

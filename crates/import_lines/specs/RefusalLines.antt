@@ -1,4 +1,5 @@
--- The lines by which an import says that it refuses a text: the number of the refusal's kind, the place and the word if there are such, and names.
+-- The lines that report why an import refuses a text: the number of the refusal's kind, the place and the word if there are any,
+-- and names.
 use Rattle.std.specs.Prelude.{ℕ, List, [], ◌++◌, codes, decimal, flat_map, map, Option, Some, None}
 use Rattle.import_account.specs.ShownTexts.{shown_byte, shown_text}
 use Rattle.import_lines.specs.AccountLines.{place_text}
@@ -15,10 +16,10 @@ abbrev pub word_told : Option (List ℕ) → List ℕ
 word_told (Some word) = codes " (" ++ (shown_text word ++ codes ")")
 word_told None = []
 
--- each name stands on a line of its own, but for its control bytes
+-- each name is on a line of its own, with its control bytes replaced
 abbrev pub name_line : List ℕ → List ℕ
 name_line name = codes "\n" ++ map shown_byte name
 
--- `refused: import 3 at 2:1 (if)`; the last line has no end
+-- `refused: import 3 at 2:1 (if)`; the last line has no line break
 abbrev pub refusal_text : ℕ → Option Place → Option (List ℕ) → List (List ℕ) → List ℕ
 refusal_text number place word names = refusal_front number ++ (at_place place ++ (word_told word ++ flat_map name_line names))

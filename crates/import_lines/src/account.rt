@@ -10,8 +10,8 @@ use rule_explain::Place;
 use std::alloc::Global;
 use subject_rules::Effect;
 
-/// Adds the line that tells of some bytes at a place what they are, and what changes by what became of them. Where there is no
-/// memory, a part of the line may have been added.
+/// Adds the line that says, for some bytes at a place, what they are and what changes because of how they were treated. If
+/// memory is refused, a part of the line may have been added.
 pub fn push_account_line(
     lines: &mut Vec<u8>,
     alloc: Global,

@@ -1,4 +1,4 @@
-//! The lines by which an import of a profile text tells what it didn't take as it stands, and why it refused.
+//! The lines in which an import of a profile text reports what it didn't take as written, and why it refused the text.
 //!
 //! The definitions to believe are those in `specs/`.
 #![tactic(auto)]

@@ -8,8 +8,7 @@ use std::marker::Model;
 /// Where a text begins.
 const START: Place = Place { line: 1, column: 1 };
 
-/// The places of a text's bytes. Those that are asked for in ascending order cost one pass over the text in all. To contracts
-/// it is the text.
+/// The places of a text's bytes. Asking for places in ascending order costs one pass over the text in total. Its view is the text.
 #[derive(Drop)]
 pub struct Places<'t> {
     text: &'t [u8],
@@ -31,7 +30,7 @@ impl<'t> Model for Places<'t> {
 }
 
 impl<'t> Places<'t> {
-    /// Those of this text.
+    /// The places of this text.
     pub fn new(text: &'t [u8]) -> Places<'t>
         ensures { result ≡ text.now }
     {
@@ -42,7 +41,7 @@ impl<'t> Places<'t> {
         }
     }
 
-    /// The place of the byte before which so many stand, or of the text's end where there are fewer.
+    /// The place of the byte at `offset`, or of the text's end if there are fewer bytes.
     pub fn place(&mut self, offset: usize) -> Place
         ensures place { result ≡ place_at self.old offset }
         ensures text { self.new ≡ self.old }
@@ -58,7 +57,7 @@ impl<'t> Places<'t> {
     }
 }
 
-/// The place of a byte, by that of one at or before it.
+/// The place of a byte, given that of one at or before it.
 fn place_from(text: &[u8], start: usize, at_start: Place, end: usize) -> Place
     requires at_start { at_start ≡ place_at text.now start }
     requires ascending { start ≤ end }

@@ -9,18 +9,18 @@ use names::NoMemory;
 use rule_explain::Place;
 use std::alloc::Global;
 
-/// What is told of a refusal.
+/// What is reported about a refusal.
 #[derive(Clone, Copy, Debug)]
 pub struct RefusalLine<'a> {
     /// The number of the refusal's kind.
     pub number: u8,
-    /// Where the text has what is refused, if it is at one place.
+    /// Where the refused part is in the text, if it is at one place.
     pub place: Option<Place>,
     /// What is refused, if it is a word of the text.
     pub word: Option<&'a [u8]>,
 }
 
-/// The text of a refusal: a line, and a line for each of the names, with their control bytes as `?`. The last line has no end.
+/// The text of a refusal: a line, and a line for each of the names, with their control bytes as `?`. The last line has no line break.
 pub fn refusal_text(
     alloc: Global,
     line: RefusalLine<'_>,
@@ -73,7 +73,7 @@ fn put_word(text: &mut Vec<u8>, alloc: Global, word: Option<&[u8]>) -> Result<()
     }
 }
 
-/// Adds each name, behind the end of the line before it.
+/// Adds each name, after the end of the previous line.
 fn put_names(text: &mut Vec<u8>, names: &[&[u8]]) -> Result<(), NoMemory>
     ensures { IfOk result (λ _. text.new.items ≡ text.old.items ++ flat_map name_line (map (λ name. name.now) names.now)) }
 {

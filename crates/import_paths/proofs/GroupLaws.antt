@@ -1,4 +1,4 @@
--- The tokens of items tell whether groups are choices, and the paths that the items are led to.
+-- The tokens of items determine whether groups are choices, and the paths that the items are led to.
 use Rattle.std.proofs.Common.{◌≡◌, ℕ, zero, suc, ◌-◌, ◌<◌, Bool, true, false, not, ◌&&◌, ◌==◌, IsTrue, List, [], ◌∷◌, ◌++◌, length, Vec, Global, if◌then◌else◌, refl, sym, ap, subst, ◌∙◌, append_assoc, append-nil, arith}
 use Rattle.std.specs.Prelude.{nat_le, ◌||◌}
 use Rattle.std.specs.List.{list_all}
@@ -262,6 +262,6 @@ leads_told : (items : List Item) → IsTrue (all_full items) → leads_from (tok
 leads_told [] full = refl
 leads_told (item ∷ follow) full = item_leads item follow full
 
--- The paths that items are led to are told by their tokens.
+-- The paths that items are led to are determined by their tokens.
 pub same_leads : (items : List Item) → IsTrue (all_full items) → led_from (tokens_of items) ≡ led items
 same_leads items full = ap (λ paths. if list_all is_path paths then paths else []) (leads_told items full)

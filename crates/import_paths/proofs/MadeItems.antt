@@ -27,7 +27,7 @@ vec_of items few = record {
   small = omega arith;
 }
 
--- An open group: its further alternatives, and the items behind it.
+-- An open group: its further alternatives, and the items after it.
 abbrev OpenGroup : Type 0
 OpenGroup = List (Vec Item Global) × List Item
 
@@ -35,7 +35,7 @@ abbrev further : List (Vec Item Global) → List Token
 further [] = []
 further (a ∷ others) = between ∷ (tokens_of a.items ++ further others)
 
--- the tokens from here on: those of the innermost open alternative, and what stands behind it
+-- the tokens from here on: those of the innermost open alternative, and what follows it
 abbrev printed : List Item → List OpenGroup → List Token
 printed here [] = tokens_of here
 printed here (group ∷ groups) = tokens_of here ++ (further group.0 ++ (closing ∷ printed group.1 groups))

@@ -1,5 +1,5 @@
--- The groups of a path, told by its tokens: whether each is a choice (AppArmor refuses a group of one alternative), and the paths
--- that a path whose first token opens one is led to (our choice).
+-- The groups of a path, by its tokens: whether each is a choice (AppArmor refuses a group of one alternative), and the paths that
+-- a path whose first token opens one is led to (our choice).
 use Rattle.std.specs.Prelude.{ℕ, zero, List, [], ◌∷◌, Bool, true, false, ◌&&◌, if◌then◌else◌, drop}
 use Rattle.std.specs.List.{list_all}
 use Rattle.rule_globs.specs.Tokens.{Token, byte, any_byte, bracket, stars, opening, between, closing}
@@ -14,7 +14,7 @@ abbrev pub has_comma : List Bool → Bool
 has_comma [] = true
 has_comma (comma ∷ opened) = comma
 
--- The flags say of the open groups, innermost first, whether a comma of their own stands before these tokens.
+-- The flags say of the open groups, innermost first, whether a comma of their own comes before these tokens.
 abbrev pub choose_from : List Bool → List Token → Bool
 choose_from opened [] = true
 choose_from opened (byte b ∷ tokens) = choose_from opened tokens
@@ -36,7 +36,7 @@ pub record Parts : Type 0 where
   pub alternatives : List (List Token)
   pub follow : List Token
 
--- one token more in front of the first alternative
+-- one more token in front of the first alternative
 abbrev pub in_first : Token → List (List Token) → List (List Token)
 in_first t [] = (t ∷ []) ∷ []
 in_first t (first ∷ others) = (t ∷ first) ∷ others
@@ -47,7 +47,7 @@ in_front t parts = record { alternatives = in_first t parts.alternatives; follow
 abbrev pub behind_comma : Parts → Parts
 behind_comma parts = record { alternatives = [] ∷ parts.alternatives; follow = parts.follow }
 
--- What stands behind a group's opening brace, so deep in groups within it; the first alternative begins here.
+-- What follows a group's opening brace, `depth` groups deep within it; the first alternative begins here.
 abbrev pub parts_from : ℕ → List Token → Parts
 parts_from depth [] = record { alternatives = []; follow = [] }
 parts_from zero (closing ∷ tokens) = record { alternatives = [] ∷ []; follow = tokens }
@@ -56,7 +56,7 @@ parts_from depth (t ∷ tokens) = in_front t (parts_from (depth_behind t depth) 
 
 -- ---- the paths that a path is led to
 
--- a group that stands first is split; else the path is left as it is, if it begins with a slash
+-- a group that comes first is split; else the path is left as it is, if it begins with a slash
 abbrev pub leads_from : List Token → List (List Token)
 leads_from [] = []
 leads_from (opening ∷ tokens) = group_leads (parts_from 0 tokens).alternatives (parts_from 0 tokens).follow

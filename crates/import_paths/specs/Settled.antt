@@ -13,7 +13,7 @@ use Rattle.import_paths.specs.OneWay.{is_read_one_way}
 abbrev pub path_text : List Token → List ℕ
 path_text path = flat_map token_text path
 
--- each run of slashes is one, both readings are one, no backslash stands at the end, and the text isn't too long
+-- each run of slashes is one, both readings are one, no backslash is at the end, and the text isn't too long
 abbrev pub is_settled_text : List ℕ → Bool
 is_settled_text text =
     bytes_eq (one_slash text) text

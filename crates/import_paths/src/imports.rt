@@ -18,7 +18,7 @@ fn settled_leads(alloc: Global, items: &[Item]) -> Result<Vec<RulePath>, NoMemor
     requires { IsTrue (all_full items.now) }
     ensures { IfOk result (λ paths. paths.items ≡ settled_leads (tokens_of items.now)) }
 {
-    // The first paths go into the rules whose texts are looked at, so they are made once more.
+    // The first paths are moved into the rules whose texts are checked, so they are made again.
     if groups_choose(items) && are_settled(alloc, led(alloc, items)?)? {
         led(alloc, items)
     } else {
@@ -45,7 +45,7 @@ fn leads_of_text(alloc: Global, text: &[u8]) -> Result<Vec<RulePath>, NoMemory>
 /// [`is_read_alike`](path_leads::is_read_alike), where it has an `@` before a `{`, and where a group has one alternative. None
 /// too where one of them, as it is written, would not be read again as it stands.
 ///
-/// The time grows as the text and what is answered.
+/// The time grows as the text and the result.
 pub fn imported_paths(alloc: Global, text: &[u8]) -> Result<Vec<RulePath>, NoMemory>
     ensures { IfOk result (λ paths. paths.items ≡ imported_paths text.now) }
 {

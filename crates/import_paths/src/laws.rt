@@ -13,7 +13,7 @@ ghost use Rattle.import_paths.specs.Groups.{groups_choose, led_from};
 ghost use Rattle.import_paths.specs.ImportedPaths.{imported_paths};
 ghost use Rattle.import_paths.specs.Settled.{path_text, is_settled};
 
-/// The tokens of a path tell what its items do: whether its groups are choices, and the paths that it is led to.
+/// The tokens of a path determine the same as its items: whether its groups are choices, and the paths that it is led to.
 pub fn tokens_tell_the_same()
     ensures choices { (items : List Item) → groups_choose (tokens_of items) ≡ all_choose items }
     ensures leads { (items : List Item) → IsTrue (all_full items) → led_from (tokens_of items) ≡ led items }

@@ -11,7 +11,7 @@ fn is_mark(escaped: bool, byte: u8, mark: u8) -> bool
     !escaped && byte == mark
 }
 
-/// Whether an `@` that no backslash takes stands directly before a `{`, in a class too.
+/// Whether an `@` that no backslash takes is directly before a `{`, in a class too.
 fn opens_variable(text: &[u8]) -> bool
     ensures { result ≡ opens_variable text.now }
 {

@@ -39,7 +39,7 @@ fn is_settled_text(alloc: Global, text: &[u8]) -> Result<bool, NoMemory>
 fn path_text(alloc: Global, path: RulePath) -> Result<Vec<u8>, NoMemory>
     ensures { IfOk result (λ text. text.items ≡ path_text path) }
 {
-    // A rule without a permission: the path's text, with a quote before it and `" ,` behind it.
+    // A rule without a permission: the path's text, with a quote before it and `" ,` after it.
     let rule = write_rule(alloc, &Rule::new(RuleKind::Allow, Perms::NONE, path))?;
     match Vec::from_slice(alloc, &rule[1..rule.len() - 3]) {
         Ok(text) => Ok(text),

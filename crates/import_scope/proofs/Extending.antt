@@ -1,4 +1,4 @@
--- What items that declare and name rightly leave as it was.
+-- What items with correct declarations and names leave as it was.
 use Rattle.std.proofs.Common.{◌≡◌, ℕ, ◌+◌, ◌<◌, ◌==◌, Bool, true, false, not, cond, List, [], ◌∷◌, ◌++◌, length, Option, Some, None, refl, sym, ap, ◌∙◌, append_assoc, arith}
 use Rattle.std.specs.Prelude.{◌||◌, IsTrue}
 use Rattle.std.proofs.lemmas.List.{append-nil, length-append}
@@ -11,7 +11,7 @@ use Rattle.import_scope.specs.Scopes.{ScopeState, Head, Fault, changed, behind, 
 use Rattle.import_scope.specs.ItemWords.{own_name}
 use Rattle.import_scope.specs.inner.Outlines.{last_state, head_stop}
 
--- the second goes on from the first: its heads are more, and where there is a head no variable is declared any more
+-- the second state follows the first: it has more heads, and once there is a head no more variables are declared
 pub record Extends (s t : ScopeState) : Type 0 where
   pub more : List Head
   pub profiles : t.profiles ≡ s.profiles ++ more
@@ -62,7 +62,7 @@ extends_last s (item ∷ others) =
       | Some fault ↦ λ e. extends_itself s
     ] refl
 
--- where no item has such a fault, all are gone past
+-- where no item has such a fault, all are passed
 abbrev stop_at : ScopeState → ItemValue → List ItemValue → Option Fault → Option Fault
 stop_at s item others o = elim o [ None ↦ head_stop (behind s item) others | Some fault ↦ Some fault ]
 

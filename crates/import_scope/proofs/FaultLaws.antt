@@ -8,7 +8,7 @@ use Rattle.profile_variables.proofs.PathLaws.{one_path_problem, text_excludes, s
 use Rattle.import_scope.specs.FirstFaults.{Question, question_of, IsAnswered, IsPathFault, FirstFault, none_left, at_head, at_path, later}
 use Rattle.import_scope.specs.Scopes.{ScopeState, Fault, in_path, behind, head_fault}
 
--- an item has no fault of both sorts
+-- an item doesn't have faults of both sorts
 apart : (kind : ItemKind) (s : ScopeState) (parts : List PartValue) (fault : Fault) (q : Question) → head_fault kind s parts ≡ Some fault → question_of kind s parts ≡ Some q → ⊥
 apart items.Assignment s parts fault q e f = absurd cc
 apart items.Profile s parts fault q e f = absurd cc
@@ -42,7 +42,7 @@ one_fault s all one other (later t item others end e f r) (at_head u item_2 othe
 one_fault s all one other (later t item others end e f r) (at_path u item_2 others_2 q_2 fault_2 g h) = absurd (answered_or_not (question_of item.kind t item.parts) q_2 fault_2 g h f)
 one_fault s all one other (later t item others end e f r) (later u item_2 others_2 end_2 g h r_2) = one_fault (behind t item) others end end_2 r r_2
 
--- an item has a path that has a fault, or has none such
+-- an item has a path with a fault, or it has none
 abbrev Answered : Option Question → Type 0
 Answered o = ((q : Question) × (fault : Fault) × (o ≡ Some q) × IsPathFault q fault) ⊎ IsAnswered o
 

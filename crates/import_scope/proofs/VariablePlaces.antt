@@ -33,7 +33,7 @@ no_place vs name h = none_is (place_of vs name) (place_if_declared vs name ∙ h
 pub place_within : (vs : List Variable) (name : Text) (place : ℕ) → place_of vs name ≡ Some place → place < length vs
 place_within vs name place e = let f = find_place (named name) 0 vs place e in omega (arith, f.within)
 
--- a variable whose name stays leaves all places as they are
+-- a variable whose name stays the same leaves all places as they are
 names_stay : (q : Text) (n : ℕ) (vs : List Variable) (i : ℕ) (v w : Variable) → v ≡ get_or vs i v → w.name ≡ v.name → position_from (named q) n (set vs i w) ≡ position_from (named q) n vs
 names_stay q n [] i v w is same = refl
 names_stay q n (x ∷ vs) zero v w is same = ap (λ (name : Text). cond (bytes_eq name q) (Some n) (position_from (named q) (n + 1) vs)) (same ∙ ap (λ (y : Variable). y.name) is)
@@ -42,7 +42,7 @@ names_stay q n (x ∷ vs) (suc i) v w is same = ap (λ r. cond (bytes_eq x.name 
 pub places_stay : (vs : List Variable) (i : ℕ) (v w : Variable) → v ≡ get_or vs i v → w.name ≡ v.name → (q : Text) → place_of (set vs i w) q ≡ place_of vs q
 places_stay vs i v w is same q = names_stay q 0 vs i v w is same
 
--- with values behind those of a variable
+-- with values after those of a variable
 longer : (v w : Variable) (more : List Text) → w.name ≡ v.name → w.values ≡ v.values ++ more → w ≡ record { name = v.name; values = v.values ++ more }
 longer v w more names values = ap₂ (λ (n : Text) (vs : List Text). record { name = n; values = vs }) names values
 
@@ -87,7 +87,7 @@ none_from name more n (x ∷ vs) e =
 pub nothing_added : (vs : List Variable) (name : Text) (more : List Text) → place_of vs name ≡ None → vs ≡ with_values vs name more
 nothing_added vs name more e = none_from name more 0 vs e
 
--- one variable more
+-- one more variable
 pub place_of_one_more : (old new : Text → Option ℕ) (vs : List Variable) (v : Variable) → ((q : Text) → old q ≡ place_of vs q) → is_declared vs v.name ≡ false
     → ((q : Text) → new q ≡ cond (bytes_eq v.name q) (Some (length vs)) (old q)) → (q : Text) → new q ≡ place_of (vs ++ v ∷ []) q
 place_of_one_more old new vs v were fresh is q =

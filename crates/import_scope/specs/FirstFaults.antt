@@ -1,4 +1,4 @@
--- The first fault of a flattened text beside its grammar, in reading order.
+-- The first fault of a flattened text apart from its grammar, in reading order.
 use Rattle.std.specs.Prelude.{◌≡◌, ℕ, ◌+◌, List, [], ◌∷◌, Option, Some, None, option_map}
 use Rattle.flat_text.specs.declared.part.ItemKind.{ItemKind}
 use Rattle.flat_text.specs.declared.part.ItemKind.TheVariants as items
@@ -10,11 +10,11 @@ use Rattle.profile_variables.specs.Variables.{Variable}
 use Rattle.import_scope.specs.ItemWords.{bytes_before}
 use Rattle.import_scope.specs.Scopes.{ScopeState, Fault, in_path, profile_name, innermost, behind, head_fault}
 
--- the variables as they are in a profile of that full name: profile_name, and then these
+-- the variables as they are in a profile with this full name: profile_name, and then these
 abbrev pub variables_within : List Variable → List ℕ → List Variable
 variables_within variables name = record { name = profile_name; values = name ∷ [] } ∷ variables
 
--- a rule's path, the variables that are known to it, and how many bytes of the text stand before it
+-- a rule's path, the variables that are known to it, and how many bytes of the text come before it
 pub record Question : Type 0 where
   pub variables : List Variable
   pub path : List ℕ
@@ -43,7 +43,7 @@ pub record IsPathFault (q : Question) (fault : Fault) : Type 0 where
   pub has : PathProblem q.variables q.path problem
   pub told : fault ≡ record { kind = in_path problem; place = q.place }
 
--- The first fault of items that stand behind others, if they have one.
+-- The first fault of items that come after others, if they have one.
 pub data FirstFault : ScopeState → List ItemValue → Option Fault → Type 0 where
   none_left : (s : ScopeState) → FirstFault s [] None
   at_head : (s : ScopeState) (item : ItemValue) (others : List ItemValue) (fault : Fault) →

@@ -1,4 +1,4 @@
--- What the parts of an item say to whoever goes through a text: a variable's name and values, a profile's own name, a rule's path.
+-- What the parts of an item say, where a text is gone through: a variable's name and values, a profile's own name, a rule's path.
 use Rattle.std.specs.Prelude.{ℕ, ◌+◌, ◌-◌, List, [], ◌∷◌, length, take, drop, Some, None, Bool, true, false, if◌then◌else◌}
 use Rattle.rule_reader.specs.TextBytes.{begins, is_quote}
 use Rattle.flat_text.specs.declared.part.PartKind.{PartKind}
@@ -26,14 +26,14 @@ is_name_part _ = false
 abbrev pub bytes_at : (PartKind → Bool) → List PartValue → List ℕ
 bytes_at test parts = elim (first_bytes test parts) [ None ↦ [] | Some bytes ↦ bytes ]
 
--- how many bytes stand before the first part of such a kind
+-- how many bytes come before the first part of such a kind
 abbrev pub bytes_before : (PartKind → Bool) → List PartValue → ℕ
 bytes_before test [] = 0
 bytes_before test (p ∷ parts) = if test p.kind then 0 else length p.bytes + bytes_before test parts
 
 -- ---- assignments
 
--- what stands between @{ and }
+-- what is between @{ and }
 abbrev pub variable_name : List ℕ → List ℕ
 variable_name used = take (length used - 3) (drop 2 used)
 
@@ -55,6 +55,6 @@ is_adding parts = has_part is_adds parts
 abbrev pub own_name : List PartValue → List ℕ
 own_name parts = content (bytes_at is_name_part parts)
 
--- how many bytes of the item stand before that name's first byte
+-- how many bytes of the item come before that name's first byte
 abbrev pub before_name : List PartValue → ℕ
 before_name parts = bytes_before is_name_part parts + (if begins is_quote (bytes_at is_name_part parts) then 1 else 0)

@@ -16,8 +16,8 @@ pub record Head : Type 0 where
   pub is_hat : Bool
   pub outermost : ℕ
 
--- The variables and the heads so far, the numbers of the profiles that are open, the innermost first, and how many bytes of
--- the text stand before.
+-- The variables and the heads so far, the numbers of the profiles that are open, the innermost first, and how many bytes of the
+-- text come before.
 pub record ScopeState : Type 0 where
   pub declared : List Variable
   pub profiles : List Head
@@ -25,14 +25,14 @@ pub record ScopeState : Type 0 where
   pub before : ℕ
 
 pub data FaultKind : Type 0 where
-  -- a variable is declared twice, or added to before it is declared; or it is profile_name; or a profile stands before it
+  -- a variable is declared twice, or added to before it is declared; or it is profile_name; or a profile comes before it
   declared_wrongly : FaultKind
-  -- the full name is none
+  -- the full name isn't a name
   no_name : FaultKind
   -- a rule's path has no text with its variables in place
   in_path : Problem → FaultKind
 
--- a fault, and how many bytes of the text stand before its place
+-- a fault, and how many bytes of the text come before its place
 pub record Fault : Type 0 where
   pub kind : FaultKind
   pub place : ℕ
@@ -45,11 +45,11 @@ profile_name = codes "profile_name"
 abbrev pub is_declared : List Variable → List ℕ → Bool
 is_declared variables name = list_any (λ v. bytes_eq v.name name) variables
 
--- one variable more
+-- one more variable
 abbrev pub with_variable : List Variable → List ℕ → List (List ℕ) → List Variable
 with_variable variables name values = variables ++ (record { name = name; values = values } ∷ [])
 
--- the variable of that name with these values behind its own
+-- the variables, where the one with this name gets these values after its own
 abbrev pub with_values : List Variable → List ℕ → List (List ℕ) → List Variable
 with_values [] name values = []
 with_values (v ∷ variables) name values =
@@ -70,7 +70,7 @@ assigned s parts = record {
   before = s.before;
 }
 
--- += wants the variable, and = wants that there is none
+-- += needs the variable to exist, and = needs it not to
 abbrev pub is_assigned_wrongly : ScopeState → Bool → List ℕ → Bool
 is_assigned_wrongly s adding name =
     not (length s.profiles == 0)
@@ -91,17 +91,17 @@ first_number (n ∷ more) = Some n
 abbrev pub innermost : ScopeState → Option Head
 innermost s = option_and_then (λ n. slice_get s.profiles n) (first_number s.within)
 
--- the full name of a profile of that own name, in a profile or in none
+-- the full name of a profile with this own name, in a profile or in none
 abbrev pub full_name : Option Head → List ℕ → List ℕ
 full_name None own = own
 full_name (Some around) own = around.name ++ (codes "//" ++ own)
 
--- the number of the outermost profile around the profile of that number
+-- the number of the outermost profile around the profile with this number
 abbrev pub outermost_around : Option Head → ℕ → ℕ
 outermost_around None number = number
 outermost_around (Some around) number = around.outermost
 
--- the head of the profile of that number and own name, in a profile or in none
+-- the head of the profile with this number and own name, in a profile or in none
 abbrev pub head_within : Option Head → ℕ → Bool → List ℕ → Head
 head_within around number hat own = record { name = full_name around own; is_hat = hat; outermost = outermost_around around number }
 
@@ -113,8 +113,8 @@ opened s hat parts = record {
   before = s.before;
 }
 
--- A profile can have the name, and in its canonical text it is read again: a quoted word ends at the first quote that no
--- backslash stands directly before.
+-- A profile can have the name, and its canonical text is read again with it: a quoted word ends at the first quote that has no
+-- backslash directly before it.
 abbrev pub can_be_said : List ℕ → Bool
 can_be_said name = is_name name && not (ends_with nat_eq name (codes "\\"))
 
@@ -141,7 +141,7 @@ changed items.Rule s parts = s
 abbrev pub past : ℕ → ScopeState → ScopeState
 past before s = record { declared = s.declared; profiles = s.profiles; within = s.within; before = before }
 
--- behind an item
+-- after an item
 abbrev pub behind : ScopeState → ItemValue → ScopeState
 behind s item = past (s.before + length (bytes_of_parts item.parts)) (changed item.kind s item.parts)
 
@@ -159,7 +159,7 @@ head_fault items.Rule s parts = None
 abbrev pub at_start : List Define → ScopeState
 at_start defines = record { declared = with_defines [] defines; profiles = []; within = []; before = 0 }
 
--- behind items
+-- after items
 abbrev pub behind_all : ScopeState → List ItemValue → ScopeState
 behind_all s [] = s
 behind_all s (item ∷ items) = behind_all (behind s item) items

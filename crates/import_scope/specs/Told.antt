@@ -1,4 +1,4 @@
--- A fault as code tells it, and as the definitions do.
+-- A fault as the code reports it, and as the definitions have it.
 use Rattle.profile_variables.specs.Problems.{undefined, cycle, too_long}
 use Rattle.import_scope.specs.declared.fault.ScopeFault.{ScopeFault}
 use Rattle.import_scope.specs.declared.fault.ScopeFaultKind.{ScopeFaultKind}
@@ -17,7 +17,7 @@ fault_kind_value told.TooLong = in_path too_long
 abbrev pub fault_value : ScopeFault → Fault
 fault_value fault = record { kind = fault_kind_value fault.kind; place = fault.place }
 
--- A fault of which this is so; where memory was refused, nothing is said.
+-- A fault for which this holds; where memory was refused, nothing is said.
 abbrev pub TellsFault : (Fault → Type 0) → ScopeFailure → Type 0
 TellsFault IsSo failures.NoMemory = Unit {0}
 TellsFault IsSo (failures.At fault) = IsSo (fault_value fault)

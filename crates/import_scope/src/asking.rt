@@ -13,14 +13,14 @@ use crate::seen::lists_of;
 use profile_variables::{ExpandFault, Lists, Variable};
 use std::alloc::{AllocError, Global};
 
-/// The variables as they are in the profile of a number.
+/// The variables as they are in the profile with a number.
 #[derive(Drop)]
 struct Seen<'a> {
     profile: usize,
     lists: Lists<'a>,
 }
 
-/// The full name of the profile of that number.
+/// The full name of the profile with this number.
 fn name_at(profiles: &[ProfileHead], number: usize) -> &[u8]
     ensures { result.now ≡ name_at profiles.now number }
 {
@@ -45,7 +45,7 @@ impl<'a> Seen<'a> {
         }
     }
 
-    /// Makes of them what they are in the profile of that number.
+    /// Turns them into what they are in the profile with this number.
     fn go_to(
         &mut self,
         alloc: Global,
@@ -94,8 +94,8 @@ fn fault_of<'a>(
 
 /// The first fault of the paths, in the order in which they are asked.
 ///
-/// The variables are copied once, and each list is made once, but for those that need `profile_name`: they are made again
-/// where a path that needs them stands in another profile than the one that was asked before it.
+/// The variables are copied once, and each list is made once, except for those that need `profile_name`: they are made again
+/// where a path that needs them is in another profile than the one that was asked before it.
 pub(crate) fn first_problem<'a>(
     alloc: Global,
     variables: &'a [Variable<'_>],

@@ -33,7 +33,7 @@ impl<'t> Model for Assigned<'t> {
 }
 
 impl<'t> Assigned<'t> {
-    /// Values behind those that are there.
+    /// Adds values after those that are there.
     fn add(&mut self, values: &[&'t [u8]]) -> Result<(), AllocError>
         ensures name { self.new.name ≡ self.old.name }
         ensures values { OnOk result (self.new.values ≡ self.old.values ++ map (λ value. value.now) values.now) }
@@ -50,7 +50,7 @@ impl<'t> Assigned<'t> {
     }
 }
 
-/// The variables so far, each found by its name. They are seen as their list.
+/// The variables so far, each found by its name. To contracts they are their list.
 #[derive(Drop)]
 pub(crate) struct Assignments<'t> {
     variables: Vec<Assigned<'t>>,
@@ -83,7 +83,7 @@ impl<'t> Assignments<'t> {
         }
     }
 
-    /// Where the variable of that name stands.
+    /// Where the variable with this name is.
     fn place(&self, name: &[u8]) -> Option<usize>
         ensures { result ≡ place_of self.now name.now }
     {
@@ -97,7 +97,7 @@ impl<'t> Assignments<'t> {
         self.place(name).is_some()
     }
 
-    /// One variable more, of a new name.
+    /// Adds a variable with a new name.
     pub(crate) fn declare(
         &mut self,
         alloc: Global,
@@ -119,7 +119,7 @@ impl<'t> Assignments<'t> {
         }
     }
 
-    /// Values more for the variable of that name, if there is one.
+    /// Adds values to the variable with this name, if there is one.
     pub(crate) fn add(&mut self, name: &[u8], values: &[&'t [u8]]) -> Result<(), AllocError>
         ensures { OnOk result (self.new ≡ with_values self.old name.now (map (λ value. value.now) values.now)) }
     {
@@ -129,7 +129,7 @@ impl<'t> Assignments<'t> {
         }
     }
 
-    /// A value that is given beforehand.
+    /// Adds a value that is given beforehand.
     fn define(&mut self, alloc: Global, define: Define<'t>) -> Result<(), AllocError>
         ensures { OnOk result (self.new ≡ with_defines self.old (define.entry ∷ [])) }
     {

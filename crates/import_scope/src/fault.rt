@@ -1,15 +1,15 @@
-//! Faults of a text beside its grammar.
+//! Faults of a text apart from its grammar.
 ghost use Rattle.std.specs.Prelude.{◌≡◌};
 
 use names::NoMemory;
 use std::alloc::{AllocError, AllocFailed};
 
-/// What is wrong with a text beside its grammar.
+/// What is wrong with a text apart from its grammar.
 #[derive(Debug, Drop)]
 pub enum ScopeFaultKind {
-    /// A variable is declared twice, or added to before it is declared, or it is `profile_name`.
+    /// A variable is declared twice, added to before it is declared, or assigned to after a profile began, or it is `profile_name`.
     Declared,
-    /// The full name of a profile is none: it is too long, say.
+    /// The full name of a profile isn't a name: it is too long, say.
     Name,
     /// A rule's path needs a variable of this name, which isn't declared.
     Undefined(Vec<u8>),
@@ -19,7 +19,7 @@ pub enum ScopeFaultKind {
     TooLong,
 }
 
-/// A fault, and how many bytes of the text stand before its place.
+/// A fault, and how many bytes of the text come before its place.
 #[derive(Debug, Drop)]
 pub struct ScopeFault {
     pub kind: ScopeFaultKind,

@@ -43,7 +43,7 @@ impl ProfileHead {
         self.outermost
     }
 
-    /// The head of the profile of that own name and number, in a profile or in none.
+    /// The head of the profile with this own name and number, in a profile or in none.
     pub(crate) fn within(
         alloc: Global,
         around: Option<&ProfileHead>,

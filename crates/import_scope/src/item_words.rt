@@ -37,7 +37,7 @@ pub(crate) fn path_bytes<'t>(parts: &[Part<'t>]) -> Option<&'t [u8]>
     Some(part.bytes())
 }
 
-/// What stands between `@{` and `}`.
+/// What is between `@{` and `}`.
 fn variable_name(used: &[u8]) -> &[u8]
     ensures { result.now ≡ variable_name used.now }
 {
@@ -92,7 +92,7 @@ pub(crate) fn own_name<'t>(parts: &[Part<'t>]) -> &'t [u8]
     }
 }
 
-/// Where that name begins, in an item that stands behind so many bytes, if that can be counted.
+/// Where that name begins, in an item after `before` bytes, if that can be counted.
 pub(crate) fn name_place(before: usize, parts: &[Part<'_>]) -> Option<usize>
     ensures some { IfSome result (λ place. place ≡ before + before_name parts.now) }
     ensures none { result ≡ None → 2 ^ 64 ≤ before + before_name parts.now }
@@ -119,7 +119,7 @@ fn name_part_place(before: usize, parts: &[Part<'_>]) -> Option<usize>
     Some(place)
 }
 
-/// Where a rule's path begins, in an item that stands behind so many bytes, if that can be counted.
+/// Where a rule's path begins, in an item after `before` bytes, if that can be counted.
 pub(crate) fn path_place(before: usize, parts: &[Part<'_>]) -> Option<usize>
     ensures some { IfSome result (λ place. place ≡ before + bytes_before is_path parts.now) }
     ensures none { result ≡ None → 2 ^ 64 ≤ before + bytes_before is_path parts.now }

@@ -1,5 +1,5 @@
 //! A flattened AppArmor profile text gone through once: the variables that it declares, its profiles by their full names, and
-//! what is wrong with it beside its grammar.
+//! what is wrong with it apart from its grammar.
 //!
 //! The definitions to believe are those in `specs/`; those in `specs/inner/` are of private contracts and proofs.
 #![tactic(auto)]

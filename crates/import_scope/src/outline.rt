@@ -17,7 +17,7 @@ use flat_text::{Item, ItemKind, Part};
 use profile_parts::is_name;
 use std::alloc::{AllocError, Global};
 
-/// A path that is to be asked: the number of its profile, the path, and how many bytes of the text stand before it.
+/// A path that is to be asked: the number of its profile, the path, and how many bytes of the text come before it.
 #[derive(Clone, Copy)]
 pub(crate) struct Asked<'t> {
     pub(crate) profile: usize,
@@ -33,11 +33,11 @@ pub(crate) struct Outline<'t> {
     /// The numbers of the profiles that are open, the innermost last.
     within: Vec<usize>,
     pub(crate) asked: Vec<Asked<'t>>,
-    /// How many bytes they have.
+    /// How many bytes the items so far have.
     before: usize,
 }
 
-/// Whether a profile can have the name, and is read by it again in its canonical text.
+/// Whether a profile can have the name, and its canonical text is read again with that name.
 fn can_be_said(name: &[u8]) -> bool
     ensures { result ≡ can_be_said name.now }
 {

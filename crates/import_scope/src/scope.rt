@@ -21,10 +21,10 @@ pub struct Scope<'t> {
     pub profiles: Vec<ProfileHead>,
 }
 
-/// The variables and the profiles of a text that was cut into these items, or its first fault beside its grammar.
+/// The variables and the profiles of a text that was cut into these items, or its first fault apart from its grammar.
 ///
-/// The time grows as the text, each variable being found among the others by its name, and as the lists that the paths need:
-/// each is made once, but those that need `profile_name` in each profile anew.
+/// The time grows with the text, each variable being found among the others by its name, and with the lists that the paths need:
+/// each is made once, except that those that need `profile_name` are made anew in each profile.
 pub fn scope_of<'t>(
     alloc: Global,
     defines: &[Define<'t>],

@@ -20,7 +20,7 @@ fn copied<'a>(alloc: Global, variable: &'a Variable<'_>) -> Result<Variable<'a>,
     }
 }
 
-/// The variable `profile_name` in a profile of that full name.
+/// The variable `profile_name` in a profile with this full name.
 fn profile_name<'a>(alloc: Global, full_name: &'a [u8]) -> Result<Variable<'a>, AllocError>
     ensures { IfOk result (λ v. v ≡ record { name = codes "profile_name"; values = full_name.now ∷ [] }) }
 {
@@ -47,8 +47,8 @@ fn variables_within<'a>(
     Ok(seen)
 }
 
-/// The variables as they are in a profile of that full name, with no list made yet: `profile_name`, and then these. So
-/// `set_first` makes of them what they are in another profile.
+/// The variables as they are in a profile with this full name, with no list made yet: `profile_name`, and then these. So
+/// `set_first` turns them into what they are in another profile.
 ///
 /// They are copied, without the bytes of their values.
 pub fn lists_of<'a>(

@@ -1,4 +1,4 @@
--- Each answer in the list of a run's answers was given by one of its events, behind the events that gave those before it.
+-- Each answer in the list of a run's answers was given by one of its events, after the events that gave the earlier answers.
 use Rattle.std.proofs.Common.{◌≡◌, ℕ, List, [], ◌∷◌, ◌++◌, Some, None, Option, sym, refl, ap, ◌∙◌, subst}
 use Rattle.justification.specs.declared.answer.Answer.{Answer}
 use Rattle.event_core.specs.Machine.{Event, Machine}
@@ -50,7 +50,7 @@ here from between s told es answers = record {
   gives = (s, refl, answers);
 }
 
--- one behind the first event gives it
+-- an event after the first one gives it
 behind : (from between : Machine) (e : Event) (o : Option Answer) (es : List Event) (rest : Told) (s : ℕ) (told : Answer) → Takes from e o between → IsGiven between es rest s told → IsGiven from (e ∷ es) (told_by e o ++ rest) s told
 behind from between e o es rest s told takes given = record {
   earlier = e ∷ given.earlier;
@@ -62,7 +62,7 @@ behind from between e o es rest s told takes given = record {
   gives = given.gives;
 }
 
--- the first event answers, this or another
+-- the first event answers, with this answer or another
 told_at : (from between : Machine) (e : Event) (es : List Event) (a : Answer) (r : ℕ) (before after later : Told) (s : ℕ) (told : Answer) → Answers from r a between → e ≡ answer r
     → (r, a) ∷ later ≡ before ++ (s, told) ∷ after → ((rest : Told) → later ≡ rest ++ (s, told) ∷ after → IsGiven between es rest s told) → IsGiven from (e ∷ es) before s told
 told_at from between e es a r [] after later s told answers which is on =

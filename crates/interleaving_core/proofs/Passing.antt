@@ -1,4 +1,4 @@
--- Events of a list that pass by one after the other.
+-- Events of a list that pass one after the other.
 use Rattle.std.proofs.Common.{◌≡◌, ℕ, ◌+◌, ◌<◌, List, [], ◌∷◌, ◌++◌, length, get_or, take, drop, Option, Some, sym, refl, ap, ◌∙◌, subst, append_assoc, append-nil, add-one, drop-cons, inl, inr}
 use Rattle.std.specs.Prelude.{◌⊎◌, map, Result, Ok, Err, OnErr}
 use Rattle.std.proofs.lemmas.List.{take-append-drop, map-append, map_more}
@@ -18,7 +18,7 @@ use Rattle.interleaving_core.proofs.Giving.{given_at}
 abbrev pub Told : Type 0
 Told = List (ℕ × Answer)
 
--- one event more, which is taken
+-- one more event, which is taken
 pub taken_more : (from : Machine) (events taken : List Event) (answers : Told) (m : Machine) (event : Event) (told : Option Answer) (new : Machine)
     → Passes from events taken answers m → Takes m event told new → Passes from (events ++ event ∷ []) (taken ++ event ∷ []) (answers ++ told_by event told) new
 taken_more from [] taken answers m event told new (none, silent, same) takes = inl (
@@ -45,7 +45,7 @@ taken_more from (e ∷ es) taken answers m event told new passes takes = elim pa
   | inr (unlawful, on) ↦ inr (unlawful, taken_more from es taken answers m event told new on takes)
 ]
 
--- one event more, which is passed over
+-- one more event, which is passed over
 pub over_more : (from : Machine) (events taken : List Event) (answers : Told) (m : Machine) (event : Event) → Passes from events taken answers m → ¬ (IsLawful m event) → Passes from (events ++ event ∷ []) taken answers m
 over_more from [] taken answers m event (none, silent, same) unlawful =
     inr (subst (λ (z : Machine). ¬ (IsLawful z event)) same unlawful, (none, silent, same))
@@ -55,7 +55,7 @@ over_more from (e ∷ es) taken answers m event passes unlawful = elim passes [
   | inr (before, on) ↦ inr (before, over_more from es taken answers m event on unlawful)
 ]
 
--- one event more, whatever came of it
+-- one more event, whatever its outcome
 pub passes_on : (from : Machine) (events taken : List Event) (answers more : Told) (m new : Machine) (event : Event) → Passes from events taken answers m → PassesBy m event answers new more
     → (all : List Event) × Passes from (events ++ event ∷ []) all more new
 passes_on from events taken answers more m new event passes by = elim by [
@@ -70,7 +70,7 @@ passes_on from events taken answers more m new event passes by = elim by [
   )
 ]
 
--- Memory was refused at an event, before it was taken or behind that.
+-- Memory was refused at an event, before or after it was taken.
 pub cut_short : (from : Machine) (events passed left taken : List Event) (answers : Told) (m new : Machine) (event : Event) → events ≡ passed ++ event ∷ left → Passes from passed taken answers m
     → (new ≡ m) ⊎ ((told : Option Answer) × Takes m event told new) → IsCutShort from events new
 cut_short from events passed left taken answers m new event parts passes by = elim by [
@@ -95,7 +95,7 @@ cut_short from events passed left taken answers m new event parts passes by = el
 drop_at : (events : List code.Event) (index : ℕ) (event : code.Event) → index < length events → drop index events ≡ get_or events index event ∷ drop (index + 1) events
 drop_at events index event within = rw (add-one index) (drop-cons events index event within)
 
--- The events of a list as code tells them, those before one of them, it, and those behind it.
+-- The events of a list in code: those before one of them, that one, and those after it.
 pub coded_parts : (events : List code.Event) (index : ℕ) (event : code.Event) → index < length events
     → map event_of events ≡ map event_of (take index events) ++ event_of (get_or events index event) ∷ map event_of (drop (index + 1) events)
 coded_parts events index event within =
@@ -103,7 +103,7 @@ coded_parts events index event within =
     sym (take-append-drop index events) ∙ ap (λ (rest : List code.Event). take index events ++ rest) (drop_at events index event within) in
     ap (map event_of) whole ∙ map-append event_of (take index events) (get_or events index event ∷ drop (index + 1) events)
 
--- the same of an event that a loop has come to
+-- the same for the current event of a loop
 pub passes_more : (from : Machine) (events : List code.Event) (index : ℕ) (item : code.Event) (taken : List Event) (answers more : Told) (m new : Machine) → index < length events → item ≡ get_or events index item
     → Passes from (map event_of (take index events)) taken answers m → PassesBy m (event_of item) answers new more → (all : List Event) × Passes from (map event_of (take (index + 1) events)) all more new
 passes_more from events index item taken answers more m new within is passes by =
@@ -122,7 +122,7 @@ pub on_err_of : {A B : Type 0} {P : Type 0} (r : Result A B) → P → OnErr r P
 on_err_of (Ok done) p = tt
 on_err_of (Err fault) p = p
 
--- those that were taken are a run
+-- the events that were taken are a run
 pub passed_runs : (from : Machine) (events taken : List Event) (answers : Told) (to : Machine) → Passes from events taken answers to → Runs from taken answers to
 passed_runs from [] taken answers to (none, silent, same) = subst (λ (es : List Event). Runs from es answers to) (sym none) (silent, same)
 passed_runs from (e ∷ es) taken answers to passes = elim passes [

@@ -17,10 +17,10 @@ last_of : (b : Bool) (x y z : Session) → (if b then x else (if b then y else z
 last_of true x y z = refl
 last_of false x y z = refl
 
--- set as it was, nothing changes
+-- setting a session to its old value changes nothing
 pub set_same : (f : All_of) (s : ℕ) (x : Session) → x ≡ f s → with_session f s x ≡ f
 set_same f s x same = λ i n. one_of (s == n) x (f n) (λ own. same ∙ ap f (eqb-true s n own)) i
 
--- set twice, the last one stays
+-- if a session is set twice, the last value stays
 pub set_again : (f : All_of) (s : ℕ) (x y : Session) → with_session (with_session f s y) s x ≡ with_session f s x
 set_again f s x y = λ i n. last_of (s == n) x y (f n) i

@@ -1,4 +1,4 @@
--- The machine's parts stand together after each step.
+-- The machine's parts are consistent after each step.
 use Rattle.std.proofs.Common.{◌≡◌, ℕ, ◌<◌, ◌≤◌, List, [], Some, None, Option, sym, ◌∙◌, subst}
 use Rattle.std.specs.Prelude.{Result, Ok, Err, OnOk, OnErr, IfOk, IfErr}
 use Rattle.mediation.specs.Deeds.{Deed}
@@ -17,7 +17,7 @@ use Rattle.interleaving_core.specs.inner.Standing.{parts_in, IsStanding}
 use Rattle.interleaving_core.specs.inner.Stepping.{IsStep, silent_of}
 use Rattle.interleaving_core.proofs.Steps.{with_all}
 
--- what a keeper and the sessions are worth
+-- the views of a keeper and of the sessions
 abbrev pub Row : Type 0
 Row = ℕ × KeeperView
 
@@ -61,7 +61,7 @@ keeper_steps keep k l d t event stands room takes = record {
   keeps = keep (Made k d t) event None (Made l d t) stands.keeps takes;
 }
 
--- What comes of a step of one part is what comes of the machine's, told of the parts as they were seen before it.
+-- The outcome of a step of one part is that of the machine's step, stated for the parts as they were seen before it.
 pub stepped : {A : Type 0} (before was : Parts) (event : Event) (new : Machine) → was ≡ before
     → (result : Result A StepFault) → OnOk result (Takes (machine_of was) event None new) → OnErr result (new ≡ machine_of was)
     → IfErr result (λ fault. fault ≡ NotNow → ¬ (IsLawful (machine_of was) event)) → IfErr result (λ fault. fault ≡ NotNow → ¬ (HasTurn (machine_of was) event))
@@ -84,7 +84,7 @@ pub refused : (before was : Parts) (event : Event) (fault : StepFault) (new : Ma
 refused before was event fault new seen same unlawful no_turn =
     subst (λ (p : Parts). IsStep (machine_of p) event (Err fault) new) seen record { ok = tt; same = same; not_now = unlawful; turn = no_turn }
 
--- and the sessions stand with the others, whether one took a step or not
+-- and the sessions are consistent with the others, whether one took a step or not
 pub sessions_stand : {A : Type 0} → StepsKeep → (k : Row) (d : List Deed) (t u : Table) (event : Event) (result : Result A StepFault) → IsStanding k d t → u.0 ≡ t.0
     → OnOk result (Takes (Made k d t) event None (Made k d u)) → OnErr result (session_in u ≡ session_in t) → IsStanding k d u
 sessions_stand keep k d t u event (Ok done) stands room takes same = sessions_step keep k d t u event None stands room takes
@@ -105,12 +105,12 @@ pub turned_away : {A : Type 0} (m : Machine) (event : Event) (May : Type 0) (res
 turned_away m event May (Ok done) unlawful none = tt
 turned_away m event May (Err fault) unlawful none = λ now. unlawful (none now)
 
--- the keeper's events are no session's turn
+-- no event of the keeper is a session's turn
 pub never_a_turn : {A : Type 0} (result : Result A StepFault) → IfErr result (λ fault. fault ≡ NotNow → ¬ ⊥)
 never_a_turn (Ok done) = tt
 never_a_turn (Err fault) = λ now turn. turn
 
--- so many readings of a cell
+-- up to `most` readings of a cell
 pub sessions_read : RunsKeep → (k : Row) (d : List Deed) (t u : Table) (s most : ℕ) (result : Result ℕ StepFault) → IsStanding k d t → u.0 ≡ t.0
     → IfOk result (λ count. (count ≤ most) × Runs (Made k d t) (cell_reads s count) [] (Made k d u))
     → IfErr result (λ fault. (fault ≡ NoMemory) × ((count : ℕ) × (count < most) × Runs (Made k d t) (cell_reads s count) [] (Made k d u))) → IsStanding k d u

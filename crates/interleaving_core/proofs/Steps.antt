@@ -17,7 +17,7 @@ use Rattle.interleaving_core.proofs.Sessions.{All_of, own_is, set_same, set_agai
 abbrev pub with_all : Machine → All_of → Machine
 with_all m f = record m { sessions = f }
 
--- where one session is this now
+-- if one session is this one now
 set_is : (m : Machine) (s : ℕ) (f : All_of) (x y : Session) → f ≡ with_session m.sessions s x → x ≡ y → with_all m f ≡ with_all m (with_session m.sessions s y)
 set_is m s f x y all own = ap (with_all m) (all ∙ ap (with_session m.sessions s) own)
 
@@ -68,7 +68,7 @@ reads_cells_here : (m : Machine) (s count : ℕ) (f : All_of) → StepsIn (CellR
 reads_cells_here m s count f (last, reads, all) =
     subst (λ (g : All_of). Runs m (cell_reads s count) [] (with_all m g)) (sym all) (read_on m s count last reads)
 
--- so many readings of a cell
+-- `count` readings of a cell
 pub reads_cells : (m : Machine) (s count room : ℕ) (f : All_of) → m.capacity ≡ room → StepsIn (CellReads room m.keeper.cells count) s m.sessions f → Runs m (cell_reads s count) [] (with_all m f)
 reads_cells m s count room f same steps = reads_cells_here m s count f (subst (λ (n : ℕ). StepsIn (CellReads n m.keeper.cells count) s m.sessions f) (sym same) steps)
 

@@ -1,4 +1,4 @@
--- What a keeper tells of a change that it tested holds of the machine.
+-- What a keeper reports about a change that it tested holds for the machine.
 use Rattle.std.proofs.Common.{◌≡◌, ℕ, length, None, refl, ap, ◌∙◌}
 use Rattle.std.specs.Prelude.{Result, Ok, Err}
 use Rattle.names.specs.declared.errors.Errno.{Errno}

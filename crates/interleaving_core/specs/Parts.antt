@@ -1,11 +1,11 @@
--- A machine over events by its parts, which are data: a function of all numbers of sessions isn't.
+-- A machine over events by its parts, which are data: a function from all session numbers isn't.
 use Rattle.std.specs.Prelude.{ℕ, List}
 use Rattle.mediation.specs.Deeds.{Deed}
 use Rattle.row_rule.specs.declared.view.KeeperView.{KeeperView}
 use Rattle.event_core.specs.Machine.{Session, Machine}
 use Rattle.session_table.specs.Table.{session_in}
 
--- The sessions are those that began a call, by their numbers, beside the capacity of the row that they read.
+-- The sessions are those that began a call, by their numbers, together with the capacity of the row that they read.
 pub record Parts : Type 0 where
   pub capacity : ℕ
   pub keeper : KeeperView

@@ -1,4 +1,4 @@
--- What comes of a list of events that a machine goes through.
+-- The outcome of running a machine over a list of events.
 use Rattle.std.specs.Prelude.{◌≡◌, ◌⊎◌, ℕ, List, [], ◌∷◌, ◌++◌, Option, Some}
 use Rattle.justification.specs.declared.answer.Answer.{Answer}
 use Rattle.event_core.specs.Machine.{Event, Machine}
@@ -8,8 +8,8 @@ use Rattle.event_core.specs.Lawful.{IsLawful}
 use Rattle.event_core.specs.Runs.{told_by, Runs, Legal}
 use Rattle.event_core.specs.Right.{IsRight}
 
--- The events come one after the other. Each is taken, by a legal step, or it isn't lawful and is passed over. Those that were taken
--- are told in their order, and so are the answers, each with its session.
+-- The events come one after the other. Each is taken, by a legal step, or it isn't lawful and is passed over. The taken events are
+-- listed in order, and so are the answers, each with its session.
 abbrev pub Passes : Machine → List Event → List Event → List (ℕ × Answer) → Machine → Type 0
 Passes from [] taken answers to = (taken ≡ []) × (answers ≡ []) × (to ≡ from)
 Passes from (event ∷ events) taken answers to =
@@ -17,7 +17,8 @@ Passes from (event ∷ events) taken answers to =
     × Takes from event told between × Passes between events rest later to × (taken ≡ event ∷ rest) × (answers ≡ told_by event told ++ later))
     ⊎ (¬ (IsLawful from event) × Passes from events taken answers to)
 
--- One of these events has the session answer so, by a legal step, once those before it were taken, which gave the answers before it.
+-- One of these events makes the session give this answer, by a legal step, after the events before it were taken and gave the
+-- earlier answers.
 pub record IsGiven (from : Machine) (events : List Event) (before : List (ℕ × Answer)) (s : ℕ) (told : Answer) : Type 0 where
   pub earlier : List Event
   pub later : List Event
@@ -27,9 +28,9 @@ pub record IsGiven (from : Machine) (events : List Event) (before : List (ℕ ×
   pub next : Machine
   pub gives : Takes machine (answer s) (Some told) next
 
--- All of these events passed by, and were answered so. Those that were taken are a run. And each answer is right: wherever the machine
--- had come by a legal run, of a new machine by none, an event gave it that was taken, and there it is justified by the tree's changes and
--- the policy's, at versions that were current at events of its own call.
+-- All of these events passed, with these answers. Those that were taken are a run. And each answer is right: whatever legal run led
+-- to the old machine (the empty one for a new machine), an event that was taken gave the answer, and there it is justified by the
+-- tree's changes and the policy's, at versions that were current at events of its own call.
 pub record IsRun (old : Machine) (events : List Event) (answers : List (ℕ × Answer)) (new : Machine) : Type 0 where
   pub taken : List Event
   pub passed : Passes old events taken answers new
@@ -38,7 +39,7 @@ pub record IsRun (old : Machine) (events : List Event) (answers : List (ℕ × A
       → (before after : List (ℕ × Answer)) (s : ℕ) (told : Answer) → answers ≡ before ++ (s, told) ∷ after
       → (given : IsGiven old taken before s told) × IsRight capacity (ago ++ given.earlier) given.machine s told
 
--- Only a beginning of the events passed by.
+-- Only a prefix of the events passed.
 pub record IsCutShort (old : Machine) (events : List Event) (new : Machine) : Type 0 where
   pub passed : List Event
   pub left : List Event

@@ -15,7 +15,7 @@ use tree_row::MOST_ENTRIES;
 
 /// Sessions that open paths, the keeper of the tree, and the published policy.
 ///
-/// It is seen by its parts, which make up a machine over events (`machine_of`). The rule of the row holds in it.
+/// Its view is its parts, which make up a machine over events (`machine_of`). The rule of the row holds in it.
 #[derive(Drop)]
 pub struct Core {
     pub(crate) alloc: Global,
@@ -38,7 +38,7 @@ impl Model for Core {
 }
 
 impl Core {
-    /// The root alone, no profile, and no call. The row has room for so many entries.
+    /// A machine with only the root, no profile, and no call. The row has room for `capacity` entries.
     pub fn new(alloc: Global, capacity: usize) -> Result<Core, NoMemory>
         requires { capacity ≤ MOST_ENTRIES }
         ensures { IfOk result (λ core. machine_of core ≡ first capacity) }

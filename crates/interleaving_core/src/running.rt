@@ -11,13 +11,13 @@ use event_core::{Event, EventMachine, StepFault, answers_are_right, steps_go_on_
 use justification::Answer;
 use names::NoMemory;
 
-/// Takes the events that are lawful, one after the other, and passes over the others. The answers come with their sessions.
+/// Takes the events that are lawful, in order, and passes over the others. The answers come with their sessions.
 ///
 /// **Each answer is right**, whatever the events are: the event that gave it is one of those that were taken, and there it is
 /// justified by the changes of the tree and of the policy made until then, at versions that were current at events of its own
 /// call (`IsGiven`, `IsRight`).
 ///
-/// Where memory is refused, the machine stands after the events that were taken until then.
+/// If memory is refused, the machine is in the state after the events that were taken until then.
 pub fn run(core: &mut Core, events: &[Event<'_>]) -> Result<Vec<(u32, Answer)>, NoMemory>
     ensures ok { IfOk result (λ answers. IsRun (machine_of core.old) (map event_of events.now) answers.items (machine_of core.new)) }
     ensures err { OnErr result (IsCutShort (machine_of core.old) (map event_of events.now) (machine_of core.new)) }
@@ -31,7 +31,7 @@ pub fn run(core: &mut Core, events: &[Event<'_>]) -> Result<Vec<(u32, Answer)>, 
     Ok(answers)
 }
 
-/// Takes an event where it is lawful, and notes its answer.
+/// Takes an event if it is lawful, and notes its answer.
 fn pass(
     core: &mut Core,
     event: &Event<'_>,

@@ -14,7 +14,7 @@ use names::{NoMemory, Perms};
 use open_session::rule_gives_what_steps_require;
 use row_keeper::NotNow;
 
-/// Fewer changes of the policy than so many are published: 2^60.
+/// Fewer than this many changes of the policy are published: 2^60.
 const TOO_MANY_DEEDS: u64 = 1152921504606846976;
 
 impl Core {
@@ -32,7 +32,7 @@ impl Core {
         silent(self.sessions.begin(session, profile, path, ask))
     }
 
-    /// A session reads what the policy has of its profile.
+    /// A session reads what the policy has for its profile.
     pub(crate) fn read_policy(&mut self, session: u32) -> Result<Option<Answer>, StepFault>
         ensures { IsStep (machine_of self.old) (read_policy session) result (machine_of self.new) }
     {

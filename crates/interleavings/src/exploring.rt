@@ -5,7 +5,7 @@ use crate::scene::Scene;
 use crate::tally::Tally;
 use std::alloc::Global;
 
-/// Who moved, and who else could have, that wasn't tried yet.
+/// Who moved, and who else could have moved and wasn't tried yet.
 #[derive(Clone, Copy)]
 struct Choice {
     actor: usize,
@@ -30,7 +30,7 @@ pub(crate) fn explore(alloc: Global, scene: &Scene) -> Result<Tally, Failure> {
     Err(Failure::TooManyRuns)
 }
 
-// A run that begins with these choices. Those that it makes further are added: of all who can move, the first.
+// Makes a run that begins with these choices. Its further choices are added: of all who can move, the first.
 fn run_once(
     alloc: Global,
     scene: &Scene,
@@ -53,7 +53,7 @@ fn run_once(
     Err(Failure::Stuck)
 }
 
-// The choice at a position, which is at most one behind those that are there.
+// Sets the choice at a position, which is at most one after those that are there.
 fn note(choices: &mut Vec<Choice>, position: usize, choice: Choice) -> Result<(), Failure> {
     match choices.get_mut(position) {
         Some(noted) => *noted = choice,
@@ -62,7 +62,7 @@ fn note(choices: &mut Vec<Choice>, position: usize, choice: Choice) -> Result<()
     Ok(())
 }
 
-// The last choice that can be made otherwise is made so, and those behind it are forgotten. False where there is none.
+// Changes the last choice that can be made otherwise, and forgets those after it. Returns false where there is none.
 fn turn(choices: &mut Vec<Choice>) -> Result<bool, Failure> {
     for _ in 0..choices.len() {
         if let Some(

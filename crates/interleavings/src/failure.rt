@@ -4,7 +4,8 @@ use std::alloc::{AllocError, AllocFailed};
 #[derive(Clone, Copy, Debug, PartialEq, Eq)]
 pub(crate) enum Failure {
     NoMemory,
-    /// What the scene is made of is none: a path, a profile, a change that is refused.
+    /// The scene has an invalid part: a path, a profile, permissions or the number of a session. A profile whose compilation
+    /// runs out of memory is reported so, too.
     NotAScene,
     /// Somebody whose turn it is can take no event.
     Stuck,

@@ -1,15 +1,15 @@
-//! Runs every order of the events of a few opens beside changes of the tree and of the policy, and puts each answer to `justify`:
-//! a test of `interleaving_core`, and nothing else. `interleavings CELLS` prints for each scene how many orders there were, how many
-//! answers of each kind, and how many of all those weren't right.
+//! Runs every order of the events of a few opens and of concurrent changes of the tree and of the policy, and checks each answer by
+//! `justify`: a test of `interleaving_core`, and nothing else. `interleavings CELLS` prints for each scene how many orders there
+//! were, how many answers of each kind, and how many of all those weren't right.
 //!
 //! In a scene each open is a list of events: it begins, reads the policy, the count and the cells that its walk needs, reads the count
-//! again, and answers. So is the keeper, which opens its changes, sets their cells and closes them, and so is who publishes. Every
-//! order is every way to merge these lists to their ends, event by event. Only where two opens are beside each other do some events
-//! stay together: an open begins and reads the policy and the count, which only shortens its call, since nothing is published
-//! meanwhile; it reads up to CELLS cells at once; and it reads the count again and answers.
+//! again, and answers. So is the keeper, which opens its changes, sets their cells and closes them, and so is the publisher. Every
+//! order is every way to merge these lists to their ends, event by event. Only where two opens are concurrent do some events stay
+//! together: an open begins and reads the policy and the count, which only shortens its call, since nothing is published meanwhile;
+//! it reads up to CELLS cells at once; and it reads the count again and answers.
 //!
 //! An answer is right where `justify` says so of what was made and published until then, and where its versions and counts are those
-//! that stood when the open read them.
+//! at the time that the open read them.
 #![tactic(auto)]
 
 mod exploring;
@@ -59,7 +59,7 @@ fn main(rt: HostRuntime) -> io::Result<()> {
     Ok(())
 }
 
-// The number from 1 on that a word tells, if there is one and it tells one.
+// The number that a word gives, if there is a word and it is a number from 1 on.
 fn number(word: &Option<String>) -> Option<usize> {
     match word {
         Some(word) => word.as_str().parse().ok().filter(|number| *number > 0),

@@ -18,7 +18,7 @@ const ASK: &[u8] = b"r";
 // A change of a tree with short names takes fewer events than this.
 const MOST_EVENTS_OF_A_CHANGE: usize = 64;
 
-/// What an open has read, as the machine stood then: the version of the policy, and the counts that its walk began and ended with.
+/// What an open has read, as the machine was then: the version of the policy, and the counts that its walk began and ended with.
 #[derive(Clone, Copy)]
 struct Seen {
     policy_version: u64,
@@ -26,7 +26,7 @@ struct Seen {
     ended: u64,
 }
 
-/// Where an open stands.
+/// The state of an open.
 #[derive(Clone, Copy)]
 enum Open {
     NotBegun,
@@ -34,7 +34,7 @@ enum Open {
     Answered,
 }
 
-/// A scene as it goes on.
+/// A scene in progress.
 #[derive(Drop)]
 pub(crate) struct Run<'a> {
     scene: &'a Scene,
@@ -44,7 +44,7 @@ pub(crate) struct Run<'a> {
 }
 
 impl<'a> Run<'a> {
-    /// What is made before the opens is made.
+    /// A run in which what comes before the opens was made.
     pub(crate) fn new(alloc: Global, scene: &'a Scene) -> Result<Run<'a>, Failure> {
         let Ok(core) = Core::new(alloc, CAPACITY) else {
             return Err(Failure::NoMemory);
@@ -80,7 +80,7 @@ impl<'a> Run<'a> {
         Ok(())
     }
 
-    /// The first who can still move, from this one on: the opens are 0, 1 and so on; then the keeper, and who publishes.
+    /// The first who can still move, from this one on: the opens are 0, 1 and so on; then the keeper, and the publisher.
     pub(crate) fn first_live(&self, from: usize) -> Option<usize> {
         (from..self.opens.len().saturating_add(2)).find(|actor| self.is_live(*actor))
     }
@@ -95,7 +95,7 @@ impl<'a> Run<'a> {
         }
     }
 
-    /// One move of it.
+    /// Makes one move of the actor.
     pub(crate) fn go_on(
         &mut self,
         alloc: Global,
@@ -111,7 +111,7 @@ impl<'a> Run<'a> {
         }
     }
 
-    // One move of an open.
+    // Makes one move of an open.
     fn lead_on(&mut self, alloc: Global, open: usize, tally: &mut Tally) -> Result<(), Failure> {
         if let Some(Open::NotBegun) = self.opens.get(open) {
             self.begin(open)?;
@@ -119,7 +119,7 @@ impl<'a> Run<'a> {
                 return Ok(());
             }
         }
-        // Two events at most: the policy is read and the count, or that is checked and answered.
+        // Two events at most: the policy and the count are read, or the count is checked and the open answered.
         for _ in 0..2 {
             if self.read_cells(open)? || self.take_turn(alloc, open, tally)? {
                 return Ok(());
@@ -154,7 +154,7 @@ impl<'a> Run<'a> {
         }
     }
 
-    // The cells that it reads in one move, and whether there were any.
+    // Reads the cells of one move, and returns whether there were any.
     fn read_cells(&mut self, open: usize) -> Result<bool, Failure> {
         let most = match self.scene.grain {
             Grain::Event => 1,
@@ -166,7 +166,7 @@ impl<'a> Run<'a> {
         }
     }
 
-    // The event whose turn it is, of those that aren't readings of cells, and whether its move ends with that.
+    // Takes the event whose turn it is, of those that don't read cells, and returns whether the move ends with it.
     fn take_turn(
         &mut self,
         alloc: Global,
@@ -200,7 +200,7 @@ impl<'a> Run<'a> {
         Err(Failure::Stuck)
     }
 
-    // What an open has read by an event.
+    // Notes what an open has read by an event.
     fn note(&mut self, open: usize, event: &Event<'_>) {
         let policy_version = self.core.policy_version();
         let count = self.count();
@@ -222,7 +222,7 @@ impl<'a> Run<'a> {
             .saturating_add(u64::from(self.core.has_open_change()))
     }
 
-    // It is justified by what was made until now, and its versions and counts are those that the open read.
+    // Whether the answer is justified by what was made until now, and its versions and counts are those that the open read.
     fn is_right(&self, alloc: Global, open: usize, answer: &Answer) -> Result<bool, Failure> {
         let (Some(path), Some(Open::Begun(seen))) = (
             self.scene.opens.get(open),
@@ -245,7 +245,7 @@ impl<'a> Run<'a> {
         }
     }
 
-    // The keeper's next event.
+    // Takes the keeper's next event.
     fn keep(&mut self) -> Result<(), Failure> {
         if !self.core.has_open_change() {
             let made = self.core.tree_version() as usize;
@@ -261,7 +261,7 @@ impl<'a> Run<'a> {
         }
     }
 
-    // The next publication, of one change.
+    // Makes the next publication, of one change.
     fn publish(&mut self) -> Result<(), Failure> {
         let published = self.core.policy_version() as usize;
         let policy = &self.scene.policy;
@@ -286,7 +286,7 @@ fn session_of(open: usize) -> Result<u32, Failure> {
     u32::try_from(open).ok().ok_or(Failure::NotAScene)
 }
 
-// So many of a list's first elements.
+// The first `count` elements of a list, or all where it has no more.
 fn first<T>(list: &[T], count: u64) -> &[T] {
     let count = count as usize;
     if count <= list.len() {
@@ -296,7 +296,8 @@ fn first<T>(list: &[T], count: u64) -> &[T] {
     }
 }
 
-// Its versions and counts are those that the open read: the tree's is half of the two counts, which are one.
+// Whether an answer's versions and counts are those that the open read: the tree's version is half of the two counts, which are
+// equal.
 fn is_as_seen(answer: &Answer, seen: &Seen) -> bool {
     match answer {
         Answer::Judged {

@@ -7,7 +7,7 @@ use rule_text::read;
 use std::alloc::Global;
 use std::sync::Arc;
 
-/// Opens beside changes of the tree and of the policy. In which order they happen isn't said.
+/// Opens concurrent with changes of the tree and of the policy. The order in which they happen is left open.
 #[derive(Drop)]
 pub(crate) struct Scene {
     /// The paths that are opened by the profile `p` for reading, each by a session of its own.
@@ -26,7 +26,7 @@ pub(crate) struct Scene {
 pub(crate) enum Grain {
     /// One event.
     Event,
-    /// It begins and reads the policy and the count; it reads up to so many cells; or it reads the count again and answers.
+    /// It begins and reads the policy and the count; it reads up to this many cells; or it reads the count again and answers.
     Cells(usize),
 }
 

@@ -5,7 +5,7 @@ use directory_tree::Change;
 use matcher::PolicyChange;
 use std::alloc::Global;
 
-/// One rename that two opens see coming, each by another of its two paths.
+/// One rename and two opens, each by another of its two paths.
 pub(crate) fn two_opens(alloc: Global, cells: usize) -> Result<Scene, Failure> {
     let mut changes = Vec::new(alloc);
     changes.push(Change::Create(path("/f")?))?;

@@ -43,7 +43,7 @@ impl Tally {
             Answer::Failed { .. } => &mut self.failed,
             Answer::NoProfile { .. } => &mut self.unpublished,
             Answer::Busy { .. } => &mut self.busy,
-            // No machine answers so.
+            // No machine gives this answer.
             Answer::NoEntry => &mut self.unjustified,
         };
         *kind = kind.saturating_add(1);

@@ -18,7 +18,7 @@ use Rattle.justification.specs.Versions.{IsTreeAt, IsPublishedAt}
 pub one_tree : (changes : List Change) (version : ℕ) (t u : Tree) → IsTreeAt changes version t → IsTreeAt changes version u → t ≡ u
 one_tree changes version t u at there = ok_inj t u (sym at.1 ∙ there.1)
 
--- in it one thing is reached
+-- and in it an open has one outcome
 pub one_reach : (changes : List Change) (version : ℕ) (path : List ℕ) (ask : Perms) (t u : Tree) (one other : Result Reached Errno)
     → IsTreeAt changes version t → IsTreeAt changes version u → reached t path ask ≡ one → reached u path ask ≡ other → one ≡ other
 one_reach changes version path ask t u one other at there is are =

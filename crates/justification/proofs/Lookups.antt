@@ -1,4 +1,4 @@
--- What is published under a name after one change more.
+-- What is published under a name after one more change.
 use Rattle.std.proofs.Common.{◌≡◌, ℕ, ◌+◌, ◌<◌, List, [], ◌∷◌, ◌++◌, Option, map, length, take, get_or, refl, sym, ap, ◌∙◌}
 use Rattle.std.proofs.lemmas.List.{take_more, map-append}
 use Rattle.std.specs.Prelude.{bytes_eq, if◌then◌else◌, Some, None}
@@ -8,7 +8,7 @@ use Rattle.mediation.specs.Deeds.{Deed, Policy, published, removed, after_deed, 
 use Rattle.mediation.specs.Judge.{Judge}
 use Rattle.mediation.specs.PolicyChanges.{deed_of}
 
--- a deed asks nothing of other names
+-- what a deed publishes under a name doesn't depend on other names
 at_name : (policy : Policy) (deed : Deed) (name : List ℕ) (was : Option Judge) → was ≡ policy name → after_deed (λ _. was) deed name ≡ after_deed policy deed name
 at_name policy (published own judge) name was is = ap (λ o. if bytes_eq own name then Some judge else o) is
 at_name policy (removed own) name was is = ap (λ o. if bytes_eq own name then None else o) is

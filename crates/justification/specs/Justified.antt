@@ -1,5 +1,5 @@
--- When an answer is justified by the changes of a tree and of a policy, as the first so many of them stand in two lists. An answer
--- that names a version past the end of its list is not.
+-- When an answer is justified by the changes of a tree and of a policy. These are two lists, and version n is what the first n
+-- changes make. An answer that names a version past the end of its list isn't justified.
 use Rattle.std.specs.Prelude.{◌≡◌, ◌≢◌, ◌⊎◌, ◌%◌, ℕ, List, Some, None, Ok, Err}
 use Rattle.names.specs.declared.permissions.Perms.{Perms}
 use Rattle.directory_tree.specs.declared.change.Change.{Change}

@@ -1,7 +1,7 @@
 use names::Errno;
 use verdicts::Verdict;
 
-/// What an open is answered where the tree and the policy may change meanwhile.
+/// The answer to an open where the tree and the policy may change meanwhile.
 #[derive(Clone, Copy, Debug, PartialEq, Eq)]
 pub enum Answer {
     /// The verdict on the name that the file had in the tree of that version, by the policy of that version.

@@ -18,8 +18,8 @@ use path_lookup::NAME_ROOM;
 use std::alloc::Global;
 use verdicts::Verdict;
 
-/// Whether an answer to an open is justified: by the tree and the policy after so many of these changes as the answer's versions
-/// tell. The tree is made anew, with room for an entry of each change.
+/// Whether an answer to an open is justified by the tree and the policy after the first changes of these lists, as many as the
+/// answer's versions say. The tree is built anew, with room for an entry of each change.
 pub fn justify(
     alloc: Global,
     answer: &Answer,
@@ -62,7 +62,7 @@ pub fn justify(
     }
 }
 
-/// No file was reached, for this reason.
+/// Whether no file was reached, for this reason.
 fn is_failure(reach: &Reach, errno: Errno) -> bool
     ensures { IsTrue result ↔ IsFailure reach.now errno }
 {
@@ -72,7 +72,7 @@ fn is_failure(reach: &Reach, errno: Errno) -> bool
     }
 }
 
-/// A file of this node was reached, and the profile says this of its name, which stands at the front of `room`.
+/// Whether a file of this node was reached, and the profile says this of its name, which is at the front of `room`.
 fn is_judged(
     reach: &Reach,
     room: &[u8; NAME_ROOM],

@@ -8,7 +8,7 @@ ghost use Rattle.justification.specs.Versions.{IsPublishedAt};
 
 use matcher::{AnyProfile, PolicyChange};
 
-/// What is published under a name after the first so many changes, if there are so many.
+/// What is published under a name after the first `version` changes, if there are that many.
 pub(crate) fn published_at<'a>(
     changes: &'a [PolicyChange],
     version: u64,
@@ -34,7 +34,7 @@ fn published<'a>(changes: &'a [PolicyChange], name: &[u8]) -> Option<&'a AnyProf
     profile
 }
 
-/// What is published under a name after a change, where this profile was, if any.
+/// What is published under a name after a change, given what was published before it.
 fn after_change<'a>(
     profile: Option<&'a AnyProfile>,
     change: &'a PolicyChange,

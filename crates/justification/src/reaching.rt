@@ -1,4 +1,4 @@
-//! What an open comes to in the tree of a version.
+//! The outcome of an open in the tree of a version.
 ghost use Rattle.std.specs.Prelude.{◌≡◌, ◌≤◌, IfOk, IfErr, Ok, Err, MatchOption};
 ghost use Rattle.directory_tree.specs.Apply.{tree_after};
 ghost use Rattle.directory_tree.specs.Plain.{tree_of};
@@ -15,7 +15,7 @@ use path_lookup::{NAME_ROOM, Scratch, WalkFault};
 use plain_tree::PlainTree;
 use std::alloc::Global;
 
-/// What an open comes to.
+/// The outcome of an open.
 #[derive(Clone, Copy, Debug, PartialEq, Eq)]
 pub(crate) enum Reach {
     /// There is no such version of the tree.
@@ -26,7 +26,7 @@ pub(crate) enum Reach {
     File(Reached),
 }
 
-/// What an open comes to in the tree after the first so many changes. The name of the file goes to the front of `room`.
+/// The outcome of an open in the tree after the first `version` changes. The name of the file goes to the front of `room`.
 pub(crate) fn reach_at(
     alloc: Global,
     changes: &[Change<'_>],
@@ -66,7 +66,7 @@ fn reach_in(
     }
 }
 
-/// The tree after the first so many changes, if there are so many and each is accepted.
+/// The tree after the first `version` changes, if there are that many and each is accepted.
 fn tree_at(
     alloc: Global,
     changes: &[Change<'_>],

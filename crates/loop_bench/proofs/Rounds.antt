@@ -8,7 +8,7 @@ use Rattle.loop_bench.specs.Walks.{looked_up}
 pub few : (names states : List ℕ) → looked_up names states ≤ length names
 few names states = mul-div-le (length names) (length states)
 
--- where all rounds have room in a count, there is room for one more than are done
+-- where a count has room for all rounds, it has room for one more than are done
 pub room : (done rounds bytes looked : ℕ) → done < rounds → looked ≤ bytes → rounds * bytes < 2 ^ 64 → done * looked + bytes < 2 ^ 64
 room done rounds bytes looked more below fits =
     let all : (done + 1) * bytes ≤ rounds * bytes = mul-le (done + 1) bytes rounds bytes (omega arith) (omega arith) in

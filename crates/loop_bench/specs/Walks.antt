@@ -1,4 +1,4 @@
--- Many names of one length, which stand one after another, run through one table.
+-- Many names of one length, one after another, run through one table.
 use Rattle.std.specs.Prelude.{◌≡◌, ◌⊎◌, ℕ, ◌*◌, ◌/◌, ◌^◌, ◌<◌, ◌≤◌, List, Some, drop, length, slice_get, take}
 use Rattle.tables.specs.Bounds.{fault_number}
 use Rattle.tables.specs.Tables.{Table, state_after}
@@ -7,7 +7,7 @@ use Rattle.table_runner.specs.Loading.{IsRefusedFor}
 use Rattle.table_verifier.specs.Loading.{IsLoaded}
 use Rattle.loop_bench.specs.declared.running.Walk.{Walk}
 
--- how long each name is, where there are so many states
+-- how long each name is, where there are as many as states
 abbrev pub name_length : List ℕ → List ℕ → ℕ
 name_length names states = length names / length states
 
@@ -28,8 +28,8 @@ pub record AreAfterRounds (t : Table) (names : List ℕ) (rounds : ℕ) (old new
   pub none : rounds ≡ 0 → new ≡ old
   pub some : 0 < rounds → AreAfter t names new
 
--- What is told of a walk: how many cells were looked up in all rounds, or the image's first fault, or that the look-ups
--- have no room in their count.
+-- The outcome of a walk: how many cells were looked up in all rounds, or the image's first fault, or that the count may have no
+-- room for the look-ups.
 abbrev pub IsWalkOf : List ℕ → List ℕ → ℕ → List ℕ → List ℕ → Walk → Type 0
 IsWalkOf image names rounds old new walk =
     ((t : Table) × IsLoaded image t × AreAfterRounds t names rounds old new

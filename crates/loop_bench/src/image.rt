@@ -1,4 +1,4 @@
-//! One name run through an image, where it lies.
+//! One name run through an image in place.
 ghost use Rattle.std.specs.Prelude.{◌≡◌, Some};
 ghost use Rattle.table_verifier.specs.Loading.{IsLoaded};
 ghost use Rattle.tables.specs.Tables.{Table, state_after};

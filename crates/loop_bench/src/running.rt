@@ -12,20 +12,20 @@ const BAD_IMAGE: u16 = 1;
 
 const BAD_CALL: u16 = 2;
 
-/// What is told of many names.
+/// The outcome of running many names.
 #[repr(C)]
 #[derive(Clone, Copy, Debug)]
 pub struct Walk {
-    /// 0 they were run, 1 the image has a fault, 2 the look-ups are too many to be counted.
+    /// 0 if they were run, 1 if the image has a fault, 2 if the count may have no room for the look-ups.
     pub kind: u16,
-    /// The image's fault; else 0.
+    /// The number of the image's fault, or 0.
     pub number: u16,
     /// How many cells were looked up.
     pub steps: u64,
 }
 
-/// Runs as many names as there is room for states through the table of an image, which is loaded once. The names stand one
-/// after another and are equally long, as long as there are bytes for all; and each round runs all of them.
+/// Runs as many names as `states` has entries through the table of an image, which is loaded once. The names follow one another
+/// and are equally long, as long as there are bytes for all; and each round runs all of them.
 #[unsafe(no_mangle)]
 pub extern "C" fn loop_bench_run(
     alloc: Global,
@@ -57,7 +57,7 @@ pub extern "C" fn loop_bench_run(
     }
 }
 
-// So many rounds, and how many cells were looked up.
+// Runs this many rounds, and returns how many cells were looked up.
 fn run_rounds(table: &VerifiedTable, names: &[u8], rounds: u32, states: &mut [u32]) -> u64
     requires { rounds * length names.now < 2 ^ 64 }
     ensures count { result ≡ rounds * looked_up names.now states.old }
@@ -70,7 +70,7 @@ fn run_rounds(table: &VerifiedTable, names: &[u8], rounds: u32, states: &mut [u3
     steps.count()
 }
 
-// One round.
+// Runs one round.
 fn run_all(table: &VerifiedTable, names: &[u8], states: &mut [u32], steps: &mut Steps)
     requires { steps.old + length names.now < 2 ^ 64 }
     ensures count { steps.new ≡ steps.old + looked_up names.now states.old }

@@ -1,4 +1,4 @@
--- What a table tells of names, by what it is made of.
+-- What a table says of names, by what it is made of.
 use Rattle.std.proofs.Common.{◌≡◌, ℕ, List, sym, ◌∙◌, ap, subst, Some}
 use Rattle.std.proofs.lemmas.Option.{same_Some}
 use Rattle.names.specs.declared.permissions.Perms.{Perms}
@@ -21,7 +21,7 @@ tells_least one rules a t is made name r bytes least =
     let w = is.least name bytes in
     made.same name bytes ∙ w.1 ∙ ap (λ (x : Record). Some x) (one rules name w.0 r w.2 least)
 
--- and so tells their verdicts
+-- and so gives their verdicts
 pub tells_verdicts : ((rules : List RuleValue) (name : List ℕ) (r : Record) (ask : Perms) (v : Verdict) → IsLeastRecord rules name r → IsTold r ask v → IsVerdict rules name ask v)
     → ((rules : List RuleValue) (name : List ℕ) → (r : Record) × IsLeastRecord rules name r)
     → ((rules : List RuleValue) (name : List ℕ) (ask : Perms) → IsVerdict rules name ask (verdict rules name ask))

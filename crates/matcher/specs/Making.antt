@@ -8,12 +8,12 @@ use Rattle.matcher.specs.declared.fault.MakeFault.{MakeFault}
 use Rattle.matcher.specs.declared.fault.MakeFault.TheVariants.{TooManyStates, NoMemory}
 use Rattle.rule_profile.specs.Profile.{RuleValue}
 
--- the number by which a fault is told
+-- the number that a fault is reported by
 abbrev pub fault_number : MakeFault → ℕ
 fault_number TooManyStates = 1
 fault_number NoMemory = 2
 
--- what a fault of compiling is of making
+-- a fault of compiling as a fault of making
 abbrev pub made_of : CompileFault → MakeFault
 made_of compiling.TooManyStates = TooManyStates
 made_of compiling.NoMemory = NoMemory

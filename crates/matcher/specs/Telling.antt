@@ -1,4 +1,4 @@
--- Tables of rules, and what they tell.
+-- Tables of rules, and what they say.
 use Rattle.std.specs.Prelude.{◌≡◌, List, Some, ℕ}
 use Rattle.verdicts.specs.Hits.{no_hits}
 use Rattle.glob_automaton.specs.Least.{IsLeastRecord}
@@ -20,12 +20,12 @@ abbrev pub TellsLeastHits : List RuleValue → Table → Type 0
 TellsLeastHits rules t = (bytes : List ℕ) (r : Record) → are_bytes bytes → IsLeastRecord rules bytes r →
     record_after t bytes ≡ Some r
 
--- a table of these rules, however its states are numbered and wherever its cells stand
+-- a table of these rules, however its states are numbered and wherever its cells are
 pub record IsTableOfRules (rules : List RuleValue) (t : Table) : Type 0 where
   pub dead : IsDeadAtZero t
   pub least : TellsLeastHits rules t
 
--- what the record of a list of bytes tells is the verdict of the rules
+-- what the record of a list of bytes says is the verdict of the rules
 abbrev pub TellsVerdicts : List RuleValue → Table → Type 0
 TellsVerdicts rules t = (bytes : List ℕ) (r : Record) (ask : Perms) (v : Verdict) → are_bytes bytes →
     record_after t bytes ≡ Some r → IsTold r ask v → v ≡ verdict rules bytes ask

@@ -30,7 +30,7 @@ pub fn table_of(alloc: Global, profile: &Profile) -> Result<RawTable, MakeFault>
     Ok(pack(alloc, &dfa)?)
 }
 
-/// A profile's rules and their table, which leads every name to the least hits of the rules and so tells their verdicts.
+/// A profile's rules and their table, which leads every name to the least hits of the rules and so gives their verdicts.
 #[derive(Drop)]
 pub struct CompiledProfile {
     profile: Profile,

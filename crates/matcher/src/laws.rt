@@ -7,7 +7,7 @@ ghost use Rattle.tables.specs.Tables.{Table};
 use glob_automaton::{least_hits_tell_the_verdict, names_have_one_least_record};
 use rule_globs::one_verdict_is_right;
 
-/// A table that leads every name to its least hits tells the verdicts of the rules: `judge` by a compiled profile answers
+/// A table that leads every name to its least hits gives the verdicts of the rules: `judge` by a compiled profile answers
 /// what its rules say.
 pub fn tables_of_rules_tell_their_verdicts()
     ensures { (rules : List RuleValue) (t : Table) → TellsLeastHits rules t → TellsVerdicts rules t }

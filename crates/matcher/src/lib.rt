@@ -1,4 +1,4 @@
-//! Profiles compiled to tables, and laws on what these tell. What runs names through tables and judges by them is handed on.
+//! Profiles compiled to tables, and laws on what these say. What runs names through tables and judges by them is re-exported.
 //!
 //! The definitions to believe are those in `specs/`.
 #![tactic(auto)]

@@ -1,4 +1,4 @@
-//! Profiles as they are judged by: compiled here, or loaded from an image.
+//! Profiles to judge by: compiled here, or loaded from an image.
 ghost use Rattle.std.specs.Prelude.{◌≡◌};
 ghost use Rattle.matcher.specs.Profiles.{any_table};
 
@@ -31,8 +31,8 @@ impl AnyProfile {
 /// A change of what is published.
 #[derive(Drop)]
 pub enum PolicyChange {
-    /// This profile stands under the name.
+    /// This profile is under the name.
     Replace(Vec<u8>, Arc<AnyProfile>),
-    /// Nothing stands under the name.
+    /// Nothing is under the name.
     Remove(Vec<u8>),
 }

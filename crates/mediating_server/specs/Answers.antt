@@ -1,4 +1,4 @@
--- What opens are answered, as text.
+-- The answers to opens, as text.
 use Rattle.std.specs.Prelude.{◌≡◌, ℕ, List, [], codes}
 use Rattle.names.specs.declared.permissions.Perms.{Perms}
 use Rattle.mediation.specs.Opening.{judged, failed, no_profile}
@@ -17,7 +17,7 @@ told_text name (NoProfile policy) = answered_text (no_profile policy)
 told_text name (Busy began ended) = []
 told_text name NoEntry = codes "no entry"
 
--- these bytes tell an answer, which is right of all changes of tree and policy that the session has seen
+-- these bytes are an answer that is right for all changes of tree and policy that the session has seen
 abbrev pub TellsRightly : Sitting → List ℕ → Perms → List ℕ → Type 0
 TellsRightly now path ask bytes =
     (answer : Answer) × Justified now.profile path ask now.walk.view.seen now.reading.seen answer × (bytes ≡ line (told_text now.judged answer))

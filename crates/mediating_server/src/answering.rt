@@ -1,4 +1,4 @@
-//! What is answered, as text.
+//! Answers as text.
 ghost use Rattle.std.specs.Prelude.{◌≡◌, ◌++◌, IfOk, codes, decimal};
 ghost use Rattle.mediating_server.specs.Answers.{told_text};
 ghost use Rattle.guarded_row.specs.Opening.{IsNotBusy};
@@ -8,7 +8,7 @@ use path_guard::Answer;
 use std::alloc::{AllocError, Global};
 use trace_script::{Stop, answer_line, joined};
 
-/// What an open is answered, as a line. The name is the one that was judged.
+/// The answer to an open, as a line. `name` is the one that was judged.
 pub(crate) fn open_line(alloc: Global, answer: &Answer, name: &[u8]) -> Result<Vec<u8>, Stop>
     requires { IsNotBusy answer.now }
     ensures { IsText (told_text name.now answer.now) result }
@@ -40,7 +40,7 @@ pub(crate) fn open_line(alloc: Global, answer: &Answer, name: &[u8]) -> Result<V
     answer_line(alloc, &told, name)
 }
 
-/// An answer behind the number of its request.
+/// An answer after the number of its request.
 pub(crate) fn numbered(alloc: Global, number: u64, answer: &[u8]) -> Result<Vec<u8>, AllocError>
     ensures { IfOk result (λ line. line.items ≡ decimal number ++ codes ": " ++ answer.now) }
 {

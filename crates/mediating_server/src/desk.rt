@@ -1,12 +1,12 @@
-//! Where requests are taken, and answers given.
+//! Where requests are taken and answers are given.
 ghost use Rattle.std.specs.Prelude.{◌≡◌, ◌+◌, IfOk, IfSome};
 
 use std::io::{BufRead, Write};
 use std::sync::{Mutex, Wait};
 use trace_script::{LineRead, Stop, print_line, read_line};
 
-/// The input and the output that all workers share. One at a time is at either, as the workers of a server wait by turns for
-/// the next connection.
+/// The input and the output that all workers share. One worker at a time uses either, as the workers of a server take turns
+/// waiting for the next connection.
 #[derive(Drop)]
 pub(crate) struct Desk<I, O> {
     requests: Mutex<Requests<I>>,
@@ -28,12 +28,12 @@ impl<I: BufRead, O: Write> Desk<I, O> {
         }
     }
 
-    /// Takes the next line, in place of what `line` holds, and answers its number; none where no line is left.
+    /// Reads the next line into `line`, replacing its contents, and returns its number; none if no line is left.
     pub(crate) fn take(&self, rt: &impl Wait, line: &mut Vec<u8>) -> Result<Option<u64>, Stop> {
         self.requests.lock(rt).next(line)
     }
 
-    /// Gives an answer, whole.
+    /// Writes an answer as a whole.
     pub(crate) fn give(&self, rt: &impl Wait, answer: &[u8]) -> Result<(), Stop> {
         print_line(&mut *self.answers.lock(rt), answer)
     }

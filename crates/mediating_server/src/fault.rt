@@ -10,11 +10,11 @@ use trace_script::Stop;
 #[derive(Clone, Copy)]
 pub(crate) enum ServerFault {
     Usage,
-    /// The file can't be read, or its text is no profile that can be compiled.
+    /// The file can't be read, or its text isn't a profile that can be compiled.
     Profile(Fault),
     /// The profile isn't published.
     Publication(Errno),
-    /// A request couldn't be read, or an answer not be written, or memory was refused.
+    /// A request couldn't be read, an answer couldn't be written, or memory was refused.
     Requests(Stop),
     /// There is no place for one more session.
     NoSeat,

@@ -1,10 +1,10 @@
-//! A mediating server in small: sessions in threads answer opens of a directory tree by a profile, which is read again whenever its
+//! A small mediating server: sessions in threads answer opens of a directory tree by a profile, which is read again whenever its
 //! file has changed.
 //!
-//! `mediating_server PROFILE_FILE [WORKERS]` begins with the root alone. A client writes its requests to standard input, a line
-//! each: `open PATH PERMS`, or a change of the tree, as `mkdir P`, `create P`, `rename OLD NEW` or `unlink P`. Each line is answered
-//! by one on standard output, behind the line's number; the order of answers is that in which the workers come to them. What
-//! became of the file is told on standard error.
+//! `mediating_server PROFILE_FILE [WORKERS]` begins with the root alone. A client writes its requests to standard input, one per
+//! line: `open PATH PERMS`, or a change of the tree, such as `mkdir P`, `create P`, `rename OLD NEW` or `unlink P`. Each line is
+//! answered by a line on standard output, which begins with the number of the request's line; answers come in the order in which
+//! the workers get to them. What became of the file is reported on standard error.
 //!
 //! The definitions to believe are those in `specs/`, for contracts of private functions alone.
 #![tactic(auto)]
@@ -30,7 +30,7 @@ use std::{env, io};
 use trace_report::{Status, fail};
 use trace_script::Stop;
 
-/// So many workers, where no number is told.
+/// The number of workers, if none is given.
 const WORKERS: u32 = 4;
 
 fn main(rt: HostRuntime) -> ExitCode {

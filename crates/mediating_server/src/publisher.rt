@@ -14,10 +14,10 @@ use trace_report::Fault;
 /// The name that the profile is published under, whatever its text calls it.
 pub(crate) const PROFILE: &[u8] = b"served";
 
-/// So many milliseconds lie between two looks at the file.
+/// The number of milliseconds between two looks at the file.
 const PAUSE: u64 = 100;
 
-/// The profile's file, and the text that was last read of it.
+/// The profile's file, and the text that was last read from it.
 #[derive(Drop)]
 pub(crate) struct ProfileFile<'a> {
     path: &'a str,
@@ -29,7 +29,7 @@ impl<'a> ProfileFile<'a> {
         ProfileFile { path, text: None }
     }
 
-    /// Publishes what the file has, where that is another text than before, and answers the policy's version. Where the text is
+    /// Publishes the contents of the file if they differ from the last text, and returns the policy's version. If the text is
     /// refused, what was published stays.
     pub(crate) fn publish<M: Row, R: Runtime + AllocGlobal + Wait>(
         &mut self,
@@ -41,7 +41,7 @@ impl<'a> ProfileFile<'a> {
             return Ok(None);
         }
         let profile = compiled(rt.alloc(), &text);
-        // A text that is refused is told once. Memory may be there the next time.
+        // A refused text is reported once. Memory may be available the next time.
         if profile.as_ref().err() != Some(&Fault::Memory) {
             self.text = Some(text);
         }
@@ -54,7 +54,7 @@ impl<'a> ProfileFile<'a> {
         }
     }
 
-    /// Publishes each new text, and tells what became of it, for as long as some worker is at work.
+    /// Publishes each new text, and reports what became of it, for as long as some worker is at work.
     pub(crate) fn watch<M: Row, R: Runtime + AllocGlobal + Wait>(
         self,
         rt: &R,
@@ -78,7 +78,7 @@ impl<'a> ProfileFile<'a> {
     }
 }
 
-/// The profile that a text tells.
+/// The profile that a text describes.
 fn compiled(alloc: Global, text: &[u8]) -> Result<Arc<AnyProfile>, Fault> {
     let profile = read(alloc, text)?;
     let profile = CompiledProfile::make(alloc, profile)?;

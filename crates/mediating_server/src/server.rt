@@ -16,18 +16,18 @@ use std::sync::atomic::{AtomicU64, Ordering};
 use std::thread::{JoinHandle, Scope, Threads, scope, scope_env};
 use trace_script::Stop;
 
-/// The tree has room for so many entries.
+/// The number of entries that the tree has room for.
 const CAPACITY: usize = 1024;
 
-/// What all threads work at.
+/// What all threads work with.
 #[derive(Drop)]
 struct Scene<'a, I, O> {
     desk: &'a Desk<I, O>,
-    /// So many workers have not ended yet.
+    /// The number of workers that haven't ended yet.
     at_work: AtomicU64,
 }
 
-/// Answers requests by so many workers, until no more are left.
+/// Answers requests with `workers` workers, until no more are left.
 pub(crate) fn serve<
     R: Runtime + AllocGlobal + Threads + Wait + Sync,
     I: BufRead + Send,
@@ -38,7 +38,7 @@ pub(crate) fn serve<
     serve_over::<Brand, R, I, O>(rt, file, workers, desk, keeper, publisher)
 }
 
-/// Makes the guard, and ends it. It is for any `M` that names the keeper's row, as the `Brand` of the call does.
+/// Makes the guard, and closes it at the end. It is generic over any `M` that names the keeper's row, as the `Brand` of the call does.
 fn serve_over<
     M: Row + Send + Sync,
     R: Runtime + AllocGlobal + Threads + Wait + Sync,
@@ -88,7 +88,7 @@ fn serve_by<
     )
 }
 
-/// Starts a thread for each worker, and is the publisher itself until the last one ends.
+/// Starts a thread for each worker, and acts as the publisher itself until the last one ends.
 fn run<
     's,
     'e: 's,

@@ -13,7 +13,7 @@ use std::io::{BufRead, Write};
 use std::sync::Wait;
 use trace_script::{ChangeWords, Stop, change_of, errno_line, version_line};
 
-/// A session of a guard, by which requests are answered.
+/// A session of a guard, which answers requests.
 #[derive(Drop)]
 pub(crate) struct Worker<'a, M: Row> {
     alloc: Global,

@@ -1,4 +1,4 @@
--- A judged link that the tree would take, by what the look before it told.
+-- A judged link that the tree would accept, by what the earlier look reported.
 use Rattle.std.proofs.Common.{◌≡◌, ℕ, Bool, true, false, List, [], length, subst, Option, Some, None, refl, sym, ap, ◌∙◌, true≢false}
 use Rattle.std.specs.Prelude.{Result, Ok, Err, if◌then◌else◌, nat_lt, IsOk}
 use Rattle.names.specs.declared.errors.Errno.{Errno}
@@ -24,7 +24,7 @@ path_good text good = ap (λ (o : Option Errno). elim o as (λ _. Result (List �
 err_is_ok : {X Y : Type 0} (e : Y) (x : X) → Err e ≡ Ok x → ⊥
 err_is_ok e x h = absurd (cc h)
 
--- what a plain tree makes of a change, the tree makes of it
+-- what a plain tree makes of a change is what its tree makes of it
 applied : (plain : Plain) (old new : List ℕ) (u : Tree) → outcome plain (Link old new) ≡ Ok u → apply (tree_of plain) (has_room plain.capacity (tree_of plain)) (Link old new) ≡ Ok u
 applied plain old new u h = by (nat_lt (length plain.history) max_changes) h
   where
@@ -38,13 +38,13 @@ accepted_tree : (r : Changed) → IsOk r → (u : Tree) × (r ≡ Ok u)
 accepted_tree (Ok u) is = (u, refl)
 accepted_tree (Err errno) is = absurd (true≢false (sym is))
 
--- the law of links that were made: the new path then leads to the new entry, of the name of its place
+-- the law of links that were made: the new path then leads to the new entry, which has the name of its place
 abbrev pub LinksAreFound : Type 0
 LinksAreFound = (t u : Tree) (room : Bool) (old new : List ℕ) → WellFormed t → apply t room (Link old new) ≡ Ok u →
     (from to : Entry) × (walk t Stay old ≡ Ok (Held from)) × (walk u Stay new ≡ Ok (Held to)) × (to.node ≡ from.node)
     × (judged_name u (Held to) ≡ named_place t new)
 
--- what the look told is the answer
+-- what the look reported is the answer
 pub link_comes : LinksAreFound → (plain : Plain) (judge : Judge) (old new : List ℕ) (r : Result JudgedLink Errno) → WellFormed (tree_of plain)
     → path_fault old ≡ None → path_fault new ≡ None → IsOk (outcome plain (Link old new))
     → judged_by_name judge (tree_of plain) old (named_place (tree_of plain) new) ≡ r → link_judged plain judge old new ≡ r
@@ -65,8 +65,7 @@ abbrev new_of : Change → List ℕ
 new_of (Link old new) = new
 new_of _ = []
 
--- the same, by the paths as they were checked (a and b) and taken out of the change again (c and d), and the tree as it was
--- left
+-- the same, for the paths as checked (a and b) and as taken out of the change again (c and d), and for the tree as it was left
 pub link_told : LinksAreFound → (plain left : Plain) (judge : Judge) (old new a b c d : List ℕ) (r : Result JudgedLink Errno) → WellFormed (tree_of plain)
     → left ≡ plain → a ≡ old → path_fault a ≡ None → b ≡ new → path_fault b ≡ None → Link a b ≡ Link c d → IsOk (outcome plain (Link a b))
     → judged_by_name judge (tree_of left) c (named_place (tree_of left) d) ≡ r → link_judged plain judge old new ≡ r

@@ -1,4 +1,4 @@
--- What the record of a name's last state tells.
+-- What the record of a name's last state says.
 use Rattle.std.proofs.Common.{◌≡◌, ◌<◌, ℕ, Bool, false, List, Fits, w8, Some, slice_index_or, refl, sym, ap, ◌∙◌, subst, arith}
 use Rattle.std.specs.Prelude.{unwrap_or}
 use Rattle.std.proofs.lemmas.List.{get_or_default}
@@ -39,11 +39,11 @@ pub table_as_rules : ((r : Record) (ask : Perms) → IsTold r ask (told r ask)) 
 table_as_rules some rules t name ask r tells bytes is =
     ap (λ o. told (unwrap_or o no_hits) ask) is ∙ tells name r ask (told r ask) bytes is (some r ask)
 
--- whether a permission is allowed, asked by itself
+-- whether a permission is allowed when it is asked for alone
 abbrev pub is_allowed_by : Judge → List ℕ → Permission → Bool
 is_allowed_by judge name p = is_allowed (verdict_by judge name (only p))
 
--- what a record tells of a permission, asked by itself
+-- what a record says about a permission that is asked for alone
 pub told_allowed : (judge : Judge) (name : List ℕ) (p : Permission) (r : Record) (b : Bool) → Tells judge name r
     → (v : Verdict) × IsTold r (only p) v × (b ≡ is_allowed v) → b ≡ is_allowed_by judge name p
 told_allowed judge name p r b tells (v, told, same) = same ∙ ap is_allowed (tells (only p) v told)

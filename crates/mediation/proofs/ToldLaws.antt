@@ -1,4 +1,4 @@
--- The verdict that is computed of a record is one that the record tells.
+-- The verdict computed from a record is one that `IsTold` allows.
 use Rattle.std.proofs.Common.{◌≡◌, ◌≢◌, ◌==◌, ◌&&◌, ◌||◌, ◌↔◌, ◌⊎◌, ⊎_elim, inl, inr, ℕ, ◌≤◌, nat_lt, Bool, true, false, List, [], ◌∷◌, IsTrue, refl, sym, ap, ◌∙◌, subst, arith, eq-eqb, true≢false}
 use Rattle.std.specs.Prelude.{if◌then◌else◌}
 use Rattle.std.specs.List.{list_any}
@@ -14,7 +14,7 @@ use Rattle.names.specs.declared.permissions.Permission.TheVariants.{Read, Write,
 use Rattle.names.specs.declared.permissions.Perms.{Perms}
 use Rattle.verdicts.specs.declared.verdict.Verdict.TheVariants.{Denied, NoRule, Allowed}
 
--- the lesser of two numbers is one of them, and none that isn't 0 is below it
+-- the lesser of two numbers is one of them, and no nonzero one is below it
 record IsLesser (one other least : ℕ) : Type 0 where
   which : (least ≡ one) ⊎ (least ≡ other)
   below_one : one ≢ 0 → (least ≢ 0) × (least ≤ one)

@@ -1,4 +1,4 @@
--- What answers stand for, with the name that was judged.
+-- What answers represent, with the name that was judged.
 use Rattle.std.specs.Prelude.{ℕ, List, []}
 use Rattle.rule_judge.specs.declared.linking.LinkVerdict.TheVariants.{Fine}
 use Rattle.mediation.specs.declared.answer.Answer.{Answer}
@@ -14,7 +14,7 @@ answered name (Judged verdict node tree policy) = judged (record { name = name; 
 answered name (Failed errno tree) = failed errno tree
 answered name (NoProfile policy) = no_profile policy
 
--- the name that an open judged, empty where none was
+-- the name that an open judged, empty if it judged none
 abbrev pub name_opened : Answered → List ℕ
 name_opened (judged j tree policy) = j.name
 name_opened (failed errno tree) = []
@@ -27,7 +27,7 @@ link_answered name (link.NotAllowed verdict node tree policy) = linking.not_allo
 link_answered name (link.Failed errno tree) = linking.failed errno tree
 link_answered name (link.NoProfile policy) = linking.no_profile policy
 
--- the new entry's name where a link was judged, made or not, and else empty
+-- the new entry's name if a link was judged, made or not, and otherwise empty
 abbrev pub name_linked : LinkAnswered → List ℕ
 name_linked (linking.made j tree policy) = j.name
 name_linked (linking.not_allowed j tree policy) = j.name

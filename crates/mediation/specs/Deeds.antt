@@ -7,7 +7,7 @@ use Rattle.rule_profile.specs.Profile.{ProfileValue}
 pub data Deed : Type 0 where
   -- a profile under this name, in place of the one that was there
   published : List ℕ → Judge → Deed
-  -- nothing under this name
+  -- no profile under this name
   removed : List ℕ → Deed
 
 -- a profile that was compiled, under its own name
@@ -26,6 +26,6 @@ abbrev pub after_deeds : Policy → List Deed → Policy
 after_deeds policy [] = policy
 after_deeds policy (deed ∷ deeds) = after_deeds (after_deed policy deed) deeds
 
--- what is published after these, the first of them first
+-- what is published after these deeds, oldest first
 abbrev pub policy_after : List Deed → Policy
 policy_after deeds = after_deeds (λ name. None) deeds

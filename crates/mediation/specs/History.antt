@@ -34,12 +34,12 @@ policy_version history = length history.deeds
 abbrev pub MayChangePolicy : List Deed → Type 0
 MayChangePolicy deeds = length deeds + 1 < 2 ^ 60
 
--- what an open of a path is answered, by the profile of a name
+-- the answer to an open of a path, by the profile of a name
 abbrev pub open_answer : History → List ℕ → List ℕ → Perms → Answered
 open_answer history profile path ask =
     answered_by (tree_of history.tree) (tree_version history) (policy_version history) path ask (policy_after history.deeds profile)
 
--- what a judged link is answered, by the profile of a name
+-- the answer to a judged link, by the profile of a name
 abbrev pub link_answer : History → List ℕ → List ℕ → List ℕ → LinkAnswered
 link_answer history profile old new = link_answered history.tree (policy_version history) old new (policy_after history.deeds profile)
 

@@ -1,4 +1,4 @@
--- What a published profile says of names.
+-- What a published profile says about names.
 use Rattle.std.specs.Prelude.{ℕ, List, unwrap_or}
 use Rattle.verdicts.specs.Hits.{no_hits}
 use Rattle.names.specs.Permissions.{set_of, only}
@@ -10,17 +10,17 @@ use Rattle.verdicts.specs.declared.verdict.Verdict.{Verdict}
 use Rattle.tables.specs.Tables.{Table, record_after}
 use Rattle.mediation.specs.Told.{told}
 
--- a profile that was compiled speaks by its rules, one that was loaded from an image by its table
+-- a compiled profile judges by its rules, one that was loaded from an image by its table
 pub data Judge : Type 0 where
   by_rules : List RuleValue → Judge
   by_table : Table → Judge
 
--- The verdict on a name and what is asked. By a table it is what the record tells that the name leads to. (A table in bounds
--- has a record for each name; where there is none, nothing is hit.)
+-- The verdict on a name and the asked permissions. By a table it is the verdict of the record that the name leads to. (A table in
+-- bounds has a record for each name; if there is none, nothing is hit.)
 abbrev pub verdict_by : Judge → List ℕ → Perms → Verdict
 verdict_by (by_rules rules) name ask = verdict rules name ask
 verdict_by (by_table t) name ask = told (unwrap_or (record_after t name) no_hits) ask
 
--- the permissions that a name is allowed, each asked by itself
+-- the permissions that a name is allowed, each asked for alone
 abbrev pub allowed_by : Judge → List ℕ → Perms
 allowed_by judge name = set_of (λ p. is_allowed (verdict_by judge name (only p)))

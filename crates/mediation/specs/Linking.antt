@@ -27,32 +27,31 @@ pub record JudgedLink : Type 0 where
 abbrev pub name_at : Tree → List ℕ → Result (List ℕ) Errno
 name_at t path = and_then (walk t Stay path) (judged_name t)
 
--- what a profile says of a link by its names
+-- a profile's verdict on a link, by its names
 abbrev pub verdict_of_names : Judge → List ℕ → List ℕ → LinkVerdict
 verdict_of_names judge old new = link_verdict (allowed_by judge old) (allowed_by judge new) (verdict_by judge new (only permission.Link))
 
--- the verdict on a link of the file that a path leads to, when the new entry's name is known; a name that is too long is a
--- refusal
+-- the verdict on a link of the file that a path leads to, once the new entry's name is known; a name that is too long is a refusal
 abbrev pub judged_by_name : Judge → Tree → List ℕ → Result (List ℕ) Errno → Result JudgedLink Errno
 judged_by_name judge t old new_name =
     and_then (walk t Stay old) (λ file. and_then (judged_name t file) (λ old_name. and_then new_name (λ name.
     Ok (record { name = name; node = node_at file; verdict = verdict_of_names judge old_name name }))))
 
--- what a judged link comes to, or the first reason why it fails: a fault of a path, the old one's before the new one's;
--- what refuses the link itself; a name that is too long, in the tree as it stands or with the new entry in it
+-- the outcome of a judged link, or the first reason why it fails: a fault of a path, the old one's before the new one's; what
+-- refuses the link itself; a name that is too long, in the current tree or with the new entry in it
 abbrev pub link_judged : Plain → Judge → List ℕ → List ℕ → Result JudgedLink Errno
 link_judged plain judge old new =
     and_then (path_of old) (λ from. and_then (path_of new) (λ to. and_then (outcome plain (Link from to)) (λ linked.
     judged_by_name judge (tree_of plain) from (name_at linked to))))
 
--- the answers to a judged link, at so many changes of the tree, and so many of the policy
+-- the answers to a judged link, with the numbers of changes of the tree and of the policy
 pub data LinkAnswered : Type 0 where
   made : JudgedLink → ℕ → ℕ → LinkAnswered
   not_allowed : JudgedLink → ℕ → ℕ → LinkAnswered
   failed : Errno → ℕ → LinkAnswered
   no_profile : ℕ → LinkAnswered
 
--- the link is made only where the profile says that it is fine: one change more
+-- the link is made only if the profile says that it is fine: one more change
 abbrev pub answer_by_verdict : JudgedLink → ℕ → ℕ → LinkVerdict → LinkAnswered
 answer_by_verdict j tree policy Fine = made j (tree + 1) policy
 answer_by_verdict j tree policy (Refused v) = not_allowed j tree policy

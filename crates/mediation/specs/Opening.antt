@@ -27,7 +27,7 @@ pub record Judged : Type 0 where
   pub node : ℕ
   pub verdict : Verdict
 
--- a text as a path, or why it is none
+-- a text as a path, or why it isn't one
 abbrev pub path_of : List ℕ → Result (List ℕ) Errno
 path_of text = elim (path_fault text) [ None ↦ Ok text | Some errno ↦ Err errno ]
 
@@ -39,7 +39,7 @@ can_be_asked ask = list_any (has ask) all_permissions && not (has ask Link)
 abbrev pub reached_at : Tree → Spot → Result Reached Errno
 reached_at t spot = and_then (judged_name t spot) (λ name. Ok (record { name = name; node = node_at spot }))
 
--- what a path leads to, a last link followed
+-- what a path leads to; a link at its end is followed
 abbrev pub reached_by_path : Tree → List ℕ → Result Reached Errno
 reached_by_path t path = and_then (walk t Follow path) (reached_at t)
 
@@ -54,11 +54,11 @@ reached t text ask =
 abbrev pub judged_file : Judge → Perms → Reached → Judged
 judged_file judge ask file = record { name = file.name; node = file.node; verdict = verdict_by judge file.name ask }
 
--- what an open comes to, or the first reason why it fails
+-- the outcome of an open, or the first reason why it fails
 abbrev pub opened : Tree → Judge → List ℕ → Perms → Result Judged Errno
 opened t judge text ask = and_then (reached t text ask) (λ file. Ok (judged_file judge ask file))
 
--- the answers to an open, at so many changes of the tree, and so many of the policy
+-- the answers to an open, with the numbers of changes of the tree and of the policy
 pub data Answered : Type 0 where
   judged : Judged → ℕ → ℕ → Answered
   failed : Errno → ℕ → Answered

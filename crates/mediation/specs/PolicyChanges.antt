@@ -1,4 +1,4 @@
--- Changes of what is published, as they are asked for.
+-- Requested changes of what is published.
 use Rattle.std.specs.Arc.{arc_value}
 use Rattle.std.specs.declared.alloc.Global.{Global}
 use Rattle.std.specs.declared.sync.Arc.{Arc}
@@ -9,7 +9,7 @@ use Rattle.mediation.specs.Deeds.{Deed, published, removed}
 use Rattle.mediation.specs.Judge.{Judge}
 use Rattle.mediation.specs.Profiles.{judge_of}
 
--- what the profile says that is shared
+-- what a shared profile says
 abbrev pub judge_shared : Arc AnyProfile Global → Judge
 judge_shared profile = judge_of (arc_value profile)
 

@@ -1,4 +1,4 @@
--- What profiles are to those who publish them.
+-- What profiles mean to those who publish them.
 use Rattle.matcher.specs.declared.profiles.AnyProfile.{AnyProfile}
 use Rattle.matcher.specs.declared.profiles.AnyProfile.TheVariants.{Compiled, Loaded}
 use Rattle.matcher.specs.Profiles.{rules_of}

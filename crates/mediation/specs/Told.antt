@@ -1,4 +1,4 @@
--- The verdict that a record tells, computed: the least deny number over what is asked; else what has no allow number; else
+-- The verdict of a record, computed: the least deny number among the asked permissions; else those that have no allow number; else
 -- allowed (apparmor.d(5), "Rule Qualifiers"). A law says that it is the one verdict that `IsTold` allows.
 use Rattle.std.specs.Prelude.{ℕ, ◌==◌, ◌&&◌, ◌||◌, nat_lt, List, [], ◌∷◌, if◌then◌else◌}
 use Rattle.std.specs.List.{list_any}
@@ -10,7 +10,7 @@ use Rattle.names.specs.declared.permissions.Perms.{Perms}
 use Rattle.verdicts.specs.declared.verdict.Verdict.{Verdict}
 use Rattle.verdicts.specs.declared.verdict.Verdict.TheVariants.{Denied, NoRule, Allowed}
 
--- the lesser of two numbers of rules, of which 0 is none
+-- the lesser of two rule numbers, where 0 means no rule
 abbrev pub lesser : ℕ → ℕ → ℕ
 lesser one other = if one == 0 then other else (if (other == 0) || nat_lt one other then one else other)
 

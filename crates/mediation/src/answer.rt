@@ -4,7 +4,7 @@ use names::Errno;
 use rule_judge::LinkVerdict;
 use verdicts::Verdict;
 
-/// What an open comes to. Whoever answers keeps the name that was judged.
+/// The outcome of an open. The one who answers keeps the name that was judged.
 #[derive(Clone, Copy, Debug, PartialEq, Eq)]
 pub enum Answer {
     /// The verdict on the name of the file that was reached.
@@ -25,7 +25,7 @@ pub enum Answer {
     },
 }
 
-/// What a judged link comes to. Whoever answers keeps the name of the new entry.
+/// The outcome of a judged link. The one who answers keeps the name of the new entry.
 #[derive(Clone, Copy, Debug, PartialEq, Eq)]
 pub enum LinkAnswer {
     /// The link was made: the node of the file, and the tree's new version.

@@ -1,4 +1,4 @@
-//! A tree and the published profiles, in one hand: what a script works on.
+//! A tree and the published profiles together: what a script works on.
 ghost use Rattle.std.specs.Prelude.{◌+◌, ◌≡◌, ◌^◌, ◌<◌, [], ℕ, List, IfOk, IfErr, OnOk, OnErr, IsOk};
 ghost use Rattle.glob_automaton.specs.Automata.{most_sets};
 ghost use Rattle.glob_automaton.specs.Sets.{AreMoreThan};
@@ -24,12 +24,11 @@ pub trait Bench {
     // The name that was judged last.
     ghost judged_name: { Self → List ℕ };
 
-    // What shows that memory is wanted for nothing but what is made, if anything does: for no open, and for no link that would
-    // not be made.
+    // Evidence, if there is any, that memory is needed only for what is made: not for opens, and not for links that would not be made.
     ghost spares_memory: { Type 0 } = { ⊥ };
 
-    /// Makes a change of the tree, and answers the version that it makes, or tells why not: ENOMEM where memory was refused
-    /// for a change that the tree would take, else the tree's own reason.
+    /// Makes a change of the tree and returns the new version, or why it fails: ENOMEM if memory was refused for a change that
+    /// the tree would accept, else the tree's own reason.
     fn change(&mut self, change: &Change<'_>) -> Result<u64, Errno>
         ensures ok { IfOk result (λ version. (history self.new ≡ with_change (history self.old) change.now)
             × IsOk (outcome (history self.old).tree change.now) × (version ≡ tree_version (history self.new))) }
@@ -44,7 +43,7 @@ pub trait Bench {
         ensures err { OnErr result (judged_name self.new ≡ []) }
         ensures spares { spares_memory → IsOk result };
 
-    /// Makes one more entry of a file, where a published profile allows it.
+    /// Makes one more entry of a file, if a published profile allows it.
     fn link(&mut self, profile: &[u8], old: &[u8], new: &[u8]) -> Result<LinkAnswer, NoMemory>
         ensures ok { IfOk result (λ answer. link_answered (judged_name self.new) answer
             ≡ link_answer (history self.old) profile.now old.now new.now) }
@@ -55,18 +54,18 @@ pub trait Bench {
         ensures spares { spares_memory → OnErr result (IsMade (link_answer (history self.old) profile.now old.now new.now)) };
 
     /// The name that the last open or link judged: of a link, the name of its new entry, whether or not it was made. It is
-    /// empty where none was judged: the profile isn't published, there was a failure, or memory was refused.
+    /// empty if none was judged: the profile isn't published, there was a failure, or memory was refused.
     fn name(&self) -> &[u8]
         ensures { result.now ≡ judged_name self.now };
 
-    /// Publishes a profile under its name, if it can be compiled, and answers the policy's new version.
+    /// Publishes a profile under its name, if it can be compiled, and returns the policy's new version.
     fn publish(&mut self, profile: Profile) -> Result<u64, MakeFault>
         requires { MayChangePolicy (history self.old).deeds }
         ensures ok { IfOk result (λ version. (history self.new ≡ with_deed (history self.old) (published_rules (profile_value profile)))
             × (version ≡ policy_version (history self.new)) × ¬ (AreMoreThan most_sets (profile_value profile).rules)) }
         ensures err { IfErr result (λ fault. (history self.new ≡ history self.old) × IsMakeFault (profile_value profile).rules fault) };
 
-    /// Takes the profile of a name away, and answers the policy's new version.
+    /// Removes the profile of a name and returns the policy's new version.
     fn remove(&mut self, name: &[u8]) -> Result<u64, NoMemory>
         requires { MayChangePolicy (history self.old).deeds }
         ensures ok { IfOk result (λ version. (history self.new ≡ with_deed (history self.old) (removed name.now))

@@ -1,4 +1,4 @@
-//! Laws that show the definitions of `specs/` sane. The functions do nothing: each stands for its contract.
+//! Laws that show that the definitions of `specs/` are sane. The functions do nothing: each exists only for its contract.
 ghost use Rattle.std.specs.Prelude.{◌≡◌, ℕ, List};
 ghost use Rattle.verdicts.specs.Records.{IsTold};
 ghost use Rattle.names.specs.Bytes.{are_bytes};
@@ -15,7 +15,7 @@ use glob_automaton::names_have_one_least_record;
 use matcher::tables_of_rules_tell_their_verdicts;
 use verdicts::records_tell_one_verdict;
 
-/// The verdict that is computed of a record is one that the record tells, and the only one.
+/// The verdict computed from a record is one that `IsTold` allows, and the only one.
 pub fn told_is_the_one_verdict()
     ensures some { (r : Record) (ask : Perms) → IsTold r ask (told r ask) }
     ensures only { (r : Record) (ask : Perms) (v : Verdict) → IsTold r ask v → v ≡ told r ask }
@@ -23,8 +23,8 @@ pub fn told_is_the_one_verdict()
     records_tell_one_verdict();
 }
 
-/// A table of rules says of each name what the rules say: a profile that is loaded from the image of a compiled one judges
-/// as that one does.
+/// A table of rules gives each name the verdicts that the rules give: a profile that is loaded from the image of a compiled one
+/// judges as that one does.
 pub fn tables_of_rules_judge_as_their_rules()
     ensures { (rules : List RuleValue) (t : Table) (name : List ℕ) (ask : Perms) → TellsLeastHits rules t → are_bytes name
         → verdict_by (by_table t) name ask ≡ verdict_by (by_rules rules) name ask }

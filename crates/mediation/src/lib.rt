@@ -1,5 +1,6 @@
-//! Judged opens and links, apart from who asks for them: the published policy as a list of deeds, what an open and a judged
-//! link are answered, and the functions that judge over any look at a tree. [`Bench`] is what a script works on: it has both.
+//! Judged opens and links, independent of who asks for them: the published policy as a list of deeds, the answers to an open
+//! and to a judged link, and the functions that judge over any look at a tree. [`Bench`] is what a script works on: a tree and
+//! a policy.
 //!
 //! The definitions to believe are those in `specs/`; those in `specs/inner/` are of private contracts and
 //! proofs.

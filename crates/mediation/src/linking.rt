@@ -29,8 +29,8 @@ pub struct JudgedLink {
 /// Judges a link of the file that one path leads to, by the name of the place that the other path names. That name goes to
 /// the front of `room`. No memory is taken.
 ///
-/// What is told is right of every tree that the look still sees; at `Torn` there is none, or the look lacks something.
-/// Whether the tree would take the link isn't asked.
+/// The result holds for every tree that the look still sees; on `Torn` there is no such tree, or the look lacks something.
+/// Whether the tree would accept the link isn't checked.
 pub fn judge_names<L: Look>(
     look: &mut L,
     profile: &AnyProfile,
@@ -60,7 +60,7 @@ pub fn judge_names<L: Look>(
     })
 }
 
-/// The verdict on a link's new name, where the old one is allowed so much.
+/// The verdict on a link's new name, given what the old one is allowed.
 fn judge_new_name(profile: &AnyProfile, old_allowed: Perms, name: &[u8]) -> LinkVerdict
     ensures { result ≡ link_verdict old_allowed (allowed_by (judge_of profile.now) name.now)
         (verdict_by (judge_of profile.now) name.now (only permission.Link)) }

@@ -30,8 +30,8 @@ pub struct Judged {
 
 /// Judges the file that a path leads to. Its name goes to the front of `room`. No memory is taken.
 ///
-/// What is told is right of every tree that the look still sees (open(2), path_resolution(7)); at `Torn` there is none, or the
-/// look lacks something.
+/// The result holds for every tree that the look still sees (open(2), path_resolution(7)); on `Torn` there is no such tree, or
+/// the look lacks something.
 pub fn judge_file<L: Look>(
     look: &mut L,
     profile: &AnyProfile,
@@ -57,11 +57,11 @@ pub fn judge_file<L: Look>(
     })
 }
 
-/// Finds the file that a path leads to, where it may be opened for what is asked. Its name goes to the front of `room`. No
+/// Finds the file that a path leads to, if an open may ask for these permissions. Its name goes to the front of `room`. No
 /// memory is taken.
 ///
-/// What is told is right of every tree that the look still sees (open(2), path_resolution(7)); at `Torn` there is none, or the
-/// look lacks something.
+/// The result holds for every tree that the look still sees (open(2), path_resolution(7)); on `Torn` there is no such tree, or
+/// the look lacks something.
 pub fn reach_file<L: Look>(
     look: &mut L,
     path: &[u8],
@@ -86,7 +86,7 @@ pub fn reach_file<L: Look>(
     }
 }
 
-/// Whether something is asked, and not to link: links are judged by a call of their own.
+/// Whether something is asked, and not to link: links are judged by a separate call.
 pub fn can_be_asked(ask: Perms) -> bool
     ensures { result ≡ can_be_asked ask }
 {

@@ -1,4 +1,4 @@
-//! What published profiles say of names. No memory is taken.
+//! What published profiles say about names. No memory is taken.
 ghost use Rattle.std.specs.Prelude.{◌≡◌, Some};
 ghost use Rattle.verdicts.specs.Records.{IsTold};
 ghost use Rattle.mediation.specs.Judge.{verdict_by, allowed_by};
@@ -15,7 +15,7 @@ use names::{Permission, Perms, permissions_are_numbered};
 use table_verifier::{Steps, VerifiedTable};
 use verdicts::{Record, Verdict, told};
 
-/// What a profile says of a name (apparmor.d(5), "Rule Qualifiers"): by its rules where it was compiled, else by its table. No
+/// A profile's verdict on a name (apparmor.d(5), "Rule Qualifiers"): by its rules if it was compiled, else by its table. No
 /// memory is taken.
 pub fn judge_name(profile: &AnyProfile, name: &[u8], ask: Perms) -> Verdict
     ensures { result ≡ verdict_by (judge_of profile.now) name.now ask }
@@ -23,7 +23,7 @@ pub fn judge_name(profile: &AnyProfile, name: &[u8], ask: Perms) -> Verdict
     told(&record_by(profile, name), ask)
 }
 
-/// The permissions that a name is allowed, each asked by itself.
+/// The permissions that a name is allowed, each asked for alone.
 pub(crate) fn allowed_by(profile: &AnyProfile, name: &[u8]) -> Perms
     ensures { result ≡ allowed_by (judge_of profile.now) name.now }
 {
@@ -38,7 +38,7 @@ pub(crate) fn allowed_by(profile: &AnyProfile, name: &[u8]) -> Perms
     perms
 }
 
-/// The record that tells what a profile says of a name: one run serves each question.
+/// The record of a profile's verdicts on a name: one run answers every question.
 fn record_by(profile: &AnyProfile, name: &[u8]) -> Record
     ensures { Tells (judge_of profile.now) name.now result }
 {
@@ -61,7 +61,7 @@ fn last_record(table: &VerifiedTable, name: &[u8]) -> Record
     record_of_name(table, name, &mut Steps::new())
 }
 
-/// Whether a permission is allowed by a record, asked by itself.
+/// Whether a record allows a permission that is asked for alone.
 fn tells_allowed(record: &Record, permission: Permission) -> bool
     ensures { (v : Verdict) × IsTold «record».now (only permission) v × (result ≡ is_allowed v) }
 {

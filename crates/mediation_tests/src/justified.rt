@@ -33,8 +33,8 @@ fn profile(alloc: Global) -> Result<Arc<AnyProfile>, Fail> {
     Ok(Arc::new(alloc, profile).ok().ok_or("memory")?)
 }
 
-// The file `/d/f` is node 3 from version 2 on, and from version 3 on `/d` is `/e`. The profile stands under its name from version 1
-// on, and at version 2 it doesn't any more.
+// The file `/d/f` is node 3 from version 2 on, and from version 3 on `/d` is `/e`. The profile is published under its name from
+// version 1 on, and no longer at version 2.
 fn expect(rt: &impl Abort, alloc: Global, rows: &[Row<'_>]) -> Result<(), Fail> {
     let changes = [
         Change::Mkdir(path(b"/d")?),
@@ -89,14 +89,14 @@ fn verdicts(rt: HostRuntime) -> Result<(), Fail> {
         of_file(judged(Verdict::Allowed, 3, 2, 1), true),
         of_file(judged(missing, 3, 2, 1), false),
         of_file(judged(Verdict::Allowed, 2, 2, 1), false),
-        // It isn't there yet, and not any more; no version is told that wasn't made.
+        // The file isn't there yet or isn't there any more, and a version that wasn't made can't be right.
         of_file(judged(Verdict::Allowed, 3, 1, 1), false),
         of_file(judged(Verdict::Allowed, 3, 3, 1), false),
         of_file(judged(Verdict::Allowed, 3, 4, 1), false),
         of_file(judged(Verdict::Allowed, 3, 2, 0), false),
         of_file(judged(Verdict::Allowed, 3, 2, 2), false),
         of_file(judged(Verdict::Allowed, 3, 2, 3), false),
-        // By the name that it has since the rename.
+        // By its name since the rename.
         Row {
             path: b"/e/f",
             ..of_file(judged(missing, 3, 3, 1), true)

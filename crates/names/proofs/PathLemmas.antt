@@ -127,7 +127,7 @@ module _ (xs : List ℕ) where
   pub first_component : 0 < n → components xs ≡ front ∷ components (drop n xs)
   first_component some = elim (cases_lt n (length xs)) [ inl h ↦ followed some h | inr h ↦ alone some h ]
 
--- one step over a text xs: past the slashes in front of it, and then over what stands before the next slash
+-- one step over a text xs: past the slashes in front of it, and then over what comes before the next slash
 module _ (xs : List ℕ) where
   abbrev rest : List ℕ
   rest = drop (prefix_len is_slash xs) xs
@@ -135,7 +135,7 @@ module _ (xs : List ℕ) where
   long : length rest ≡ length xs - prefix_len is_slash xs
   long = length-drop (prefix_len is_slash xs) xs
 
-  -- past the slashes something stands before the next slash, unless nothing is left
+  -- past the slashes something comes before the next slash, unless nothing is left
   runs_on : 0 < length rest → 0 < position_or_len is_slash rest
   runs_on some = elim (cases_lt 0 (position_or_len is_slash rest)) [ inl h ↦ h | inr h ↦ absurd (stuck h) ]
     where

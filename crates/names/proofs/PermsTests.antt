@@ -13,7 +13,7 @@ same_perms s t h =
     let a = h Read in let b = h Write in let c = h Link in let d = h Lock in let e = h Map in
     λ i. record { read = a i; write = b i; link = c i; lock = d i; map = e i }
 
--- one permission more is in the set, and no other
+-- one more permission is in the set, and no other
 with_itself : (s : Perms) (q : Permission) → has (with_permission s q) q ≡ true
 with_itself s q = has-set_of (λ r. has s r || (letter r == letter q)) q ∙ ap (λ (b : Bool). has s q || b) (eq-eqb (letter q) (letter q) refl) ∙ or_true (has s q)
   where
@@ -35,17 +35,17 @@ lower_or_there : (k i : ℕ) → k < i + 1 → (k < i) ⊎ (k ≡ i)
 lower_or_there k i low = ⊎_elim (λ is. inl (ltb-true k i is)) (λ is. inr (omega (arith, low, ltb-false k i is))) (cases_Bool (nat_lt k i))
 
 module _ (test : Permission → Bool) where
-  -- the set has what passes the test and stands before i, and nothing else
+  -- the set has what passes the test and comes before i, and nothing else
   abbrev pub IsPassedBefore : ℕ → Perms → Type 0
   IsPassedBefore i s = ((p : Permission) → index p < i → has s p ≡ test p) × ((p : Permission) → i ≤ index p → has s p ≡ false)
 
-  -- behind the last permission it is the set of all that pass
+  -- after the last permission it is the set of all that pass
   pub passed-all : ((p : Permission) → index p < permission_count) → (i : ℕ) (s : Perms) → permission_count ≤ i → IsPassedBefore i s → s ≡ set_of test
   passed-all below i s le before =
       same_perms s (set_of test) (λ p. before.0 p (omega (arith, le, below p)) ∙ sym (has-set_of test p))
 
   module _ (there : (p other : Permission) → slice_index_or all_permissions (index p) other ≡ p) where
-    -- a permission that doesn't stand at i isn't the one that does
+    -- a permission that isn't at i isn't the one that is
     elsewhere : (i : ℕ) (q p : Permission) → index q ≡ i → index p ≢ i → p ≢ q
     elsewhere i q p at other = λ is. other (ap index is ∙ at)
 

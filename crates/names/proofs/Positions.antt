@@ -12,7 +12,7 @@ place_below Link = omega arith
 place_below Lock = omega arith
 place_below Map = omega arith
 
--- at its place stands the permission itself
+-- at its place is the permission itself
 pub stands_there : (p d : Permission) → get_or all_permissions (index p) d ≡ p
 stands_there Read d = refl
 stands_there Write d = refl
@@ -20,7 +20,7 @@ stands_there Link d = refl
 stands_there Lock d = refl
 stands_there Map d = refl
 
--- what stands at a place has it as its own
+-- the permission at a place has that place as its own
 pub place_is : (i : ℕ) (d : Permission) → i < permission_count → index (get_or all_permissions i d) ≡ i
 place_is zero d lt = refl
 place_is (suc zero) d lt = refl

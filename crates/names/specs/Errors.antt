@@ -39,6 +39,6 @@ errno_name EOVERFLOW = codes "EOVERFLOW"
 abbrev pub errno_text : Errno → List ℕ
 errno_text e = errno_name e ++ codes " " ++ decimal (errno_number e)
 
--- how want of memory is told, everywhere
+-- how running out of memory is reported, everywhere
 abbrev pub no_memory_text : List ℕ
 no_memory_text = codes "no memory"

@@ -5,14 +5,14 @@ ghost use Rattle.names.specs.declared.permissions.Perms.{Perms};
 ghost use Rattle.names.specs.Permissions.{all_permissions, index, letter, letters, permission_count, permission_of, perms_of};
 ghost use Rattle.names.specs.Paths.{components, ends_with_slash, path_fault, IsName, IsPart, IsPathComponent};
 
-/// Each permission stands at its own place in [`Permission::ALL`](crate::Permission::ALL), and nothing else stands there.
+/// Each permission is at its own place in [`Permission::ALL`](crate::Permission::ALL), and nothing else is there.
 pub fn permissions_are_numbered()
     ensures below { (p : Permission) → index p < permission_count }
     ensures there { (p other : Permission) → slice_index_or all_permissions (index p) other ≡ p }
     ensures only { (k : ℕ) (other : Permission) → k < permission_count → index (slice_index_or all_permissions k other) ≡ k }
 {}
 
-/// A letter stands for one permission at most, and each permission has its letter.
+/// A letter stands for at most one permission, and each permission has its letter.
 pub fn one_letter_each()
     ensures read_again { (p : Permission) → permission_of (letter p) ≡ Some p }
     ensures only { (b : ℕ) (p : Permission) → permission_of b ≡ Some p → letter p ≡ b }

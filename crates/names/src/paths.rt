@@ -32,9 +32,9 @@ impl<'a> Model for Path<'a> {
 }
 
 impl<'a> Path<'a> {
-    /// The bytes as a path, or why they are none, of these tests the first that fails: they are
-    /// empty (ENOENT), begin with no slash or have a byte 0 (EINVAL), or are too long as a whole
-    /// or in some component (ENAMETOOLONG). No memory is taken.
+    /// The bytes as a path, or why they aren't one, by the first of these tests that fails: they
+    /// are empty (ENOENT), begin with no slash or have a byte 0 (EINVAL), or are too long as a
+    /// whole or in some component (ENAMETOOLONG). No memory is taken.
     pub fn check(bytes: &'a [u8]) -> Result<Path<'a>, Errno>
         ensures path { IfOk result (λ path. (path ≡ bytes.now) × (path_fault path ≡ None)) }
         ensures fault { IfErr result (λ fault. path_fault bytes.now ≡ Some fault) }
@@ -65,7 +65,7 @@ impl<'a> Path<'a> {
         self.bytes
     }
 
-    /// What a walk of the path takes, one after the other. No memory is taken.
+    /// What a walk of the path takes, one component after the other. No memory is taken.
     pub fn components(&self) -> Components<'a>
         ensures components { result ≡ components self.now }
         ensures few { length result ≤ 4095 }
@@ -144,7 +144,7 @@ pub fn has_long_component(text: &[u8]) -> bool
     Components::of(text).any(|component| component.len() > LONGEST_COMPONENT)
 }
 
-// The bytes from the first that is no slash on.
+// The bytes from the first one on that isn't a slash.
 fn skip_slashes(bytes: &[u8]) -> &[u8]
     ensures { result.now ≡ drop (prefix_len is_slash bytes.now) bytes.now }
 {

@@ -150,7 +150,7 @@ impl Perms {
     }
 
     /// The set that a word of letters stands for, in any order, a repeated letter counting once.
-    /// None where some byte is the letter of no permission. The empty word is the empty set.
+    /// `None` if some byte isn't the letter of a permission. The empty word is the empty set.
     pub fn from_letters(word: &[u8]) -> Option<Perms>
         ensures { result ≡ perms_of word.now }
     {

@@ -1,4 +1,4 @@
--- What a walk has chosen, or come to, is what it may do.
+-- What a walk has chosen, or how it ended, is what it may do.
 use Rattle.std.proofs.Common.{ℕ, List, inl, inr}
 use Rattle.std.specs.Prelude.{Ok, Err}
 use Rattle.names.specs.declared.errors.Errno.TheVariants.{EINVAL}

@@ -1,4 +1,4 @@
--- Readings of cells by one walk, from what the words come to.
+-- Readings of cells by one walk, from what the words decide.
 use Rattle.std.proofs.Common.{◌≡◌, ℕ, suc, ◌+◌, ◌-◌, ◌%◌, ◌<◌, ◌≤◌, true, List, ◌∷◌, ◌++◌, length, get_or, Some, None, IfOk, IfErr, OnErr, refl, sym, ◌∙◌, subst, ap, arith, length-append}
 use Rattle.std.specs.Prelude.{Result, Err, slice_get}
 use Rattle.std.proofs.lemmas.Option.{slice_get-get_or}
@@ -26,7 +26,7 @@ use Rattle.open_session.proofs.Chains.{reads_on, with_reads, standing}
 use Rattle.open_session.proofs.Choices.{may_do}
 use Rattle.open_session.proofs.Counting.{right_next, counts_ok, counts_all, counts_err}
 
--- What the words decide that a walk has read, which began with the old ones.
+-- What the words that a walk has read decide, beginning with the old ones.
 pub record Comes (capacity : ℕ) (cells room : List ℕ) (w : Walk) (old : List Cell) (most : ℕ) (end : Result Outcome Lack) : Type 0 where
   pub of_row : w.words.0 ≡ capacity
   pub next_is : w.next ≡ next_after end
@@ -34,7 +34,7 @@ pub record Comes (capacity : ℕ) (cells room : List ℕ) (w : Walk) (old : List
   pub lacks : IfErr end (IsLack capacity old w.words.1 most)
   pub sound : OnErr end ((can_be_asked w.policed.call.ask ≡ true) × (path_fault w.policed.call.path.items ≡ None))
 
--- the same, where the capacity and the path are told by other names
+-- the same, where the capacity and the path have other names
 pub comes : (capacity : ℕ) (cells room : List ℕ) (w : Walk) (words : ℕ × List Cell) (path : List ℕ) (most : ℕ) (end : Result Outcome Lack)
     → words.0 ≡ capacity → path ≡ w.policed.call.path.items → w.words.0 ≡ words.0 → w.next ≡ next_after end
     → IfOk end (Decides words.0 w.words.1 room (λ t. reached t path w.policed.call.ask)) → IfErr end (IsLack words.0 words.1 w.words.1 most)
@@ -55,7 +55,7 @@ is_walk capacity cells room w old most end even comes = record {
       (right_next capacity room (call_of w.policed.call) (walker_of w) old most end even comes.decided comes.lacks comes.sound);
 }
 
--- one walk reads the word at the place that it chose, and stood more
+-- one walk reads the word at the chosen place, and then the words of `more`
 pub chained : (capacity : ℕ) (cells room : List ℕ) (old new : Walk) (place word : ℕ) (more : List Cell)
     → IsWalk capacity room old → old.next ≡ next.Read place → length cells ≡ row_length capacity → slice_get cells place ≡ Some word
     → ReadsOn cells more (record { place = place; word = word } ∷ old.words.1)
@@ -80,7 +80,7 @@ chained capacity cells room old new place word more stands chosen long here on r
     (subst (λ (b : machine.Session). CellReads capacity cells (suc (length more)) (standing name (policed_of old.policed) (walker_of old) (Some place)) b) (sym ends)
     (reads_on capacity cells name (policed_of old.policed) (walker_of old) place word more (next_of new.next) long right.0 right.1 here on may))
 
--- so the readings are as many as the words are more
+-- so there are as many readings as there are new words
 pub reads_some : (capacity : ℕ) (cells room room' : List ℕ) (old new : Walk) (place word further n : ℕ) (more : List Cell) (end : Result Outcome Lack) (count : Result ℕ StepFault)
     → IsWalk capacity room old → old.next ≡ next.Read place → length cells ≡ row_length capacity → slice_get cells place ≡ Some word
     → ReadsOn cells more (record { place = place; word = word } ∷ old.words.1)

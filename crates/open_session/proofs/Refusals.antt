@@ -6,7 +6,7 @@ use Rattle.event_core.specs.Machine.Stage.{walking}
 use Rattle.open_session.specs.Steps.{ReadsCell, MayStep}
 use Rattle.open_session.specs.Turns.{IsReading}
 
--- a walk that has come to its end reads no cell
+-- a walk that has ended reads no cell
 pub no_cell : (capacity : ℕ) (cells name : List ℕ) (p : Policed) (w : WalkerView) (next : Option ℕ) → next ≡ None
     → ¬ (MayStep (ReadsCell capacity cells) record { name = name; stage = walking p w next })
 no_cell capacity cells name p w next none may = let is : walking p w next ≡ walking may.1.0 may.1.1 (Some may.1.2) = may.1.5 in cc

@@ -14,7 +14,7 @@ use Rattle.event_core.specs.Rule.{view_of, KeepsRule}
 use Rattle.event_core.proofs.Ruled.{fits_at}
 use Rattle.open_session.specs.Seen.{SawTree, SeesTree}
 
--- what was read beside an even count that still stands agrees with the row as it is
+-- what was read under an even count that is unchanged agrees with the row as it is
 saw : (m : Machine) (w : WalkerView) → FitsWalker m.keeper w → (count_of m.keeper % 2 ≡ 0 → EncodesChanges m.capacity m.keeper.cells m.keeper.history)
     → SawTree m.capacity (ending w (count_of m.keeper) m.keeper.history)
 saw m w fits encodes (even, same) =

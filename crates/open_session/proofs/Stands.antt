@@ -1,4 +1,4 @@
--- What a session's data stand for, as its steps need it.
+-- What a session's data represent, as its steps need it.
 use Rattle.std.proofs.Common.{◌≡◌, ℕ, List, IfOk, IfErr, sym, subst, ap}
 use Rattle.std.specs.Prelude.{Result, Ok, Err}
 use Rattle.row_rule.specs.declared.view.KeeperView.{KeeperView}
@@ -37,7 +37,7 @@ begun_count capacity room name own s k w is stands policed begun =
     (may_do capacity room (call_of w.policed.call) (walker_of w) w.next stands.right)) in
     (policed_of own, next_of w.next, ap stage_of (sym is), may, λ i. record { name = name; stage = walking (policed_of (policed i)) (begun i) (next_of w.next) })
 
--- readings from a session that is told by another name
+-- readings from a session that has another name
 pub carried : (row : ℕ × List ℕ) (capacity : ℕ) (cells : List ℕ) (count : ℕ) (a b c : machine.Session) → row ≡ (capacity, cells) → a ≡ b
     → CellReads row.0 row.1 count a c → CellReads capacity cells count b c
 carried row capacity cells count a b c row_is same reads =

@@ -1,4 +1,4 @@
--- What a walk that has read the count again is answered.
+-- The answer to a walk that has read the count again.
 use Rattle.std.proofs.Common.{◌≡◌, ◌⊎◌, inl, inr, ℕ, ◌%◌, List, take, None, sym, subst, ap, arith}
 use Rattle.directory_tree.specs.declared.change.Change.{Change}
 use Rattle.row_rule.specs.declared.view.WalkerView.{WalkerView}
@@ -14,7 +14,7 @@ use Rattle.open_session.specs.declared.walk.Next.TheVariants as next
 use Rattle.open_session.specs.Seen.{SawTree}
 use Rattle.open_session.specs.inner.Standing.{IsRightNext, IsEnded, IsStanding, IsTold, stage_of, next_of}
 
--- a walk that wasn't disturbed came to a file or to an error
+-- a walk that wasn't disturbed reached a file or an error
 pub still_decides : (capacity : ℕ) (room : List ℕ) (call : machine.Call) (w : WalkerView) (last : ℕ) (seen : List Change) (n : Next)
     → IsRightNext capacity room call w n → next_of n ≡ None → SawTree capacity (ending w last seen) → w.noted % 2 ≡ 0 → last ≡ w.noted
     → ((place : ℕ) × (n ≡ next.Read place)) ⊎ ((n ≡ next.Disturbed) ⊎ (n ≡ next.Torn)) → ⊥

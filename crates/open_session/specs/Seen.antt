@@ -10,7 +10,7 @@ use Rattle.event_core.specs.Machine.{Stage}
 use Rattle.event_core.specs.Machine.Stage.{resting, begun, unpublished, policed, walking, checked}
 use Rattle.event_core.specs.Walking.{IsStill}
 
--- where its counts are one even number, what it read agrees with some row that encodes a sound tree
+-- if its counts are one even number, what it read agrees with some row that encodes a sound tree
 abbrev pub SawTree : ℕ → WalkerView → Type 0
 SawTree capacity w = IsStill w → (row : List ℕ) × (t : Tree) × Agrees w.reads row × WellFormed t × Encodes capacity row t
 

@@ -1,4 +1,4 @@
--- The steps of one session's call: each case of the machine's steps that moves a session, said of that session alone.
+-- The steps of one session's call: each case of the machine's steps that moves a session, stated for that session alone.
 use Rattle.std.specs.Prelude.{◌≡◌, ℕ, zero, suc, List, length, slice_get, Option, Some, None}
 use Rattle.mediation.specs.Deeds.{Deed, policy_after}
 use Rattle.justification.specs.declared.answer.Answer.{Answer}
@@ -22,31 +22,31 @@ at_rest_with name = record { name = name; stage = resting }
 abbrev pub Begins : Call → Session → Session → Type 0
 Begins call old new = (old.stage ≡ resting) × (new ≡ going_on old (begun call))
 
--- then it reads the policy that these changes made: its version, and what it says of the profile's name
+-- then it reads the policy that these changes made: its version, and what it says about the profile's name
 abbrev pub ReadsPolicy : List Deed → Session → Session → Type 0
 ReadsPolicy deeds old new = (call : Call) × (old.stage ≡ begun call)
     × (new ≡ going_on old (after_policy call (length deeds) (policy_after deeds call.profile)))
 
--- where the profile was published it reads the count, and chooses what it does next
+-- if the profile was published it reads the count, and chooses what it does next
 abbrev pub ReadsCount : ℕ → KeeperView → Session → Session → Type 0
 ReadsCount capacity keeper old new = (p : Policed) × (next : Option ℕ) × (old.stage ≡ policed p)
     × MayDo capacity p.call (beginning newcomer (count_of keeper) keeper.history) next
     × (new ≡ going_on old (walking p (beginning newcomer (count_of keeper) keeper.history) next))
 
--- it reads the word that stands at the place that it chose, and chooses anew
+-- it reads the word at the chosen place, and chooses again
 abbrev pub ReadsCell : ℕ → List ℕ → Session → Session → Type 0
 ReadsCell capacity cells old new = (p : Policed) × (w : WalkerView) × (place word : ℕ) × (next : Option ℕ)
     × (old.stage ≡ walking p w (Some place)) × (slice_get cells place ≡ Some word)
     × MayDo capacity p.call (reading w record { place = place; word = word }) next
     × (new ≡ going_on old (walking p (reading w record { place = place; word = word }) next))
 
--- so many readings of a cell, one after the other
+-- `count` readings of a cell, one after the other
 abbrev pub CellReads : ℕ → List ℕ → ℕ → Session → Session → Type 0
 CellReads capacity cells zero old new = new ≡ old
 CellReads capacity cells (suc count) old new =
     (between : Session) × ReadsCell capacity cells old between × CellReads capacity cells count between new
 
--- it reads the count again where it chose to
+-- it reads the count again if it chose to
 abbrev pub ChecksCount : KeeperView → Session → Session → Type 0
 ChecksCount keeper old new = (p : Policed) × (w : WalkerView) × (old.stage ≡ walking p w None)
     × (new ≡ going_on old (checked p (ending w (count_of keeper) keeper.history)))

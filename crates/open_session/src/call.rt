@@ -1,9 +1,9 @@
-//! What a call asks, and what the policy says of it.
+//! What a call asks, and what the policy says about it.
 use matcher::AnyProfile;
 use names::Perms;
 use std::sync::Arc;
 
-/// May this profile open this path for this?
+/// A call: may this profile open this path with these permissions?
 #[derive(Drop)]
 pub(crate) struct Call {
     pub(crate) profile: Vec<u8>,
@@ -11,7 +11,7 @@ pub(crate) struct Call {
     pub(crate) ask: Perms,
 }
 
-/// A call that found its profile published, in the policy of a version.
+/// A call whose profile was found published, in the policy of this version.
 #[derive(Drop)]
 pub(crate) struct Policed {
     pub(crate) call: Call,

@@ -11,7 +11,7 @@ use policy_map::Policy;
 use std::alloc::{AllocError, Global};
 
 impl Call {
-    /// With copies of the profile's name and of the path.
+    /// A call, with copies of the profile's name and of the path.
     pub(crate) fn new(
         alloc: Global,
         profile: &[u8],
@@ -27,7 +27,7 @@ impl Call {
         })
     }
 
-    /// Where it stands that has read the policy, or the call as it was, where memory is refused.
+    /// The stage of the call after it has read the policy, or the call as it was if memory is refused.
     pub(crate) fn after_policy(self, policy: &Policy) -> Result<Stage, Call>
         ensures ok { IfOk result (λ stage. stage_of stage ≡ after_policy (call_of self) (length policy.now) (policy_after policy.now self.profile.items)) }
         ensures stands { IfOk result (λ stage. (capacity : ℕ) (room : List ℕ) → IsStanding capacity room stage) }

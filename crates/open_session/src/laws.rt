@@ -6,7 +6,7 @@ ghost use Rattle.event_core.specs.Rule.{KeepsRule};
 ghost use Rattle.open_session.specs.Seen.{SeesTree};
 
 /// The rule of the row, as a machine keeps it, gives what the steps of its sessions require: the row is as long as its capacity
-/// says, and a walk that reads the count again now saw a tree, where its counts are one even number.
+/// says, and a walk that reads the count again now has seen a tree, if its counts are one even number.
 pub fn rule_gives_what_steps_require()
     ensures long { (m : Machine) → KeepsRule m → length m.keeper.cells ≡ row_length m.capacity }
     ensures sees { (m : Machine) (s : ℕ) → KeepsRule m → SeesTree m.capacity m.keeper (m.sessions s).stage }

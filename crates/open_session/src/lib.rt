@@ -1,5 +1,5 @@
 //! One session's call, a step at a time: it begins, reads the policy, the count and the cells that its walk needs, checks the
-//! count, and answers. Each step is a step of the machine over events, said of this session alone.
+//! count, and answers. Each step is a step of the machine over events, stated for this session alone.
 //!
 //! The definitions to believe are those in `specs/`; those in `specs/inner/` are of private contracts and proofs.
 #![tactic(auto)]

@@ -3,17 +3,17 @@ use crate::stage::Stage;
 use path_lookup::NAME_ROOM;
 use std::marker::Model;
 
-/// One who opens paths, a call at a time.
+/// A session: it opens paths, one call at a time.
 ///
-/// It is seen as the pair of the capacity of the row that it reads and of the session of the machine over events: the name that
-/// its last answer judged, and where it stands in its call.
+/// Its model is a pair: the capacity of the row that it reads, and the session of the machine over events, which is the name that
+/// its last answer judged and the stage of its call.
 #[derive(Drop)]
 pub struct Session {
     pub(crate) capacity: usize,
-    // The name stands at the front.
+    // The name is at the front.
     pub(crate) name: Box<[u8; NAME_ROOM]>,
     pub(crate) name_length: usize,
-    // Where a walk writes the name that it comes to. An answer swaps it with `name`, and so needs no memory.
+    // Where a walk writes the name that it finds. An answer swaps it with `name`, and so needs no memory.
     pub(crate) room: Box<[u8; NAME_ROOM]>,
     pub(crate) stage: Stage,
 }

@@ -1,13 +1,13 @@
-//! Where a session stands in its call.
+//! The stages of a session's call.
 use crate::call::{Call, Policed};
 use crate::walk::{Checked, Walk};
 
-/// Where a session stands in its call.
+/// The stage of a session's call.
 #[derive(Drop)]
 pub(crate) enum Stage {
     Resting,
     Begun(Call),
-    /// In the policy of that version the profile wasn't published.
+    /// The profile wasn't published in the policy of this version.
     Unpublished(Call, u64),
     Policed(Policed),
     Walking(Walk),

@@ -22,7 +22,7 @@ use std::mem;
 use tree_row::MOST_ENTRIES;
 
 impl Session {
-    /// Of one who never began a call, over a row with room for so many entries.
+    /// A session that has begun no call, over a row with room for `capacity` entries.
     pub fn new(alloc: Global, capacity: usize) -> Result<Session, NoMemory>
         requires { capacity ≤ MOST_ENTRIES }
         ensures { IfOk result (λ session. session ≡ (capacity, new_session)) }
@@ -42,14 +42,14 @@ impl Session {
         })
     }
 
-    /// The name that the last answer judged, empty where it judged none.
+    /// The name that the last answer judged, empty if it judged none.
     pub fn name(&self) -> &[u8]
         ensures { result.now ≡ self.now.1.name }
     {
         &self.name[..self.name_length]
     }
 
-    /// Begins a call: may this profile open this path for this?
+    /// Begins a call: may this profile open this path with these permissions?
     pub fn begin(
         &mut self,
         alloc: Global,
@@ -76,7 +76,7 @@ impl Session {
         }
     }
 
-    /// Reads the policy: its version, and what it says of the profile's name.
+    /// Reads the policy: its version, and what it says about the profile's name.
     pub fn read_policy(&mut self, policy: &Policy) -> Result<(), StepFault>
         ensures capacity { self.new.0 ≡ self.old.0 }
         ensures ok { OnOk result (ReadsPolicy policy.now self.old.1 self.new.1) }
@@ -102,7 +102,7 @@ impl Session {
         }
     }
 
-    /// Reads the count, and chooses what it does next: it reads the word at a place, or the count.
+    /// Reads the count, and chooses what to read next: the word at a place, or the count again.
     pub fn read_count(
         &mut self,
         alloc: Global,
@@ -129,7 +129,7 @@ impl Session {
         }
     }
 
-    /// Reads the word at the place that it chose, and chooses anew.
+    /// Reads the word at the chosen place, and chooses again.
     pub fn read_cell(&mut self, keeper: &Keeper, scratch: &mut Scratch) -> Result<(), StepFault>
         requires capacity { keeper.now.0 ≡ self.old.0 }
         requires long { length keeper.now.1.cells ≡ row_length self.old.0 }
@@ -146,8 +146,8 @@ impl Session {
         }
     }
 
-    /// Reads as many cells as its walk needs, at most so many, in one walk over the words that it knows and those. Answers how
-    /// many there were. Where memory is refused, those before it were read.
+    /// Reads as many cells as its walk needs, at most `most`, in one walk over the words that it knows and those cells. Returns
+    /// the number of cells read. If memory is refused for a cell, the cells before it were read.
     pub fn read_cells(
         &mut self,
         keeper: &Keeper,
@@ -181,7 +181,7 @@ impl Session {
         }
     }
 
-    /// Reads the count again, once it needs no cell.
+    /// Reads the count again, once the walk needs no cell.
     pub fn check_count(&mut self, keeper: &Keeper) -> Result<(), StepFault>
         requires { SeesTree self.old.0 keeper.now.1 self.old.1.stage }
         ensures capacity { self.new.0 ≡ self.old.0 }
@@ -210,7 +210,7 @@ impl Session {
         }
     }
 
-    /// Answers the call, and rests. No memory is taken.
+    /// Answers the call, and goes back to rest. Allocates nothing.
     pub fn answer(&mut self) -> Result<Answer, StepFault>
         ensures capacity { self.new.0 ≡ self.old.0 }
         ensures ok { IfOk result (λ told. Answers self.old.0 told self.old.1 self.new.1) }

@@ -1,4 +1,4 @@
-//! What a walk that has read the count again is answered.
+//! The answer to a walk that has read the count again.
 ghost use Rattle.std.specs.Prelude.{◌≡◌, ◌+◌};
 ghost use Rattle.open_session.specs.inner.Standing.{IsEnded, IsTold};
 
@@ -16,7 +16,7 @@ pub(crate) struct Told {
 }
 
 impl Checked {
-    /// The answer. The name that it judges stands at the front of `room`.
+    /// The answer. The name that it judges is at the front of `room`.
     pub(crate) fn told(&self, room: &[u8; NAME_ROOM]) -> Told
         requires { IsEnded self.now.walk.words.0 room.now self.now }
         ensures { IsTold self.now.walk.words.0 room.now self.now result }
@@ -33,7 +33,7 @@ impl Checked {
         }
     }
 
-    /// The answer at a version of the tree, which wasn't disturbed.
+    /// The answer at a version of the tree, for a walk that wasn't disturbed.
     fn told_of(&self, tree_version: u64, room: &[u8; NAME_ROOM]) -> Told
         requires ended { IsEnded self.now.walk.words.0 room.now self.now }
         requires noted { self.now.walk.noted ≡ tree_version + tree_version }
@@ -62,7 +62,7 @@ impl Checked {
                 },
                 name_length: 0,
             },
-            // The count was even and still stands, so the words agree with the row, which encodes a tree.
+            // The count was even and is unchanged, so the words agree with the row, which encodes a tree.
             Next::Read(_) | Next::Disturbed | Next::Torn => unreachable!(),
         }
     }

@@ -5,14 +5,14 @@ use names::Errno;
 use row_keeper::History;
 use walk_words::WalkWords;
 
-/// What a walk does next, or what it came to. It then reads the count again.
+/// What a walk does next, or how it ended. Once it has ended, it reads the count again.
 #[derive(Clone, Copy)]
 pub(crate) enum Next {
     /// It reads the word at this place.
     Read(usize),
-    /// The count was odd, so that nothing was read.
+    /// The count was odd, so nothing was read.
     Disturbed,
-    /// The words decide that this file is reached. Its name stands at the front of the session's room.
+    /// The words decide that this file is reached. Its name is at the front of the session's room.
     Reached(Reached),
     /// The words decide that this is the error.
     Refused(Errno),

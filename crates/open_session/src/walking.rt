@@ -16,16 +16,16 @@ use std::alloc::Global;
 use tree_row::KnownRow;
 use walk_words::{Lack, Outcome, Reach, WalkWords, reach_on};
 
-/// What came of readings of cells.
+/// The outcome of reading cells.
 #[derive(Drop)]
 pub(crate) struct Readings {
     pub(crate) walk: Walk,
-    /// How many there were, unless memory was refused for one.
+    /// The number of cells read, unless memory was refused for one.
     pub(crate) count: Result<usize, StepFault>,
 }
 
 impl Next {
-    /// What follows from what the words decide: a word that is lacking is read next.
+    /// What follows from what the words decide: a missing word is read next.
     fn after(end: Result<Outcome, Lack>) -> Next
         ensures { result ≡ next_after end }
     {
@@ -40,7 +40,7 @@ impl Next {
 }
 
 impl Walk {
-    /// Reads the count. After an even one it chooses the word that it reads first, or comes to an end without any.
+    /// Reads the count. After an even one, chooses the first word to read, or ends without reading any.
     pub(crate) fn begin(
         alloc: Global,
         policed: Policed,
@@ -83,7 +83,7 @@ impl Walk {
         }
     }
 
-    /// The place of the word that it reads next. It has come to its end where there is none.
+    /// The place of the word that it reads next; none if the walk has ended.
     pub(crate) fn next_place(&self) -> Option<usize>
         ensures { result ≡ next_of self.now.next }
     {
@@ -93,7 +93,7 @@ impl Walk {
         }
     }
 
-    /// Reads as many cells as it needs, at most so many. The name that it comes to goes to the front of `room`.
+    /// Reads as many cells as it needs, at most `most`. The name that it finds is written to the front of `room`.
     pub(crate) fn read_cells(
         self,
         row: &KnownRow,
@@ -114,7 +114,7 @@ impl Walk {
         }
     }
 
-    /// Reads the cell at the place that it chose, and then at most so many further ones.
+    /// Reads the cell at the chosen place, and then at most `further` more.
     fn read_from(
         self,
         place: usize,
@@ -162,7 +162,7 @@ impl Walk {
     }
 }
 
-/// So many cells were read, unless memory was refused for one.
+/// The number of cells read is `count`, unless memory was refused for one.
 fn counted(count: usize, end: Result<Outcome, Lack>) -> Result<usize, StepFault>
     ensures { result ≡ counted_by count end }
 {

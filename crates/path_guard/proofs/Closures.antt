@@ -1,4 +1,4 @@
--- A closure that captures so many may go to a thread where all of them may.
+-- A closure that captures three or four values may go to a thread where all of them may.
 use denote.RattleType.{RattleType}
 use mir.Syntax.{Sym, Ty}
 use Rattle.std.proofs.Common.{ℕ, List, [], ◌∷◌}

@@ -1,4 +1,4 @@
-//! The guard, and what it does but opens.
+//! The guard, and what it does except opens.
 ghost use Rattle.std.specs.Prelude.{◌≡◌, ◌^◌, ◌<◌, [], IfOk};
 ghost use Rattle.row_rule.specs.Steps.{newcomer};
 
@@ -67,7 +67,7 @@ impl<M: Row> Guard<M> {
         self.row.change(rt, change)
     }
 
-    /// Publishes a profile under a name, in place of the one that is there, and answers the policy's new version. It waits for
+    /// Publishes a profile under a name, in place of the one that is there, and returns the policy's new version. It waits for
     /// readers that are inside. `EOVERFLOW` where no more changes can be counted. At `ENOMEM` the published policy is as before;
     /// where memory was refused to the publication, the change stays staged, and the next publication takes it along.
     pub fn replace(
@@ -82,7 +82,7 @@ impl<M: Row> Guard<M> {
         version
     }
 
-    /// Takes away what is published under a name, and answers the policy's new version, as [`replace`](Guard::replace) does.
+    /// Removes what is published under a name, and returns the policy's new version, as [`replace`](Guard::replace) does.
     pub fn remove(&self, rt: &impl Wait, name: &[u8]) -> Result<u64, Errno> {
         let mut publisher = self.publisher.lock(rt);
         let version = remove_in(rt, &mut publisher, name);
@@ -90,8 +90,8 @@ impl<M: Row> Guard<M> {
         version
     }
 
-    /// Ends the guard. Sessions may live on: they find no change any more, and their readers of the policy are refused. It
-    /// waits for those that are inside.
+    /// Ends the guard. Sessions may live on: they see no further change, and their readers of the policy are refused. It waits
+    /// for those that are inside.
     pub fn close(self, rt: &impl Wait) {
         let Guard {
             alloc: _,

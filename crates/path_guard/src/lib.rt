@@ -5,7 +5,7 @@
 //! changes the tree, and [`Guard::replace`] and [`Guard::remove`] the policy. A [`Session`] may go to its own thread, and
 //! [`Session::try_open`] waits for nobody.
 //!
-//! To be believed are the definitions of `guarded_row` and `path_session`.
+//! The definitions to believe are those of `guarded_row` and `path_session`.
 #![tactic(auto)]
 
 mod fault;

@@ -15,7 +15,7 @@ impl<M: Row> Guard<M> {
     /// Opens a file by a session that this guard gave. It is tried three times at most concurrently with the keeper, again only
     /// where a change came between; after that it waits for the keeper's lock, so that it is never `Busy`.
     ///
-    /// The answer is right of the changes of tree and policy that the session has seen then (open(2), apparmor.d(5)).
+    /// The answer is right for the changes of tree and policy that the session has seen by then (open(2), apparmor.d(5)).
     pub fn open(&self, rt: &impl Wait, session: &mut Session, path: &[u8], ask: Perms) -> Answer
         requires { session.old.walk.table ≡ M.table }
         ensures same { IsSameSession session.old session.new }

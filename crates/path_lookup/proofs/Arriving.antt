@@ -34,7 +34,7 @@ down_one t last (suc links) d c xs = refl
 held_inj : (x y : Entry) → Held x ≡ Held y → x ≡ y
 held_inj x y h = ap (λ (s : Spot). elim s [ Root ↦ x | Held z ↦ z ]) h
 
--- above a directory that stands in the tree
+-- above a directory that is in the tree
 pub up_from : (t : Tree) → WellFormed t → (s : Spot) → Stands t s → IsDirectory t s → (above t (node_at s) ≡ node_at (unwrap_or (directory_of t s) s)) × IsDirectory t (unwrap_or (directory_of t s) s)
 up_from t well Root stands is = (refl, refl)
 up_from t well (Held e) stands is = (high ∙ sym own, ap (spot_of t) own)

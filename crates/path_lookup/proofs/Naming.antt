@@ -13,12 +13,12 @@ use Rattle.directory_tree.specs.Name.{name_up, directory_name, name_of}
 use Rattle.directory_tree.proofs.Basics.{none_is_some, some_inj}
 use Rattle.directory_tree.proofs.Depth.{Deep, deep, shallow, up_deep}
 
--- the name down to an entry, with no slash behind it
+-- the name down to an entry, without a slash after it
 abbrev pub stem : Tree → Spot → List ℕ
 stem t Root = []
 stem t (Held e) = directory_name t e.of ++ slash ∷ e.component
 
--- what stands behind it
+-- what follows it
 abbrev pub closing : Spot → List ℕ
 closing spot = if is_directory (kind_at spot) then slash ∷ [] else []
 
@@ -49,7 +49,7 @@ stem_up t well (Held e) p stands h rest =
     append_assoc (directory_name t e.of) (slash ∷ e.component) rest
     ∙ ap (λ (z : List ℕ). z ++ slash ∷ (e.component ++ rest)) (stem_spot t m e.of up ∙ ap (stem t) (some_inj (spot_of t e.of) p h))
 
--- what stands in a directory has a component
+-- an entry of a directory has a component
 pub has_component : (t : Tree) → WellFormed t → (spot : Spot) → Stands t spot → IsSome (directory_of t spot) → is_filled (component_at spot) ≡ true
 has_component t well Root stands h = absurd (cc h)
 has_component t well (Held e) stands h = (well.named e.of e.component e stands).filled

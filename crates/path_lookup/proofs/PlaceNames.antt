@@ -35,7 +35,7 @@ shape_directory Directory h = refl
 shape_directory File h = absurd (cc h)
 shape_directory (Link text) h = absurd (cc h)
 
--- so many steps lead up from a directory to the root
+-- some number of steps lead up from a directory to the root
 directory_deep : (t : Tree) → WellFormed t → (s : Spot) → Stands t s → shape_of (kind_at s) ≡ kind.Directory → (m : ℕ) × Deep t.entries m (node_at s)
 directory_deep t well Root stands h = (0, refl)
 directory_deep t well (Held e) stands h =
@@ -51,7 +51,7 @@ name_directory t well s stands h =
     ∙ ap (λ (z : List ℕ). stem t s ++ z) (closing_directory s h)
     ∙ ap (λ (z : List ℕ). z ++ slash ∷ []) (sym (stem_spot t m (node_at s) up ∙ ap (stem t) (directory_stands t well s stands h)))
 
--- the name of a directory, with its slash, and a component behind it
+-- the name of a directory, with its slash, and a component after it
 pub place_behind : (t : Tree) → WellFormed t → (s : Spot) → Stands t s → shape_of (kind_at s) ≡ kind.Directory → (component : List ℕ) → name_of t s ++ component ≡ place_name t (node_at s) component
 place_behind t well s stands h component =
     ap (λ (z : List ℕ). z ++ component) (name_directory t well s stands h) ∙ append_assoc (directory_name t (node_at s)) (slash ∷ []) component

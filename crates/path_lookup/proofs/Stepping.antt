@@ -1,4 +1,4 @@
--- One step of a walk: the text that is left gets a component shorter, or a link's text stands in front of it.
+-- One step of a walk: the text that is left gets a component shorter, or a link's text is put in front of it.
 use Rattle.std.proofs.Common.{◌≡◌, ℕ, zero, suc, ◌<◌, ◌-◌, ◌==◌, ◌≢◌, Bool, true, false, List, [], ◌∷◌, ◌++◌, length, sym, refl, ap, ◌∙◌, subst, arith, ne_eqb}
 use Rattle.std.specs.Prelude.{if◌then◌else◌, Result, Ok, Err, IfErr}
 use Rattle.std.specs.Result.{IsErrAnd}

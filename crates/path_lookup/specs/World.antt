@@ -1,4 +1,4 @@
--- A tree as a look sees it: the words by which its answers are stated.
+-- A tree as a look sees it: the definitions by which its answers are stated.
 use Rattle.std.specs.Prelude.{◌⊎◌, ℕ}
 use Rattle.directory_tree.specs.Tree.{Tree, WellFormed}
 use Rattle.directory_tree.specs.Walk.{Spot}
@@ -9,7 +9,7 @@ pub record World : Type 0 where
   pub named : ℕ → Spot
   pub sound : WellFormed tree
 
--- reading tells more, and so fewer worlds agree with what was read
+-- reading yields more information, and so fewer worlds agree with what was read
 abbrev pub Narrows : (World → Type 0) → (World → Type 0) → Type 0
 Narrows before after = (w : World) → after w → before w
 

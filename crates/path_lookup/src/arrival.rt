@@ -22,7 +22,7 @@ pub(crate) enum Arrival<E: Copy> {
     End(E),
 }
 
-/// What a component leads to from a directory. `ends`: no component follows. No memory is taken.
+/// What a component leads to from a directory. `ends`: no component follows. Allocates nothing.
 pub(crate) fn arrive<L: Look>(
     look: &mut L,
     directory: L::Entry,
@@ -47,7 +47,7 @@ pub(crate) fn arrive<L: Look>(
         return Ok(Arrival::Directory(directory));
     }
     if component == b"..".as_slice() {
-        // The root is above itself.
+        // The root is its own parent.
         return Ok(Arrival::Directory(look.parent(directory)?.unwrap_or(directory)));
     }
     let Some(entry) = look.child(directory, component)? else {

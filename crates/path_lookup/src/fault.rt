@@ -1,10 +1,10 @@
 use crate::look::Torn;
 use names::Errno;
 
-/// Why a walk has no end, or an entry no name.
+/// Why a walk leads nowhere, or an entry has no name.
 #[derive(Clone, Copy, Debug, PartialEq, Eq)]
 pub enum WalkFault {
-    /// In each tree that is still seen the walk, or the name, is refused with this number.
+    /// In every tree that is still seen, the walk or the name is refused with this error.
     Refused(Errno),
     /// No tree agrees with what was read, or the look couldn't read on.
     Torn,

@@ -10,15 +10,15 @@ ghost use Rattle.path_lookup.specs.World.{World, Narrows, IsTorn};
 use directory_tree::{Kind, LONGEST_LINK_TEXT};
 use names::LONGEST_COMPONENT;
 
-/// What was read so far agrees with no tree, or can't be read further.
+/// What was read so far agrees with no tree, or no more can be read.
 #[derive(Clone, Copy, Debug, PartialEq, Eq)]
 pub struct Torn;
 
-/// A way to read a tree piece by piece, where what is read may be changing meanwhile.
+/// A way to read a tree piece by piece, while what is read may be changing.
 ///
-/// A look *sees* the worlds (sound trees, with a naming) that agree with all that it has read. Reading only narrows them. Each
-/// answer but [`Torn`] is right in every world that is still seen, and [`Torn`] comes only where none is, or where
-/// something that was asked for isn't known to the look.
+/// A look *sees* the worlds (sound trees, with a naming) that agree with all that it has read. Reading only narrows them. Every
+/// answer but [`Torn`] is right in every world that is still seen, and [`Torn`] is returned only if none is seen, or if something
+/// that was asked for isn't known to the look.
 pub trait Look {
     /// Names one entry in each world that is seen.
     type Entry: Copy;
@@ -34,13 +34,13 @@ pub trait Look {
     // What an entry stands for in a world.
     ghost means: { Self.Entry → World → Spot };
 
-    // The look may be asked of this entry.
+    // The look may be asked about this entry.
     ghost knows: { Self → Self.Entry → Type 0 };
 
     // Something that was asked for isn't known to the look.
     ghost lacks: { Self → Type 0 };
 
-    // Every tree that is seen has each entry that may be asked of.
+    // Every tree that is seen has every entry that the look may be asked about.
     ghost stands: { (look : Self) (w : World) (entry : Self.Entry) → sees look w → knows look entry → Stands w.tree (means entry w) };
 
     /// The root. Nothing is read.
@@ -82,7 +82,7 @@ pub trait Look {
         ensures answer { IfOk result (λ node. (w : World) → sees self.new w → node_at (means entry w) ≡ node) }
         ensures torn { IfErr result (λ _. IsTorn (lacks self.new) (sees self.new)) };
 
-    /// The directory that has the entry; none has the root.
+    /// The directory that has the entry; the root has none.
     fn parent(&mut self, entry: Self::Entry) -> Result<Option<Self::Entry>, Torn>
         requires { knows self.old entry }
         ensures kept { kept self.new ≡ kept self.old }
@@ -93,7 +93,7 @@ pub trait Look {
             directory_of w.tree (means entry w) ≡ option_map (λ e. means e w) found) }
         ensures torn { IfErr result (λ _. IsTorn (lacks self.new) (sees self.new)) };
 
-    /// Writes the entry's own component to the front of `room`, and answers its length. The root has the empty one.
+    /// Writes the entry's own component to the front of `room`, and returns its length. The root's is empty.
     fn component(
         &mut self,
         entry: Self::Entry,
@@ -108,7 +108,7 @@ pub trait Look {
             component_at (means entry w) ≡ take length room.new) }
         ensures torn { IfErr result (λ _. IsTorn (lacks self.new) (sees self.new)) };
 
-    /// Writes the text of a symbolic link to the front of `room`, and answers its length. Of other nodes nothing is said.
+    /// Writes the text of a symbolic link to the front of `room`, and returns its length. About other nodes nothing is said.
     fn link_text(
         &mut self,
         entry: Self::Entry,

@@ -12,11 +12,11 @@ use crate::scratch::put_in_front;
 use directory_tree::Kind;
 use names::{Errno, LONGEST_COMPONENT, LONGEST_PATH};
 
-/// The room that a name is written to: for a name of the most bytes, and one byte more.
+/// The size of the room that a name is written to: the longest name, and one more byte.
 pub const NAME_ROOM: usize = LONGEST_PATH + 1;
 
-/// Writes an entry's name to the front of `room`, and answers its length, at most 4,095: the path from the root that has no
-/// link, no `.` and no `..` in it (realpath(3)). A directory's ends with a slash. No memory is taken.
+/// Writes an entry's name to the front of `room`, and returns its length, at most 4,095: the path from the root that has no link,
+/// no `.` and no `..` in it (realpath(3)). A directory's ends with a slash. Allocates nothing.
 pub fn name_of<L: Look>(
     look: &mut L,
     entry: L::Entry,
@@ -45,7 +45,7 @@ pub fn name_of<L: Look>(
     Ok(NAME_ROOM - start)
 }
 
-// Writes the entry's component, with a slash before it, in front of what begins at `start`, and answers where it begins.
+// Writes the entry's component, with a slash before it, in front of what begins at `start`, and returns where it begins.
 fn put_component<L: Look>(
     look: &mut L,
     entry: L::Entry,
@@ -67,7 +67,7 @@ fn put_component<L: Look>(
     let mut text = [0; LONGEST_COMPONENT];
     let length = look.component(entry, &mut text)?;
     if length == 0 {
-        // What stands in a directory has a component.
+        // An entry of a directory has a component.
         return Err(WalkFault::Torn);
     }
     if length + 1 >= start {

@@ -19,9 +19,9 @@ use crate::walk::resolve_text;
 use directory_tree::{Kind, Last};
 use names::{Errno, LONGEST_COMPONENT, LONGEST_PATH, Path};
 
-/// Writes to the front of `room` the name of the place that a path names, where an entry of a file stands or is to stand,
-/// and answers its length, at most 4,095: the name of the directory and then the path's last component. Links on the way
-/// are followed, at most 40; whether an entry stands there isn't asked. No memory is taken.
+/// Writes to the front of `room` the name of the place that a path names, where an entry of a file is or will be, and returns its
+/// length, at most 4,095: the name of the directory and then the path's last component. Links on the way are followed, at most 40;
+/// whether there is an entry isn't checked. Allocates nothing.
 pub fn name_of_place<L: Look>(
     look: &mut L,
     path: &Path<'_>,
@@ -47,7 +47,7 @@ pub fn name_of_place<L: Look>(
     }
 }
 
-/// The directory that a text leads to. Links on the way are followed, at most 40. No memory is taken.
+/// The directory that a text leads to. Links on the way are followed, at most 40. Allocates nothing.
 pub fn find_directory<L: Look>(
     look: &mut L,
     text: &[u8],
@@ -69,7 +69,7 @@ pub fn find_directory<L: Look>(
     }
 }
 
-// Writes a component behind the directory's name that ends there, and answers where it ends.
+// Writes a component after the directory's name that ends at `end`, and returns where it ends.
 fn put_behind(room: &mut [u8; NAME_ROOM], end: usize, component: &[u8]) -> Result<usize, Errno>
     requires name { end ≤ LONGEST_PATH }
     requires component { length component.now ≤ LONGEST_COMPONENT }

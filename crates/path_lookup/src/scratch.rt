@@ -12,8 +12,8 @@ const ROOM: usize = LONGEST_PATH + MOST_LINKS * LONGEST_LINK_TEXT;
 
 /// The room that a walk needs: for a path and the texts of 40 links.
 ///
-/// It is seen as the text that is left to walk. That stands at the end of the room, so that a step drops its front, and
-/// the text of a link goes in front of it.
+/// Its model is the text that is left to walk. That is at the end of the room, so that a step drops its front, and the text of a
+/// link goes in front of it.
 #[derive(Drop)]
 pub struct Scratch {
     room: [u8; ROOM],
@@ -49,7 +49,7 @@ impl Scratch {
         &self.room[self.start..]
     }
 
-    /// This text alone is left.
+    /// Starts with this text alone.
     pub(crate) fn begin(&mut self, text: &[u8])
         requires { length text.now ≤ most_left }
         ensures { self.new ≡ text.now }
@@ -57,7 +57,7 @@ impl Scratch {
         self.start = put_in_front(&mut self.room, ROOM, text);
     }
 
-    /// So many bytes less are left.
+    /// Drops the first `count` bytes of what is left.
     pub(crate) fn skip(&mut self, count: usize)
         requires { count ≤ length self.old }
         ensures { self.new ≡ drop count self.old }
@@ -65,7 +65,7 @@ impl Scratch {
         self.start += count;
     }
 
-    /// This text, and then what was left, is left.
+    /// Puts this text in front of what is left.
     pub(crate) fn put_in_front(&mut self, text: &[u8])
         requires { length text.now + length self.old ≤ most_left }
         ensures { self.new ≡ text.now ++ self.old }
@@ -74,7 +74,7 @@ impl Scratch {
     }
 }
 
-/// Writes a text in front of what begins at `start`, and answers where the text begins.
+/// Writes a text in front of what begins at `start`, and returns where the text begins.
 pub(crate) fn put_in_front(room: &mut [u8], start: usize, text: &[u8]) -> usize
     requires within { start ≤ length room.old }
     requires fits { length text.now ≤ start }

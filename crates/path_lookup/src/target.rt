@@ -17,7 +17,7 @@ pub struct SplitPath<'a> {
     pub last: &'a [u8],
 }
 
-/// Whether a slash may stand at the end of a path.
+/// Whether a path may end with a slash.
 #[derive(Clone, Copy, Debug, PartialEq, Eq)]
 pub enum EndSlash {
     Allowed,

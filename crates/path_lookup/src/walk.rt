@@ -17,8 +17,8 @@ use names::{Errno, LONGEST_PATH, Path, split_component};
 /// The most links of one walk (path_resolution(7)).
 pub(crate) const MOST_LINKS: usize = 40;
 
-/// Where a path leads (path_resolution(7)). Symbolic links on the way are followed, at most 40; `last` says whether one
-/// that the last component names is followed, too. No memory is taken.
+/// Where a path leads (path_resolution(7)). Symbolic links on the way are followed, at most 40; `last` says whether one that the
+/// last component names is followed, too. Allocates nothing.
 pub fn resolve<L: Look>(
     look: &mut L,
     path: &Path<'_>,
@@ -35,7 +35,7 @@ pub fn resolve<L: Look>(
     resolve_text(look, path.as_bytes(), last, scratch)
 }
 
-/// Where any text leads, as [`resolve`] says it of a path. No memory is taken.
+/// Where any text leads, as [`resolve`] does for a path. Allocates nothing.
 pub(crate) fn resolve_text<L: Look>(
     look: &mut L,
     text: &[u8],
@@ -66,13 +66,13 @@ pub(crate) fn resolve_text<L: Look>(
 
 /// How far a walk has come.
 enum Progress<E: Copy> {
-    /// It goes on from this directory, with so many links left.
+    /// It continues from this directory, with this many links left.
     At(E, usize),
     /// It leads here.
     Done(E),
 }
 
-// Takes the first component that is left, if one is.
+// Takes the first component that is left, if there is one.
 fn step<L: Look>(
     look: &mut L,
     directory: L::Entry,
@@ -111,7 +111,7 @@ fn step<L: Look>(
     }
 }
 
-// Puts the text of a link in front of what is left, and answers the directory where it begins.
+// Puts the text of a link in front of what is left, and returns the directory where it begins.
 fn follow<L: Look>(
     look: &mut L,
     directory: L::Entry,

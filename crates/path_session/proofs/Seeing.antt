@@ -1,4 +1,4 @@
--- What a walk saw that ended well.
+-- What a walk that ended well saw.
 use Rattle.std.proofs.Common.{◌≡◌, ℕ, List, length, take, ap, ◌∙◌, subst, arith}
 use Rattle.std.proofs.Math.Seq.{take-length}
 use Rattle.std.specs.Prelude.{Ok}
@@ -18,6 +18,6 @@ tree_at capacity changes version t is made =
     let all : take version changes ≡ changes = ap (λ (n : ℕ). take n changes) is ∙ take-length changes in
     (omega arith, ap (λ (h : List Change). tree_after (length changes) h) all ∙ roomy_after (length changes) capacity changes t (omega arith) made)
 
--- the look that the walk read by sees what it saw
+-- the look that the walk read through sees what the walk saw
 pub look_sees : (ended left : Walk) (changes : List Change) → ended ≡ left → (saw : SeesAfter ended.capacity ended.view.reads changes) → SeesBy left.capacity (Agrees left.view.reads) saw.world
 look_sees ended left changes same saw = subst (λ (x : Walk). SeesBy x.capacity (Agrees x.view.reads) saw.world) same saw.seen

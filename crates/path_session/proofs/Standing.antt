@@ -1,4 +1,4 @@
--- What a keeper keeps, seen as a plain tree, before and after a change.
+-- A keeper's state as a plain tree, before and after a change.
 use Rattle.std.proofs.Common.{◌≡◌, ℕ, List, [], ◌∷◌, ◌++◌, length, sym, ap, ◌∙◌, subst, arith, inl, inr}
 use Rattle.std.specs.Prelude.{Result, IsOk, Ok, Err, IfOk, OnOk, IfErr}
 use Rattle.names.specs.declared.errors.Errno.{Errno}
@@ -23,7 +23,7 @@ pub sees : (h left : Held) (seen : SeesHistory h) → left ≡ h → SeesBy left
 sees h left seen same = subst (λ (x : Held). SeesBy x.capacity (λ (row : List ℕ). row ≡ x.cells) seen.world) (sym same) seen.seen
 
 module _ (h : Held) (seen : SeesHistory h) (change : Change) where
-  -- one change more is the plain tree's outcome
+  -- one more change results in the plain tree's outcome
   pub next : tree_after h.capacity (h.history ++ change ∷ []) ≡ outcome (plain_of h) change
   next = after_more h.capacity 0 root_alone (tree_of (plain_of h)) h.history change (length h.history) (omega arith) (seen.made ∙ ap Ok (sym (tree_is h seen)))
 
@@ -52,7 +52,7 @@ module _ (h : Held) (seen : SeesHistory h) (change : Change) where
   pub would_not : (errno : Errno) → Refuses h change errno → outcome (plain_of h) change ≡ Err errno
   would_not errno refuses = sym next ∙ refuses
 
-  -- the same, of what the keeper answered, which had its row back from a look
+  -- the same for the answer of the keeper, which got its row back from a look
   module _ (left : Held) (same : left ≡ h) where
     pub accepted_where_ok : (h' : Held) (r : Result ℕ Errno) → IfOk r (λ version. Makes left change h' × (version ≡ length h'.history)) → IfOk r (λ version. Accepted (plain_of h) (plain_of h') change version)
     accepted_where_ok h' (Ok version) (makes, is) = accepted h' version (subst (λ (x : Held). Makes x change h') same makes) is

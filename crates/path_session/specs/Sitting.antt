@@ -1,4 +1,4 @@
--- What contracts see of a session, and what they say of its calls.
+-- What contracts see of a session, and what they say about its calls.
 use Rattle.std.specs.Prelude.{◌≡◌, ◌+◌, ◌%◌, ℕ, List, [], length, Option, None, IsSome, Ok}
 use mathlib.Core.List.{IsPrefix}
 use Rattle.names.specs.declared.permissions.Perms.{Perms}
@@ -29,7 +29,7 @@ pub record Sitting : Type 0 where
   pub judged : List ℕ
   pub meetings : ℕ
 
--- what is seen of a walker that is lent to a call, which no caller sees
+-- the view of a walker that is lent to a call, which no caller sees
 abbrev pub no_walk : Walk
 no_walk =
     record {
@@ -47,7 +47,7 @@ IsSameSession before now =
 abbrev pub HasSeenMore : Sitting → Sitting → Type 0
 HasSeenMore before now = IsPrefix before.walk.view.seen now.walk.view.seen × IsPrefix before.reading.seen now.reading.seen
 
--- it was let in to the policy once more, or it wasn't answered
+-- it was let into the policy once more, or it wasn't answered
 abbrev pub HasReadPolicy : Sitting → Sitting → Answer → Type 0
 HasReadPolicy before now (Judged verdict node tree policy) = now.reading.entries ≡ before.reading.entries + 1
 HasReadPolicy before now (Failed errno tree) = now.reading.entries ≡ before.reading.entries + 1
@@ -55,7 +55,7 @@ HasReadPolicy before now (NoProfile policy) = now.reading.entries ≡ before.rea
 HasReadPolicy before now (Busy began ended) = now.reading.entries ≡ before.reading.entries + 1
 HasReadPolicy before now answer.NoEntry = IsUnanswered before.reading now.reading now.profile
 
--- it read the count twice, or not at all: where the policy gave no profile, no word is read
+-- it read the count twice, or not at all: if the policy gave no profile, no word is read
 abbrev pub HasReadCounts : WalkerView → WalkerView → Answer → Type 0
 HasReadCounts before now (Judged verdict node tree policy) = now.count_reads ≡ before.count_reads + 2
 HasReadCounts before now (Failed errno tree) = now.count_reads ≡ before.count_reads + 2
@@ -71,8 +71,8 @@ HasVersions now (NoProfile policy) = policy ≡ length now.reading.seen
 HasVersions now (Busy began ended) = Unit {0}
 HasVersions now answer.NoEntry = Unit {0}
 
--- The tree's version is half the count that the walk began with. A busy walk tells both its counts, and where the first one is
--- odd it read no cell.
+-- The tree's version is half the count that the walk began with. A busy walk reports both its counts, and if the first one is odd
+-- it read no cell.
 abbrev pub IsByCounts : WalkerView → Answer → Type 0
 IsByCounts now (Judged verdict node tree policy) = now.noted ≡ tree + tree
 IsByCounts now (Failed errno tree) = now.noted ≡ tree + tree
@@ -80,7 +80,7 @@ IsByCounts now (NoProfile policy) = Unit {0}
 IsByCounts now (Busy began ended) = (now.noted ≡ began) × (now.last ≡ ended) × (began % 2 ≡ 1 → now.reads ≡ [])
 IsByCounts now answer.NoEntry = Unit {0}
 
--- the name of the file that was judged, and none where none was
+-- the name of the file that was judged, empty if none was
 abbrev pub IsNameJudged : List Change → List ℕ → Perms → Answer → List ℕ → Type 0
 IsNameJudged changes path ask (Judged verdict node tree policy) name =
     (t : Tree) × (file : Reached) × IsTreeAt changes tree t × (reached t path ask ≡ Ok file) × (file.name ≡ name)
@@ -89,7 +89,7 @@ IsNameJudged changes path ask (NoProfile policy) name = name ≡ []
 IsNameJudged changes path ask (Busy began ended) name = name ≡ []
 IsNameJudged changes path ask answer.NoEntry name = name ≡ []
 
--- unless there was no entry: there is no profile just where none is published
+-- unless there was no entry: the answer is that there is no profile exactly if none is published
 abbrev pub IsByPublished : Option Judge → Answer → Type 0
 IsByPublished published (Judged verdict node tree policy) = IsSome published
 IsByPublished published (Failed errno tree) = IsSome published
@@ -97,7 +97,7 @@ IsByPublished published (NoProfile policy) = published ≡ None
 IsByPublished published (Busy began ended) = IsSome published
 IsByPublished published answer.NoEntry = Unit {0}
 
--- NoEntry is answered just where the reader wasn't answered, which is counted
+-- NoEntry is answered exactly if the reader wasn't answered, which is counted
 abbrev pub CountsRefusals : Sitting → Sitting → Answer → Type 0
 CountsRefusals before now (Judged verdict node tree policy) = now.reading.refused ≡ before.reading.refused
 CountsRefusals before now (Failed errno tree) = now.reading.refused ≡ before.reading.refused
@@ -105,7 +105,7 @@ CountsRefusals before now (NoProfile policy) = now.reading.refused ≡ before.re
 CountsRefusals before now (Busy began ended) = now.reading.refused ≡ before.reading.refused
 CountsRefusals before now answer.NoEntry = now.reading.refused ≡ before.reading.refused + 1
 
--- what an open is answered where nothing changes meanwhile, with the name that was judged; busy it never is
+-- the answer to an open while nothing changes, with the name that was judged; it is never busy
 abbrev pub IsAnswer : Answered → List ℕ → Answer → Type 0
 IsAnswer answered name (Judged verdict node tree policy) = answered ≡ judged (record { name = name; node = node; verdict = verdict }) tree policy
 IsAnswer answered name (Failed errno tree) = answered ≡ failed errno tree
@@ -127,7 +127,7 @@ abbrev pub IsNoLinkOf : LinkAnswered → Unanswered → Type 0
 IsNoLinkOf answered NoEntry = Unit {0}
 IsNoLinkOf answered NoMemory = IsMade answered
 
--- where no link was made, the keeper is as it was, with its count and its cells
+-- if no link was made, the keeper is as it was, with its count and its cells
 abbrev pub IsUntouchedUnlessMade : LinkAnswer → Held → Held → Type 0
 IsUntouchedUnlessMade (link.Linked node tree policy) before now = now.table ≡ before.table
 IsUntouchedUnlessMade (link.NotAllowed verdict node tree policy) before now = now ≡ before

@@ -1,4 +1,4 @@
--- What a keeper keeps, as a plain tree is seen; and what was done to it and to the policy.
+-- A keeper's state as the view of a plain tree, and what was done to it and to the policy.
 use Rattle.std.specs.Prelude.{List}
 use Rattle.directory_tree.specs.Plain.{Plain}
 use Rattle.dentry_cache.specs.Models.{Held}

@@ -1,3 +1,3 @@
--- Words of private contracts alone.
+-- Definitions that only private contracts use.
 pub mod Walks
 pub mod Settling

@@ -1,4 +1,4 @@
-//! Opens and hard links where both the keeper and the publisher are at hand.
+//! Opens and hard links when both the keeper and the publisher are at hand.
 ghost use Rattle.std.specs.Prelude.{◌≡◌, ◌≢◌, [], IfOk, IfErr, OnOk, OnErr};
 ghost use mathlib.Core.List.{IsPrefix};
 ghost use Rattle.dentry_cache.specs.Models.{met_at};
@@ -16,7 +16,7 @@ use names::{NoMemory, Perms};
 use profile_registry::{NoEntry, Publisher};
 
 impl Session {
-    /// Opens a file as [`open_with`](Session::open_with) does, by all that the publisher has published.
+    /// Opens a file as [`open_with`](Session::open_with) does, using all that the publisher has published.
     pub fn open_with_both(
         &mut self,
         keeper: &mut Keeper,
@@ -59,7 +59,7 @@ impl Session {
         }
     }
 
-    /// Makes a hard link as [`link_with`](Session::link_with) does, by all that the publisher has published.
+    /// Makes a hard link as [`link_with`](Session::link_with) does, using all that the publisher has published.
     pub fn link_with_both(
         &mut self,
         keeper: &mut Keeper,

@@ -1,4 +1,4 @@
-//! Opens where the keeper is at hand.
+//! Opens when the keeper is at hand.
 ghost use Rattle.std.specs.Prelude.{◌≡◌, ◌≢◌, ◌≤◌, [], IfOk, length};
 ghost use mathlib.Core.List.{IsPrefix};
 ghost use Rattle.dentry_cache.specs.Models.{met_at};
@@ -20,10 +20,10 @@ use names::{Errno, Perms};
 use path_lookup::{NAME_ROOM, Scratch, WalkFault};
 
 impl Session {
-    /// Opens a file where the keeper is at hand: meets it, reads the policy, and walks by the keeper's own look, so that it is
-    /// never `Busy`. It waits for nobody and takes no memory.
+    /// Opens a file when the keeper is at hand: meets it, reads the policy, and walks through the keeper's own look, so the
+    /// answer is never `Busy`. It waits for nobody and takes no memory.
     ///
-    /// What is answered is right of the tree as it stands, and of the policy of this call's reading.
+    /// The answer is right for the current tree, and for the policy that this call reads.
     pub fn open_with(&mut self, keeper: &mut Keeper, path: &[u8], ask: Perms) -> Answer
         requires { self.old.walk.table ≡ keeper.old.table }
         ensures same { IsSameSession self.old self.new × (keeper.new ≡ keeper.old) }
@@ -80,7 +80,7 @@ impl Session {
     }
 }
 
-/// Finds a file in the tree as it stands.
+/// Finds a file in the current tree.
 pub(crate) fn reach_here(
     keeper: &mut Keeper,
     path: &[u8],

@@ -1,9 +1,10 @@
-//! Opens in the midst of changes: a session walks over the row of words that threads share, judges by the published policy, and
-//! waits for nobody.
+//! Opens during changes: a session walks over the row of words that threads share, judges by the published policy, and waits
+//! for nobody.
 //!
-//! [`Session::try_open`] answers beside the tree's keeper and the policy's publisher, or says that the tree was being changed;
-//! [`Session::open_with`] answers at once where the keeper is at hand, and [`Session::link_with`] makes hard links. Where the
-//! publisher is at hand, too, [`Session::open_with_both`] and [`Session::link_with_both`] answer by all that it has published.
+//! [`Session::try_open`] answers concurrently with the tree's keeper and the policy's publisher, or says that the tree was
+//! being changed; [`Session::open_with`] answers at once when the keeper is at hand, and [`Session::link_with`] makes hard
+//! links. If the publisher is at hand, too, [`Session::open_with_both`] and [`Session::link_with_both`] answer by all that it
+//! has published.
 //!
 //! The definitions to believe are those in `specs/`.
 #![tactic(auto)]

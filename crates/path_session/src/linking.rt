@@ -1,4 +1,4 @@
-//! Hard links, judged and made, where the keeper is at hand.
+//! Hard links, judged and made when the keeper is at hand.
 ghost use Rattle.std.specs.Prelude.{◌≡◌, ◌≤◌, ℕ, List, [], IfOk, IfErr, OnOk, OnErr, IsOk, Ok, Err, Some, length, take};
 ghost use mathlib.Core.List.{IsPrefix};
 ghost use Rattle.directory_tree.specs.Place.{named_place};
@@ -26,11 +26,10 @@ use path_lookup::{NAME_ROOM, Scratch, WalkFault};
 use rule_judge::LinkVerdict;
 
 impl Session {
-    /// Makes a hard link where the profile allows it (apparmor.d(5), "Link rules"; link(2)): the new name needs `l`, and may
-    /// allow no more than the old one. It waits for nobody.
+    /// Makes a hard link if the profile allows it (apparmor.d(5), "Link rules"; link(2)): the new name needs `l`, and may allow
+    /// no more than the old one. It waits for nobody.
     ///
-    /// A link that the tree refuses fails by the tree's reason, before the profile is asked. Where it isn't allowed nothing is
-    /// made.
+    /// A link that the tree refuses fails with the tree's reason, before the profile is asked. If it isn't allowed, nothing is made.
     pub fn link_with(
         &mut self,
         keeper: &mut Keeper,
@@ -65,7 +64,7 @@ impl Session {
         }
     }
 
-    /// Makes a hard link where this profile allows it, which is of this version of the policy.
+    /// Makes a hard link if this profile, which is from this version of the policy, allows it.
     pub(crate) fn link_by(
         &mut self,
         keeper: &mut Keeper,
@@ -103,7 +102,7 @@ impl Session {
     }
 }
 
-/// Judges a link that the tree would take, or tells why it fails. Nothing is changed. The name of the new entry goes to the
+/// Judges a link that the tree would accept, or returns why it fails. Changes nothing. The name of the new entry goes to the
 /// front of `room`.
 fn judge_tested<'a>(
     keeper: &mut Keeper,
@@ -132,7 +131,7 @@ fn judge_tested<'a>(
     Ok((change, judged))
 }
 
-/// Makes a link that the tree would take, if its verdict is fine, and answers it.
+/// Makes a link that the tree would accept, if its verdict is fine, and returns the answer.
 fn settle(
     keeper: &mut Keeper,
     change: &Change<'_>,
@@ -154,7 +153,7 @@ fn settle(
                 tree_version,
                 policy_version,
             }),
-            // The tree would take the link, so that only memory can be wanting.
+            // The tree would accept the link, so only memory can be lacking.
             Err(_) => Err(NoMemory),
         },
         LinkVerdict::Refused(_) | LinkVerdict::Wider { .. } => Ok(LinkAnswer::NotAllowed {
@@ -166,7 +165,7 @@ fn settle(
     }
 }
 
-// What the keeper answers, said of the plain tree that it stands for.
+// What the keeper answers, in terms of the plain tree that it represents.
 
 fn apply_here(keeper: &mut Keeper, change: &Change<'_>) -> Result<u64, Errno>
     ensures table { keeper.new.table ≡ keeper.old.table }
@@ -174,7 +173,7 @@ fn apply_here(keeper: &mut Keeper, change: &Change<'_>) -> Result<u64, Errno>
     ensures same { IfErr result (λ _. keeper.new ≡ keeper.old) }
     ensures err { IfErr result (λ errno. Refused (plain_of keeper.old) (plain_of keeper.new) change.now errno) }
 {
-    // No cell is read: a look tells that the history comes to a tree, which the plain tree's outcome is told of.
+    // No cell is read: a look's contract says that the history results in a tree, the one of the plain tree's outcome.
     keeper.look();
     keeper.apply(change)
 }

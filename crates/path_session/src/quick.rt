@@ -1,4 +1,4 @@
-//! Opens beside the keeper.
+//! Opens concurrently with the keeper.
 ghost use Rattle.std.specs.Prelude.{◌≡◌, ◌+◌, ◌%◌, ◌≤◌, [], ℕ, List, IfOk, IfErr, Ok, Err, length};
 ghost use mathlib.Core.List.{IsPrefix};
 ghost use Rattle.mediation.specs.Deeds.{policy_after};
@@ -16,18 +16,18 @@ use path_lookup::{NAME_ROOM, Scratch, WalkFault};
 use profile_registry::NoEntry;
 use row_look::RowLook;
 
-/// What a walk came to that ended well: the version of its tree, and the file, or why none was reached.
+/// The outcome of a walk that ended well: the version of its tree, and the file, or why none was reached.
 struct Walked {
     version: u64,
     file: Result<Reached, Errno>,
 }
 
 impl Session {
-    /// Opens a file, beside keeper and publisher: reads the policy, then the count, walks, and reads the count again. Where a
-    /// change was open or came between, the answer is `Busy`. It waits for nobody and takes no memory.
+    /// Opens a file, concurrently with keeper and publisher: reads the policy, then the count, walks, and reads the count
+    /// again. If a change was open or came between, the answer is `Busy`. It waits for nobody and takes no memory.
     ///
-    /// What is answered is right of the changes of tree and policy that the session has seen then: those that it had seen
-    /// before, and all that were made up to its own reads in this call (open(2), apparmor.d(5)).
+    /// The answer is right for the changes of tree and policy that the session has then seen: those that it had seen before,
+    /// and all that were made up to its own reads in this call (open(2), apparmor.d(5)).
     pub fn try_open(&mut self, path: &[u8], ask: Perms) -> Answer
         ensures same { IsSameSession self.old self.new × (self.new.meetings ≡ self.old.meetings) }
         ensures history { HasSeenMore self.old self.new }
@@ -81,7 +81,7 @@ impl Session {
     }
 }
 
-/// One attempt to find a file. Where a change is open as it begins, no cell is read.
+/// One attempt to find a file. If a change is open when it begins, no cell is read.
 fn walk_beside(
     walker: Walker,
     path: &[u8],

@@ -8,17 +8,17 @@ use profile_registry::PolicyReader;
 use std::alloc::Global;
 use std::marker::Model;
 
-/// Opens files by one published profile, over the row that threads share. It has the room that its calls need, and may go to
-/// another thread.
+/// Opens files by one published profile, over the row that threads share. It has the buffers that its calls need, and may move
+/// to another thread.
 #[derive(Drop)]
 pub struct Session {
     pub(crate) alloc: Global,
-    // Nothing while it is lent to a call.
+    // `None` while it is lent to a call.
     pub(crate) walker: Option<Walker>,
     pub(crate) reader: PolicyReader,
     pub(crate) profile: Vec<u8>,
     pub(crate) scratch: Scratch,
-    // The name that was judged last stands at the front.
+    // The name that was judged last is at the front.
     pub(crate) name: [u8; NAME_ROOM],
     pub(crate) name_length: usize,
     // How often it met its keeper, modulo 2^64.
@@ -44,7 +44,7 @@ impl Model for Session {
 }
 
 impl Session {
-    /// A session of a walker and a reader, which opens by the profile of this name. Where memory is refused, both come back.
+    /// A session of a walker and a reader, which opens by the profile of this name. If memory is refused, both are returned.
     pub fn new(
         alloc: Global,
         walker: Walker,
@@ -69,7 +69,7 @@ impl Session {
         })
     }
 
-    /// Opens by the profile of this name from now on. Where memory is refused, the old one stays.
+    /// Opens by the profile of this name from now on. If memory is refused, the old one stays.
     pub fn select(&mut self, profile: &[u8]) -> Result<(), NoMemory>
         ensures ok { OnOk result (self.new ≡ record self.old { profile = profile.now }) }
         ensures err { OnErr result (self.new ≡ self.old) }
@@ -88,7 +88,7 @@ impl Session {
         &self.profile
     }
 
-    /// The name that the last answer judged, of a link that of its new entry; empty where it judged none.
+    /// The name that the last answer judged (for a link, that of its new entry); empty if it judged none.
     pub fn name(&self) -> &[u8]
         ensures { result.now ≡ self.now.judged }
     {

@@ -25,7 +25,7 @@ answers_more all i own low here =
     ap answers_of taken ∙ flat_map-append (λ (v : Vec Answer Global). v.items) (take i all) (own ∷ [])
     ∙ ap (λ answers. answers_of (take i all) ++ answers) (append-nil own.items)
 
--- lists of so many answers each
+-- lists of `opens` answers each
 pub all_answers : (opens : ℕ) (all : List (Vec Answer Global)) → All (λ own. vec_len own ≡ opens) all → length (answers_of all) ≡ length all * opens
 all_answers opens [] full = sym (zero-mul opens)
 all_answers opens (own ∷ all) full =
@@ -53,7 +53,7 @@ module _ (Holds : Answer → Type 0) where
   both (first ∷ answers) more count added (inl (is, counted)) rest = inl (is, both answers more count added counted rest)
   both (first ∷ answers) more count added (inr (other, less, is, counted)) rest = inr (other, less + added, omega (arith, is), both answers more less added counted rest)
 
-  -- the answers of one session more
+  -- the answers of one more session
   pub one_session : (all : List (Vec Answer Global)) (i : ℕ) (own : Vec Answer Global) (count added : ℕ) → i < length all → own ≡ get_or all i own
       → IsCountOfOthers Holds (answers_of (take i all)) count → IsCountOfOthers Holds own.items added
       → IsCountOfOthers Holds (answers_of (take (i + 1) all)) (count + added)
@@ -72,7 +72,7 @@ module _ (Holds : Answer → Type 0) where
       let not : ¬ (Holds (get_or answers i default)) = λ holds. let e = told holds in cc in
       subst (λ these. IsCountOfOthers Holds these (count + 1)) (sym (take_more answers i default low)) (one_other (take i answers) (get_or answers i default) count so_far not)
 
--- what is counted by a trail is counted by what it follows
+-- the count by a trail is the count by what it follows
 pub by_followed : (profile path : List ℕ) (ask : Perms) (trail : Opens) (changes all : List Change) (policy done : List PolicyChange) (answers own : List Answer) (count : ℕ)
     → trail ≡ record { path = path; ask = ask; changes = changes } → changes ≡ all → policy ≡ done → answers ≡ own
     → IsCountOfOthers (Justified profile trail.path trail.ask trail.changes (map deed_of policy)) answers count

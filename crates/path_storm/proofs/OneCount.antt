@@ -1,4 +1,4 @@
--- Something doesn't hold of just one number of the same answers.
+-- The number of answers that a predicate doesn't hold of is unique.
 use Rattle.std.proofs.Common.{◌≡◌, ℕ, ◌+◌, List, [], ◌∷◌, sym, ap, ◌∙◌, inl, inr}
 use Rattle.justification.specs.declared.answer.Answer.{Answer}
 use Rattle.path_storm.specs.Counting.{IsCountOfOthers}

@@ -1,4 +1,4 @@
--- What the threads of a storm work on may move to them, or be shared with them.
+-- What the threads of a storm work on may be sent to them, or shared with them.
 use denote.RattleType.{RattleType}
 use base.Fml.{Lft}
 use mir.Syntax.{Lifetime, static}

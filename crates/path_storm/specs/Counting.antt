@@ -1,4 +1,4 @@
--- The answers of a storm, and how many of them something doesn't hold of.
+-- The answers of a storm, and how many of them a predicate doesn't hold of.
 use Rattle.std.specs.Prelude.{◌≡◌, ◌+◌, ◌⊎◌, ℕ, All, List, [], ◌∷◌, flat_map, length, map, vec_len}
 use Rattle.std.specs.declared.vec.Vec.{Vec}
 use Rattle.std.specs.declared.alloc.Global.{Global}
@@ -13,14 +13,14 @@ use Rattle.path_storm.specs.declared.plan.StormReport.{StormReport}
 abbrev pub answers_of : List (Vec Answer Global) → List Answer
 answers_of all = flat_map (λ own. own.items) all
 
--- it doesn't hold of just so many of these answers
+-- the predicate doesn't hold of exactly `count` of these answers
 abbrev pub IsCountOfOthers : (Answer → Type 0) → List Answer → ℕ → Type 0
 IsCountOfOthers Holds [] count = count ≡ 0
 IsCountOfOthers Holds (answer ∷ answers) count =
     (Holds answer × IsCountOfOthers Holds answers count)
     ⊎ (¬ (Holds answer) × (less : ℕ) × (count ≡ less + 1) × IsCountOfOthers Holds answers less)
 
--- so many lists, each of so many answers
+-- `sessions` lists, each of `opens` answers
 abbrev pub AreFull : ℕ → ℕ → Vec (Vec Answer Global) Global → Type 0
 AreFull sessions opens all = (vec_len all ≡ sessions) × All (λ own. vec_len own ≡ opens) all.items
 

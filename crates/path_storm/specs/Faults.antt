@@ -1,4 +1,4 @@
--- Why there was no storm, and how that is told.
+-- Why there was no storm, and how that is reported.
 use Rattle.std.specs.Prelude.{ℕ, List, codes}
 use Rattle.names.specs.Errors.{no_memory_text}
 use Rattle.path_storm.specs.declared.fault.StormFault.{StormFault}
@@ -11,7 +11,7 @@ storm_fault_text NoMemory = no_memory_text
 storm_fault_text NoThread = codes "no thread"
 storm_fault_text NoSeat = codes "no seat"
 
--- the same of a session that wasn't made
+-- the fault of a session that wasn't made
 abbrev pub of_session : SessionFault → StormFault
 of_session session.NoSeat = NoSeat
 of_session session.NoMemory = NoMemory

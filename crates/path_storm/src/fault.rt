@@ -7,7 +7,7 @@ use path_guard::SessionFault;
 use std::alloc::{AllocError, AllocFailed};
 use std::fmt;
 
-/// Why a storm came to no report.
+/// Why a storm gave no report.
 #[derive(Clone, Copy, Debug, PartialEq, Eq)]
 pub enum StormFault {
     NoMemory,

@@ -1,6 +1,6 @@
-//! Where the opens of a storm can be held up.
+//! A hook where the opens of a storm can be delayed.
 
-/// What is called round each open, in the thread that makes it. Workers are numbered from 0, and the opens of each from 1.
+/// Called before and after each open, in the thread that makes it. Workers are numbered from 0, and the opens of each from 1.
 pub trait Gate {
     fn before(&self, worker: u32, call: u64);
 

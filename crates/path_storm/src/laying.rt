@@ -1,4 +1,4 @@
-//! What stands before the storm.
+//! The setup of a storm.
 use crate::fault::StormFault;
 use crate::profiles::Profiles;
 use crate::renaming::make_file;
@@ -12,10 +12,10 @@ use std::sync::Wait;
 /// The file that is opened in a storm.
 pub const FILE: &[u8] = b"/a/f";
 
-/// The name of the profile that all opens of a storm are by.
+/// The name of the profile under which all opens of a storm are made.
 pub const PROFILE: &[u8] = b"p";
 
-/// The changes that were made so far.
+/// The changes made so far.
 #[derive(Drop)]
 pub(crate) struct Made {
     pub changes: Vec<Change<'static>>,

@@ -1,8 +1,8 @@
 //! A storm of opens of one file, in threads, while another thread renames the file's directory and a third one replaces the
 //! profile; and whether each answer is right.
 //!
-//! [`storm_with`] lays it on a guard, and puts each answer to the trail of what was really changed. [`storm_log`] gives what it
-//! did, and [`StormLog::report`] sums it up.
+//! [`storm_with`] runs it on a guard, and checks each answer against the trail of the changes actually made. [`storm_log`]
+//! returns what it did, and [`StormLog::report`] sums it up.
 //!
 //! The definitions to believe are those in `specs/`, and those of `justification`.
 #![tactic(auto)]

@@ -15,21 +15,21 @@ use names::Perms;
 use path_guard::Answer;
 use std::alloc::Global;
 
-/// What a storm did: the changes that were really made, in the order of their versions, and what was answered.
+/// What a storm did: the changes that were actually made, in the order of their versions, and the answers.
 #[derive(Drop)]
 pub struct StormLog {
-    /// What each open asked.
+    /// The permissions that each open asked for.
     pub ask: Perms,
     /// The changes of the tree.
     pub changes: Vec<Change<'static>>,
     /// The changes of the policy.
     pub policy: Vec<PolicyChange>,
-    /// The answers of each session, in the order in which it opened.
+    /// The answers of each session, in the order of its opens.
     pub answers: Vec<Vec<Answer>>,
 }
 
 impl StormLog {
-    /// How many answers there are, and how many of them are not justified by the changes that were made.
+    /// Returns the number of answers, and how many of them are not justified by the changes that were made.
     pub fn report(&self, alloc: Global) -> Result<StormReport, StormFault>
         ensures ok { IfOk result (IsReportOf self.now) }
         ensures err { IfErr result (λ fault. fault ≡ NoMemory) }
@@ -50,7 +50,7 @@ impl StormLog {
     }
 }
 
-/// How many answers are not justified.
+/// Returns the number of answers that are not justified.
 fn unjustified(trail: &Trail<'_>, policy: &[PolicyChange], answers: &[Answer]) -> u64
     ensures { IsCountOfOthers (Justified PROFILE.now trail.now.path trail.now.ask trail.now.changes (map deed_of policy.now))
         answers.now result }
@@ -64,7 +64,7 @@ fn unjustified(trail: &Trail<'_>, policy: &[PolicyChange], answers: &[Answer]) -
     count
 }
 
-/// There is no memory for more answers than can be counted.
+/// Adds two counts. More answers than can be counted would not fit in memory.
 fn sum(one: u64, other: u64) -> Result<u64, StormFault>
     ensures ok { IfOk result (λ sum. sum ≡ one + other) }
     ensures err { IfErr result (λ fault. fault ≡ NoMemory) }

@@ -1,6 +1,6 @@
-//! How large a storm is, and what it came to.
+//! The size of a storm, and its outcome.
 
-/// How many sessions open the file, how often each of them does, and how many renames and new profiles come meanwhile.
+/// The number of sessions that open the file, how often each of them does, and the number of concurrent renames and new profiles.
 #[derive(Clone, Copy, Debug)]
 pub struct Plan {
     pub sessions: u32,
@@ -8,7 +8,7 @@ pub struct Plan {
     pub changes: u64,
 }
 
-/// How many answers there were, and how many of them are not justified by what was changed.
+/// The number of answers, and how many of them are not justified by what was changed.
 #[derive(Clone, Copy, Debug, PartialEq, Eq)]
 pub struct StormReport {
     pub answers: u64,

@@ -1,11 +1,11 @@
-//! The two profiles that are published by turns.
+//! The two profiles that are published alternately.
 use crate::fault::StormFault;
 use matcher::{AnyProfile, CompiledProfile};
 use rule_reader::read;
 use std::alloc::Global;
 use std::sync::Arc;
 
-/// They are shared with the policy.
+/// The two profiles, shared with the policy.
 #[derive(Drop)]
 pub(crate) struct Profiles {
     first: Arc<AnyProfile>,
@@ -20,7 +20,7 @@ impl Profiles {
         })
     }
 
-    /// A share of the one that is published after N others.
+    /// Returns a shared reference to the one that is published after `others` others.
     pub(crate) fn after(&self, others: u64) -> Result<Arc<AnyProfile>, StormFault> {
         let profile = if others % 2 == 0 {
             &self.first
@@ -31,7 +31,7 @@ impl Profiles {
     }
 }
 
-/// The profile that a text tells. Each text is one, so that only memory can be wanting.
+/// Compiles the profile of a text. Each text is a valid profile, so the only failure is running out of memory.
 fn compiled(alloc: Global, text: &[u8]) -> Result<Arc<AnyProfile>, StormFault> {
     let Ok(profile) = read(alloc, text) else {
         return Err(StormFault::NoMemory);

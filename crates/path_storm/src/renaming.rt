@@ -9,7 +9,7 @@ use path_guard::{Guard, Row};
 use std::alloc::Global;
 use std::sync::Wait;
 
-/// Makes the directory `/a`, and the file `/a/f` in it. Answers what was made.
+/// Makes the directory `/a`, and the file `/a/f` in it. Returns the changes made.
 pub(crate) fn make_file<M: Row>(
     rt: &impl Wait,
     alloc: Global,
@@ -23,7 +23,7 @@ pub(crate) fn make_file<M: Row>(
     Ok(made)
 }
 
-/// Renames `/a` to `/b` and back by turns. Returns all changes that were made, after those that are given.
+/// Renames `/a` to `/b` and back alternately. Returns the given changes, followed by all that were made.
 pub(crate) fn rename_all<M: Row>(
     rt: &impl Wait,
     guard: &Guard<M>,
@@ -42,7 +42,7 @@ pub(crate) fn rename_all<M: Row>(
     Ok(made)
 }
 
-/// Makes a change, and notes it where it was made.
+/// Makes a change, and records it if it was made.
 fn make<M: Row>(
     rt: &impl Wait,
     guard: &Guard<M>,
@@ -56,7 +56,7 @@ fn make<M: Row>(
     }
 }
 
-/// A text that is a path.
+/// Returns the path of a text that is one.
 fn path(text: &'static [u8]) -> Path<'static>
     requires { path_fault text.now ≡ None }
 {

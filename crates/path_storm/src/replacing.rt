@@ -8,7 +8,7 @@ use path_guard::{Guard, Row};
 use std::alloc::Global;
 use std::sync::{Arc, Wait};
 
-/// Publishes the first profile. Answers what was changed.
+/// Publishes the first profile. Returns the changes made.
 pub(crate) fn publish_first<M: Row>(
     rt: &impl Wait,
     alloc: Global,
@@ -20,7 +20,7 @@ pub(crate) fn publish_first<M: Row>(
     Ok(made)
 }
 
-/// Publishes the second profile and the first one by turns. Returns all changes that were made, after those that are given.
+/// Publishes the second and the first profile alternately. Returns the given changes, followed by all that were made.
 pub(crate) fn replace_all<M: Row>(
     rt: &impl Wait,
     alloc: Global,
@@ -36,7 +36,7 @@ pub(crate) fn replace_all<M: Row>(
     Ok(made)
 }
 
-/// Publishes a profile, and notes it where that was done. Where memory is refused, the storm ends.
+/// Publishes a profile, and records it if that succeeded. If an allocation fails, the storm ends.
 fn replace<M: Row>(
     rt: &impl Wait,
     alloc: Global,

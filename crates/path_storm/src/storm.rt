@@ -17,9 +17,9 @@ use std::alloc::Global;
 use std::sync::Wait;
 use std::thread::Threads;
 
-/// Lays a storm on a guard that nobody has used, whose row has room for two entries or more. Each session opens `/a/f` to read it,
-/// in a thread of its own; one thread renames `/a` to `/b` and back, and one replaces the profile of all opens. Once all have
-/// ended, each answer is put to the changes that were really made.
+/// Runs a storm on an unused guard whose row has room for two entries or more. Each session opens `/a/f` to read it, in a
+/// thread of its own; one thread renames `/a` to `/b` and back, and one replaces the profile of all opens. Once all have ended,
+/// each answer is checked against the changes that were actually made.
 pub fn storm_with<M: Row + Send + Sync, R: Threads + Wait + Sync, G: Gate + Sync>(
     rt: &R,
     alloc: Global,
@@ -34,7 +34,7 @@ pub fn storm_with<M: Row + Send + Sync, R: Threads + Wait + Sync, G: Gate + Sync
     log.report(alloc)
 }
 
-/// The same, with all that was made and answered in place of how many answers are right.
+/// The same, but returns all changes and answers instead of how many answers are right.
 pub fn storm_log<M: Row + Send + Sync, R: Threads + Wait + Sync, G: Gate + Sync>(
     rt: &R,
     alloc: Global,
@@ -59,7 +59,7 @@ pub fn storm_log<M: Row + Send + Sync, R: Threads + Wait + Sync, G: Gate + Sync>
     blow(rt, &scene, made, workers)
 }
 
-/// The sessions, before the first of them opens.
+/// Returns the sessions, before the first of them opens.
 fn workers<M: Row>(
     rt: &impl Wait,
     alloc: Global,

@@ -24,7 +24,7 @@ pub(crate) struct Scene<'a, M: Row, G> {
     pub gate: &'a G,
     pub profiles: &'a Profiles,
     pub ask: Perms,
-    /// So often each session opens.
+    /// The number of opens of each session.
     pub opens: u64,
     /// The number of renames, and of profiles.
     pub changes: u64,
@@ -33,7 +33,7 @@ pub(crate) struct Scene<'a, M: Row, G> {
 /// A thread that opens.
 type Opening = PromisedHandle<Result<Vec<Answer>, StormFault>, Answered>;
 
-/// Lets all threads run, and waits for them.
+/// Runs all threads, and waits for them.
 pub(crate) fn blow<M: Row + Send + Sync, R: Threads + Wait + Sync, G: Gate + Sync>(
     rt: &R,
     scene: &Scene<'_, M, G>,

@@ -35,7 +35,7 @@ impl<M: Row> Worker<M> {
         })
     }
 
-    /// Opens the file so often, and calls the gate round each open. Answers all that was answered.
+    /// Opens the file `opens` times, and calls the gate before and after each open. Returns all answers.
     pub(crate) fn open_all<G: Gate>(
         self,
         rt: &impl Wait,
@@ -63,7 +63,7 @@ impl<M: Row> Worker<M> {
     }
 }
 
-/// That a thread which ends well brings back this many answers.
+/// The promise that a thread which ends well returns this many answers.
 #[derive(Clone, Copy)]
 pub(crate) struct Answered {
     pub opens: u64,

@@ -1,4 +1,4 @@
-//! A bench over a tree in one hand.
+//! A bench over a tree in one thread.
 ghost use Rattle.std.specs.Prelude.{◌≤◌};
 
 use path_lookup::{NAME_ROOM, Scratch};
@@ -13,7 +13,7 @@ pub struct TreeBench<T> {
     pub(crate) tree: T,
     pub(crate) policy: Policy,
     pub(crate) scratch: Scratch,
-    // The name that was judged last stands at the front.
+    // The name that was judged last is at the front.
     pub(crate) name: [u8; NAME_ROOM],
     pub(crate) name_length: usize,
     ghost fits: { name_length ≤ 4095 },

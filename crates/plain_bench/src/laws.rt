@@ -22,12 +22,13 @@ pub fn changes_are_made_or_refused()
         outcome old change ≡ Err errno → other ≢ errno → other ≢ ENOMEM → Refused old new change other → ⊥ }
 {}
 
-/// A publication is no removal, a name that goes is the one that was given, and neither leaves the history as it was.
+/// A publication isn't a removal, a name that is removed is the one that was given, and neither leaves the history as it was.
 pub fn publications_are_told_apart()
     ensures removal { (history : History) (profile : ProfileValue) (name : List ℕ) →
         with_deed history (published_rules profile) ≡ with_deed history (removed name) → ⊥ }
     ensures another_name { (history : History) (one other : List ℕ) → one ≢ other →
         with_deed history (removed one) ≡ with_deed history (removed other) → ⊥ }
     ensures nothing_published { (history : History) (profile : ProfileValue) → with_deed history (published_rules profile) ≡ history → ⊥ }
+    ensures nothing_removed { (history : History) (name : List ℕ) → with_deed history (removed name) ≡ history → ⊥ }
     ensures nothing_made { (history : History) (change : Change) → with_change history change ≡ history → ⊥ }
 {}

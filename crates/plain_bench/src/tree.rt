@@ -20,10 +20,10 @@ use std::alloc::Global;
 pub trait BenchTree {
     ghost plain: { Self → Plain };
 
-    // It may have room for so many entries.
+    // It may have room for this many entries.
     ghost may_hold: { ℕ → Type 0 };
 
-    /// The root alone, with room for so many entries.
+    /// The root alone, with room for `capacity` entries.
     fn new(alloc: Global, capacity: usize) -> Result<Self, NoMemory>
         requires { may_hold capacity }
         ensures { IfOk result (λ tree. plain tree ≡ new_plain capacity) };
@@ -32,7 +32,7 @@ pub trait BenchTree {
     fn version(&self) -> u64
         ensures { result ≡ length (plain self.now).history };
 
-    /// Makes the change, or tells by number why not; then nothing is changed. Answers the version that it makes.
+    /// Makes the change and returns the version that it makes, or the error number; then nothing is changed.
     fn apply(&mut self, change: &Change<'_>) -> Result<u64, Errno>
         ensures ok { IfOk result (λ version. Accepted (plain self.old) (plain self.new) change.now version) }
         ensures err { IfErr result (λ errno. Refused (plain self.old) (plain self.new) change.now errno) };
@@ -44,7 +44,7 @@ pub trait BenchTree {
         ensures ok { OnOk result (IsOk (outcome (plain self.old) change.now)) }
         ensures err { IfErr result (λ errno. outcome (plain self.old) change.now ≡ Err errno) };
 
-    /// Judges the file that a path leads to, as [`mediation::judge_file`] does, or tells by number why none is judged.
+    /// Judges the file that a path leads to, as [`mediation::judge_file`] does, or returns the error number.
     fn judge_file(
         &mut self,
         profile: &AnyProfile,
@@ -58,7 +58,7 @@ pub trait BenchTree {
         ensures answer { IfOk result (λ judged. opened (tree_of (plain self.old)) (judge_of profile.now) path.now ask ≡ Ok (judged_of room.new judged)) }
         ensures fault { IfErr result (λ errno. opened (tree_of (plain self.old)) (judge_of profile.now) path.now ask ≡ Err errno) };
 
-    /// Judges a link by its names, as [`mediation::judge_names`] does, or tells by number why it can't be judged.
+    /// Judges a link by its names, as [`mediation::judge_names`] does, or returns the error number.
     fn judge_names(
         &mut self,
         profile: &AnyProfile,

@@ -23,7 +23,7 @@ use rule_profile::Profile;
 use std::alloc::Global;
 
 impl<T: BenchTree> TreeBench<T> {
-    /// The root alone, with room for so many entries, and no profile.
+    /// The root alone, with room for `capacity` entries, and no profile.
     pub fn new(alloc: Global, capacity: usize) -> Result<TreeBench<T>, NoMemory>
         requires { T.may_hold capacity }
         ensures { IfOk result (λ bench. history_of (T.plain bench.tree) bench.policy ≡ new_history capacity) }
@@ -39,7 +39,7 @@ impl<T: BenchTree> TreeBench<T> {
     }
 }
 
-/// Judges a link that the tree would take, or tells why it fails. Nothing is changed. The name of the new entry goes to the
+/// Judges a link that the tree would take, or returns why it fails. Nothing is changed. The name of the new entry goes to the
 /// front of `room`.
 fn judge_tested<'a, T: BenchTree>(
     tree: &mut T,
@@ -68,7 +68,7 @@ fn judge_tested<'a, T: BenchTree>(
     Ok((change, judged))
 }
 
-/// Makes a link that the tree would take, if its verdict is fine, and answers it.
+/// Makes a link that the tree would take, if its verdict is fine, and returns the answer.
 fn settle<T: BenchTree>(
     tree: &mut T,
     change: &Change<'_>,
@@ -88,7 +88,7 @@ fn settle<T: BenchTree>(
                 tree_version,
                 policy_version,
             }),
-            // The tree would take the link, so that only memory can be wanting.
+            // The tree would take the link, so that only memory can be lacking.
             Err(_) => Err(NoMemory),
         },
         LinkVerdict::Refused(_) | LinkVerdict::Wider { .. } => Ok(LinkAnswer::NotAllowed {

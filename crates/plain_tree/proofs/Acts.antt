@@ -1,4 +1,4 @@
--- What the tests of a change told of a plain tree.
+-- What the tests of a change say about a plain tree.
 use Rattle.std.proofs.Common.{◌≡◌, ℕ, ◌<◌, ◌==◌, Bool, true, false, length, Some, None, Option, sym, refl, ap, ◌∙◌, subst}
 use Rattle.std.specs.Prelude.{if◌then◌else◌, Ok, Err, IsSome, is_some, nat_lt}
 use mathlib.Core.Logic.{inl, inr}
@@ -64,7 +64,7 @@ shape_directory Directory h = refl
 shape_directory File h = absurd (cc h)
 shape_directory (Link text) h = absurd (cc h)
 
--- where a directory of the tree stands
+-- where a directory of the tree is
 stands_some : (t : Tree) (s : Spot) → WellFormed t → Stands t s → shape_of (kind_at s) ≡ kind.Directory → IsSome (stands_at t (node_at s))
 stands_some t Root well stands h = refl
 stands_some t (Held e) well stands h = elim (e.node == root) as (λ (b : Bool). is_some (if b then Some None else option_map some_parent (own_entry t.entries e.node)) ≡ true) [

@@ -49,7 +49,7 @@ module _ (s : Store) (t : Tree) (m : Mirrors s t) (well : WellFormed t) where
         | false ↦ λ q. refl
       ] refl
 
--- two places, since two nodes stand there
+-- two places, since two nodes are there
 pub keys_apart : (t : Tree) (of : ℕ) (c : List ℕ) (into : ℕ) (name : List ℕ) → IsSome (find t.entries of c) → AreOther (find t.entries of c) (find t.entries into name) → Apart of c into name
 keys_apart t of c into name some other a b =
     let (e, is) = some_of (find t.entries of c) some in

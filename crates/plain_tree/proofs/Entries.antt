@@ -42,7 +42,7 @@ mapped_some : (o : Option Entry) → IsSome (option_map node_for o) → IsSome o
 mapped_some None h = h
 mapped_some (Some e) h = h
 
--- the same of what a search answers
+-- the same for what a search returns
 pub node_fits : (t : Tree) (d : ℕ) (c : List ℕ) (r : Option (Bor Node)) → AllShort t → option_copied r ≡ option_map node_for (find t.entries d c) → IsSome r → length c ≤ 255
 node_fits t d c None short h some = absurd (true_is_false (sym some))
 node_fits t d c (Some n) short h some = found_fits t d c short (mapped_some (find t.entries d c) (sym (ap is_some h)))

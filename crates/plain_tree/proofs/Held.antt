@@ -85,7 +85,7 @@ accepted_step s n number made p q change u made' events same h is more version =
       (let a = h.version in let b = ap length more ∙ length-append p.history (change ∷ []) in omega arith),
     )
 
--- where a directory stands, by its entry: the root has none
+-- where a directory is, by its entry: the root has none
 pub known_stands : (t : Tree) (d : ℕ) → WellFormed t → known_parent (stands_at t d) ≡ option_map parent_for (own_entry t.entries d)
 known_stands t d well = elim (d == root) as (λ (b : Bool). (d == root) ≡ b → known_parent (if b then Some None else option_map some_parent (own_entry t.entries d)) ≡ option_map parent_for (own_entry t.entries d)) [
   | true ↦ λ q. sym (ap (λ (x : ℕ). option_map parent_for (own_entry t.entries x)) (eqb-true d root q) ∙ ap (option_map parent_for) (root_nowhere t well))

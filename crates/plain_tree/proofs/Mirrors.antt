@@ -30,7 +30,7 @@ mirrors_root s u none empty sets = record {
       ] refl;
 }
 
--- where a directory stands, of a tree whose places changed at one number
+-- where a directory is, in a tree whose places changed at one number
 stands_by : (t u : Tree) (d : ℕ) (b : Bool) (w : Option Entry) → own_entry u.entries d ≡ (if b then w else own_entry t.entries d) → (b ≡ true → (d == root) ≡ false) → stands_at u d ≡ (if b then option_map some_parent w else stands_at t d)
 stands_by t u d true w h past = ap (λ (k : Bool). if k then Some None else option_map some_parent (own_entry u.entries d)) (past refl) ∙ ap (option_map some_parent) h
 stands_by t u d false w h past = ap (λ (o : Option Entry). if d == root then Some None else option_map some_parent o) h

@@ -43,14 +43,14 @@ pub(crate) struct Node {
     pub kind: NodeKind,
 }
 
-/// Where a directory stands: the number of the directory that has its entry, and the component there.
+/// Where a directory is: the number of the directory that has its entry, and the component there.
 #[derive(Drop)]
 pub(crate) struct Parent {
     pub of: u64,
     pub component: Component,
 }
 
-/// A directory: where it stands (the root stands nowhere), and its entries.
+/// A directory: where it is (the root is nowhere), and its entries.
 #[derive(Drop)]
 pub(crate) struct Directory {
     pub parent: Option<Parent>,
@@ -62,7 +62,7 @@ impl Directory {
     ghost use Rattle.std.specs.Option.{option_copied};
     ghost use Rattle.plain_tree.specs.inner.Store.{node_in, SetsIn, KeepsIn};
 
-    /// A directory that stands there, with no entry.
+    /// A directory at this place, without entries.
     pub(crate) fn new(alloc: Global, parent: Option<Parent>) -> Directory
         ensures parent { result.parent ≡ parent }
         ensures nodes { (c : List ℕ) → node_in result c ≡ None }
@@ -85,7 +85,7 @@ impl Directory {
         self.entries.is_empty()
     }
 
-    /// A new entry.
+    /// Adds an entry.
     pub(crate) fn put(&mut self, component: Vec<u8>, node: Node) -> Result<(), NoMemory>
         ensures ok { OnOk result (SetsIn self.old self.new component.items (Some node)) }
         ensures err { OnErr result (KeepsIn self.old self.new) }
@@ -96,7 +96,7 @@ impl Directory {
         }
     }
 
-    /// An entry stands for another node from now on.
+    /// Makes an entry stand for another node.
     pub(crate) fn set(&mut self, component: &[u8], node: Node)
         requires { IsSome (node_in self.old component.now) }
         ensures { SetsIn self.old self.new component.now (Some node) }
@@ -106,7 +106,7 @@ impl Directory {
         }
     }
 
-    /// An entry goes.
+    /// Removes an entry.
     pub(crate) fn take(&mut self, component: &[u8]) -> Option<Node>
         ensures old { result ≡ node_in self.old component.now }
         ensures new { SetsIn self.old self.new component.now None }

@@ -4,12 +4,12 @@ ghost use Rattle.plain_tree.specs.PlainEntry.{key_component};
 
 use names::LONGEST_COMPONENT;
 
-/// By what a plain tree finds an entry: the number of the directory that has it, and its component there.
+/// The key by which a plain tree finds an entry: the number of the directory that has it, and its component there.
 #[derive(Clone, Copy)]
 pub struct EntryKey {
     pub(crate) of: u64,
     pub(crate) bytes: [u8; LONGEST_COMPONENT],
-    // So many of the bytes are the component's.
+    // The number of bytes that are the component's.
     pub(crate) count: usize,
 }
 

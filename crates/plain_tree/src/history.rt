@@ -26,7 +26,7 @@ impl History {
         }
     }
 
-    /// With one change more.
+    /// The history with one more change.
     pub(crate) fn and(&self, change: &Change<'_>) -> History
         ensures { result.events ≡ self.now.events ++ change.now ∷ [] }
     {

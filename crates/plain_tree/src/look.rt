@@ -1,4 +1,4 @@
-//! A plain tree as a look: nothing changes meanwhile, and every answer is of the tree as it stands.
+//! A plain tree as a look: nothing changes meanwhile, and every answer is about the tree as it is.
 ghost use Rattle.std.specs.Prelude.{◌≡◌, ◌≤◌, ℕ, List, take};
 ghost use Rattle.directory_tree.specs.declared.node.NodeKind.TheVariants.{Link};
 ghost use Rattle.directory_tree.specs.Spots.{shape_of};
@@ -163,7 +163,7 @@ fn shape(kind: &NodeKind) -> Kind
     }
 }
 
-// Writes the text of a link to the front of the room, and answers its length.
+// Writes the text of a link to the front of the room, and returns its length.
 fn copy_text(kind: &NodeKind, room: &mut [u8; LONGEST_LINK_TEXT]) -> usize
     requires { IsShortText kind.now }
     ensures fits { result ≤ LONGEST_LINK_TEXT }

@@ -31,7 +31,7 @@ pub(crate) const ROOT: u64 = 1;
 pub struct PlainTree {
     alloc: Global,
     store: Store,
-    // How many entries stand.
+    // How many entries there are.
     count: usize,
     capacity: usize,
     // The number of the next node.
@@ -53,7 +53,7 @@ impl Model for PlainTree {
 }
 
 impl PlainTree {
-    /// The root alone, with room for so many entries. Memory is taken as entries come.
+    /// The root alone, with room for `capacity` entries. Memory is allocated as entries are added.
     pub fn new(alloc: Global, capacity: usize) -> Result<PlainTree, NoMemory>
         ensures { IfOk result (λ tree. tree ≡ new_plain capacity) }
     {
@@ -77,8 +77,8 @@ impl PlainTree {
         self.version
     }
 
-    /// Whether the change would be made, memory aside, or by which number it would be refused. Nothing is changed, and no
-    /// memory is taken.
+    /// Whether the change would be made, memory aside, or the error with which it would be refused. Changes nothing, and allocates
+    /// nothing.
     pub fn test(&mut self, change: &Change<'_>) -> Result<(), Errno>
         ensures same { self.new ≡ self.old }
         ensures ok { OnOk result (IsOk (outcome self.old change.now)) }
@@ -88,7 +88,7 @@ impl PlainTree {
         Ok(())
     }
 
-    /// Makes the change, or tells by number why not; then nothing is changed. Answers the version that it makes.
+    /// Makes the change and returns the version that it makes, or returns the error with which it is refused and changes nothing.
     pub fn apply(&mut self, change: &Change<'_>) -> Result<u64, Errno>
         ensures ok { IfOk result (λ version. Accepted self.old self.new change.now version) }
         ensures err { IfErr result (λ errno. Refused self.old self.new change.now errno) }
@@ -109,7 +109,7 @@ impl PlainTree {
         }
     }
 
-    // What the change would do, or by which number it is refused. Whether it is counted is asked first.
+    // What the change would do, or the error with which it is refused. Whether it is counted is checked first.
     fn tested<'a>(&mut self, change: &Change<'a>) -> Result<Act<'a, PlainEntry>, Errno>
         ensures same { self.new ≡ self.old }
         ensures counted { OnOk result (length self.old.history < max_changes) }
@@ -130,8 +130,8 @@ impl PlainTree {
         }
     }
 
-    // A new entry of a new node (mkdir(2), open(2), symlink(2)). The text of a link is copied last, since want of memory goes
-    // behind all other refusals.
+    // A new entry of a new node (mkdir(2), open(2), symlink(2)). The text of a link is copied last, since being out of memory
+    // comes after all other refusals.
     fn make(
         &mut self,
         change: &Change<'_>,
@@ -192,7 +192,7 @@ impl PlainTree {
         self.store.node(of, component)
     }
 
-    /// Where a directory stands.
+    /// Where a directory is.
     pub(crate) fn stored_parent(&self, number: u64) -> Option<&Parent>
         ensures parent { option_copied result ≡ option_map parent_for (own_entry (tree_of self.now).entries number) }
         ensures fits { IfSome result (λ parent. length parent.now.component ≤ LONGEST_COMPONENT) }
@@ -207,7 +207,7 @@ impl PlainTree {
         self.store.is_empty(number)
     }
 
-    // How many entries stand.
+    // How many entries there are.
     pub(crate) fn count(&self) -> usize
         ensures { result ≡ length (tree_of self.now).entries }
     {
@@ -229,7 +229,7 @@ impl PlainTree {
         self.next
     }
 
-    // A new entry, in a tree that accepts it.
+    // Adds an entry, in a tree that accepts it.
     fn add(
         &mut self,
         change: &Change<'_>,
@@ -259,7 +259,7 @@ impl PlainTree {
         Ok(self.version)
     }
 
-    // An entry goes, from a tree that accepts it.
+    // Removes an entry, from a tree that accepts it.
     fn remove(&mut self, change: &Change<'_>, of: u64, component: &[u8]) -> u64
         requires new { outcome self.old change.now ≡ Ok (dropped (tree_of self.old) of component.now) }
         requires there { IsSome (find (tree_of self.old).entries of component.now) }
@@ -274,7 +274,7 @@ impl PlainTree {
         self.version
     }
 
-    // An entry moves, in a tree that accepts it.
+    // Moves an entry, in a tree that accepts it.
     fn shift(
         &mut self,
         change: &Change<'_>,

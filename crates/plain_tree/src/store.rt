@@ -37,7 +37,7 @@ impl Store {
         }
     }
 
-    /// Where a directory stands.
+    /// Where a directory is.
     pub(crate) fn parent(&self, number: u64) -> Option<&Parent>
         ensures { option_copied result ≡ known_parent (stored_parent self.now number) }
     {
@@ -57,7 +57,7 @@ impl Store {
         }
     }
 
-    /// A new directory that stands there, with no entry.
+    /// Adds a directory at this place, without entries.
     pub(crate) fn open(
         &mut self,
         alloc: Global,
@@ -75,7 +75,7 @@ impl Store {
         }
     }
 
-    /// An empty directory goes.
+    /// Removes an empty directory.
     pub(crate) fn close(&mut self, number: u64)
         requires { (c : List ℕ) → stored_node self.old number c ≡ None }
         ensures { SetsParent self.old self.new number None }
@@ -83,7 +83,7 @@ impl Store {
         let _ = self.directories.remove(&number);
     }
 
-    /// A new entry in a directory.
+    /// Adds an entry to a directory.
     pub(crate) fn put(
         &mut self,
         alloc: Global,
@@ -104,7 +104,7 @@ impl Store {
         }
     }
 
-    /// An entry stands for another node from now on.
+    /// Makes an entry stand for another node.
     pub(crate) fn set(&mut self, of: u64, component: &[u8], node: Node)
         requires { IsSome (stored_node self.old of component.now) }
         ensures { Sets self.old self.new of component.now (Some node) }
@@ -114,7 +114,7 @@ impl Store {
         }
     }
 
-    /// An entry goes.
+    /// Removes an entry.
     pub(crate) fn take(&mut self, of: u64, component: &[u8]) -> Option<Node>
         ensures old { result ≡ stored_node self.old of component.now }
         ensures new { Sets self.old self.new of component.now None }
@@ -125,7 +125,7 @@ impl Store {
         }
     }
 
-    /// A directory stands elsewhere from now on.
+    /// Sets where a directory is.
     pub(crate) fn set_parent(&mut self, number: u64, parent: Parent)
         requires { IsSome (stored_parent self.old number) }
         ensures { SetsParent self.old self.new number (Some (Some parent)) }
@@ -135,7 +135,7 @@ impl Store {
         }
     }
 
-    /// A new entry. That of a directory comes with a directory.
+    /// Adds an entry; that of a directory comes with a directory.
     pub(crate) fn enter(
         &mut self,
         alloc: Global,
@@ -155,7 +155,7 @@ impl Store {
         }
     }
 
-    // A new directory, and its entry.
+    // Adds a directory, and its entry.
     fn enter_directory(
         &mut self,
         alloc: Global,
@@ -182,7 +182,7 @@ impl Store {
         }
     }
 
-    /// An entry goes, that of a directory with its directory.
+    /// Removes an entry, that of a directory with its directory.
     pub(crate) fn leave(&mut self, of: u64, component: &[u8])
         requires { IsLoose self.old (stored_node self.old of component.now) }
         ensures { Leaves self.old self.new of component.now }
@@ -194,8 +194,8 @@ impl Store {
         }
     }
 
-    /// The entry of one place goes to another. What stood there goes, an empty directory with its entry. Tells whether
-    /// something stood there.
+    /// Moves the entry of one place to another. What was there is removed, an empty directory with its entry. Returns whether
+    /// something was there.
     pub(crate) fn shift(
         &mut self,
         alloc: Global,
@@ -214,13 +214,13 @@ impl Store {
         ensures err { OnErr result (Keeps self.old self.new) }
     {
         let parent = self.moved_parent(alloc, of, component, into, name)?;
-        // The new place is taken before the old one is given up, so that nothing is lost where memory is refused.
+        // The new place is taken before the old one is released, so that nothing is lost if memory is refused.
         let replaced = self.make_way(alloc, into, name)?;
         self.move_over(of, component, into, name, parent);
         Ok(replaced)
     }
 
-    // Where a directory is to stand, if the entry is one's.
+    // Where the directory will be, if the entry is a directory's.
     fn moved_parent(
         &self,
         alloc: Global,
@@ -243,7 +243,7 @@ impl Store {
         }
     }
 
-    // Some entry is at the place from now on, and a directory that stood there is gone.
+    // Makes sure that some entry is at the place, and removes a directory that was there.
     fn make_way(&mut self, alloc: Global, into: u64, name: &[u8]) -> Result<bool, NoMemory>
         requires parent { IsSome (stored_parent self.old into) }
         requires empty { IsLoose self.old (stored_node self.old into name.now) }
@@ -270,7 +270,7 @@ impl Store {
         Ok(true)
     }
 
-    // The entry of one place goes to another, where some entry stands.
+    // Moves the entry of one place to another that has some entry.
     fn move_over(
         &mut self,
         of: u64,

@@ -11,7 +11,7 @@ pub(crate) enum Line<'a> {
     Room(usize),
     /// Rounds of changes at random, in trees with room for this many entries.
     Draw { capacity: usize, rounds: usize },
-    /// The change is made.
+    /// Makes the change.
     Make(Change<'a>),
     /// The cells that a change would set.
     Plan(Change<'a>),
@@ -85,7 +85,7 @@ fn change_of_two<'a>(verb: &[u8], one: Path<'a>, two: Path<'a>) -> Option<Change
     }
 }
 
-// What stands before the first space, and what follows it.
+// What comes before the first space, and what follows it.
 fn split_at_space(bytes: &[u8]) -> (&[u8], &[u8]) {
     match bytes.iter().position(|b| *b == b' ') {
         Some(at) => (&bytes[..at], &bytes[at + 1..]),

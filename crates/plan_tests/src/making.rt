@@ -3,15 +3,15 @@ use crate::twins::{Differ, Twins};
 use directory_tree::Change;
 use names::Errno;
 
-// Of these paths both trees have to tell the same after each change.
+// After each change both trees have to report the same for these paths.
 const PATHS: [&str; 32] = [
     "/", "/a", "/b", "/c", "/d", "/e", "/f", "/g", "/h", "/k", "/l", "/m", "/n", "/r", "/a/b",
     "/a/c", "/a/f", "/a/g", "/b/a", "/b/f", "/d/a", "/d/b", "/e/f", "/a/b/f", "/l/b", "/d/..",
     "/0", "/W", "/X", "/Y", "/W/g", "/W/h",
 ];
 
-/// Tests a change, and makes it: the version after it, or what it is refused by. The test tells what the change itself then
-/// answers, and changes nothing; afterwards both trees tell the same.
+/// Tests a change, and makes it: the version after it, or the errno that it is refused with. The test returns what the change
+/// itself then answers, and changes nothing; afterwards both trees report the same.
 pub(crate) fn make(tree: &mut Twins, change: &Change<'_>) -> Result<Result<u64, Errno>, Differ> {
     let before = tree.version();
     let tests = [tree.test(change), tree.test(change)];
@@ -25,7 +25,7 @@ pub(crate) fn make(tree: &mut Twins, change: &Change<'_>) -> Result<Result<u64, 
     }
 }
 
-// Whether the tree's version is the answered one, or stays after a change that is refused.
+// Whether the tree's version is the answered one, or the same as before if the change was refused.
 fn is_next(tree: &Twins, before: u64, answer: Result<u64, Errno>) -> bool {
     match answer {
         Ok(version) => tree.version() == version && version == before.wrapping_add(1),

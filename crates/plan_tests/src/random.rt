@@ -7,17 +7,17 @@ use names::Path;
 use std::alloc::Global;
 use tree_row::MOST_ENTRIES;
 
-/// Why changes at random stopped.
+/// Why random changes stopped.
 #[derive(Clone, Copy, Debug, PartialEq, Eq)]
 pub(crate) enum Failure {
     NoMemory,
-    /// One of the paths that changes are drawn of is none.
+    /// One of the strings that changes are drawn from is no path.
     NotAPath,
-    /// The two trees differ: what is proved of plans is wrong.
+    /// The two trees differ: what is proved about plans is wrong.
     Differ,
 }
 
-// What changes are drawn of, and of which both trees have to tell the same after each. Components of seven, eight and nine
+// What changes are drawn from, and for which both trees have to report the same after each. Components of seven, eight and nine
 // bytes end in, at and after the end of a cell.
 const PATHS: [&str; 36] = [
     "/a",
@@ -112,11 +112,11 @@ impl Random {
     }
 }
 
-// So many changes are made of one tree. In the long run its entries move to where no path of the table leads.
+// This many changes are made of one tree. In the long run its entries move to where no path of the table leads.
 const CHANGES_OF_A_ROUND: usize = 100;
 
-/// Makes changes of a tree with room for N entries, a hundred in each round, which begins with the root alone, and
-/// answers how many were made. After each change both trees have to tell the same of all paths.
+/// Makes changes of trees with room for N entries, a hundred in each round, which begins with the root alone, and returns how many
+/// were made. After each change both trees have to report the same for all paths.
 pub(crate) fn change_at_random(
     alloc: Global,
     capacity: usize,

@@ -1,4 +1,4 @@
-//! What the lines of a script come to.
+//! The outcomes of a script's lines.
 use crate::lines::Line;
 use crate::making::make;
 use crate::twins::{Differ, Rooms, Twins};

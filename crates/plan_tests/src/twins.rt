@@ -40,7 +40,7 @@ impl Model for Twins {
 }
 
 impl Twins {
-    /// The root alone. Where memory is refused once, it is asked for again, since tests refuse it.
+    /// The root alone. If an allocation fails once, it is tried again, since tests make allocations fail.
     pub(crate) fn new(alloc: Global, capacity: usize) -> Result<Twins, NoMemory>
         requires { capacity ≤ MOST_ENTRIES }
     {
@@ -61,12 +61,12 @@ impl Twins {
         self.plain.version()
     }
 
-    /// By what number the tree in plain memory would refuse a change, if it would.
+    /// The errno that the tree in plain memory would refuse a change with, if it would.
     pub(crate) fn test(&mut self, change: &Change<'_>) -> Option<Errno> {
         self.plain.test(change).err()
     }
 
-    /// Makes a change in both trees, which have to answer alike: by what number it is refused, or the version that it makes.
+    /// Makes a change in both trees, which have to answer alike: the errno that it is refused with, or the version that it makes.
     pub(crate) fn apply(&mut self, change: &Change<'_>) -> Result<Result<u64, Errno>, Differ> {
         let refusal = self.apply_row(change);
         let answer = apply_plain(&mut self.plain, change);
@@ -77,7 +77,7 @@ impl Twins {
         }
     }
 
-    // Makes a change in the row, or answers by what number it is refused. Where memory is refused, nothing is changed, and the
+    // Makes a change in the row, or returns the errno that it is refused with. If memory runs out, nothing is changed, and the
     // change can be made again.
     fn apply_row(&mut self, change: &Change<'_>) -> Option<Errno> {
         match self.apply_row_once(change) {
@@ -99,7 +99,7 @@ impl Twins {
         }
     }
 
-    /// The cells that a change would set in the row. Where memory is refused once, it is asked for again.
+    /// The cells that a change would set in the row. If an allocation fails once, it is tried again.
     pub(crate) fn plan(&mut self, change: &Change<'_>) -> Result<Vec<Cell>, Errno> {
         match self.plan_once(change) {
             Err(Errno::ENOMEM) => self.plan_once(change),
@@ -111,7 +111,7 @@ impl Twins {
         plan(self.alloc, &mut self.look, self.next, change)
     }
 
-    /// What both trees tell of a path: where it leads, and the name and a link's text of what is there, which are put into the
+    /// What both trees report for a path: where it leads, and the name and a link's text of what is there, which are put into the
     /// rooms.
     pub(crate) fn tell(
         &mut self,
@@ -128,14 +128,14 @@ impl Twins {
         }
     }
 
-    // What the row tells of a path.
+    // What the row reports for a path.
     fn tell_row(&mut self, path: &Path<'_>, rooms: &mut Rooms) -> Result<Told, WalkFault>
         ensures { IfOk result (λ told. told.text ≤ LONGEST_LINK_TEXT) }
     {
         tell(&mut self.look, path, rooms)
     }
 
-    /// The name of the place that a path names, as both trees tell it, or why it has none. It is put into the room.
+    /// The name of the place that a path names, as both trees report it, or why it has none. The name is put into the room.
     pub(crate) fn name_place(
         &mut self,
         path: &Path<'_>,
@@ -161,13 +161,13 @@ impl Twins {
         name_of_place(&mut self.look, path, &mut Scratch::new(), room)
     }
 
-    /// Whether both trees tell the same of a path, and of the place that it names.
+    /// Whether both trees report the same for a path, and for the place that it names.
     pub(crate) fn is_same_at(&mut self, path: &Path<'_>) -> bool {
         self.tell(path, &mut Rooms::new()).is_ok()
             && self.name_place(path, &mut [0; NAME_ROOM]).is_ok()
     }
 
-    /// The same of all these paths.
+    /// The same for all these paths.
     pub(crate) fn is_same_at_all(&mut self, paths: &[&str]) -> bool {
         for path in paths {
             let Ok(path) = Path::check(path.as_bytes()) else {
@@ -181,7 +181,7 @@ impl Twins {
     }
 }
 
-// Where memory is refused once, it is asked for again.
+// If an allocation fails once, it is tried again.
 fn new_row(alloc: Global, capacity: usize) -> Result<KnownRow, NoMemory>
     requires { capacity ≤ MOST_ENTRIES }
     ensures { IfOk result (λ row. row ≡ (capacity, opening_row capacity)) }
@@ -202,7 +202,7 @@ fn new_plain(alloc: Global, capacity: usize) -> Result<PlainTree, NoMemory> {
     }
 }
 
-// Where memory is refused, nothing is changed, and the change can be made again.
+// If memory runs out, nothing is changed, and the change can be made again.
 fn apply_plain(plain: &mut PlainTree, change: &Change<'_>) -> Result<u64, Errno> {
     match plain.apply(change) {
         Err(Errno::ENOMEM) => plain.apply(change),
@@ -210,7 +210,7 @@ fn apply_plain(plain: &mut PlainTree, change: &Change<'_>) -> Result<u64, Errno>
     }
 }
 
-/// What a tree tells of the entry that a path leads to.
+/// What a tree reports for the entry that a path leads to.
 #[derive(Debug, Clone, Copy, PartialEq, Eq)]
 pub(crate) struct Told {
     pub node: u64,
@@ -259,7 +259,7 @@ fn tell<L: Look>(look: &mut L, path: &Path<'_>, rooms: &mut Rooms) -> Result<Tol
     })
 }
 
-// Whether the tree in plain memory tells this of a path.
+// Whether the tree in plain memory reports this for a path.
 fn tells(
     plain: &mut PlainTree,
     path: &Path<'_>,

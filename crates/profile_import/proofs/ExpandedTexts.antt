@@ -31,12 +31,12 @@ pub is_expanded : (variables : List Variable) (path text : List ℕ) → IsSubst
 unfolding expanded
 is_expanded variables path text is = is_chosen variables path text (some_text variables path) is
 
--- one that has a problem to nothing
+-- one that has a problem is expanded to nothing
 pub none_expanded : (variables : List Variable) (path : List ℕ) (problem : Problem) → PathProblem variables path problem → [] ≡ expanded variables path
 unfolding expanded
 none_expanded variables path problem has = none_chosen variables path problem (some_text variables path) has
 
--- one whose fault is told is expanded to nothing, unless memory ran out
+-- one whose fault is reported is expanded to nothing, unless memory ran out
 pub fault_expanded : (variables : List Variable) (path : List ℕ) (fault : ExpandFault) → (fault ≡ NoMemory → ⊥) → Tells (PathProblem variables path) fault → [] ≡ expanded variables path
 fault_expanded variables path (Undefined name) told has = none_expanded variables path (undefined name.now) has
 fault_expanded variables path (Cycle name) told has = none_expanded variables path (cycle name.now) has

@@ -1,4 +1,4 @@
--- What is gathered item by item, and rules as they are restated.
+-- What is gathered item by item, and rules as restated.
 use Rattle.std.proofs.Common.{◌≡◌, ℕ, Bool, true, false, List, [], ◌∷◌, ◌++◌, map, Result, Ok, Err, IfOk, refl, sym, ap, ◌∙◌, cond, codes}
 use Rattle.std.proofs.lemmas.List.{map-append, append-nil, append_assoc}
 use Rattle.std.proofs.lemmas.Grind.{flat_map-append}
@@ -70,7 +70,7 @@ two_behind chosen rules r s old mid next new e h k =
     one_behind chosen (rules ++ (r ∷ [])) s old next new (one_behind chosen rules r old mid next e h) k
     ∙ ap (λ l. old ++ restated_rules chosen l) (append_assoc rules (r ∷ []) (s ∷ []))
 
--- what is asked for the state of AppArmor
+-- the files in which the state of AppArmor is queried
 pub queried : (chosen : Subject) (place : ℕ) (one other : Perms) (old mid new : List PlacedValue) → one ≡ only Read → other ≡ only Read
     → mid ≡ old ++ restated_at chosen (added_at place one (codes "/proc/*/attr/apparmor/"))
     → new ≡ mid ++ restated_at chosen (added_at place other (codes "/sys/module/apparmor/parameters/enabled"))
@@ -84,7 +84,7 @@ queried chosen place one other old mid new is is_too e h =
 
 -- ---- all items
 
--- what is left to be restated, once the first of it was
+-- what is left to be restated, once the first rules were
 pub rules_step : (chosen : Subject) (first others : List PlacedRule) (now next : List PlacedValue) → next ≡ now ++ restated_rules chosen first
     → next ++ restated_rules chosen others ≡ now ++ restated_rules chosen (first ++ others)
 rules_step chosen first others now next e =

@@ -1,4 +1,4 @@
--- Outcomes that are told.
+-- Outcomes that are reported.
 use Rattle.std.proofs.Common.{◌≡◌, ℕ, Bool, List, ◌++◌, Option, Result, Ok, Err, sym, ap, ◌∙◌, subst}
 use Rattle.std.specs.Result.{IsErrAnd}
 use Rattle.flat_text.specs.Parts.{ItemValue}

@@ -1,4 +1,4 @@
--- A rule that wouldn't be restated anyway, told as if its path were read: nothing else of it is told otherwise.
+-- A rule that wouldn't be restated anyway, reported as if its path were read: nothing else is reported differently.
 use Rattle.std.proofs.Common.{◌≡◌, ℕ, Bool, true, false, not, ◌&&◌, cond, List, [], ◌∷◌, map, length, Option, Some, None, is_some, refl, sym, ap, ◌∙◌}
 use Rattle.std.specs.Prelude.{option_map}
 use Rattle.std.proofs.Math.Dec.{eqb-suc-zero}
@@ -22,7 +22,7 @@ use Rattle.profile_import.proofs.Gathers.{restated_by_shape}
 abbrev some_left : RuleShape → Bool
 some_left shape = has_some (restated_perms shape.perms shape.has_target)
 
--- it is restated, or not, as before
+-- whether it is restated is unchanged
 pub told_is_restated : (chosen : Subject) (shape : RuleShape) → is_restated chosen (told_shape chosen shape) ≡ is_restated chosen shape
 told_is_restated chosen shape = at (applies_to shape.applies_to chosen) shape.is_read (some_left shape)
   where
@@ -32,12 +32,12 @@ told_is_restated chosen shape = at (applies_to shape.applies_to chosen) shape.is
     at true false false = refl
     at false r l = refl
 
--- and changes for a subject what it did
+-- and so is what it changes for a subject
 pub told_change : (chosen subject : Subject) (shape : RuleShape) → change chosen subject (told_shape chosen shape) ≡ change chosen subject shape
 told_change chosen subject shape =
     ap (λ (b : Bool). cond b (restated_change subject shape) (left_out_change subject shape)) (told_is_restated chosen shape)
 
--- by whether it applies, is read, and has some permission left
+-- by whether it applies, is read, and has any permission left
 looked_by : (place : ℕ) (shape : RuleShape) (a read l : Bool) (paths : List (List Token))
     → cond (a && not (not read && (a && true && l)) && l) (map (placed_value place shape) (cond (a && true && l) paths [])) []
     ≡ cond (a && read && l) (map (placed_value place shape) paths) []
@@ -61,7 +61,7 @@ pub some_kept : {A B : Type 0} (f : A → B) (o : Option A) → is_some (option_
 some_kept f None = refl
 some_kept f (Some x) = refl
 
--- where it would be restated, were its path read, the paths that are looked at are all of them
+-- if it would be restated with its path read, all of its paths are looked at
 pub when_looked : (chosen : Subject) (rule : SubjectRule) (shape : RuleShape) (is : Bool) (paths : List (List Token))
     → shape.kind ≡ rule.kind → shape.applies_to ≡ rule.applies_to → shape.perms ≡ rule.perms → shape.has_target ≡ is_some rule.target → shape.is_read ≡ true
     → is ≡ is_restated chosen shape → is ≡ true → paths ≡ restated_paths rule.path → paths ≡ paths_looked_at chosen rule

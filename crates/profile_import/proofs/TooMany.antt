@@ -27,7 +27,7 @@ still_there (y ∷ xs) ys (suc n) x e = still_there xs ys n x e
 abbrev told_of : Option PlacedValue → Option ImportFault
 told_of o = option_map too_many_rules (option_map (λ (rule : PlacedValue). rule.place) o)
 
--- where one is too many, it is so with others behind
+-- if one is too many, this still holds when others follow
 pub too_many_with : (now later : List PlacedValue) (fault : ImportFault) → AreTooMany now fault → AreTooMany (now ++ later) fault
 too_many_with now later fault h = at (slice_get now max_rules) refl h
   where
@@ -35,13 +35,13 @@ too_many_with now later fault h = at (slice_get now max_rules) refl h
     at None is e = absurd cc
     at (Some rule) is e = ap told_of (still_there now later max_rules rule is) ∙ e
 
--- what was gathered is too much: so is all that there is
+-- if what was gathered is too many, all that there is is, too
 pub too_many_before : (now later all : List PlacedValue) (place : ℕ) → now ++ later ≡ all → one_too_many now ≡ Some place → AreTooMany all (too_many_rules place)
 too_many_before now later all place same e =
     subst (λ (l : List PlacedValue). AreTooMany l (too_many_rules place)) same
     (too_many_with now later (too_many_rules place) (ap (option_map too_many_rules) e))
 
--- the outcome then
+-- the outcome in that case
 counted_by : (fault : ImportFault) (otherwise : Outcome) (o : Option PlacedValue) → told_of o ≡ Some fault
     → ◌≡◌ {A = Outcome} (Err fault) (elim o [ Some rule ↦ Err (too_many_rules rule.place) | None ↦ otherwise ])
 counted_by fault otherwise None e = absurd cc
@@ -51,7 +51,7 @@ pub counted_too_many : (strict : Bool) (name : List ℕ) (spans : List Span) (ru
     → Err fault ≡ counted_outcome strict name spans rules
 counted_too_many strict name spans rules fault h = counted_by fault _ (slice_get rules max_rules) h
 
--- and that of the chosen profile
+-- and that of the chosen profile in that case
 pub chosen_too_many : (strict : Bool) (name : List ℕ) (variables : List Variable) (choice : Choice) (items : List ItemValue) (lists : List Variable)
     (failure : ImportFailure) → lists ≡ variables
     → Fails (AreTooMany (restated_rules choice.subject (rules_in lists choice.subject items (at_start choice)))) failure

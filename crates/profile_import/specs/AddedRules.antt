@@ -1,5 +1,5 @@
--- The rules that AppArmor's parser (3.0.8) adds to a profile that may be changed by the task itself, as its compiled tables have
--- them: all are for owners. With a rule change_profile, or a hat or a child, three: two files to read, and one to write.
+-- The rules that AppArmor's parser (3.0.8) adds to a profile that may be changed by the task itself, as in its compiled tables:
+-- all are for owners. With a rule change_profile, or a hat or a child, there are three: two files to read, and one to write.
 use Rattle.std.specs.Prelude.{ℕ, List, [], ◌∷◌, ◌++◌, codes, Option, Some, None, nat_le, if◌then◌else◌}
 use Rattle.names.specs.declared.permissions.Permission.TheVariants.{Read, Write}
 use Rattle.names.specs.declared.permissions.Perms.{Perms}
@@ -16,12 +16,12 @@ added_rule perms path = record { kind = Allow; applies_to = Owners; perms = perm
 abbrev pub added_at : ℕ → Perms → List ℕ → PlacedRule
 added_at place perms path = record { place = place; rule = added_rule perms path }
 
--- what a task asks for the state of AppArmor
+-- the files in which a task queries the state of AppArmor
 abbrev pub queries : ℕ → List PlacedRule
 queries place = added_at place (only Read) (codes "/proc/*/attr/apparmor/")
     ∷ added_at place (only Read) (codes "/sys/module/apparmor/parameters/enabled") ∷ []
 
--- where it asks for another profile (aa_change_profile(2)), and for a hat (aa_change_hat(2))
+-- where it requests another profile (aa_change_profile(2)), and a hat (aa_change_hat(2))
 abbrev pub change_of_profile : ℕ → PlacedRule
 change_of_profile place = added_at place (only Write) (codes "/proc/*/attr/{,apparmor/}{current,exec}")
 

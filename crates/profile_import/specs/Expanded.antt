@@ -1,5 +1,5 @@
--- The text of a path with its variables in place (apparmor.d(5), "Variables"). A path that has none is no text here: the text of
--- a profile in which one stands is refused.
+-- The text of a path with its variables in place (apparmor.d(5), "Variables"). A path that has none has an empty text here: the
+-- text of a profile that contains such a path is refused.
 use Rattle.std.specs.Prelude.{ℕ, List, []}
 use Rattle.std.proofs.Common.{inl, inr}
 use Rattle.profile_variables.proofs.PathLaws.{some_text}

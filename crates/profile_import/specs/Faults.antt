@@ -1,4 +1,4 @@
--- Why a flattened profile text isn't imported: each fault has a number, and where it stands in the text, if it does.
+-- Why a flattened profile text isn't imported: each fault has a number, and its place in the text, if it has one.
 use Rattle.std.specs.Prelude.{ℕ, ◌-◌, List, [], Option, Some, None}
 use Rattle.flat_words.specs.Steps as steps
 use Rattle.flat_words.specs.Steps.{Stop}
@@ -6,13 +6,13 @@ use Rattle.import_scope.specs.Scopes as scopes
 use Rattle.profile_variables.specs.Problems.{Problem, undefined, cycle, too_long}
 
 pub data ImportFault : Type 0 where
-  -- the grammar doesn't go on so
+  -- the grammar doesn't allow what follows
   syntax : ℕ → ImportFault
   -- an include: the text is not flattened
   include : ℕ → ImportFault
   -- a word, a byte or a flag that is not supported
   left_out : ℕ → List ℕ → ImportFault
-  -- letters that are no permissions, or none of this rule
+  -- letters that are no permissions, or not allowed in this rule
   permissions : ℕ → ImportFault
   -- a variable that isn't declared, or that needs itself
   undefined_variable : ℕ → List ℕ → ImportFault
@@ -24,12 +24,12 @@ pub data ImportFault : Type 0 where
   too_many_rules : ℕ → ImportFault
   -- a path, or the list of a variable
   too_long_path : ℕ → ImportFault
-  -- no profile has the name that is asked for, or several have it: the names of all
+  -- no profile has the requested name, or several have it; lists the names of all
   which : List (List ℕ) → ImportFault
-  -- the first change for the chosen subject, where none is wanted
+  -- the first change for the chosen subject, where none is allowed
   not_exact : ℕ → ImportFault
 
--- of a text of so many bytes that reading stopped in
+-- the fault at which reading a text of `all` bytes stopped
 abbrev pub stop_fault : ℕ → Stop → ImportFault
 stop_fault all stop = elim stop.kind [
   | steps.syntax ↦ syntax (all - stop.left)
@@ -43,7 +43,7 @@ problem_fault place (undefined name) = undefined_variable place name
 problem_fault place (cycle name) = cyclic_variable place name
 problem_fault place too_long = too_long_path place
 
--- of one that isn't the grammar's
+-- the fault for one that isn't the grammar's
 abbrev pub scope_fault : scopes.Fault → ImportFault
 scope_fault fault = elim fault.kind [
   | scopes.declared_wrongly ↦ declared fault.place
@@ -51,7 +51,7 @@ scope_fault fault = elim fault.kind [
   | scopes.in_path problem ↦ problem_fault fault.place problem
 ]
 
--- by which it is told
+-- the number by which it is reported
 abbrev pub fault_number : ImportFault → ℕ
 fault_number (syntax place) = 1
 fault_number (include place) = 2
@@ -66,7 +66,7 @@ fault_number (too_long_path place) = 10
 fault_number (which names) = 11
 fault_number (not_exact place) = 12
 
--- how many bytes of the text stand before its place
+-- the byte offset of its place in the text
 abbrev pub fault_place : ImportFault → Option ℕ
 fault_place (syntax place) = Some place
 fault_place (include place) = Some place

@@ -1,4 +1,4 @@
--- The file rules of a profile in a flattened text, each with its subject, and how they are told (apparmor.d(5), "Format").
+-- The file rules of a profile in a flattened text, each with its subject, and how they are reported (apparmor.d(5), "Format").
 use Rattle.std.specs.Prelude.{ℕ, List, [], ◌∷◌, ◌++◌, length, codes, Some, None, Bool, true, not, ◌&&◌, ◌==◌, if◌then◌else◌}
 use Rattle.flat_text.specs.Parts.{PartValue, ItemValue}
 use Rattle.flat_rules.specs.RuleWords.{kind_of, applies_to_of, perms_of_rule, path_of, target_of}
@@ -26,7 +26,7 @@ rule_text variables parts = elim (path_of parts) [
   | Some path ↦ expanded variables path
 ]
 
--- the paths that a text is brought to; where there are none, AppArmor reads it in its own way
+-- the paths that a text is converted to; if there are none, AppArmor reads it in its own way
 abbrev pub path_as : List ℕ → List (List Token) → SubjectPath
 path_as text paths = if length paths == 0 then unread text else read paths
 
@@ -43,15 +43,15 @@ subject_rule variables parts = record {
   path = subject_path (rule_text variables parts);
 }
 
--- were its path read, the rule would be restated
+-- the rule would be restated if its path were read
 abbrev pub goes_for_its_path : Subject → RuleShape → Bool
 goes_for_its_path chosen shape = not shape.is_read && is_restated chosen (record shape { is_read = true })
 
--- A rule that wouldn't be restated anyway is told alike, whether its path is read or not: so nobody has to look at that path.
+-- A rule that wouldn't be restated anyway is reported alike, whether its path is read or not: so that path need not be examined.
 abbrev pub told_shape : Subject → RuleShape → RuleShape
 told_shape chosen shape = record shape { is_read = not (goes_for_its_path chosen shape) }
 
--- how such a rule is told
+-- how such a rule is reported
 abbrev pub reading_of : List Variable → Subject → SubjectRule → List PartValue → RuleReading
 reading_of variables chosen rule parts = record {
   shape = told_shape chosen (shape_of rule);
@@ -61,7 +61,7 @@ reading_of variables chosen rule parts = record {
 abbrev pub item_reading : List Variable → Subject → ItemValue → RuleReading
 item_reading variables chosen item = reading_of variables chosen (subject_rule variables item.parts) item.parts
 
--- a rule, and how many bytes of the text stand before what it comes from
+-- a rule, and the offset in the text of what it comes from
 pub record PlacedRule : Type 0 where
   pub place : ℕ
   pub rule : SubjectRule

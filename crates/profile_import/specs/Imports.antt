@@ -1,4 +1,4 @@
--- What an import of a flattened profile text comes to.
+-- The outcome of an import of a flattened profile text.
 use Rattle.std.specs.Prelude.{◌≡◌, ℕ, suc, List, [], ◌∷◌, length, map, find, not, bytes_eq, slice_get, Result, Ok, Err, Option, Some, None, option_map, Bool, true, false, if◌then◌else◌}
 use Rattle.flat_text.specs.Parts.{ItemValue}
 use Rattle.flat_text.specs.Texts.{ReadsItems}
@@ -19,7 +19,7 @@ use Rattle.profile_import.specs.declared.options.ImportOptions.{ImportOptions}
 use Rattle.profile_import.specs.Faults.{ImportFault, stop_fault, scope_fault, which, too_many_rules, not_exact}
 use Rattle.profile_import.specs.Restated.{PlacedValue, cut_for, all_rules, restated_rules}
 
--- the profile, and the spans of the text: what of it is kept, blank, or told
+-- the profile, and the spans of the text: which parts are kept, blank, or reported
 pub record ImportValue : Type 0 where
   pub profile : ProfileValue
   pub spans : List Span
@@ -29,7 +29,7 @@ Outcome = Result ImportValue ImportFault
 
 -- ---- the chosen profile
 
--- with no name asked for, any fits
+-- if no name is requested, any fits
 abbrev pub fits : Option (List ℕ) → Head → Bool
 fits None head = true
 fits (Some name) head = bytes_eq head.name name
@@ -65,7 +65,7 @@ changes_something (Told told) = not (is_exact told.effect.on_chosen)
 abbrev pub first_change : List Span → Option Span
 first_change spans = find (λ span. changes_something span.kind) spans
 
--- a strict import wants no change for the chosen subject
+-- a strict import allows no change for the chosen subject
 abbrev pub strict_outcome : Bool → ImportValue → Outcome
 strict_outcome false value = Ok value
 strict_outcome true value = elim (first_change value.spans) [
@@ -95,14 +95,14 @@ head_outcome options s items number None = Err (which (map (λ head. head.name) 
 head_outcome options s items number (Some head) =
     chosen_outcome options.strict (variables_within s.declared head.name) (choice_of options head number) head.name items
 
--- of a text with these items, behind which this is declared
+-- of a text with these items, after which this is declared
 abbrev pub items_outcome : ImportOptions → ScopeState → List ItemValue → Outcome
 items_outcome options s items = elim (chosen_number (option_map (λ name. name.now) options.profile) s.profiles) [
   | None ↦ Err (which (map (λ head. head.name) s.profiles))
   | Some number ↦ head_outcome options s items number (slice_get s.profiles number)
 ]
 
--- A fault of what the items say goes first, then one that reading stopped at.
+-- A fault in what the items say takes precedence over one that reading stopped at.
 abbrev pub read_outcome : ImportOptions → ℕ → List ItemValue → Option scopes.Fault → Option Stop → Outcome
 read_outcome options all items (Some fault) end = Err (scope_fault fault)
 read_outcome options all items None (Some stop) = Err (stop_fault all stop)

@@ -22,7 +22,7 @@ all_rules variables choice items =
     rules_in variables choice.subject items (at_start choice)
     ++ added_rules (cut_for variables choice items).changes_profile (cut_for variables choice items).has_hat
 
--- a rule as it is restated, and the place of what it comes from
+-- a rule as restated, and the place of what it comes from
 pub record PlacedValue : Type 0 where
   pub place : ℕ
   pub value : RuleValue

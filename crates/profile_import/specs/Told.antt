@@ -1,4 +1,4 @@
--- Faults and imports as code tells them, and as the definitions do.
+-- The code's faults and imports as those of the definitions.
 use Rattle.std.specs.Prelude.{map, Result, Ok, Err}
 use Rattle.rule_profile.specs.Profile.{profile_value}
 use Rattle.profile_import.specs.declared.fault.ImportFault as told
@@ -26,12 +26,12 @@ import_fault_value (NotExact place) = not_exact place
 abbrev pub import_value : Imported → ImportValue
 import_value imported = record { profile = profile_value imported.profile; spans = imported.spans.items }
 
--- what a function failed with is so, unless memory ran out
+-- the predicate holds of what a function failed with, unless memory ran out
 abbrev pub Fails : (ImportFault → Type 0) → ImportFailure → Type 0
 Fails IsSo failures.NoMemory = Unit {0}
 Fails IsSo (failures.At fault) = IsSo (import_fault_value fault)
 
--- what a function returned is so, unless memory ran out
+-- the predicate holds of what a function returned, unless memory ran out
 abbrev pub Tells : (Outcome → Type 0) → Result Imported ImportFailure → Type 0
 Tells IsSo (Ok imported) = IsSo (Ok (import_value imported))
 Tells IsSo (Err failure) = Fails (λ fault. IsSo (Err fault)) failure

@@ -10,7 +10,7 @@ use std::alloc::Global;
 use subject_rules::{AppliesTo, RuleShape, Subject};
 use verdicts::RuleKind;
 
-/// Adds what one of them is restated as.
+/// Adds what one of these rules is restated as.
 fn push_added(
     alloc: Global,
     rules: &mut Vec<PlacedRule>,
@@ -32,7 +32,7 @@ fn push_added(
     push_restated(rules, place, chosen, shape, imported_paths(alloc, path)?)
 }
 
-/// What a task asks for the state of AppArmor.
+/// Adds the rules by which a task queries the state of AppArmor.
 fn push_queries(
     alloc: Global,
     rules: &mut Vec<PlacedRule>,
@@ -59,7 +59,7 @@ fn push_queries(
     )
 }
 
-/// Where a task asks for another profile.
+/// Adds the rule by which a task requests another profile.
 fn push_change_of_profile(
     alloc: Global,
     rules: &mut Vec<PlacedRule>,
@@ -78,7 +78,7 @@ fn push_change_of_profile(
     )
 }
 
-/// Where a task asks for a hat.
+/// Adds the rule by which a task requests a hat.
 fn push_change_of_hat(
     alloc: Global,
     rules: &mut Vec<PlacedRule>,

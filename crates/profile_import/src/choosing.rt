@@ -1,4 +1,4 @@
-//! The profile of a text that is asked for.
+//! The requested profile of a text.
 ghost use Rattle.std.specs.Prelude.{◌≡◌, IfOk, map, option_map, bytes_eq};
 ghost use Rattle.profile_import.specs.Imports.{fits, fitting, chosen_number};
 
@@ -6,7 +6,7 @@ use import_scope::ProfileHead;
 use names::NoMemory;
 use std::alloc::{AllocError, Global};
 
-/// Whether the profile is one that is asked for.
+/// Whether the profile matches the request.
 fn fits(asked: Option<&[u8]>, head: &ProfileHead) -> bool
     ensures { result ≡ fits (option_map (λ name. name.now) asked.entry) head.now }
 {
@@ -16,7 +16,7 @@ fn fits(asked: Option<&[u8]>, head: &ProfileHead) -> bool
     }
 }
 
-/// The numbers of the profiles that are asked for.
+/// Returns the numbers of the profiles that match the request.
 fn fitting(
     alloc: Global,
     asked: Option<&[u8]>,
@@ -35,7 +35,7 @@ fn fitting(
     Ok(numbers)
 }
 
-/// The number of the profile that is asked for, if it is one alone.
+/// Returns the number of the requested profile, if exactly one matches.
 pub(crate) fn chosen_number(
     alloc: Global,
     asked: Option<&[u8]>,
@@ -52,7 +52,7 @@ pub(crate) fn chosen_number(
     }
 }
 
-/// The full names of all profiles.
+/// Returns the full names of all profiles.
 pub(crate) fn names_of(alloc: Global, heads: &[ProfileHead]) -> Result<Vec<Vec<u8>>, AllocError>
     ensures { IfOk result (λ names. map (λ name. name.items) names.items ≡ map (λ head. head.name) heads.now) }
 {

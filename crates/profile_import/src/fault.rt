@@ -7,16 +7,16 @@ use flat_words::{Stop, StopKind};
 use import_scope::{ScopeFailure, ScopeFault, ScopeFaultKind};
 use names::NoMemory;
 
-/// Why a text isn't imported. A place is how many bytes of the text stand before it.
+/// Why a text isn't imported. A place is a byte offset in the text.
 #[derive(Debug, Drop)]
 pub enum ImportFault<'t> {
-    /// The grammar doesn't go on so.
+    /// The grammar doesn't allow what follows.
     Syntax { place: usize },
     /// An include: the text is not flattened.
     Include { place: usize },
     /// A word, a byte or a flag that is not supported.
     LeftOut { place: usize, word: &'t [u8] },
-    /// Letters that are no permissions, or none of this rule.
+    /// Letters that are no permissions, or not allowed in this rule.
     Permissions { place: usize },
     /// A path needs a variable of this name, which isn't declared.
     Undefined { place: usize, name: Vec<u8> },
@@ -30,23 +30,23 @@ pub enum ImportFault<'t> {
     TooManyRules { place: usize },
     /// A path, or the list of a variable that it needs, is too long.
     TooLong { place: usize },
-    /// Not just one profile of the text is asked for. The full names of all.
+    /// The request doesn't match exactly one profile of the text. Lists the full names of all.
     Which { names: Vec<Vec<u8>> },
-    /// The first part of the text of which something changes for the subject, where none is to.
+    /// The first part of the text where something changes for the subject, though nothing may.
     NotExact { place: usize },
 }
 
 /// Why there is no import.
 #[derive(Debug, Drop)]
 pub enum ImportFailure<'t> {
-    /// Memory was refused; nothing is said of the text.
+    /// An allocation failed; this says nothing about the text.
     NoMemory,
     /// The text is refused.
     At(ImportFault<'t>),
 }
 
 impl<'t> ImportFault<'t> {
-    /// The number by which it is told, 1 to 12.
+    /// Returns the number by which it is reported, 1 to 12.
     pub fn number(&self) -> u8
         ensures { result ≡ fault_number (import_fault_value self.now) }
     {
@@ -66,7 +66,7 @@ impl<'t> ImportFault<'t> {
         }
     }
 
-    /// How many bytes of the text stand before its place, if it has one.
+    /// Returns the byte offset of its place in the text, if it has one.
     pub fn place(&self) -> Option<usize>
         ensures { result ≡ fault_place (import_fault_value self.now) }
     {
@@ -86,7 +86,7 @@ impl<'t> ImportFault<'t> {
         }
     }
 
-    /// The word or the variable's name that it is about, if it is about one.
+    /// Returns the word or the variable's name that it is about, if any.
     pub fn word(&self) -> Option<&[u8]>
         ensures { option_map (λ word. word.now) result ≡ fault_word (import_fault_value self.now) }
     {
@@ -98,7 +98,7 @@ impl<'t> ImportFault<'t> {
         }
     }
 
-    /// The names that it lists.
+    /// Returns the names that it lists.
     pub fn names(&self) -> &[Vec<u8>]
         ensures { map (λ name. name.items) result.now ≡ fault_names (import_fault_value self.now) }
     {

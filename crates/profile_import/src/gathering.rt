@@ -17,7 +17,7 @@ use profile_variables::Lists;
 use std::alloc::Global;
 use subject_rules::Subject;
 
-/// The next item, which is a rule of the chosen profile.
+/// Takes the next item, which is a rule of the chosen profile.
 fn take_rule<'a>(
     alloc: Global,
     chosen: Subject,
@@ -38,7 +38,7 @@ fn take_rule<'a>(
     cut.rule(item, rule.reading)
 }
 
-/// The next item.
+/// Takes the next item.
 fn take_item<'a>(
     alloc: Global,
     chosen: Subject,
@@ -58,8 +58,8 @@ fn take_item<'a>(
     }
 }
 
-/// The rules of the chosen profile and the spans, where these are the variables as they are in it. With the first rule that is one
-/// too many it ends: what is behind that one changes nothing.
+/// Returns the rules of the chosen profile and the spans; the given variables are those in effect in it. It stops at the first
+/// rule that is one too many: what follows that one changes nothing.
 pub(crate) fn gather<'a, 't>(
     alloc: Global,
     choice: Choice,

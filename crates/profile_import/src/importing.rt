@@ -29,7 +29,7 @@ use rule_profile::{Profile, Rule};
 use std::alloc::Global;
 use subject_rules::Change;
 
-/// An imported profile, and the spans of the text that it was imported from: what of it is kept, blank, or told.
+/// An imported profile, and the spans of the text that it was imported from: which parts are kept, blank, or reported.
 #[derive(Drop)]
 pub struct Imported {
     pub profile: Profile,
@@ -46,7 +46,7 @@ fn changes_something(span: &Span) -> bool
     }
 }
 
-/// Where the first span begins that changes something for the chosen subject.
+/// Returns the start of the first span that changes something for the chosen subject.
 fn first_change(spans: &[Span]) -> Option<usize>
     ensures { result ≡ option_map (λ span. span.start) (first_change spans.now) }
 {
@@ -56,7 +56,7 @@ fn first_change(spans: &[Span]) -> Option<usize>
         .map(|span| span.start)
 }
 
-/// The rules without their places.
+/// Returns the rules without their places.
 fn rules_of(alloc: Global, placed: Vec<PlacedRule>) -> Result<Vec<Rule>, NoMemory>
     ensures values { IfOk result (λ rules. map rule_value rules.items ≡ map (λ r. r.value) placed.items) }
     ensures readable { IfOk result (λ rules. IsTrue (list_all is_rule (map rule_value rules.items))) }
@@ -70,8 +70,8 @@ fn rules_of(alloc: Global, placed: Vec<PlacedRule>) -> Result<Vec<Rule>, NoMemor
     Ok(rules)
 }
 
-/// The profile of this name and these rules, and the spans, unless there are too many rules, or something changes for the
-/// chosen subject where nothing is to.
+/// Returns the profile of this name and these rules, and the spans, unless there are too many rules, or something changes for
+/// the chosen subject where nothing may.
 fn finish<'t>(
     alloc: Global,
     strict: bool,
@@ -123,7 +123,7 @@ fn import_chosen<'x, 't>(
     finish(alloc, strict, name, text.spans, rules)
 }
 
-/// The fault that not just one profile is asked for.
+/// Returns the fault that the request doesn't match exactly one profile.
 fn which<'t>(alloc: Global, heads: &[ProfileHead]) -> ImportFailure<'t>
     ensures { Fails (λ fault. fault ≡ which (map (λ head. head.name) heads.now)) result }
 {
@@ -133,7 +133,7 @@ fn which<'t>(alloc: Global, heads: &[ProfileHead]) -> ImportFailure<'t>
     }
 }
 
-/// Imports the profile that is asked for, of a text without faults that was cut into these items.
+/// Imports the requested profile of a text without faults that was cut into these items.
 fn import_items<'x, 't>(
     alloc: Global,
     options: ImportOptions<'_>,
@@ -158,7 +158,7 @@ fn import_items<'x, 't>(
     import_chosen(alloc, options.strict, choice, scope, head.name(), items)
 }
 
-/// Where reading a text of so many bytes stopped.
+/// Returns the fault at which reading a text of `all` bytes stopped.
 fn stop_fault<'t>(all: usize, stop: Stop<'t>) -> ImportFault<'t>
     ensures { import_fault_value result ≡ stop_fault all (stop_value stop.entry) }
 {
@@ -171,7 +171,7 @@ fn stop_fault<'t>(all: usize, stop: Stop<'t>) -> ImportFault<'t>
     }
 }
 
-/// A fault beside the grammar.
+/// Returns a fault outside the grammar.
 fn scope_fault<'t>(fault: ScopeFault) -> ImportFault<'t>
     ensures { import_fault_value result ≡ scope_fault (fault_value fault) }
 {
@@ -185,7 +185,7 @@ fn scope_fault<'t>(fault: ScopeFault) -> ImportFault<'t>
     }
 }
 
-/// Imports the profile that is asked for, of a text of so many bytes that was cut into these items and perhaps stopped at.
+/// Imports the requested profile of a text of `all` bytes that was cut into these items and perhaps stopped at.
 fn import_read<'t>(
     alloc: Global,
     options: ImportOptions<'t>,
@@ -208,12 +208,12 @@ fn import_read<'t>(
 }
 
 /// Imports a profile of a flattened text, as `apparmor_parser --preprocess` prints it: its file rules restated for the chosen
-/// subject, and the spans of the text, each kept, blank or told. A text is refused for its first fault: of what its items say,
-/// each once it was read whole, or where reading stops; then for the profile that is asked for, for too many rules, and where
-/// something changes that is not to.
+/// subject, and the spans of the text, each kept, blank or reported. A text is refused for its first fault: of what its items
+/// say, each once it was read completely, or where reading stops; then for the requested profile, for too many rules, and where
+/// something changes that may not.
 ///
-/// The time grows as the text, what is imported, and the lists of the variables in each profile whose rules use them. Of a profile
-/// with too many rules those are made up to the first that is one too many, with all paths of the rule that it comes from.
+/// The time grows with the text, what is imported, and the lists of the variables in each profile whose rules use them. For a
+/// profile with too many rules, rules are made up to the first that is one too many, with all paths of its origin rule.
 pub fn import_profile<'t>(
     alloc: Global,
     options: ImportOptions<'t>,

@@ -1,1 +1,1 @@
-//! The laws of imports. The functions do nothing: each stands for its contract.
+//! The laws of imports. The functions do nothing: each exists for its contract.

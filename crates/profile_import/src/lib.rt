@@ -1,5 +1,5 @@
-//! Imports of flattened AppArmor profile texts: one profile of a text restated in this program's language, for one of both
-//! subjects, and the spans of the text: what of it is kept, blank, or told in an account.
+//! Imports of flattened AppArmor profile texts: one profile of a text restated in this program's language, for one of the two
+//! subjects, and the spans of the text: which parts are kept, blank, or reported in an account.
 //!
 //! The definitions to believe are those in `specs/`; those in `specs/inner/` are of private contracts and proofs.
 #![tactic(auto)]

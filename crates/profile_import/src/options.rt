@@ -1,17 +1,17 @@
-//! What an import is asked for.
+//! The options of an import.
 
 use import_scope::Define;
 use subject_rules::Subject;
 
-/// What an import is asked for.
+/// The options of an import.
 #[derive(Clone, Copy, Debug)]
 pub struct ImportOptions<'t> {
-    /// The full name of the profile that is imported. With none, the text has to have one profile.
+    /// The full name of the profile to import. If none is given, the text has to have exactly one profile.
     pub profile: Option<&'t [u8]>,
-    /// Whose verdicts the imported profile is to give.
+    /// The subject whose verdicts the imported profile gives.
     pub subject: Subject,
-    /// Values of variables, as if they stood before the text.
+    /// Values of variables, as if they preceded the text.
     pub defines: &'t [Define<'t>],
-    /// Whether a text is refused of which something changes for the subject.
+    /// Whether a text is refused if anything in it changes for the subject.
     pub strict: bool,
 }

@@ -1,4 +1,4 @@
-//! Restated rules, each with the place of what it comes from.
+//! Restated rules, each with the place of its origin.
 ghost use Rattle.std.specs.Prelude.{◌≡◌, ◌++◌, ◌∷◌, [], IfOk, All, IsTrue};
 ghost use Rattle.rule_profile.specs.Readable.{is_path};
 ghost use Rattle.profile_import.specs.inner.Gathering.{one_too_many, restated_values};
@@ -10,10 +10,10 @@ use std::marker::Model;
 use subject_rules::{RuleShape, Subject, restated_perms};
 use verdicts::RuleKind;
 
-/// The most rules of a profile.
+/// The maximum number of rules of a profile.
 const MAX_RULES: usize = 1024;
 
-/// A rule, and how many bytes of the text stand before what it comes from.
+/// A rule, and the offset in the text of what it comes from.
 #[derive(Drop)]
 pub(crate) struct PlacedRule {
     place: usize,
@@ -39,7 +39,7 @@ impl PlacedRule {
     ghost use Rattle.rule_profile.specs.Profile.{rule_value};
     ghost use Rattle.subject_rules.specs.Restating.{has_some};
 
-    /// The rule of this kind with these permissions and this path.
+    /// Returns the rule of this kind with these permissions and this path.
     fn new(place: usize, kind: RuleKind, perms: Perms, path: RulePath) -> PlacedRule
         requires some { has_some perms ≡ true }
         requires readable { IsTrue (is_path path) }
@@ -51,14 +51,14 @@ impl PlacedRule {
         }
     }
 
-    /// How many bytes of the text stand before what it comes from.
+    /// Returns the offset in the text of what it comes from.
     pub(crate) fn place(&self) -> usize
         ensures { result ≡ self.now.place }
     {
         self.place
     }
 
-    /// The rule itself.
+    /// Returns the rule itself.
     pub(crate) fn into_rule(self) -> Rule
         ensures value { rule_value result ≡ self.value }
         ensures readable { IsTrue (is_rule (rule_value result)) }
@@ -67,14 +67,14 @@ impl PlacedRule {
     }
 }
 
-/// Where the rule stands that is one too many, if there is one.
+/// Returns the place of the rule that is one too many, if there is one.
 pub(crate) fn one_too_many(rules: &[PlacedRule]) -> Option<usize>
     ensures { result ≡ one_too_many rules.now }
 {
     rules.get(MAX_RULES).map(|rule| rule.place())
 }
 
-/// One rule more.
+/// Pushes one more rule.
 fn push(rules: &mut Vec<PlacedRule>, rule: PlacedRule) -> Result<(), NoMemory>
     ensures { IfOk result (λ _. rules.new.items ≡ rules.old.items ++ (rule ∷ [])) }
 {

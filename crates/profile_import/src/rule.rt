@@ -1,4 +1,4 @@
-//! Rules of the chosen profile, as they are read.
+//! Rules of the chosen profile, as read.
 ghost use Rattle.std.specs.Prelude.{◌≡◌, IfOk, All, IsTrue};
 ghost use Rattle.rule_profile.specs.Readable.{is_path};
 ghost use Rattle.profile_import.specs.FileRules.{reading_of, subject_rule};
@@ -15,14 +15,14 @@ use rule_globs::RulePath;
 use std::alloc::Global;
 use subject_rules::{RuleShape, Subject};
 
-/// A rule: how it is told, and the paths that it is restated with.
+/// A rule: how it is reported, and the paths that it is restated with.
 #[derive(Drop)]
 pub(crate) struct ChosenRule {
     pub(crate) reading: RuleReading,
     pub(crate) paths: Vec<RulePath>,
 }
 
-/// The rule of these parts. Where it isn't restated anyway, its path isn't looked at.
+/// Returns the rule of these parts. If it isn't restated anyway, its path isn't looked at.
 pub(crate) fn rule_of<'a>(
     alloc: Global,
     chosen: Subject,

@@ -10,7 +10,7 @@ use std::alloc::Global;
 /// What the word `file` by itself stands for: the root, and each name below it.
 const EVERY_FILE: &[u8] = b"/{**,}";
 
-/// The text of a path with its variables in place. Where it has none, the text of the profile was refused before.
+/// Returns the text of a path with its variables in place. If it has none, the profile's text was already refused.
 fn expanded<'a>(alloc: Global, lists: &mut Lists<'a>, path: &'a [u8]) -> Result<Vec<u8>, NoMemory>
     ensures text { IfOk result (λ text. text.items ≡ expanded lists.old path.now) }
     ensures lists { lists.new ≡ lists.old }
@@ -21,7 +21,7 @@ fn expanded<'a>(alloc: Global, lists: &mut Lists<'a>, path: &'a [u8]) -> Result<
     }
 }
 
-/// No text, for a path that has none.
+/// Returns an empty text, for a path that has none.
 fn nothing_for(alloc: Global, fault: ExpandFault<'_>) -> Result<Vec<u8>, NoMemory>
     ensures { IfOk result (λ text. (text.items ≡ []) × (fault.entry ≢ ExpandFault.NoMemory)) }
 {
@@ -33,7 +33,7 @@ fn nothing_for(alloc: Global, fault: ExpandFault<'_>) -> Result<Vec<u8>, NoMemor
     }
 }
 
-/// The same of a rule's path, if it has one.
+/// Returns the text of a rule's path, or [`EVERY_FILE`] if it has none.
 pub(crate) fn text_of_path<'a>(
     alloc: Global,
     lists: &mut Lists<'a>,

@@ -1,4 +1,4 @@
--- What is told, a reader and a publisher may move to other threads. A `search` in a crate above finds it by these.
+-- A `Told`, a reader and a publisher may move to other threads. A `search` in a crate above finds it by these.
 use denote.Param.Send.{IsSend, IsSync, sendable}
 use Rattle.std.proofs.Crossing as boxes
 use Rattle.std.proofs.MapsCrossing as maps

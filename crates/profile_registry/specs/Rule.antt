@@ -17,7 +17,7 @@ use Rattle.profile_registry.specs.declared.store.Store.{Store}
 abbrev pub policy_of : Store → Policy
 policy_of store name = option_map judge_shared (get_by (λ key. slice_cmp nat_cmp name key.items) store.profiles)
 
--- the store is what these changes made, the first of them first, and its version is how many they are
+-- the store is what these changes made, the first of them first, and its version is their number
 pub record IsMadeBy (deeds : List Deed) (store : Store) : Type 0 where
   pub policy : (name : List ℕ) → policy_of store name ≡ policy_after deeds name
   pub version : store.version ≡ length deeds

@@ -18,8 +18,8 @@ pub record Reading : Type 0 where
   pub entries : ℕ
   pub refused : ℕ
 
--- Why a reader isn't answered: it isn't let in, and sees nothing new; or it is, and was given no share of the profile that stands
--- under the name.
+-- Why a reader isn't answered: it isn't let in, and sees nothing new; or it is, and was given no share of the profile under the
+-- name.
 abbrev pub IsUnanswered : Reading → Reading → List ℕ → Type 0
 IsUnanswered before now name =
     ((now.seen ≡ before.seen) × (now.entries ≡ before.entries))

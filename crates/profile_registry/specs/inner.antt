@@ -1,3 +1,3 @@
--- Words of private contracts and proofs alone: what both copies contain.
+-- Definitions for private contracts and proofs alone: what both copies contain.
 pub mod Names
 pub mod Contents

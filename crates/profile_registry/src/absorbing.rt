@@ -13,7 +13,7 @@ use std::collections::BTreeMap;
 use std::sync::Arc;
 
 impl Store {
-    /// Nothing is published.
+    /// A store with nothing published.
     pub(crate) fn new(alloc: Global) -> Store
         ensures contents { contents_of result ≡ record { version = 0; profiles = empty } }
         ensures version { result.version ≡ 0 }
@@ -37,7 +37,7 @@ impl Store {
         Ok(())
     }
 
-    /// Takes away what stands under a name.
+    /// Removes what is under a name.
     fn clear(&mut self, name: &[u8])
         ensures { contents_of self.new ≡ with_profiles (contents_of self.old) (remove (contents_of self.old).profiles name.now) }
     {

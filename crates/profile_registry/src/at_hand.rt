@@ -12,8 +12,8 @@ use matcher::AnyProfile;
 use std::sync::Arc;
 
 impl PolicyReader {
-    /// The profile under a name, and the policy's version, by all that this publisher has published, and no other: the reader
-    /// learns that first, and nothing is published meanwhile. It isn't answered, too, where no place is free for what is told.
+    /// The profile under a name, and the policy's version, by all that this publisher has published, and no more: the reader
+    /// learns that first, and nothing is published meanwhile. It isn't answered either where no place is free for a `Told`.
     pub fn get_with(
         &mut self,
         publisher: &mut Publisher,
@@ -30,7 +30,7 @@ impl PolicyReader {
         };
         self.learn(told);
         let (profile, version) = self.get(name)?;
-        // The reader has seen this publisher's list, and maybe more of it; by the version it is no more.
+        // The reader has seen this publisher's list, and maybe more of it; equal versions mean that it is no more.
         if version != publisher.version() {
             return Err(NoEntry);
         }

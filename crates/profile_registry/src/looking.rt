@@ -17,7 +17,7 @@ impl Store {
         self.version
     }
 
-    /// A share of the profile under a name, if there is one. It is refused only where there is one, of which no share is given.
+    /// A share of the profile under a name, if there is one. It is refused only where there is one, of which no share can be made.
     pub(crate) fn profile(&self, name: &[u8]) -> Result<Option<Arc<AnyProfile>>, NoEntry>
         ensures ok { IfOk result (λ profile. option_map judge_shared profile ≡ policy_of self.now name.now) }
         ensures err { OnErr result (IsSome (policy_of self.now name.now)) }

@@ -1,4 +1,4 @@
-//! The one who changes what is published.
+//! The publisher, which changes what is published.
 ghost use Rattle.std.specs.Prelude.{◌≡◌, ◌+◌, ◌-◌, ◌^◌, ◌<◌, [], ◌∷◌, ◌++◌, IfOk, IsOk, OnOk, OnErr, Some, None, length, map, drop};
 ghost use Rattle.left_right.specs.Sides.{view};
 ghost use Rattle.mediation.specs.Deeds.{published, removed};
@@ -17,7 +17,7 @@ use std::alloc::{AllocError, Global};
 use std::marker::{Brand, Model};
 use std::sync::{Arc, Wait};
 
-/// So many readers and notes may there be at a time.
+/// How many readers and notes there may be at a time.
 pub const PLACES: usize = 64;
 
 /// Changes what is published. Contracts see the changes that were published, and those that are staged.
@@ -25,7 +25,7 @@ pub const PLACES: usize = 64;
 /// It is not `Drop`: end it by [`close`](Publisher::close).
 pub struct Publisher {
     alloc: Global,
-    // Nothing while it is lent to a call.
+    // `None` while it is lent to a call.
     writer: Option<StoreWriter>,
     // How many changes were published or are staged.
     changes: u64,
@@ -50,7 +50,7 @@ impl Model for Publisher {
 }
 
 impl Publisher {
-    /// Nothing is published or staged.
+    /// A publisher with nothing published or staged.
     pub fn new(alloc: Global) -> Result<Publisher, NoMemory>
         ensures { IfOk result (λ publisher. publisher ≡ record { published = []; staged = [] }) }
     {
@@ -71,7 +71,7 @@ impl Publisher {
         self.changes
     }
 
-    /// How many changes were published: the version that a reader is told.
+    /// How many changes were published: the version that a reader returns.
     pub fn version(&self) -> u64
         ensures { result ≡ length self.now.published }
     {
@@ -96,7 +96,7 @@ impl Publisher {
         self.stage(PolicyChange::Replace(name, profile))
     }
 
-    /// Stages that nothing stands under a name, whether or not something does.
+    /// Stages the removal of what is under a name, whether or not there is anything.
     pub fn remove(&mut self, name: &[u8]) -> Result<(), NoMemory>
         requires { changes_of self.old < 2 ^ 60 - 1 }
         ensures ok { OnOk result (self.new ≡ record {
@@ -132,8 +132,8 @@ impl Publisher {
         }
     }
 
-    /// Makes all staged changes visible at once, and answers the policy's new version: how many changes were published. It
-    /// waits for readers that are inside since before the last call. Where nothing is staged it answers the version as it is.
+    /// Makes all staged changes visible at once, and returns the policy's new version: how many changes were published. It waits
+    /// for readers that have been inside since before the last call. Where nothing is staged it returns the version as it is.
     pub fn publish(&mut self, rt: &impl Wait) -> Result<u64, NoMemory>
         ensures ok { IfOk result (λ version. (self.new ≡ record { published = self.old.published ++ self.old.staged; staged = [] })
             × (version ≡ length self.new.published)) }
@@ -148,7 +148,7 @@ impl Publisher {
         published
     }
 
-    /// Tells what was published, for a reader to learn.
+    /// Returns what was published, for a reader to learn.
     pub fn tell(&mut self) -> Result<Told, NoSeat>
         ensures ok { IfOk result (λ told. told ≡ self.old.published) }
         ensures same { self.new ≡ self.old }
@@ -188,7 +188,7 @@ impl Publisher {
     }
 }
 
-/// Puts the writer where it was lent from.
+/// Puts the writer back where it was lent from.
 fn give_back(place: &mut Option<StoreWriter>, writer: StoreWriter)
     requires { place.old ≡ None }
     ensures { place.new ≡ Some writer }
@@ -199,7 +199,7 @@ fn give_back(place: &mut Option<StoreWriter>, writer: StoreWriter)
     }
 }
 
-/// Makes all staged changes visible at once, and answers the version.
+/// Makes all staged changes visible at once, and returns the version.
 fn publish_staged<R: Wait>(rt: &R, writer: StoreWriter) -> (StoreWriter, Result<u64, NoMemory>)
     requires { length (view writer.desk.place).seen ≡ writer.desk.shown.value.version }
     ensures ok { IfOk result.1 (λ version. ((view result.0.desk.place).seen ≡ (view writer.desk.place).seen ++ map deed_of (drop writer.behind writer.log.items))
@@ -223,7 +223,7 @@ fn publish_staged<R: Wait>(rt: &R, writer: StoreWriter) -> (StoreWriter, Result<
     }
 }
 
-/// Makes a batch of changes visible, which is what is staged.
+/// Makes a batch of changes visible: those that are staged.
 fn publish_batch<B: Batch, R: Wait>(
     rt: &R,
     writer: StoreWriter,

@@ -1,4 +1,4 @@
-//! Those who read what is published.
+//! Readers of what is published.
 ghost use Rattle.std.specs.Prelude.{◌≡◌, ◌⊎◌, ◌+◌, IfOk, OnOk, OnErr, IsSome, length};
 ghost use Rattle.std.specs.Option.{option_map};
 ghost use Rattle.left_right.specs.Sides.{view};
@@ -14,7 +14,7 @@ use matcher::AnyProfile;
 use std::marker::Model;
 use std::sync::Arc;
 
-/// What a publisher told of the changes that it has published, for one reader to [learn](PolicyReader::learn). Contracts see
+/// What a publisher reports of the changes that it has published, for one reader to [learn](PolicyReader::learn). Contracts see
 /// it as the list of these changes. While it lives it takes one of the places for readers.
 #[derive(Drop)]
 pub struct Told {
@@ -37,7 +37,7 @@ impl Model for Told {
 /// since it last learned a note, and how often it wasn't answered.
 #[derive(Drop)]
 pub struct PolicyReader {
-    // Nothing while it is lent to a call.
+    // `None` while it is lent to a call.
     reader: Option<StoreReader>,
     refusals: Refusals,
 }
@@ -68,7 +68,7 @@ impl Told {
 }
 
 impl PolicyReader {
-    /// A reader that has learned what was told.
+    /// A reader that has learned these changes.
     pub(crate) fn new(told: Told) -> PolicyReader
         ensures { result ≡ record { seen = told; entries = 0; refused = 0 } }
     {
@@ -103,7 +103,7 @@ impl PolicyReader {
         }
     }
 
-    /// Learns what was told: from now on the reader has seen these changes.
+    /// Learns what a publisher reported: from now on the reader has seen these changes.
     pub fn learn(&mut self, told: Told)
         ensures { self.new ≡ record { seen = told; entries = 0; refused = self.old.refused } }
     {

@@ -27,7 +27,7 @@ impl Refusals {
         }
     }
 
-    /// With one refusal more.
+    /// The count with one more refusal.
     pub(crate) fn and_one(&self) -> Refusals
         ensures { result.count ≡ self.now.count + 1 }
     {

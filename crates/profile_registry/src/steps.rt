@@ -1,4 +1,4 @@
-//! The rule of what is published, and what the steps of publisher and readers tell.
+//! The rule of what is published, and what the steps of publisher and readers say.
 ghost use Rattle.profile_registry.specs.Rule.{IsPublished, newcomer, sees, publishes, noted, learned};
 
 use crate::known::{Batch, Known};
@@ -53,5 +53,5 @@ impl Join<Known> for Note {
 /// A reader of the store.
 pub type StoreReader = Reader<Store, Known, Published>;
 
-/// The one who changes the store.
+/// The writer of the store.
 pub type StoreWriter = Writer<Store, PolicyChange, Known, Published>;

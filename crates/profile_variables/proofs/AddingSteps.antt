@@ -5,11 +5,11 @@ use Rattle.profile_variables.specs.declared.refusal.Refusal.TheVariants.{Nothing
 use Rattle.profile_variables.specs.Pieces.{Text}
 use Rattle.profile_variables.specs.inner.Adding.{Refused}
 
--- a part that was added stands before what is still to come
+-- a part that was added precedes what is still to come
 pub part_added : (whole now new part rest : Text) → now ++ (part ++ rest) ≡ whole → new ≡ now ++ part → new ++ rest ≡ whole
 part_added whole now new part rest is added = ap (λ (x : Text). x ++ rest) added ∙ append_assoc now part rest ∙ is
 
--- where a part is too much, the whole is
+-- where a part exceeds the limit, the whole does
 pub part_refused : (refusal : Refusal) (old more now part rest : Text) → now ++ (part ++ rest) ≡ old ++ more → Refused refusal now part → Refused refusal old more
 part_refused Nothing old more now part rest is long =
     let a = length-append now part in

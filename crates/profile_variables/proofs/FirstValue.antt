@@ -1,4 +1,4 @@
--- Another value of the first variable: what stays, and what is free of it.
+-- Another value for the first variable: what stays, and what doesn't depend on it.
 use Rattle.std.proofs.Common.{◌≡◌, ◌≢◌, ℕ, zero, suc, ◌<◌, Bool, true, false, List, [], ◌∷◌, ◌++◌, length, set, Option, Some, None, refl, sym, ap, ◌∙◌, subst, ⊎_elim, arith}
 use Rattle.std.specs.Prelude.{◌||◌, is_some, IsSome, if◌then◌else◌, slice_get, option_and_then, unwrap_or, Contains}
 use Rattle.std.specs.List.{list_any}
@@ -32,7 +32,7 @@ same_variable [] value place apart = refl
 same_variable (v ∷ variables) value zero apart = absurd (apart refl)
 same_variable (v ∷ variables) value (suc place) apart = refl
 
--- what is known, and what is free, goes by the names
+-- what is known, and what is free, depends on the names alone
 pub known_is : (variables : List Variable) (lists : Lists) (value name : Text) → known_in (with_first_value variables value) lists name ≡ known_in variables lists name
 known_is variables lists value name = ap (option_and_then (list_made lists)) (same_place variables value name)
 
@@ -74,7 +74,7 @@ module _ (lists : Lists) (marks : List Bool) where
       let both = neither (is_named_marked variables marks name) (list_any (is_named_marked variables marks) names) e in
       (free_too (place_of variables name) both.0 h.0, all_free variables names both.1 h.1)
 
-  -- a list for which all that it needs is free is made of that alone
+  -- a list all of whose needs are free is made from those alone
   free_list : (variables : List Variable) (values list : List Text) → list_any (is_named_marked variables marks) (names_needed values) ≡ false → AreKnown (known_in variables lists) (names_needed values)
       → list_of_values (known_in variables lists) values ≡ Some list → list_of_values (free_in variables lists marks) values ≡ Some list
   free_list variables values list none all e =
@@ -206,7 +206,7 @@ none_marked marks place not_so =
       | false ↦ λ h. refl
     ] not_so
 
--- ---- one place more, where nothing is made
+-- ---- one more place, where nothing is made
 
 pub none_more : (lists : Lists) (k : ℕ) → ((j : ℕ) → list_made lists j ≡ None) → list_made (lists ++ None ∷ []) k ≡ None
 none_more [] zero none = refl

@@ -1,4 +1,4 @@
--- What is known, and lists that are found by more that is known.
+-- What is known, and lists that are found when more is known.
 use Rattle.std.proofs.Common.{◌≡◌, ℕ, zero, suc, ◌+◌, ◌-◌, ◌<◌, Bool, true, false, cond, List, [], ◌∷◌, ◌++◌, length, take, get_or, Option, Some, None, refl, sym, ap, ◌∙◌, subst, arith}
 use Rattle.std.specs.Prelude.{slice_get, is_some, IsSome, bytes_eq, option_and_then, find, unwrap_or}
 use Rattle.std.specs.Option.{option_map}
@@ -49,7 +49,7 @@ module _ (old new : Known) (more : KnowsAll old new) where
 pub more_listed : (old new : Known) → KnowsAll old new → (values list : List Text) → list_of_values old values ≡ Some list → list_of_values new values ≡ Some list
 more_listed old new more values list e = list_more old new more [] values list e
 
--- one level more gives no other list
+-- one more level gives no different list
 pub one_level : (variables : List Variable) (n : ℕ) → KnowsAll (list_at n variables) (list_at (suc n) variables)
 unfolding list_at
 one_level variables zero name list e = absurd cc
@@ -84,9 +84,9 @@ are_listed variables known n right [] h = tt
 are_listed variables known n right (name ∷ names) h =
     let a = the_list (known name) h.0 in ((a.0, (n, right name a.0 a.1)), are_listed variables known n right names h.1)
 
--- ---- two that know the same of the names that values use, list them alike
+-- ---- two that know the same about the names that values use give the same list
 
--- both say the same of these names
+-- both say the same about these names
 abbrev pub Agree : Known → Known → List Text → Type 0
 Agree one other [] = Unit {0}
 Agree one other (name ∷ names) = (one name ≡ other name) × Agree one other names
@@ -99,7 +99,7 @@ pub agree_back : (one other : Known) (names more : List Text) → Agree one othe
 agree_back one other [] more h = h
 agree_back one other (name ∷ names) more h = agree_back one other names more h.1
 
--- what is known is the same for whoever knows all of it
+-- what is known is the same for any that knows all of it
 pub agree_known : (old new : Known) → KnowsAll old new → (names : List Text) → AreKnown old names → Agree old new names
 agree_known old new more [] h = tt
 agree_known old new more (name ∷ names) h =
@@ -139,7 +139,7 @@ passes test (y ∷ xs) x e =
     ] in
     P (test y) refl e
 
--- the variable of a name that stands at this place
+-- the variable of a name, at this place
 pub record StandsAt (variables : List Variable) (name : Text) (place : ℕ) : Type 0 where
   pub within : place < length variables
   pub valued : values_of variables name ≡ Some (variable_at variables place).values

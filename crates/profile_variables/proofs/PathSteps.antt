@@ -16,11 +16,11 @@ use Rattle.profile_variables.specs.inner.Adding.{AddsPiece, Exceeds}
 use Rattle.profile_variables.specs.inner.Gives.{fault_of}
 use Rattle.profile_variables.proofs.KnownLists.{both_steps, and_both, piece_more}
 
--- the text so far with the texts of a piece in their place
+-- the text so far with the texts of a piece put in place
 abbrev pub further : Text → List Piece → List Text → Text
 further so_far more texts = so_far ++ in_place (ends_with_slash so_far) (begins_with_slash more) texts
 
--- what comes of it, and of the pieces behind
+-- what it results in, together with the pieces that follow
 abbrev pub gone_on : Known → Text → List Piece → List Text → Option Text
 gone_on known so_far more texts = text_of known (further so_far more texts) more
 
@@ -62,7 +62,7 @@ no_shorter known so_far (p ∷ ps) text e =
     let longer = length-append so_far (in_place (ends_with_slash so_far) (begins_with_slash ps) a.0) in
     omega (arith, rest, longer)
 
--- where a piece is too much, the whole is
+-- where a piece exceeds the limit, the whole does
 pub piece_refused : (refusal : Refusal) (known : Known) (now new : Text) (ps : List Piece) (before behind : Bool) (o : Option (List Text)) (text : Text)
     → before ≡ ends_with_slash now → behind ≡ begins_with_slash ps → AddsPiece {X = Unit {0}} (Err refusal) now new before behind o → option_and_then (gone_on known now ps) o ≡ Some text → Exceeds refusal text
 piece_refused refusal known now new ps before behind None text front back h e = absurd cc
@@ -72,7 +72,7 @@ piece_refused refusals.Nothing known now new ps before behind (Some texts) text 
     omega (arith, long, rest)
 piece_refused refusals.NoMemory known now new ps before behind (Some texts) text front back h e = tt
 
--- ---- what is told
+-- ---- what is reported
 
 pub tells_more : (P Q : Problem → Type 0) (fault : ExpandFault) → ((problem : Problem) → P problem → Q problem) → Tells P fault → Tells Q fault
 tells_more P Q (faults.Undefined name) f h = f _ h

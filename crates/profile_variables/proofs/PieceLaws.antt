@@ -1,4 +1,4 @@
--- The pieces of a text, as they are written, are the text.
+-- The pieces of a text, written out, are the text.
 use Rattle.std.proofs.Common.{◌≡◌, ℕ, zero, suc, ◌+◌, ◌-◌, Bool, true, false, cond, eqb, [], ◌∷◌, ◌++◌, length, drop, take, Option, Some, None, refl, sym, ap, ◌∙◌, subst, ⊎_elim, append_assoc, arith}
 use Rattle.std.specs.Prelude.{◌&&◌}
 use Rattle.std.specs.Char.{is_ascii_alphabetic}
@@ -16,7 +16,7 @@ brace : (bytes : Text) → begins is_close_brace bytes ≡ true → (rest : Text
 brace [] h = absurd cc
 brace (b ∷ bytes) h = (bytes, ap (λ (x : ℕ). x ∷ bytes) (eqb-true b 125 h))
 
--- a name that is closed stands at the front, and its brace behind it
+-- a closed name is at the front, followed by its brace
 closed_front : (bytes name : Text) → closed_name bytes ≡ Some name → (rest : Text) × (bytes ≡ name ++ 125 ∷ rest)
 closed_front bytes name e =
     let n = prefix_len is_name_byte bytes in
@@ -48,7 +48,7 @@ drop_behind (x ∷ xs) rest y n is =
     let more : n ≡ suc m = omega arith in
     ap (λ k. drop k (x ∷ xs ++ y ∷ rest)) more ∙ drop_behind xs rest y m refl
 
--- a piece stands at the front of its text
+-- a piece is at the front of its text
 abbrev IsFront : Piece → ℕ → Text → Type 0
 IsFront p b bytes = written p ++ drop (length (written p) - 1) bytes ≡ b ∷ bytes
 

@@ -6,14 +6,14 @@ use Rattle.names.specs.Paths.{is_slash}
 use Rattle.profile_variables.specs.PathTexts.{begins_with_slash}
 use Rattle.profile_variables.specs.Pieces.{Text, Piece, byte, use_of, written, used_name, escape, first_piece, pieces_behind, pieces}
 
--- bytes that were told are passed over
+-- bytes already listed are skipped
 pub pieces_behind-drop : (n : ℕ) (text : Text) → pieces_behind n text ≡ pieces (drop n text)
 unfolding pieces_behind
 pieces_behind-drop zero text = refl
 pieces_behind-drop (suc n) [] = refl
 pieces_behind-drop (suc n) (b ∷ bytes) = pieces_behind-drop n bytes
 
--- what is left behind the first byte, as the code has it
+-- what is left after the first byte, as the code has it
 pub told : (n : ℕ) (text : Text) → pieces_behind n (drop 1 text) ≡ pieces_behind n (take (length text - 1) (drop 1 text))
 told n text = ap (pieces_behind n) (sym (take_rest text 1))
 
@@ -33,7 +33,7 @@ plain_first b bytes h1 h2 =
     ap (λ t. cond t (escape bytes) (cond (eqb b 64) (elim (used_name bytes) [ None ↦ byte b | Some name ↦ use_of name ]) (byte b))) (ne_eqb b 92 h1)
     ∙ ap (λ t. cond t (elim (used_name bytes) [ None ↦ byte b | Some name ↦ use_of name ]) (byte b)) (ne_eqb b 64 h2)
 
--- an @ that begins no use stands for itself, and one that does is told with its name
+-- an @ that begins no use stands for itself, and one that does forms a piece with its name
 abbrev pub at_sign : Option Text → Piece
 at_sign None = byte 64
 at_sign (Some name) = use_of name
@@ -41,11 +41,11 @@ at_sign (Some name) = use_of name
 pub at_first : (bytes : Text) (o : Option Text) → used_name bytes ≡ o → first_piece 64 bytes ≡ at_sign o
 at_first bytes o e = ap at_sign e
 
--- how many bytes a use has behind its @
+-- how many bytes a use has after its @
 pub use_length : (name : Text) → length (written (use_of name)) - 1 ≡ length name + 2
 use_length name = let h = length-append name (125 ∷ []) in omega (arith, h)
 
--- a text that ended has no pieces
+-- an empty text has no pieces
 pub no_pieces : (text : Text) → text ≡ [] → pieces text ≡ []
 unfolding pieces_behind
 no_pieces text e = ap pieces e

@@ -1,4 +1,4 @@
--- Where the variables of names stand, one variable at a time.
+-- The places of the variables of names, one variable at a time.
 use Rattle.std.proofs.Common.{◌≡◌, ℕ, ◌+◌, ◌<◌, Bool, true, false, cond, List, length, take, get_or, Option, Some, None, Bor, refl, sym, ap, ◌∙◌, arith}
 use Rattle.std.specs.Prelude.{bytes_eq, is_some, not}
 use Rattle.std.specs.Option.{option_copied}
@@ -22,7 +22,7 @@ one_or_none : {A : Type 0} (o : Option A) → first_of_two o None ≡ o
 one_or_none None = refl
 one_or_none (Some x) = refl
 
--- a name that wasn't met before stands at the new place
+-- a name that wasn't met before is at the new place
 pub new_placed : (old new : Text → Option ℕ) (name q : Text) (i : ℕ) → old name ≡ None → new q ≡ cond (bytes_eq name q) (Some i) (old q)
     → new q ≡ first_of_two (old q) (cond (bytes_eq name q) (Some i) None)
 new_placed old new name q i none is =

@@ -1,4 +1,4 @@
--- Where the first element stands that passes a test.
+-- The place of the first element that passes a test.
 use Rattle.std.proofs.Common.{◌≡◌, ℕ, suc, ◌+◌, ◌-◌, ◌<◌, ◌≤◌, Bool, true, false, cond, List, [], ◌∷◌, ◌++◌, length, Option, Some, None, refl, sym, ap, ◌∙◌, arith}
 use Rattle.std.specs.Prelude.{find, slice_get}
 use Rattle.std.specs.List.{position_from}
@@ -19,7 +19,7 @@ position_from-more test n (y ∷ xs) x =
       | false ↦ rest ∙ ap (λ k. first_of_two (position_from test (n + 1) xs) (cond (test x) (Some k) None)) same
     ]
 
--- where nothing stands there is nothing
+-- if no place is found, no element is
 pub find_nothing : {X : Type 0} (test : X → Bool) (n : ℕ) (xs : List X) → position_from test n xs ≡ None → find test xs ≡ None
 find_nothing test n [] e = refl
 find_nothing test n (y ∷ xs) e =
@@ -29,7 +29,7 @@ find_nothing test n (y ∷ xs) e =
     ] in
     P (test y) e
 
--- what stands at the first place that passes
+-- the element at the first place that passes
 pub record IsFound {X : Type 0} (test : X → Bool) (n : ℕ) (xs : List X) (place : ℕ) : Type 0 where
   pub from : n ≤ place
   pub within : place - n < length xs

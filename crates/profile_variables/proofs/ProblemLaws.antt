@@ -1,4 +1,4 @@
--- A variable has a list or a problem, one, and not both.
+-- A variable has one list or one problem, and not both.
 use Rattle.std.proofs.Common.{◌≡◌, ℕ, zero, suc, ◌+◌, ◌≤◌, ◌<◌, Bool, true, false, eqb, List, [], ◌∷◌, ◌++◌, length, map, Option, Some, None, refl, sym, ap, ◌∙◌, subst, ◌⊎◌, inl, inr, ⊎_elim, arith}
 use Rattle.std.specs.Prelude.{is_some, IsSome, Contains, option_and_then, bytes_eq, unwrap_or, ◌||◌}
 use Rattle.std.proofs.lemmas.List.{length-map}
@@ -48,7 +48,7 @@ some_list : (o : Option (List Text)) → IsSome o → (list : List Text) × (o �
 some_list None h = absurd cc
 some_list (Some list) h = (list, refl)
 
--- what a variable has at one level more needs
+-- a list at `suc n` levels is made from the lists at `n` levels
 below_list : (variables : List Variable) (n : ℕ) (name : Text) (values list : List Text) → values_of variables name ≡ Some values → list_at (suc n) variables name ≡ Some list
     → list_of_values (list_at n variables) values ≡ Some list
 unfolding list_at
@@ -66,7 +66,7 @@ no_list_undeclared variables (suc n) name list none e =
 
 -- ---- a problem and a list exclude each other
 
--- no variable on the way has a list within so many levels
+-- no variable on the way has a list within `n` levels
 abbrev IsBare : List Variable → ℕ → List Text → Type 0
 IsBare variables n way = (name : Text) → Contains way name → (m : ℕ) → m ≤ n → (list : List Text) → list_at m variables name ≡ Some list → ⊥
 
@@ -202,7 +202,7 @@ is_place : (o : Option ℕ) → IsSome o → o ≡ Some (unwrap_or o 0)
 is_place None h = absurd cc
 is_place (Some p) h = refl
 
--- names that stand at one place are one
+-- names at the same place are the same
 same_name : (variables : List Variable) (one other : Text) → IsSome (place_of variables one) → IsSome (place_of variables other) → place variables one ≡ place variables other → one ≡ other
 same_name variables one other h g e =
     sym (stands_at variables one (place variables one) (is_place (place_of variables one) h)).named
@@ -307,7 +307,7 @@ next_outcome variables way name new_one None e = inr (undefined name, Undeclared
 next_outcome variables way name new_one (Some p) e =
     ⊎_elim (λ met. inr (cycle name, Met way name (ap is_some (stands_at variables name p e).valued) met)) (λ new. new_one p e new) (in_way way name)
 
--- so many variables may still step on the way
+-- `room` more variables may still be pushed onto the way
 outcome_within : (variables : List Variable) (room : ℕ) (way : List Text) → OnWay variables way → length variables ≤ room + length way → (name : Text) → Outcome variables way name
 outcome_within variables zero way on enough name =
     next_outcome variables way name (λ p e new. let s = short_way variables (name ∷ way) (ap is_some e, new, on) in absurd (omega (arith, s))) (place_of variables name) refl

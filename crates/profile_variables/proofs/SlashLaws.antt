@@ -1,4 +1,4 @@
--- Runs of slashes that are one already.
+-- Runs of slashes that are already a single one.
 use Rattle.std.proofs.Common.{◌≡◌, ℕ, Bool, true, false, cond, [], ◌∷◌, refl, sym, ap, ◌∙◌, subst}
 use Rattle.std.specs.Prelude.{◌&&◌, not}
 use Rattle.std.proofs.lemmas.Bool.{eqb-true}
@@ -24,7 +24,7 @@ joined_again behind (b ∷ bytes) =
     ] in
     P (behind && is_slash b) refl
 
--- behind a slash no slash is first
+-- after a slash no slash comes first
 no_slash_first : (text : Text) → begins is_slash (runs_joined true text) ≡ false
 no_slash_first [] = refl
 no_slash_first (b ∷ bytes) =
@@ -40,7 +40,7 @@ other_first : (b : ℕ) (text : Text) → is_slash b ≡ false → begins_with_t
 other_first b [] h = refl
 other_first b (c ∷ text) h = ap (λ t. t && is_slash c && not (begins is_slash text)) h
 
--- two slashes are nowhere left
+-- two slashes are left nowhere
 none_left : (text : Text) → begins_with_two (runs_joined false text) ≡ false
 none_left [] = refl
 none_left (b ∷ bytes) =
@@ -54,7 +54,7 @@ none_left (b ∷ bytes) =
 stays_one : (text : Text) → one_slash (runs_joined false text) ≡ runs_joined false text
 stays_one text = ap (λ t. cond t (47 ∷ runs_joined false (runs_joined false text)) (runs_joined false (runs_joined false text))) (none_left text) ∙ joined_again false text
 
--- two at the start, and no more
+-- exactly two at the start
 two_first : (text : Text) → begins_with_two text ≡ true → (rest : Text) × (text ≡ 47 ∷ 47 ∷ rest)
 two_first [] h = absurd cc
 two_first (a ∷ []) h = absurd cc

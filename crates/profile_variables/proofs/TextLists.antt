@@ -27,7 +27,7 @@ not_fitting_long texts long =
     ap (λ b. cond (nat_le (length texts) most_texts && b) (Some texts) None) (lt-leb (byte_count texts) most_bytes long)
     ∙ ap (λ b. cond b (Some texts) None) (and_false (nat_le (length texts) most_texts))
 
--- ---- one text with each of others at its end
+-- ---- one text with each of the others appended
 
 with_each_bytes : (first : Text) (seconds : List Text) → byte_count (map (λ (second : Text). first ++ second) seconds) ≡ length seconds * length first + byte_count seconds
 with_each_bytes first [] = omega arith
@@ -56,7 +56,7 @@ byte_count-each_with (first ∷ firsts) seconds =
     let old = sum_by-cons length first firsts in
     both ∙ rw old (omega (arith, rest, here))
 
--- ---- one text at the end of each of others
+-- ---- one text appended to each of the others
 
 pub each_with_one : (firsts : List Text) (end : Text) → each_with firsts (end ∷ []) ≡ map (λ (first : Text). first ++ end) firsts
 each_with_one firsts end = flat_map_single (λ (first : Text). first ++ end) firsts
@@ -67,7 +67,7 @@ length-ended firsts end = ap length (each_with_one firsts end) ∙ length-map fi
 pub byte_count-ended : (firsts : List Text) (end : Text) → byte_count (each_with firsts (end ∷ [])) ≡ byte_count firsts + length firsts * length end
 byte_count-ended firsts end = let h = byte_count-each_with firsts (end ∷ []) in grind (arith, h)
 
--- ---- what is too much
+-- ---- what exceeds the limits
 
 pub refused_many : (firsts seconds : List Text) (m n : ℕ) → m ≡ length firsts → n ≡ length seconds → most_texts < m * n → fitting (each_with firsts seconds) ≡ None
 refused_many firsts seconds m n is_m is_n many =
@@ -100,7 +100,7 @@ pub made : (asked : List Text) (texts : List Bytes) → items texts ≡ asked �
 made asked texts is few short =
     ap fitting (sym is) ∙ fitting_all (items texts) (let h = length-map texts (λ (text : Bytes). text.items) in omega (arith, h)) short
 
--- one of the firsts more was taken
+-- one more of the firsts was taken
 pub product_more : (firsts seconds old new : List Bytes) (i : ℕ) (d : Bytes) → i < length firsts
     → items old ≡ each_with (items (take i firsts)) (items seconds)
     → items new ≡ items old ++ map (λ (second : Text). (get_or firsts i d).items ++ second) (items seconds)
@@ -114,7 +114,7 @@ product_more firsts seconds old new i d low before step =
     ∙ sym (flat_map-append f (items (take i firsts)) ((get_or firsts i d).items ∷ []))
     ∙ ap (flat_map f) (sym split)
 
--- the lengths of texts with bytes at their end
+-- the lengths of texts with bytes appended
 pub ended_bytes : (firsts new : List Text) (end : Text) (a m all : ℕ) → all ≡ a + m * length end → a ≡ byte_count firsts → m ≡ length firsts → new ≡ map (λ (first : Text). first ++ end) firsts → all ≡ byte_count new
 ended_bytes firsts new end a m all is is_a is_m ended =
     is ∙ (λ i. is_a i + is_m i * length end) ∙ sym (byte_count-ended firsts end) ∙ ap byte_count (each_with_one firsts end ∙ sym ended)

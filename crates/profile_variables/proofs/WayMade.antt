@@ -1,4 +1,4 @@
--- What a list that is made changes.
+-- What making a list changes.
 use Rattle.std.proofs.Common.{◌≡◌, ◌≢◌, ℕ, zero, suc, ◌+◌, ◌<◌, ◌≤◌, List, [], ◌∷◌, length, take, set, Option, Some, None, refl, sym, ap, ◌∙◌, subst, ◌⊎◌, inl, inr, ⊎_elim, arith}
 use Rattle.std.specs.Prelude.{slice_get, is_some, IsSome, option_and_then}
 use Rattle.std.proofs.lemmas.Bool.{cases_eq}
@@ -66,7 +66,7 @@ module _ (lists : Lists) (place : ℕ) (made : List Text) (unmade : slice_get li
   right_still variables n right is name list e =
       ⊎_elim (λ new. this_list variables n name list right is new.0 new.1) (λ old. one_level variables n name list (right name list old)) (new_or_old (place_of variables name) list e)
 
-  -- ---- who waits, waits still
+  -- ---- those that wait still wait
 
   met_before : (met : List ℕ) (other n m : ℕ) → slice_get met place ≡ Some n → slice_get met other ≡ Some m → m < n → other ≢ place
   met_before met other n m at there low same =

@@ -77,7 +77,7 @@ module _ (variables : List Variable) (lists : Lists) (met : List ℕ) (first : T
   pub asked_first : (steps : List Step) (step : Step) → IsWay variables lists met first (step ∷ steps) → first_name variables steps (variable_at variables step.variable).name ≡ first
   asked_first steps step way = first_waits steps (variable_at variables step.variable).name way.1
 
--- what is left to do, by how many lists are made of so many, and how many steps the way has
+-- what is left to do, by how many of `all` lists are made, and how many steps the way has
 abbrev pub left_to_do : ℕ → ℕ → ℕ → ℕ
 left_to_do all made steps = (all - made) * (all + 1) + (all - steps)
 

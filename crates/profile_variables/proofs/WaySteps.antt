@@ -1,4 +1,4 @@
--- The way to a list: who waits on it, what a problem at its end means for the first, and what a step on it changes.
+-- The way to a list: which variables wait on it, what a problem at its end means for the first, and what a step on it changes.
 use Rattle.std.proofs.Common.{◌≡◌, ◌≢◌, ℕ, zero, suc, ◌<◌, ◌≤◌, true, false, eqb, List, [], ◌∷◌, ◌++◌, length, take, drop, set, map, reverse, Option, Some, None, refl, sym, ap, ◌∙◌, subst, inl, inr, append-nil, append_assoc, arith}
 use Rattle.std.specs.Prelude.{slice_get, option_and_then, Contains, ◌==◌}
 use Rattle.std.specs.Option.{option_map_or}
@@ -14,10 +14,10 @@ use Rattle.profile_variables.specs.declared.making.Step.{Step}
 use Rattle.profile_variables.proofs.Gets.{get_set_same, get_set_other, get_at, get_is, split_at_get, contained, contained_first}
 use Rattle.profile_variables.proofs.KnownLists.{stands_at, are_listed}
 
--- ---- each variable stands on the way once
+-- ---- each variable is on the way once
 
 module _ (variables : List Variable) (lists : Lists) (met : List ℕ) (first : Text) where
-  -- a variable that was met where none of these stands is none of these
+  -- a variable that was met past these steps is none of theirs
   pub apart : (steps : List Step) (name : Text) (place n : ℕ) → Waits variables lists met first steps name → slice_get met place ≡ Some n → length steps ≤ n
       → (other : Text) → place_of variables other ≡ Some place → Contains (names_of variables steps) other → ⊥
   apart [] name place n waits at deep other stands has = omega (arith, has.1)
@@ -52,19 +52,19 @@ module _ (variables : List Variable) (lists : Lists) (met : List ℕ) (first : T
       (are_listed variables (known_in variables lists) n right (take step.next (needed_at variables step.variable)) waits.0.first_known)
       has)
 
--- ---- who stands on the way
+-- ---- which variables are on the way
 
 is_itself : (n : ℕ) → eqb n n ≡ true
 is_itself n = eq-eqb n n refl
 
--- a step stands on the way where it was met
+-- a step is on the way where it was met
 stands_on : (met : List ℕ) (way : List Step) (step : Step) (n : ℕ) → slice_get met step.variable ≡ Some n → slice_get way n ≡ Some step → is_on met way step.variable ≡ true
 stands_on met way step n at there =
     ap (λ o. option_map_or (λ (s : Step). s.variable == step.variable) (option_and_then (slice_get way) o) false) at
     ∙ ap (λ o. option_map_or (λ (s : Step). s.variable == step.variable) o false) there
     ∙ is_itself step.variable
 
--- the step behind these, on a way of which the first step stands first
+-- the step after these, on a way given first step first
 there : (before rest : List Step) (step : Step) → slice_get (reverse before ++ step ∷ rest) (length before) ≡ Some step
 there before rest step = ap (slice_get (reverse before ++ step ∷ rest)) (sym (length-reverse before)) ∙ get_at (reverse before) rest step
 
@@ -107,7 +107,7 @@ among_names variables (y ∷ way) k step e =
     subst (λ (names : List Text). Contains names (name step)) whole
     (last_or_before name (names_of variables (reverse way)) y way k step e (λ j h. among_names variables way j step h))
 
--- a variable that stands on the way is one of its names
+-- a variable that is on the way is one of its names
 pub on_way : (variables : List Variable) (met : List ℕ) (way : List Step) (name : Text) (place : ℕ) → place_of variables name ≡ Some place → is_on met way place ≡ true
     → Contains (names_of variables (reverse way)) name
 on_way variables met way name place stands on =
@@ -127,7 +127,7 @@ unmade_at variables lists name place within stands unknown =
     let at = get_is lists place within in
     not_made (slice_get lists place) at.0 at.1 (sym (ap (option_and_then (list_made lists)) stands) ∙ unknown)
 
--- a variable steps on the way
+-- a variable is pushed onto the way
 pub entered : (variables : List Variable) (lists : Lists) (met : List ℕ) (first : Text) (way : List Step) (name : Text) (place n : ℕ)
     → length lists ≡ length variables → length met ≡ length variables → n ≡ length way
     → place_of variables name ≡ Some place → known_in variables lists name ≡ None → is_on met way place ≡ false

@@ -1,4 +1,4 @@
--- Where each variable has a value, limits put to whole lists alone are the same.
+-- Where each variable has a value, limits that apply to whole lists only make no difference.
 use Rattle.std.proofs.Common.{◌≡◌, ℕ, zero, suc, ◌*◌, ◌≤◌, ◌<◌, Bool, true, false, cond, List, [], ◌∷◌, ◌++◌, length, Option, Some, None, refl, sym, ap, ◌∙◌, subst, arith, length-append}
 use Rattle.std.specs.Prelude.{option_and_then, slice_index_or, nat_le, ◌&&◌, All}
 use Rattle.std.proofs.lemmas.Bool.{leb-true}
@@ -71,7 +71,7 @@ module _ (known : Known) (filled : AreFilled known) where
   some_choice (escaped b) choices e = let is : (92 ∷ b ∷ []) ∷ [] ≡ choices = cc in subst (λ (x : List Text). 0 < length x) is (omega arith)
   some_choice (use_of name) choices e = filled name choices e
 
-  -- without limits on the way there is the same
+  -- without limits on the way the texts are the same
   all_texts : (begun : List Text) (ps : List Piece) (texts : List Text) → texts_from known begun ps ≡ Some texts → all_texts_from known begun ps ≡ Some texts
   all_texts begun [] texts e = e
   all_texts begun (p ∷ ps) texts e =

@@ -1,9 +1,9 @@
--- What a fault tells.
+-- What a fault says.
 use Rattle.profile_variables.specs.Problems.{Problem, undefined, cycle, too_long}
 use Rattle.profile_variables.specs.declared.fault.ExpandFault.{ExpandFault}
 use Rattle.profile_variables.specs.declared.fault.ExpandFault.TheVariants.{Undefined, Cycle, TooLong, NoMemory}
 
--- The fault tells a problem of these, by its name; one of memory tells nothing.
+-- The fault reports a problem of this kind, with its name; an out-of-memory fault says nothing.
 abbrev pub Tells : (Problem → Type 0) → ExpandFault → Type 0
 Tells IsProblem (Undefined name) = IsProblem (undefined name.now)
 Tells IsProblem (Cycle name) = IsProblem (cycle name.now)

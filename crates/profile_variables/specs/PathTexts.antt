@@ -1,5 +1,5 @@
 -- A path's text with its variables put in place (apparmor.d(5), "Variables"; where it is silent, what AppArmor's parser
--- does): by text, so that what is put there is read with the rest.
+-- does). The substitution is textual, so that what is put there is read with the rest.
 use Rattle.std.specs.Prelude.{◌≡◌, ℕ, ◌<◌, ◌≤◌, Bool, false, if◌then◌else◌, List, [], ◌∷◌, ◌++◌, length, reverse, Option, Some, option_and_then}
 use Rattle.std.specs.List.{flat_map}
 use Rattle.names.specs.Paths.{is_slash, ends_with_slash}
@@ -15,32 +15,32 @@ without_leading_slashes (b ∷ bytes) = if is_slash b then without_leading_slash
 abbrev pub without_trailing_slashes : Text → Text
 without_trailing_slashes text = reverse (without_leading_slashes (reverse text))
 
--- A text of a group, whether a slash stands directly before the group, and whether one stands directly behind it: beside it
--- the text's own are left out.
+-- A text of a group, by whether a slash is directly before the group, and whether one is directly after it: the text's own
+-- slashes next to it are left out.
 abbrev pub alternative : Bool → Bool → Text → Text
 alternative before behind text =
     let end = if before then without_leading_slashes text else text in
     if behind then without_trailing_slashes end else end
 
--- the texts of a group, with a comma between each two
+-- the texts of a group, separated by commas
 abbrev pub alternatives : Bool → Bool → List Text → Text
 alternatives before behind [] = []
 alternatives before behind (text ∷ texts) = alternative before behind text ++ flat_map (λ other. 44 ∷ alternative before behind other) texts
 
--- a text alone stands as it is; more are one group
+-- a single text is left as it is; several form one group
 abbrev pub in_place : Bool → Bool → List Text → Text
 in_place before behind (text ∷ []) = text
 in_place before behind texts = 123 ∷ alternatives before behind texts ++ 125 ∷ []
 
--- The byte directly behind, as it is written, is a slash. A variable is none, whatever its texts are.
+-- The next byte, as it is written, is a slash. A variable is none, whatever its texts are.
 abbrev pub begins_with_slash : List Piece → Bool
 begins_with_slash [] = false
 begins_with_slash (byte b ∷ more) = is_slash b
 begins_with_slash (escaped b ∷ more) = false
 begins_with_slash (use_of name ∷ more) = false
 
--- The text so far, and behind it the pieces with the variables in place, if their lists are known. Whether a slash stands
--- directly before a variable is asked of the text so far, in which the variables to the left are in place already.
+-- The text so far, followed by the pieces with the variables in place, if their lists are known. Whether a slash is directly
+-- before a variable depends on the text so far, in which the variables to the left are already in place.
 abbrev pub text_of : Known → Text → List Piece → Option Text
 text_of known so_far [] = Some so_far
 text_of known so_far (p ∷ more) =

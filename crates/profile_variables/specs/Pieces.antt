@@ -1,4 +1,4 @@
--- A text of a profile as a row of pieces (apparmor.d(5), "Variables"): uses of variables, and the bytes between them.
+-- A text of a profile as a sequence of pieces (apparmor.d(5), "Variables"): uses of variables, and the bytes between them.
 use Rattle.std.specs.Prelude.{ℕ, zero, suc, ◌-◌, Bool, false, ◌&&◌, ◌||◌, ◌==◌, if◌then◌else◌, List, [], ◌∷◌, ◌++◌, length, drop, Option, Some, None}
 use Rattle.std.specs.Char.{is_ascii_alphabetic, is_ascii_alphanumeric}
 use Rattle.std.specs.List.{prefix_len, take_while}
@@ -9,7 +9,7 @@ Text = List ℕ
 pub data Piece : Type 0 where
   -- a byte that stands for itself
   byte : ℕ → Piece
-  -- a backslash and the byte behind it; both stand for themselves
+  -- a backslash and the byte after it; both stand for themselves
   escaped : ℕ → Piece
   -- a use of the variable of that name: @{NAME}
   use_of : Text → Piece
@@ -32,31 +32,31 @@ begins test (b ∷ bytes) = test b
 abbrev pub is_close_brace : ℕ → Bool
 is_close_brace b = b == 125
 
--- the name that stands here; it begins with a letter, and a closing brace stands behind it
+-- the name at the front, if it begins with a letter and a closing brace follows it
 abbrev pub closed_name : Text → Option Text
 closed_name bytes =
     if begins is_ascii_alphabetic bytes && begins is_close_brace (drop (prefix_len is_name_byte bytes) bytes)
     then Some (take_while is_name_byte bytes)
     else None
 
--- the name of the use whose @ stands before these bytes
+-- the name of the use whose @ directly precedes these bytes
 abbrev pub used_name : Text → Option Text
 used_name [] = None
 used_name (b ∷ bytes) = if b == 123 then closed_name bytes else None
 
--- what a backslash is together with the bytes behind it
+-- the piece that a backslash forms with the bytes after it
 abbrev pub escape : Text → Piece
 escape [] = byte 92
 escape (b ∷ bytes) = escaped b
 
--- the piece that begins with this byte and goes on with these
+-- the piece that begins with this byte and continues with these
 abbrev pub first_piece : ℕ → Text → Piece
 first_piece b bytes =
     if b == 92 then escape bytes
     else if b == 64 then elim (used_name bytes) [ None ↦ byte b | Some name ↦ use_of name ]
     else byte b
 
--- the pieces of a text of which so many bytes at the front belong to a piece that was told already
+-- the pieces of a text whose first `told` bytes belong to a piece already listed
 unfoldable pub pieces_behind : ℕ → Text → List Piece
 pieces_behind told [] = []
 pieces_behind zero (b ∷ bytes) = first_piece b bytes ∷ pieces_behind (length (written (first_piece b bytes)) - 1) bytes

@@ -11,7 +11,7 @@ pub data Problem : Type 0 where
   -- a list, or a path's text, is too long
   too_long : Problem
 
--- some list is the variable's
+-- the variable has a list
 abbrev pub IsListed : List Variable → Text → Type 0
 IsListed variables name = (list : List Text) × HasList variables name list
 
@@ -20,7 +20,7 @@ abbrev pub AreListed : List Variable → List Text → Type 0
 AreListed variables [] = Unit {0}
 AreListed variables (name ∷ names) = IsListed variables name × AreListed variables names
 
--- That a variable has this problem, met on the way from a first variable to it: the names of the way, the last met first.
+-- A variable has this problem, met on the way from a first variable to it; the names on the way come with the last met first.
 pub data HasProblem (variables : List Variable) : List Text → Text → Problem → Type 0 where
   -- it isn't declared
   Undeclared : (way : List Text) → (name : Text)
@@ -33,7 +33,7 @@ pub data HasProblem (variables : List Variable) : List Text → Text → Problem
       → (values_of variables name ≡ Some values) → (¬ Contains way name)
       → (names_needed values ≡ before ++ used ∷ after) → AreListed variables before
       → HasProblem variables (name ∷ way) used problem → HasProblem variables way name problem
-  -- all names that its values use have lists, and still it has none
+  -- all names that its values use have lists, but it has none
   Long : (way : List Text) → (name : Text) → (values : List Text)
       → (values_of variables name ≡ Some values) → (¬ Contains way name)
       → AreListed variables (names_needed values) → ((n : ℕ) → list_of_values (list_at n variables) values ≡ None)

@@ -4,7 +4,7 @@ use Rattle.std.specs.List.{flat_map}
 use Rattle.std.specs.Option.{option_map}
 use Rattle.profile_variables.specs.Pieces.{Text, Piece, byte, escaped, use_of, written, pieces, used_names}
 
--- A declared variable: its name and its values. Those of `=` and of `+=` stand together.
+-- A declared variable: its name and its values, those of `=` and `+=` together.
 pub record Variable : Type 0 where
   pub name : Text
   pub values : List Text
@@ -13,11 +13,11 @@ pub record Variable : Type 0 where
 abbrev pub values_of : List Variable → Text → Option (List Text)
 values_of variables name = option_map (λ v. v.values) (find (λ v. bytes_eq v.name name) variables)
 
--- a list of texts has so many at most (our choice; AppArmor knows no bound)
+-- the maximum number of texts in a list (our choice; AppArmor has no bound)
 abbrev pub most_texts : ℕ
 most_texts = 1024
 
--- and so many bytes in all at most (our choice); a path's text, too
+-- and the maximum number of bytes in all (our choice), also of a path's text
 abbrev pub most_bytes : ℕ
 most_bytes = 16384
 
@@ -28,11 +28,11 @@ byte_count texts = sum_by length texts
 abbrev pub fitting : List Text → Option (List Text)
 fitting texts = if nat_le (length texts) most_texts && nat_le (byte_count texts) most_bytes then Some texts else None
 
--- each of these texts with each of those behind it, the first of them slowest
+-- each of the firsts followed by each of the seconds; the firsts vary slowest
 abbrev pub each_with : List Text → List Text → List Text
 each_with firsts seconds = flat_map (λ first. map (λ second. first ++ second) seconds) firsts
 
--- the lists of variables, as far as they are known
+-- the lists of variables, where known
 abbrev pub Known : Type 0
 Known = Text → Option (List Text)
 
@@ -42,7 +42,7 @@ piece_texts known (byte b) = Some (written (byte b) ∷ [])
 piece_texts known (escaped b) = Some (written (escaped b) ∷ [])
 piece_texts known (use_of name) = known name
 
--- the texts that go on from these with each piece in turn, one text for each choice
+-- the texts that extend these by each piece in turn, one text for each choice
 abbrev pub texts_from : Known → List Text → List Piece → Option (List Text)
 texts_from known begun [] = Some begun
 texts_from known begun (p ∷ more) =
@@ -62,13 +62,13 @@ list_from known begun (value ∷ more) =
 abbrev pub list_of_values : Known → List Text → Option (List Text)
 list_of_values known values = list_from known [] values
 
--- the list of the variable of that name, if it needs no more than so many levels of variables
+-- the list of the variable of that name, if it needs at most this many levels of variables
 unfoldable pub list_at : ℕ → List Variable → Known
 list_at zero variables name = None
 list_at (suc n) variables name = option_and_then (list_of_values (list_at n variables)) (values_of variables name)
 
--- The variable has this list. It has none if a variable that it needs, through others, isn't declared or needs itself, or if
--- a list on the way is too long.
+-- The variable has this list. It has none if a variable that it needs, possibly through others, isn't declared or needs
+-- itself, or if a list on the way is too long.
 abbrev pub HasList : List Variable → Text → List Text → Type 0
 HasList variables name list = (n : ℕ) × (list_at n variables name ≡ Some list)
 
@@ -76,7 +76,7 @@ HasList variables name list = (n : ℕ) × (list_at n variables name ≡ Some li
 abbrev pub names_needed : List Text → List Text
 names_needed values = flat_map used_names values
 
--- the variables, of which the first has this value alone
+-- the variables, with this value alone for the first
 abbrev pub with_first_value : List Variable → Text → List Variable
 with_first_value [] value = []
 with_first_value (v ∷ variables) value = record { name = v.name; values = value ∷ [] } ∷ variables

@@ -1,9 +1,9 @@
--- Lists of texts whose limits are put to whole lists alone (`Variables.antt` puts them to all that a list is made of, too).
+-- Lists of texts whose limits apply to whole lists only (in `Variables.antt` they also apply to all that a list is made of).
 use Rattle.std.specs.Prelude.{ℕ, zero, suc, List, [], ◌∷◌, ◌++◌, Option, Some, None, option_and_then}
 use Rattle.profile_variables.specs.Pieces.{Text, Piece, pieces}
 use Rattle.profile_variables.specs.Variables.{Variable, Known, values_of, fitting, each_with, piece_texts}
 
--- the texts that go on from these with each piece in turn, however many and however long
+-- the texts that extend these by each piece in turn, however many and however long
 abbrev pub all_texts_from : Known → List Text → List Piece → Option (List Text)
 all_texts_from known begun [] = Some begun
 all_texts_from known begun (p ∷ more) = option_and_then (λ choices. all_texts_from known (each_with begun choices) more) (piece_texts known p)

@@ -7,7 +7,7 @@ ghost use Rattle.profile_variables.specs.inner.Adding.{Adds};
 use crate::refusal::Refusal;
 use crate::texts::{MOST_BYTES, Texts};
 
-/// The texts of a list in the place of a use, and whether a slash stands directly before it, and one directly behind it.
+/// Adds the texts of a list in place of a use. The flags say whether a slash is directly before it, and directly after it.
 pub(crate) fn add_list(
     text: &mut Vec<u8>,
     list: &Texts,
@@ -24,7 +24,7 @@ pub(crate) fn add_list(
     add(text, b"}")
 }
 
-/// The texts of a group.
+/// Adds the texts of a group.
 fn add_alternatives(
     text: &mut Vec<u8>,
     list: &Texts,
@@ -47,7 +47,7 @@ fn add_alternatives(
     Ok(())
 }
 
-/// A further text of a group.
+/// Adds a further text of a group.
 fn add_further(text: &mut Vec<u8>, more: &[u8]) -> Result<(), Refusal>
     ensures { Adds result text.old.items text.new.items (44 ∷ more.now) }
 {
@@ -55,7 +55,7 @@ fn add_further(text: &mut Vec<u8>, more: &[u8]) -> Result<(), Refusal>
     add(text, more)
 }
 
-/// These bytes at the end of the text.
+/// Appends these bytes to the text.
 pub(crate) fn add(text: &mut Vec<u8>, more: &[u8]) -> Result<(), Refusal>
     ensures { Adds result text.old.items text.new.items more.now }
 {
@@ -66,7 +66,7 @@ pub(crate) fn add(text: &mut Vec<u8>, more: &[u8]) -> Result<(), Refusal>
     Ok(())
 }
 
-/// A text of a group without its slashes beside those that stand there.
+/// Returns a text of a group without its slashes that are next to slashes already there.
 fn alternative(slash_before: bool, slash_behind: bool, text: &[u8]) -> &[u8]
     ensures { result.now ≡ alternative slash_before slash_behind text.now }
 {

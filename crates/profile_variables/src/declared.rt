@@ -12,7 +12,7 @@ use std::alloc::{AllocError, Global};
 use std::collections::BTreeMap;
 use std::marker::Model;
 
-/// The variables that are declared, in their order.
+/// The declared variables, in order.
 #[derive(Drop)]
 pub(crate) struct Declared<'t> {
     variables: Vec<Variable<'t>>,
@@ -45,7 +45,7 @@ impl<'t> Declared<'t> {
         Ok(Declared { variables, places })
     }
 
-    /// The first has this value alone.
+    /// Gives the first variable this value alone.
     pub(crate) fn set_first(&mut self, alloc: Global, value: &'t [u8]) -> Result<(), NoMemory>
         ensures first { OnOk result (self.new ≡ with_first_value self.old value.now) }
         ensures same { OnErr result (self.new ≡ self.old) }
@@ -57,14 +57,14 @@ impl<'t> Declared<'t> {
         Ok(())
     }
 
-    /// How many there are.
+    /// Returns the number of variables.
     pub(crate) fn len(&self) -> usize
         ensures { result ≡ length self.now }
     {
         self.variables.len()
     }
 
-    /// Where the variable of that name stands.
+    /// Returns the place of the variable of that name.
     pub(crate) fn place(&self, name: &[u8]) -> Option<usize>
         ensures { result ≡ place_of self.now name.now }
     {
@@ -80,7 +80,7 @@ impl<'t> Declared<'t> {
     }
 }
 
-/// Where the variable of each name stands. Of two with one name the first counts.
+/// Returns the place of the variable of each name. Of two with the same name the first counts.
 fn places_of(
     alloc: Global,
     variables: &[Variable<'_>],

@@ -2,7 +2,7 @@ ghost use Rattle.std.specs.Prelude.{◌≡◌};
 
 use std::alloc::{AllocError, AllocFailed};
 
-/// Why no text is put in the place of another.
+/// Why a substitution gives no text.
 #[derive(Clone, Copy, Debug, PartialEq, Eq)]
 pub enum ExpandFault<'t> {
     /// A variable that is used, or that is needed through others, isn't declared.
@@ -11,7 +11,7 @@ pub enum ExpandFault<'t> {
     Cycle { name: &'t [u8] },
     /// The list of a variable, or the whole text, is too long.
     TooLong,
-    /// Memory was refused; nothing is said of the text.
+    /// An allocation failed; this says nothing about the text.
     NoMemory,
 }
 

@@ -1,4 +1,4 @@
-//! Laws that show the definitions of `specs/` sane. The functions do nothing: each stands for its contract.
+//! Laws that show the definitions of `specs/` to be sane. The functions do nothing; each exists for its contract.
 ghost use Rattle.std.specs.Prelude.{◌≡◌, ◌⊎◌, ◌<◌, ℕ, List, [], All, length};
 ghost use Rattle.std.specs.List.{flat_map};
 ghost use Rattle.profile_variables.specs.Pieces.{Text, pieces, written};
@@ -8,7 +8,7 @@ ghost use Rattle.profile_variables.specs.Slashes.{one_slash};
 ghost use Rattle.profile_variables.specs.Variables.{Variable, HasList, list_at};
 ghost use Rattle.profile_variables.specs.WholeLists.{whole_list_at};
 
-/// The pieces of a text, as they are written, are the text.
+/// The pieces of a text, written out, are the text.
 pub fn texts_are_their_pieces()
     ensures { (text : Text) → flat_map written (pieces text) ≡ text }
 {}
@@ -29,13 +29,13 @@ pub fn one_text_or_one_problem()
     ensures either { (variables : List Variable) (path text : Text) (problem : Problem) → IsSubstituted variables path text → ¬ PathProblem variables path problem }
 {}
 
-/// Where each run of slashes is one already, nothing changes.
+/// Where each run of slashes is already a single one, nothing changes.
 pub fn one_slash_stays()
     ensures { (text : Text) → one_slash (one_slash text) ≡ one_slash text }
 {}
 
-/// Where each variable has a value, it is all the same whether limits are put to all that a list is made of, or to whole
-/// lists alone.
+/// Where each variable has a value, it makes no difference whether limits apply to all that a list is made of, or to whole
+/// lists only.
 pub fn limits_are_of_whole_lists()
     ensures { (variables : List Variable) → All (λ v. 0 < length v.values) variables → (n : ℕ) (name : Text) → list_at n variables name ≡ whole_list_at n variables name }
 {}

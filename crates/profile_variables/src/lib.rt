@@ -1,5 +1,5 @@
-//! The variables of AppArmor profile texts (apparmor.d(5), "Variables"): the texts that each stands for, and paths in which
-//! they are put in place. Each list of texts is made once, and none is made that is too long.
+//! The variables of AppArmor profile texts (apparmor.d(5), "Variables"): the texts that each stands for, and their substitution
+//! in paths. Each list of texts is made once, and none is made that is too long.
 //!
 //! The definitions to believe are those in `specs/`; those in `specs/inner/` are of private contracts and
 //! proofs.

@@ -1,4 +1,4 @@
-//! The list of one variable, where the lists that it needs are made.
+//! The list of one variable, given that the lists it needs are made.
 ghost use Rattle.std.specs.Prelude.{◌≡◌, ◌<◌, ◌∷◌, [], map, option_and_then, slice_get};
 ghost use Rattle.std.specs.Option.{option_map};
 ghost use Rattle.profile_variables.specs.Variables.{piece_texts, value_texts, list_of_values, fitting, each_with};
@@ -12,7 +12,7 @@ use crate::refusal::Refusal;
 use crate::texts::Texts;
 use std::alloc::Global;
 
-/// The list of the variable of that name, if it is made.
+/// Returns the list of the variable of that name, if it is made.
 pub(crate) fn known<'m>(
     declared: &Declared<'_>,
     made: &'m [Option<Texts>],
@@ -27,7 +27,7 @@ pub(crate) fn known<'m>(
     }
 }
 
-/// The texts of all these values.
+/// Returns the texts of all these values.
 pub(crate) fn list_of(
     alloc: Global,
     declared: &Declared<'_>,
@@ -44,7 +44,7 @@ pub(crate) fn list_of(
     Ok(texts)
 }
 
-/// The texts of a value.
+/// Returns the texts of a value.
 fn texts_of(
     alloc: Global,
     declared: &Declared<'_>,
@@ -62,7 +62,7 @@ fn texts_of(
     Ok(texts)
 }
 
-/// Each of the texts with each text of the piece at its end.
+/// Returns each of the texts with each text of the piece appended.
 fn with_piece(
     alloc: Global,
     declared: &Declared<'_>,
@@ -82,7 +82,7 @@ fn with_piece(
     }
 }
 
-/// Each of the texts with each text of the list at its end.
+/// Returns each of the texts with each text of the list appended.
 fn with_list(alloc: Global, texts: Texts, list: &Texts) -> Result<Texts, Refusal>
     ensures { Gives result (fitting (each_with texts list.now)) }
 {

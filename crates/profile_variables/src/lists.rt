@@ -17,7 +17,7 @@ use names::NoMemory;
 use std::alloc::{AllocError, Global};
 use std::marker::Model;
 
-/// Declared variables, with the lists of texts that were made so far; each is made once. They are seen as the list of the
+/// Declared variables, with the lists of texts made so far; each is made once. Contracts see the value as the list of the
 /// variables.
 #[derive(Drop)]
 pub struct Lists<'t> {
@@ -38,7 +38,7 @@ impl<'t> Model for Lists<'t> {
 }
 
 impl<'t> Lists<'t> {
-    /// No list is made yet. The variables' names are all different; of two with one name the first would count.
+    /// Starts with no list made. The variables' names are all different; of two with the same name the first would count.
     pub fn new(alloc: Global, variables: Vec<Variable<'t>>) -> Result<Lists<'t>, NoMemory>
         ensures { IfOk result (λ lists. lists ≡ variables.entry.items) }
     {
@@ -56,9 +56,9 @@ impl<'t> Lists<'t> {
         Ok(Lists { declared, made })
     }
 
-    /// The first variable has this value alone; its name stays. The lists that don't need it are kept.
+    /// Gives the first variable this value alone; its name stays. The lists that don't need it are kept.
     ///
-    /// This takes as many steps as lists that need it were made since it was set last, and as the value has bytes.
+    /// The number of steps is that of the lists needing it that were made since it was last set, plus the bytes of the value.
     pub fn set_first(&mut self, alloc: Global, value: &'t [u8]) -> Result<(), NoMemory>
         ensures first { OnOk result (self.new ≡ with_first_value self.old value.now) }
         ensures same { OnErr result (self.new ≡ self.old) }
@@ -68,8 +68,8 @@ impl<'t> Lists<'t> {
         Ok(())
     }
 
-    /// The text of a path with its variables put in place, or why there is none, of all reasons the first: that of the
-    /// leftmost variable that has no list, and that the text is too long last.
+    /// Returns the text of a path with its variables put in place, or the first of all reasons why there is none: that of the
+    /// leftmost variable without a list, and that the text is too long last.
     pub fn substitute(&mut self, alloc: Global, path: &'t [u8]) -> Result<Vec<u8>, ExpandFault<'t>>
         ensures text { IfOk result (λ text. IsSubstituted self.old path.now text.items) }
         ensures fault { IfErr result (λ fault. Tells (PathProblem self.old path.now) fault) }

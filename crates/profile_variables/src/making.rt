@@ -19,9 +19,9 @@ use std::alloc::{AllocError, Global};
 #[derive(Drop)]
 pub(crate) struct Made {
     pub(crate) lists: Vec<Option<Texts>>,
-    /// How many variables stood on the way when each was met last.
+    /// For each variable, how many variables were on the way when it was last met.
     pub(crate) met: Vec<usize>,
-    /// Of each list that is made, whether it needs the first variable; of the others either may stand.
+    /// For each list that is made, whether it needs the first variable; arbitrary for the others.
     pub(crate) needs_first: Vec<bool>,
     /// The places of those that do.
     pub(crate) needing_first: Vec<usize>,
@@ -35,7 +35,7 @@ pub(crate) struct Step {
 }
 
 impl Made {
-    /// No list is made yet, and no variable was met; of one that wasn't, any number may stand.
+    /// No list is made yet, and no variable was met; the entry of one that wasn't is arbitrary.
     pub(crate) fn nothing(alloc: Global, declared: &Declared<'_>) -> Result<Made, AllocError>
         ensures { IfOk result (λ made. IsSound declared.now made) }
     {
@@ -55,7 +55,7 @@ impl Made {
         })
     }
 
-    /// Whether the variable at that place stands on the way.
+    /// Whether the variable at that place is on the way.
     fn is_on(&self, way: &[Step], place: usize) -> bool
         requires { place < length self.now.met.items }
         ensures { result ≡ is_on self.now.met.items way.now place }
@@ -66,7 +66,7 @@ impl Made {
         }
     }
 
-    /// The variable of that name steps on the way, unless it isn't declared or stands there already.
+    /// Pushes the variable of that name onto the way, unless it isn't declared or is already on it.
     fn enter<'t>(
         &mut self,
         declared: &Declared<'t>,
@@ -97,7 +97,7 @@ impl Made {
         Ok(())
     }
 
-    /// Marks the place of a list that is to be made, if it needs the first variable.
+    /// Marks the place of a list about to be made, if it needs the first variable.
     fn mark(&mut self, declared: &Declared<'_>, place: usize) -> Result<(), AllocError>
         requires within { place < length declared.now }
         requires sound { IsSound declared.now self.old }
@@ -114,7 +114,7 @@ impl Made {
         Ok(())
     }
 
-    /// The list of the variable at that place, for which all that it needs is made.
+    /// Makes the list of the variable at that place; all that it needs is made.
     fn finish(
         &mut self,
         alloc: Global,
@@ -151,7 +151,7 @@ impl Made {
 }
 
 impl Made {
-    /// Makes the list of the variable of that name, unless it is made, and those that it needs.
+    /// Makes the list of the variable of that name, unless it is already made, and those that it needs.
     pub(crate) fn make<'t>(
         &mut self,
         alloc: Global,
@@ -175,8 +175,8 @@ impl Made {
         Ok(())
     }
 
-    /// The last step, which was taken off the way: the next variable that it needs steps on the way behind it, or its list
-    /// is made.
+    /// Advances the last step, which was popped off the way: pushes it again followed by the next variable that it needs, or makes
+    /// its list.
     fn advance<'t>(
         &mut self,
         alloc: Global,
@@ -207,7 +207,7 @@ impl Made {
     }
 }
 
-/// The first of the names, from that place on, whose list isn't made, and its place.
+/// Returns the first of the names, from that place on, whose list isn't made, and its place.
 fn first_missing<'t>(
     declared: &Declared<'_>,
     lists: &[Option<Texts>],

@@ -10,7 +10,7 @@ ghost use Rattle.profile_variables.specs.inner.CodePieces.{piece_value};
 pub(crate) enum Piece<'t> {
     /// A byte that stands for itself.
     Byte(u8),
-    /// A backslash and the byte behind it.
+    /// A backslash and the byte after it.
     Escaped(u8),
     /// A use of the variable of that name.
     Use(&'t [u8]),
@@ -23,7 +23,7 @@ fn is_name_byte(byte: u8) -> bool
     byte.is_ascii_alphanumeric() || byte == b'_'
 }
 
-/// How many bytes of a name stand at the front.
+/// Returns the number of name bytes at the front.
 fn name_length(bytes: &[u8]) -> usize
     ensures { result ≡ prefix_len is_name_byte bytes.now }
 {
@@ -34,7 +34,7 @@ fn name_length(bytes: &[u8]) -> usize
     length
 }
 
-/// The name that stands at the front, if it begins with a letter and a closing brace stands behind it.
+/// Returns the name at the front, if it begins with a letter and a closing brace follows it.
 fn closed_name(bytes: &[u8]) -> Option<&[u8]>
     ensures name { option_map (λ name. name.now) result ≡ closed_name bytes.now }
     ensures within { IfSome result (λ name. length name.now < length bytes.now) }
@@ -52,7 +52,7 @@ fn closed_name(bytes: &[u8]) -> Option<&[u8]>
     }
 }
 
-/// The name of the use whose `@` stands before these bytes.
+/// Returns the name of the use whose `@` directly precedes these bytes.
 fn used_name(bytes: &[u8]) -> Option<&[u8]>
     ensures name { option_map (λ name. name.now) result ≡ used_name bytes.now }
     ensures within { IfSome result (λ name. length name.now + 2 ≤ length bytes.now) }
@@ -63,7 +63,7 @@ fn used_name(bytes: &[u8]) -> Option<&[u8]>
     }
 }
 
-/// What a backslash is together with the bytes behind it, and what is left after it.
+/// Returns the piece that a backslash forms with the bytes after it, and what is left after it.
 fn escape(bytes: &[u8]) -> (Piece<'_>, &[u8])
     ensures piece { piece_value result.0 ≡ escape bytes.now }
     ensures rest { pieces_behind (length (written (escape bytes.now)) - 1) bytes.now ≡ pieces result.1.now }

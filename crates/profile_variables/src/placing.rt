@@ -16,7 +16,7 @@ use crate::refusal::Refusal;
 use crate::texts::Texts;
 use std::alloc::Global;
 
-/// The path's text with each use replaced.
+/// Returns the path's text with each use replaced.
 pub(crate) fn put_in_place(
     alloc: Global,
     declared: &Declared<'_>,
@@ -30,7 +30,7 @@ pub(crate) fn put_in_place(
     let mut text = Vec::new(alloc);
     let mut rest = path;
     while let Some((piece, more)) = split_piece(rest) {
-        // What stands before is asked of the text so far, and what stands behind of the path as it is written.
+        // Whether a slash precedes is read from the text so far, and whether one follows from the path as written.
         let after_slash = ends_with_slash(&text);
         add_piece(
             &mut text,
@@ -45,7 +45,7 @@ pub(crate) fn put_in_place(
     Ok(text)
 }
 
-/// A piece in its place, and whether a slash stands directly before it, and one directly behind it.
+/// Adds a piece in its place. The flags say whether a slash is directly before it, and directly after it.
 fn add_piece(
     text: &mut Vec<u8>,
     declared: &Declared<'_>,

@@ -1,4 +1,4 @@
-//! Why a function of the crate gives nothing.
+//! Why a function of the crate returns no value.
 ghost use Rattle.std.specs.Prelude.{◌≡◌};
 
 use crate::fault::ExpandFault;

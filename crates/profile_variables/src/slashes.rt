@@ -5,7 +5,7 @@ ghost use Rattle.profile_variables.specs.Slashes.{begins_with_two, one_slash, ru
 use names::NoMemory;
 use std::alloc::{AllocError, Global};
 
-/// The text with one slash for each run of slashes. Only two slashes, and no more, at its start stay two.
+/// Returns the text with one slash for each run of slashes. Only exactly two slashes at its start stay two.
 pub fn one_slash(alloc: Global, text: &[u8]) -> Result<Vec<u8>, NoMemory>
     ensures { IfOk result (λ one. one.items ≡ one_slash text.now) }
 {
@@ -19,7 +19,7 @@ pub fn one_slash(alloc: Global, text: &[u8]) -> Result<Vec<u8>, NoMemory>
     }
 }
 
-/// Whether the text begins with two slashes and no more.
+/// Whether the text begins with exactly two slashes.
 fn begins_with_two(text: &[u8]) -> bool
     ensures { result ≡ begins_with_two text.now }
 {
@@ -29,7 +29,7 @@ fn begins_with_two(text: &[u8]) -> bool
     }
 }
 
-/// The text with one slash for each run, behind what is there.
+/// Pushes the text with one slash for each run, after what is there.
 fn push_joined(one: &mut Vec<u8>, text: &[u8]) -> Result<(), AllocError>
     ensures { OnOk result (one.new.items ≡ one.old.items ++ runs_joined false text.now) }
 {

@@ -7,17 +7,17 @@ use crate::refusal::Refusal;
 use std::alloc::{AllocError, Global};
 use std::marker::Model;
 
-/// The most texts that a variable stands for.
+/// The maximum number of texts that a variable stands for.
 pub const MOST_TEXTS: usize = 1024;
 
-/// The most bytes that a variable's texts have in all, and that a path's text has.
+/// The maximum number of bytes of a variable's texts in all, and of a path's text.
 pub const MOST_BYTES: usize = 16384;
 
-/// Texts, seen as a list of lists of bytes.
+/// Texts; contracts see them as a list of lists of bytes.
 #[derive(Drop)]
 pub(crate) struct Texts {
     texts: Vec<Vec<u8>>,
-    /// How many bytes they have in all.
+    /// The total number of bytes.
     bytes: usize,
 }
 
@@ -52,7 +52,7 @@ impl Texts {
         Ok(Texts { texts, bytes: 0 })
     }
 
-    /// How many there are.
+    /// Returns the number of texts.
     pub(crate) fn len(&self) -> usize
         ensures { result ≡ length self.now }
     {
@@ -67,7 +67,7 @@ impl Texts {
         self.texts[place].as_slice()
     }
 
-    /// Each of these with the bytes at its end.
+    /// Returns each of these with the bytes appended.
     pub(crate) fn each_with_end(self, end: &[u8]) -> Result<Texts, Refusal>
         ensures { Gives result (fitting (each_with self (end.now ∷ []))) }
     {
@@ -82,7 +82,7 @@ impl Texts {
         Ok(Texts { texts, bytes })
     }
 
-    /// Each of these with each of the others at its end, the first of these with all of them first.
+    /// Returns each of these with each of the others appended: first the first of these with all of them.
     pub(crate) fn each_with(&self, alloc: Global, seconds: &Texts) -> Result<Texts, Refusal>
         ensures { Gives result (fitting (each_with self.now seconds.now)) }
     {
@@ -95,7 +95,7 @@ impl Texts {
         Ok(Texts { texts, bytes })
     }
 
-    /// These and then the others.
+    /// Returns these, then the others.
     pub(crate) fn append(self, more: Texts) -> Result<Texts, Refusal>
         ensures { Gives result (fitting (self ++ more)) }
     {
@@ -111,7 +111,7 @@ impl Texts {
     }
 }
 
-/// So many bytes, and so many more for each of so many texts, unless these are too many.
+/// Returns `bytes` plus `more` for each of `count` texts, unless that exceeds the limit.
 fn bytes_grown(bytes: usize, count: usize, more: usize) -> Option<usize>
     ensures some { IfSome result (λ all. (all ≡ bytes + count * more) × (all ≤ most_bytes)) }
     ensures none { result ≡ None → most_bytes < bytes + count * more }
@@ -120,7 +120,7 @@ fn bytes_grown(bytes: usize, count: usize, more: usize) -> Option<usize>
     if all > MOST_BYTES { None } else { Some(all) }
 }
 
-/// The bytes at the end of each text.
+/// Appends the bytes to each text.
 fn extend_each(texts: &mut Vec<Vec<u8>>, end: &[u8]) -> Result<(), AllocError>
     ensures { OnOk result (map (λ text. text.items) texts.new.items ≡ map (λ text. text ++ end.now) (map (λ text. text.items) texts.old.items)) }
 {
@@ -130,7 +130,7 @@ fn extend_each(texts: &mut Vec<Vec<u8>>, end: &[u8]) -> Result<(), AllocError>
     Ok(())
 }
 
-/// Each of the firsts with each of the seconds at its end, the first of them slowest.
+/// Returns each of the firsts with each of the seconds appended; the firsts vary slowest.
 fn product(
     alloc: Global,
     firsts: &[Vec<u8>],
@@ -145,7 +145,7 @@ fn product(
     Ok(texts)
 }
 
-/// The first text with each of the seconds at its end, behind the texts.
+/// Pushes the first text with each of the seconds appended, after the texts.
 fn push_with_each(
     alloc: Global,
     texts: &mut Vec<Vec<u8>>,

@@ -8,7 +8,7 @@ use names::NoMemory;
 use std::alloc::{AllocError, Global};
 use std::marker::Model;
 
-/// A declared variable: its name and its values, those of `=` and of `+=` together.
+/// A declared variable: its name and its values, those of `=` and `+=` together.
 #[derive(Drop)]
 pub struct Variable<'t> {
     name: &'t [u8],
@@ -95,7 +95,7 @@ fn names_needed<'t>(alloc: Global, values: &[&'t [u8]]) -> Result<Vec<&'t [u8]>,
     Ok(names)
 }
 
-/// The names that a text uses, behind those that are there.
+/// Pushes the names that a text uses after those already there.
 fn push_used<'t>(names: &mut Vec<&'t [u8]>, text: &'t [u8]) -> Result<(), AllocError>
     ensures { OnOk result (map (λ name. name.now) names.new.items ≡ map (λ name. name.now) names.old.items ++ used_names text.now) }
 {

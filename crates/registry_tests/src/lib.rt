@@ -1,5 +1,5 @@
-//! Tests of `profile_registry`, and nothing else. A library with tests of its own would be proved twice, once with them; as
-//! they stand here, it is proved once.
+//! Tests of `profile_registry`, and nothing else. A library with tests of its own would be proved twice, once with them; with the
+//! tests here, it is proved once.
 #![tactic(auto)]
 
 #[cfg(test)]

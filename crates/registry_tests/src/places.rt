@@ -5,7 +5,7 @@ use std::alloc::Global;
 use std::process::Abort;
 use std::test::Fail;
 
-// All places but one are taken.
+// Takes all places but one.
 fn take_places(alloc: Global, publisher: &mut Publisher) -> Result<Vec<PolicyReader>, Fail> {
     let mut readers: Vec<PolicyReader> = Vec::with_capacity(alloc, PLACES)?;
     for _ in 1..PLACES {
@@ -14,7 +14,7 @@ fn take_places(alloc: Global, publisher: &mut Publisher) -> Result<Vec<PolicyRea
     Ok(readers)
 }
 
-// The last place is a note's, as long as there is one.
+// A note takes the last place, as long as it exists.
 fn take_last_by_note(rt: &impl Abort, publisher: &mut Publisher) -> Result<(), Fail> {
     let told = publisher.tell()?;
     assert_eq!(rt; publisher.reader().err(), Some(NoSeat));
@@ -30,7 +30,7 @@ fn look_by_each(rt: &impl Abort, readers: &mut [PolicyReader]) -> Result<(), Fai
     Ok(())
 }
 
-// Each place is taken once, and can be taken again when its reader, or its note, is let go.
+// Each place is taken once, and can be taken again when its reader, or its note, is dropped.
 fn fills(rt: &impl Abort, alloc: Global, publisher: &mut Publisher) -> Result<(), Fail> {
     let mut readers = take_places(alloc, publisher)?;
     take_last_by_note(rt, publisher)?;

@@ -10,18 +10,18 @@ use std::test::Fail;
 use std::thread::{Threads, join};
 use verdicts::Verdict;
 
-// What a request is answered.
+// The answer to a request.
 #[derive(Clone, Copy, Debug, PartialEq, Eq)]
 enum Reply {
     Allowed,
     Denied,
     /// Nothing is published under the name.
     Unknown,
-    /// To be asked again.
+    /// The request is to be made again.
     Busy,
 }
 
-// May the holder of a profile read this file? Each thread has a reader of its own, and waits for nobody.
+// Whether the holder of a profile may read this file. Each thread has a reader of its own, and waits for nobody.
 fn may_read(reader: &mut PolicyReader, name: &[u8], file: &[u8]) -> Reply {
     let Ok((profile, _version)) = reader.get(name) else {
         return Reply::Busy;

@@ -21,7 +21,7 @@ pub(crate) enum Found {
     Another,
 }
 
-/// The profile that a text tells.
+/// The profile of a text, compiled.
 pub(crate) fn compiled(alloc: Global, text: &[u8]) -> Result<Arc<AnyProfile>, Fail> {
     let compiled = CompiledProfile::make(alloc, read(alloc, text)?)?;
     Ok(Arc::new(alloc, AnyProfile::Compiled(compiled))?)
@@ -75,7 +75,7 @@ pub(crate) fn replace(
     Ok(())
 }
 
-/// Stages that nothing stands under a name, likewise.
+/// Stages the removal of what is published under a name, likewise.
 pub(crate) fn remove(rt: &impl Abort, publisher: &mut Publisher, name: &[u8]) -> Result<(), Fail> {
     let before = publisher.changes();
     if before >= 1 << 59 {
@@ -108,7 +108,7 @@ pub(crate) fn publish<R: Abort + Wait>(
     }
 }
 
-/// A publisher, with what it is lent to. It is closed whatever that answers.
+/// Returns a new publisher. Where memory is refused once, the second call makes it.
 pub(crate) fn new_publisher(alloc: Global) -> Result<Publisher, NoMemory> {
     match Publisher::new(alloc) {
         Ok(publisher) => Ok(publisher),

@@ -14,10 +14,10 @@ const LAST: u64 = 3 * ROUNDS;
 
 const ROUNDS: u64 = 200;
 
-// A reader gives up after so many looks, which take some seconds: a run of the publisher takes some milliseconds.
+// A reader stops after this many looks, which take some seconds: a run of the publisher takes some milliseconds.
 const LOOKS: u64 = 1 << 27;
 
-// What is published under the name after so many changes.
+// What is published under the name after the first `version` changes.
 fn published_after(version: u64) -> Found {
     match version % 3 {
         1 => Found::A,
@@ -26,7 +26,7 @@ fn published_after(version: u64) -> Found {
     }
 }
 
-// Stages the change of that number.
+// Stages the change with this number.
 fn stage(
     publisher: &mut Publisher,
     change: u64,
@@ -47,7 +47,7 @@ fn stage(
     }
 }
 
-// Makes all changes, some of them several at a time. Says whether each version was the one that is due.
+// Makes all changes, some of them several at a time. Returns whether each version was the expected one.
 fn publish_all<R: Wait>(
     rt: &R,
     publisher: &mut Publisher,
@@ -65,7 +65,7 @@ fn publish_all<R: Wait>(
     publisher.publish(rt) == Ok(LAST)
 }
 
-// Reads until the last version is seen. Says whether each pair was what is published after so many changes, and no version
+// Reads until the last version is seen. Returns whether each pair was what is published after `version` changes, and no version
 // fell.
 fn read_all(reader: &mut PolicyReader) -> bool {
     let mut before = 0;
@@ -84,7 +84,7 @@ fn read_all(reader: &mut PolicyReader) -> bool {
     false
 }
 
-// What a reader says of its pairs, and what the publisher beside it says of its versions.
+// What a reader returns about its pairs, and what the publisher, running concurrently, returns about its versions.
 fn read_beside<R: Threads + Wait + Sync>(
     rt: &R,
     reader: &mut PolicyReader,
@@ -123,7 +123,7 @@ fn each_pair_was_published(rt: HostRuntime) -> Result<(), Fail> {
     outcome
 }
 
-// Another thread is lent the publisher.
+// Lends the publisher to another thread.
 fn told_there<R: Threads>(rt: &R, publisher: &mut Publisher) -> bool {
     join(rt, || publisher.tell().is_ok(), || ()).0
 }

@@ -1,4 +1,4 @@
--- What the parts of a keeper have in common, before and after each step.
+-- The invariant between the parts of a keeper, before and after each step.
 use Rattle.std.proofs.Common.{◌≡◌, ◌≢◌, ℕ, suc, ◌+◌, ◌<◌, ◌≤◌, Bool, true, false, List, [], ◌∷◌, ◌++◌, length, drop, Some, None, Option, sym, refl, ap, ◌∙◌, subst, arith, get_or, length-drop, drop-cons}
 use Rattle.std.proofs.lemmas.List.{drop_all}
 use Rattle.std.proofs.lemmas.Bool.{lt-ltb, ltb-true}
@@ -34,7 +34,7 @@ use Rattle.row_keeper.specs.Keeping.{MayPlan, IsOpened, IsSet, IsClosed, MayClos
 use Rattle.row_keeper.specs.inner.Kept.{last_from, last_of, pending_of, view_with, IsKept}
 use Rattle.row_keeper.specs.inner.Planned.{IsPlanned}
 
--- the last change of some with one more
+-- the last of some changes with one appended
 last_from_more : (first : Change) (changes : List Change) (change : Change) → last_from first (changes ++ change ∷ []) ≡ change
 last_from_more first [] change = refl
 last_from_more first (next ∷ rest) change = last_from_more next rest change
@@ -43,7 +43,7 @@ last_more : (changes : List Change) (change : Change) → last_of (changes ++ ch
 last_more [] change = refl
 last_more (first ∷ rest) change = last_from_more first rest change
 
--- the cells from the next one on, and where none is left
+-- the cells that are left, if there is a next one, and if there is none
 from_next : (cells : List Cell) (n : ℕ) (cell : Cell) → n < length cells → cell ≡ get_or cells n cell → drop n cells ≡ cell ∷ drop (n + 1) cells
 from_next cells n cell within is = drop-cons cells n cell within ∙ (λ i. sym is i ∷ drop (next n i) cells) where
   next : (n : ℕ) → suc n ≡ n + 1
@@ -52,7 +52,7 @@ from_next cells n cell within is = drop-cons cells n cell within ∙ (λ i. sym 
 none_left : (cells : List Cell) (n : ℕ) → drop n cells ≡ [] → length cells ≤ n
 none_left cells n h = let d = length-drop n cells in let e = ap length h in omega arith
 
--- What is planned where no change is open: one change more is counted, or there are too many.
+-- Planning while no change is open: one more change is counted, or there are too many.
 module _ (capacity : ℕ) (history : List Change) (t : Tree) (made : tree_after capacity history ≡ Ok t) (change : Change) where
   more : tree_after capacity (history ++ change ∷ []) ≡ apply_counted capacity (length history) t change
   more = after_more capacity 0 root_alone t history change (length history) (omega arith) made
@@ -71,7 +71,7 @@ module _ (capacity : ℕ) (history : List Change) (t : Tree) (made : tree_after 
         | false ↦ λ q h. absurd (err_is_ok EOVERFLOW u h)
       ] refl (sym more ∙ is)
 
--- no change is open where the field says so, and where the view does
+-- no change is open if the field says so, and if the view says so
 pub is_none : (opened : Option OpenChange) → is_some opened ≡ false → opened ≡ None
 is_none None h = refl
 is_none (Some o) h = absurd (true_is_false h)
@@ -92,7 +92,7 @@ kept_first capacity = record {
   is_open = tt;
 }
 
--- a change numbers one node at most
+-- a change numbers at most one node
 low_after : (next version : ℕ) (change : Change) → next ≤ version + 0 + 2 → next_after next change ≤ version + 1 + 2
 low_after next version (change.Mkdir path) h = omega arith
 low_after next version (change.Create path) h = omega arith
@@ -150,7 +150,7 @@ module _ (capacity : ℕ) (cells : List ℕ) (next version : ℕ) (history : Lis
         is_open = (is ∙ ap (λ (c : Change). history ++ c ∷ []) (sym last), omega arith, subst (λ (n : ℕ). All (λ (cell : Cell). cell.place < n) plan.items) k.encodes.long plans.lean.within);
       }
 
--- the same, where a keeper's parts are worth a value
+-- the same, for a value that is the view of a keeper's parts
 module _ (capacity : ℕ) (cells : List ℕ) (next version : ℕ) (history : List Change) (opened : Option OpenChange) (set : ℕ) (value : ℕ × KeeperView)
     (kept : IsKept capacity cells next version history opened set) (is : (let v : ℕ × KeeperView = (capacity, view_with cells history opened set) in v) ≡ value) where
   module _ (none : opened ≡ None) where
@@ -229,7 +229,7 @@ view_set cells history opened o set cell k is within next value =
     view_of : Change → List Cell → KeeperView
     view_of c cs = record { history = history; cells = slice_set cells cell.place cell.word; pending = Some record { change = c; left = cs }; met = [] }
 
--- the change is closed where no cell is left, and there alone
+-- the change is closed exactly if no cell is left
 pub view_closed : (capacity : ℕ) (cells : List ℕ) (next version : ℕ) (history : List Change) (opened : Option OpenChange) (o : OpenChange) (set after : ℕ) (k : KeeperView) (target : List Change) → opened ≡ Some o → length o.plan.items ≤ set → target ≡ o.target.events
     → IsKept capacity cells next version history opened set → view_with cells history opened set ≡ k → IsClosed k (view_with cells target None after)
 view_closed capacity cells next version history opened o set after k target is all target_is kept value =

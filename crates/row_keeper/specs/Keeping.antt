@@ -1,4 +1,4 @@
--- The steps of a keeper, said of its view: the cases of the machine's legal steps (`Moves`) that are the keeper's.
+-- The steps of a keeper, in terms of its view: the cases of the machine's legal steps (`Moves`) that are the keeper's.
 use Rattle.std.specs.Prelude.{◌≡◌, ℕ, List, [], ◌∷◌, ◌++◌, length, Some, None, Result, Ok, Err}
 use Rattle.names.specs.declared.errors.Errno.{Errno}
 use Rattle.directory_tree.specs.declared.change.Change.{Change}
@@ -9,7 +9,8 @@ use Rattle.row_rule.specs.Row.{left_of, write}
 use Rattle.row_rule.specs.Steps.{opening, setting, closing}
 use Rattle.row_plan.specs.Changes.{EncodesChanges, IsPlan}
 
--- At rest, a change may be opened with these cells: they are its plan, and with them the row encodes the changes with this one.
+-- At rest, a change may be opened with these cells: they are its plan, and once they are written the row encodes the changes and
+-- this one.
 abbrev pub MayPlan : ℕ → KeeperView → Change → List Cell → Type 0
 MayPlan capacity old change plan =
     (old.pending ≡ None) × IsPlan capacity old.cells old.history change plan × EncodesChanges capacity (write old.cells plan) (old.history ++ change ∷ [])
@@ -36,8 +37,8 @@ IsClosed old new = (change : Change) × (old.pending ≡ Some record { change = 
 abbrev pub MayClose : KeeperView → Type 0
 MayClose old = (new : KeeperView) × IsClosed old new
 
--- At rest, a change may be opened, and has so many cells to set then; or the definition refuses it by this number, that of too many
--- changes among them.
+-- At rest, a change may be opened and then has `count` cells to set; or the definition refuses it with this error number, which may
+-- be the one for too many changes.
 abbrev pub IsTested : ℕ → KeeperView → Change → Result ℕ Errno → Type 0
 IsTested capacity old change (Ok count) = MayOpen capacity old change × ((new : KeeperView) → IsOpened capacity old change new → length (left_of new.pending) ≡ count)
 IsTested capacity old change (Err errno) = (old.pending ≡ None) × (tree_after capacity (old.history ++ change ∷ []) ≡ Err errno)

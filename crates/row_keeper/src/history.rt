@@ -1,4 +1,4 @@
-//! The changes of a tree, for contracts alone.
+//! The changes of a tree, only for contracts.
 ghost use Rattle.std.specs.Prelude.{◌≡◌, List, [], ◌∷◌, ◌++◌};
 ghost use Rattle.directory_tree.specs.declared.change.Change.{Change};
 ghost use Rattle.std.specs.Borrow.{ftrue};
@@ -6,7 +6,7 @@ ghost use Rattle.std.specs.Borrow.{ftrue};
 use directory_tree::Change;
 use std::marker::{Model, PhantomData};
 
-/// Changes of a tree, the first of them first. It takes no memory: only contracts read it.
+/// Changes of a tree, oldest first. Takes no memory: only contracts read it.
 #[derive(Drop)]
 pub struct History {
     marker: PhantomData<u8>,
@@ -18,7 +18,7 @@ impl Model for History {
 }
 
 impl History {
-    /// No change.
+    /// No changes.
     pub fn new() -> History
         ensures { result.events ≡ [] }
     {
@@ -27,7 +27,7 @@ impl History {
         }
     }
 
-    /// With one change more.
+    /// These changes and one more.
     pub fn and(&self, change: &Change<'_>) -> History
         ensures { result.events ≡ self.now.events ++ change.now ∷ [] }
     {
@@ -36,7 +36,7 @@ impl History {
         }
     }
 
-    /// The same changes once more.
+    /// A copy of the same changes.
     pub fn again(&self) -> History
         ensures { result.events ≡ self.now.events }
     {

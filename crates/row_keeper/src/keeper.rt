@@ -23,8 +23,8 @@ use tree_row::{KnownRow, MOST_ENTRIES};
 /// The most changes that are counted: 2^60 - 1.
 const MOST_CHANGES: u64 = 1152921504606846975;
 
-/// A row of words and its keeper, in plain memory. It is seen as the pair of the row's capacity and what the keeper knows: the
-/// changes that were made, the cells as they stand, and the change that is open with the cells that are left to set.
+/// A row of words and its keeper, in plain memory. Its view is the pair of the row's capacity and what the keeper knows: the
+/// changes that were made, the current cells, and the open change with the cells that are left to set.
 #[derive(Drop)]
 pub struct Keeper {
     alloc: Global,
@@ -53,7 +53,7 @@ impl Model for Keeper {
 }
 
 impl Keeper {
-    /// The row of the root alone, with room for so many entries. All its memory is taken here.
+    /// The row of a tree that is only the root, with room for `capacity` entries. All its memory is taken here.
     pub fn new(alloc: Global, capacity: usize) -> Result<Keeper, NoMemory>
         requires { capacity ≤ MOST_ENTRIES }
         ensures { IfOk result (λ keeper. keeper ≡ (capacity, at_rest [] (opening_row capacity))) }
@@ -109,7 +109,7 @@ impl Keeper {
         Ok(())
     }
 
-    /// Closes the open change, once all its cells are set: the change is made.
+    /// Closes the open change once all its cells are set, which makes the change.
     pub fn close(&mut self) -> Result<(), NotNow>
         ensures capacity { self.new.0 ≡ self.old.0 }
         ensures ok { OnOk result (IsClosed self.old.1 self.new.1) }
@@ -128,8 +128,8 @@ impl Keeper {
         Ok(())
     }
 
-    /// How many cells a change has to set once it is opened, or by which number it is refused, that of too many changes among
-    /// them. Not now while another change is open. It changes nothing.
+    /// Returns how many cells a change has to set once it is opened, or the error number that refuses it, which may be the one
+    /// for too many changes. `NotNow` while another change is open. Changes nothing.
     pub fn test(&mut self, change: &Change<'_>) -> Result<Result<usize, Errno>, StepFault>
         ensures same { self.new ≡ self.old }
         ensures ok { IfOk result (IsTested self.old.0 self.old.1 change.now) }
@@ -156,7 +156,7 @@ impl Keeper {
         self.version
     }
 
-    /// How many cells the open change has still to set. None while no change is open.
+    /// How many cells the open change still has to set. `None` while no change is open.
     pub fn cells_left(&self) -> Option<usize>
         ensures { result ≡ option_map (λ pending. length pending.left) self.now.1.pending }
     {
@@ -166,7 +166,7 @@ impl Keeper {
         }
     }
 
-    /// The most entries, besides the root.
+    /// The greatest number of entries, not counting the root.
     pub fn capacity(&self) -> usize
         ensures capacity { result ≡ self.now.0 }
         ensures small { result ≤ MOST_ENTRIES }
@@ -174,21 +174,21 @@ impl Keeper {
         self.look.cells.capacity()
     }
 
-    /// The row as it stands.
+    /// The current row.
     pub fn row(&self) -> &KnownRow
         ensures { result.now ≡ (self.now.0, self.now.1.cells) }
     {
         &self.look.cells
     }
 
-    /// The changes that were made, for contracts alone.
+    /// The changes that were made, only for contracts.
     pub fn history(&self) -> &History
         ensures { result.now.events ≡ self.now.1.history }
     {
         &self.history
     }
 
-    // The cells of a change while none is open, or by which number it is refused.
+    // Plans the cells of a change while none is open, or returns the error number that refuses it.
     fn planned(&mut self, change: &Change<'_>) -> Result<Result<Vec<Cell>, Errno>, StepFault>
         ensures same { self.new ≡ self.old }
         ensures ok { IfOk result (IsPlanned self.old.0 self.old.1 change.now) }

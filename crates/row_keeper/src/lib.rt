@@ -1,5 +1,5 @@
-//! The keeper of a row of words in plain memory: it opens a change of the tree, sets one cell of its plan at a time, and
-//! closes the change. What it is worth is a capacity and a view of `row_rule`.
+//! The keeper of a row of words in plain memory: it opens a change of the tree, sets one cell of its plan at a time, and closes
+//! the change. Its view is a capacity and a view of `row_rule`.
 //!
 //! The definitions to believe are those in `specs/`, and those of the crates below; those in `specs/inner/` are of
 //! private contracts and proofs.

@@ -1,6 +1,6 @@
 use event_core::StepFault;
 
-/// The step isn't lawful as the keeper stands, and nothing was changed.
+/// The step isn't lawful in the keeper's current state; nothing was changed.
 #[derive(Clone, Copy, Debug, PartialEq, Eq)]
 pub struct NotNow;
 

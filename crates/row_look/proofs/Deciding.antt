@@ -1,4 +1,4 @@
--- What is told of the worlds that are seen, told of rows and trees.
+-- What is known about the worlds that are seen, restated for rows and trees.
 use Rattle.std.proofs.Common.{◌≡◌, ℕ, List, Some, None, Option, refl, sym, subst}
 use Rattle.std.specs.Prelude.{Result, Ok, Err, IsSome}
 use mathlib.Core.Logic.{inl, inr}
@@ -21,7 +21,7 @@ use Rattle.row_look.specs.declared.reading.Lack.{Lack}
 use Rattle.row_look.specs.declared.reading.Lack.TheVariants as lack
 use Rattle.row_look.specs.inner.Lacking.{IsHonestLack, stop_by}
 
--- of the row's capacity and what is known of it
+-- the row's capacity, and what is known of the row
 abbrev pub Part : Type 0
 Part = ℕ × List (ℕ × ℕ)
 
@@ -60,7 +60,7 @@ pub stops_in : {X : Type 0} (k after : Part) (answer : Tree → Result X Errno) 
 stops_in k after answer f wanted stop is told honest h =
     subst (λ (z : Part). StopsKnown z.0 z.1 answer stop) is (subst (StopsKnown k.0 k.1 answer) (sym told) (stops k answer f wanted honest h))
 
--- what is known, what was read, and the most that may be
+-- what is known, what was read, and how many words may be read
 abbrev pub Taken : Type 0
 Taken = Part × List (ℕ × ℕ) × ℕ
 

@@ -1,4 +1,4 @@
--- What is known after more was taken over.
+-- What is known after more words were merged in.
 use Rattle.std.proofs.Common.{◌≡◌, ℕ, Bool, true, false, List, [], ◌∷◌, ◌++◌, Some, None, Option, sym, refl, ap, ◌∙◌, subst}
 use Rattle.std.specs.Prelude.{◌⊎◌, cond}
 use mathlib.Core.Logic.{inl, inr}
@@ -37,7 +37,7 @@ known_in_front (x ∷ xs) rest q n h = elim (is_eq (nat_cmp q x.0)) as (λ (b : 
   | false ↦ λ is. known_in_front xs rest q n is
 ] h
 
--- where only a front was taken over
+-- if only a prefix was merged in
 pub known_either : (old later xs rest new : List (ℕ × ℕ)) → IsStrictlySortedBy nat_cmp (keys_of later) → later ≡ xs ++ rest → ((q : ℕ) → known_at new q ≡ update_all (eq_by_cmp nat_cmp) (known_at old) xs q) → (q : ℕ)
     → (known_at new q ≡ known_at old q) ⊎ (known_at new q ≡ known_at later q)
 known_either old later xs rest new sorted split is q =

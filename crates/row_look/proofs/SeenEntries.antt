@@ -1,4 +1,4 @@
--- What the slots of a directory's entries, and free slots, tell of the worlds that are seen.
+-- What the slots of a directory's entries, and free slots, say about the worlds that are seen.
 use Rattle.std.proofs.Common.{◌≡◌, ℕ, ◌+◌, ◌<◌, ◌≤◌, ◌≢◌, Bool, true, false, List, length, Some, None, Option, sym, refl, ap, ◌∙◌, subst, arith}
 use mathlib.Core.Logic.{dite}
 use native.Mathlib.Decide.{ℕ_discrete}

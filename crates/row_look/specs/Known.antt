@@ -12,11 +12,11 @@ use Rattle.row_look.specs.declared.stop.Stop.TheVariants as stop
 abbrev pub known_at : List (ℕ × ℕ) → ℕ → Option ℕ
 known_at known place = lookup (λ at. is_eq (nat_cmp place at)) known
 
--- each word that is known stands in the row
+-- each known word is the row's word at its place
 abbrev pub Agrees : List (ℕ × ℕ) → List ℕ → Type 0
 Agrees known row = (place n : ℕ) → known_at known place ≡ Some n → slice_index row place ≡ n
 
--- besides what was known, the word at a place is
+-- the word at a place is known, in addition to what was known before
 pub record Learns (old new : List (ℕ × ℕ)) (place word : ℕ) : Type 0 where
   pub there : known_at new place ≡ Some word
   pub others : (at : ℕ) → at ≢ place → known_at new at ≡ known_at old at
@@ -25,18 +25,18 @@ pub record Learns (old new : List (ℕ × ℕ)) (place word : ℕ) : Type 0 wher
 abbrev pub IsUnknown : ℕ → List (ℕ × ℕ) → ℕ → Type 0
 IsUnknown capacity known place = (place < row_length capacity) × (known_at known place ≡ None)
 
--- of each sound tree, and each row that encodes it and may be the one that is read
+-- for each sound tree, and each row that encodes it and may be the one that is read
 abbrev pub InEach : ℕ → (List ℕ → Type 0) → (List ℕ → Tree → Type 0) → Type 0
 InEach capacity may P = (row : List ℕ) (t : Tree) → may row → WellFormed t → Encodes capacity row t → P row t
 
--- why the words that may be read have no end: they decide that there is none; a word is wanted; no row that encodes a tree
--- agrees with them; or memory was refused
+-- why a walk over the words that may be read has no end: they decide that it is refused; a word is wanted; no row that encodes a
+-- tree agrees with them; or memory was refused
 abbrev pub Stops : {X : Type 0} → ℕ → (List ℕ → Type 0) → (ℕ → Type 0) → Type 0 → (Tree → Result X Errno) → Stop → Type 0
 Stops capacity may wants refused answer (stop.Refused errno) = InEach capacity may (λ row t. answer t ≡ Err errno)
 Stops capacity may wants refused answer (stop.Wants place) = wants place
 Stops capacity may wants refused answer stop.Torn = InEach capacity may (λ row t. ⊥)
 Stops capacity may wants refused answer stop.NoMemory = refused
 
--- over the words that are known no memory is taken
+-- no memory is taken over known words
 abbrev pub StopsKnown : {X : Type 0} → ℕ → List (ℕ × ℕ) → (Tree → Result X Errno) → Stop → Type 0
 StopsKnown capacity known = Stops capacity (Agrees known) (IsUnknown capacity known) ⊥

@@ -1,4 +1,4 @@
--- Words that a walk reads from a row at hand, besides those that were known before.
+-- Words that a walk reads from a row at hand, in addition to those that were known before.
 use Rattle.std.specs.Prelude.{◌≡◌, ℕ, ◌<◌, List, length, Some, None, Result}
 use Rattle.names.specs.declared.errors.Errno.{Errno}
 use Rattle.directory_tree.specs.Tree.{Tree}
@@ -13,7 +13,7 @@ AreNew known read = (place n : ℕ) → known_at read place ≡ Some n → known
 abbrev pub AgreesBoth : List (ℕ × ℕ) → List (ℕ × ℕ) → List ℕ → Type 0
 AgreesBoth known read row = Agrees known row × Agrees read row
 
--- a place of the row whose word neither was known before nor was read, where the most words that may be read were
+-- a place of the row whose word neither was known before nor was read, after as many words were read as may be
 abbrev pub IsNext : ℕ → List (ℕ × ℕ) → List (ℕ × ℕ) → ℕ → ℕ → Type 0
 IsNext capacity known read most place = (place < row_length capacity) × (known_at known place ≡ None) × (known_at read place ≡ None) × (length read ≡ most)
 

@@ -10,7 +10,7 @@ use tree_row::MOST_ENTRIES;
 
 /// Words of a row that are known, by their places.
 ///
-/// It is seen as the pair of the row's capacity and of what is known, each word with its place.
+/// Its view is the pair of the row's capacity and what is known: each word with its place.
 #[derive(Drop)]
 pub struct KnownWords {
     capacity: usize,
@@ -28,7 +28,7 @@ impl Model for KnownWords {
 }
 
 impl KnownWords {
-    /// Of a row with room for so many entries nothing is known.
+    /// Nothing is known yet, of a row with room for `capacity` entries.
     pub fn new(alloc: Global, capacity: usize) -> KnownWords
         requires { capacity ≤ MOST_ENTRIES }
         ensures { result ≡ (capacity, []) }
@@ -61,7 +61,7 @@ impl KnownWords {
         self.words.get(&place).copied()
     }
 
-    /// From now on the word at a place is known. Where memory is refused, nothing changes.
+    /// Records the word at a place as known. If memory is refused, nothing changes.
     pub fn learn(&mut self, place: usize, word: u64) -> Result<(), AllocError>
         ensures capacity { self.new.0 ≡ self.old.0 }
         ensures learns { OnOk result (Learns self.old.1 self.new.1 place word) }
@@ -72,8 +72,7 @@ impl KnownWords {
         Ok(())
     }
 
-    /// From now on what `later` has is known, too; where both have a word, that of `later` counts. Where memory is refused,
-    /// a part of it may be known.
+    /// Adds what `later` knows; where both know a word, that of `later` wins. If memory is refused, a part of it may have been added.
     pub fn append(&mut self, later: KnownWords) -> Result<(), AllocError>
         ensures capacity { self.new.0 ≡ self.old.0 }
         ensures ok { OnOk result ((place : ℕ) → known_at self.new.1 place ≡ option_or (known_at later.1 place) (known_at self.old.1 place)) }

@@ -1,4 +1,4 @@
-//! A row of words as a look: paths are walked and entries named over the words of a row, all of which are known, or some.
+//! A row of words as a look: paths are walked and entries named over the words of a row, of which all or only some are known.
 //!
 //! The definitions to believe are those in `specs/`.
 #![tactic(auto)]

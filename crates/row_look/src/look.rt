@@ -25,7 +25,7 @@ impl RowEntry {
     }
 }
 
-/// A row as a look: what its words tell of the tree that it encodes.
+/// A row as a look: what its words say about the tree that it encodes.
 #[derive(Drop)]
 pub struct RowLook<C: Cells> {
     /// The row's cells.
@@ -33,7 +33,7 @@ pub struct RowLook<C: Cells> {
 }
 
 impl<C: Cells> RowLook<C> {
-    /// What these cells tell.
+    /// A look over these cells.
     pub fn new(cells: C) -> RowLook<C>
         ensures { result.cells ≡ cells }
     {

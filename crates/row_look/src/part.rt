@@ -22,7 +22,7 @@ use tree_row::Cells;
 #[derive(Drop)]
 struct PartCells<'a> {
     known: &'a KnownWords,
-    // The last word that was asked for and isn't known.
+    // The last requested word that isn't known.
     wanted: Option<usize>,
     ghost honest: { IsHonest known.now.0 known.now.1 wanted },
 }
@@ -121,8 +121,8 @@ pub fn name_known(
     }
 }
 
-/// The name of the place that a path names, as far as the words that are known decide it, or why they don't. It is
-/// written to the front of `room`, as `path_lookup::name_of_place` does, and its length answered. No memory is taken.
+/// The name of the place that a path names, as far as the words that are known decide it, or why they don't. It is written to
+/// the front of `room`, as `path_lookup::name_of_place` does, and its length is returned. No memory is taken.
 pub fn name_place_known(
     known: &KnownWords,
     path: &Path<'_>,

@@ -20,7 +20,7 @@ use path_lookup::{NAME_ROOM, Scratch, WalkFault, name_of_place, resolve};
 use std::alloc::Global;
 use tree_row::{Cells, KnownRow};
 
-/// What came of a walk that read words.
+/// The outcome of a walk that read words.
 #[derive(Drop)]
 pub struct Reading<T> {
     /// The words that it read.
@@ -29,7 +29,7 @@ pub struct Reading<T> {
     pub end: Result<T, Stop>,
 }
 
-// Why a word that was asked for wasn't told.
+// Why a requested word wasn't returned.
 #[derive(Clone, Copy)]
 enum Lack {
     // The word at this place isn't known, and no more may be read.
@@ -37,7 +37,7 @@ enum Lack {
     NoMemory,
 }
 
-// The cells of a row at hand, which are told where they are known, and else read.
+// The cells of a row at hand: a known word is returned, any other is read.
 #[derive(Drop)]
 struct ReadCells<'a> {
     known: &'a KnownWords,
@@ -100,7 +100,7 @@ impl<'a> Cells for ReadCells<'a> {
 }
 
 impl<'a> ReadCells<'a> {
-    // No word is read.
+    // No word is read yet.
     fn new(alloc: Global, known: &'a KnownWords, row: &'a KnownRow, most: usize) -> ReadCells<'a>
         requires { row.now.0 ≡ known.now.0 }
         ensures known { result.known.now ≡ known.now }
@@ -116,7 +116,7 @@ impl<'a> ReadCells<'a> {
         }
     }
 
-    // What came of a walk with this fault.
+    // The outcome of a walk with this fault.
     fn stopped<T>(self, fault: WalkFault) -> Reading<T>
         ensures read { result.read ≡ self.entry.read }
         ensures end { result.end ≡ Err (stop_by fault self.entry.lack) }
@@ -196,7 +196,7 @@ pub fn name_and_read(
 }
 
 /// The name of the place that a path names, as far as what is known and at most `most` further words of `row` decide it, as
-/// [`walk_and_read`] reads them. It is written to the front of `room`, and its length answered.
+/// [`walk_and_read`] reads them. It is written to the front of `room`, and its length is returned.
 pub fn name_place_and_read(
     alloc: Global,
     known: &KnownWords,

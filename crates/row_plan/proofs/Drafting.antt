@@ -1,4 +1,4 @@
--- A plan with one cell more.
+-- A plan with one more cell.
 use Rattle.std.proofs.Common.{◌≡◌, ℕ, zero, suc, ◌<◌, ◌≢◌, List, [], ◌∷◌, ◌++◌, length, set, sym, refl, ap, ◌∙◌, arith, length-set, get_or-set_other, get_or-set_same}
 use Rattle.std.specs.Prelude.{slice_index, slice_index_or, slice_set}
 use Rattle.std.specs.List.{All, AllPairs}
@@ -10,7 +10,7 @@ use Rattle.row_rule.specs.Row.{write}
 use Rattle.row_rule.proofs.Writing.{write_append}
 use Rattle.row_plan.specs.inner.Rows.{Drafts}
 
--- a word that is set stays the row's: no plan makes a change there
+-- a word that is set stays in the row: no plan makes a change there
 pub stays : (row : List ℕ) (plan : List Cell) (after : List ℕ) (place word : ℕ) → place < length row → Drafts row plan after → slice_index after place ≡ slice_index row place → slice_index row place ≡ word
     → Drafts row plan (slice_set after place word)
 stays row plan after place word within draft same is =
@@ -23,7 +23,7 @@ after_all row [] k others = refl
 after_all row (x ∷ xs) k others =
     after_all (slice_set row x.place x.word) xs k (λ i d l. others (suc i) d (omega arith)) ∙ get_or-set_other row x.place k x.word 0 (λ e. others 0 x (omega arith) (sym e))
 
--- what a cell sets stands there afterwards
+-- what a cell sets is there afterwards
 pub set_by : (row : List ℕ) (plan : List Cell) → All (λ (cell : Cell). cell.place < length row) plan → AllPairs (λ (cell later : Cell). cell.place ≢ later.place) plan
     → (i : ℕ) (d : Cell) → i < length plan → slice_index (write row plan) (slice_index_or plan i d).place ≡ (slice_index_or plan i d).word
 set_by row [] within once i d l = absurd (omega arith)
@@ -33,7 +33,7 @@ set_by row (x ∷ xs) within once (suc i) d l =
     set_by (slice_set row x.place x.word) xs (λ j e m. let n = length-set row x.place x.word in let w = within (suc j) e (omega arith) in omega arith)
     (λ j k e m o. once (suc j) (suc k) e (omega arith) (omega arith)) i d (omega arith)
 
--- a cell more, with another word than stands there
+-- one more cell, with a word that differs from the one there
 pub grows : (row : List ℕ) (plan : List Cell) (after : List ℕ) (place word : ℕ) → place < length row → Drafts row plan after → slice_index after place ≡ slice_index row place → slice_index row place ≢ word
     → Drafts row (plan ++ record { place = place; word = word } ∷ []) (slice_set after place word)
 grows row plan after place word within draft same other =

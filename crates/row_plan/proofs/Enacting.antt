@@ -67,7 +67,7 @@ module _ (capacity : ℕ) (row : List ℕ) (w : World) (enc : EncodesWorld capac
   pub directory_slot : (d : ℕ) → d < slots → shape_of (kind_at (w.named d)) ≡ kind.Directory → IsDirectorySlot slots f d
   directory_slot d within h = spot_directory slots f t d enc.tree.slots within (ap (λ (s : Spot). shape_of (kind_at s)) (sym (enc.named d)) ∙ h)
 
-  -- an entry that stands somewhere is not the root
+  -- an entry that is somewhere is not the root
   child_past : (d r : ℕ) (c : List ℕ) → child_of t (w.named d) c ≡ Some (w.named r) → r ≢ 0
   child_past d r c is e = not_root (find t.entries (node_at (w.named d)) c) (is ∙ ap (λ (z : ℕ). Some (w.named z)) e ∙ ap Some (enc.named 0))
 
@@ -100,7 +100,7 @@ module _ (capacity : ℕ) (row : List ℕ) (w : World) (enc : EncodesWorld capac
       let used = child_used d r c within filled is in
       encodes_freed capacity row t enc.tree after r (node_at (w.named d)) c used (child_found d r c used is) (childless r used empty) frees
 
-  -- an entry goes to a place where none stands
+  -- an entry goes to a place where there is none
   enacts_free_move : (d s p : ℕ) (c name after : List ℕ) → p < slots → IsUsed slots f s → child_of t (w.named d) c ≡ Some (w.named s) → find t.entries (node_at (w.named p)) name ≡ None → shape_of (kind_at (w.named p)) ≡ kind.Directory
       → length name ≤ LONGEST_COMPONENT → SetsSlot row s (moved_slot (f s) p name) after → Encodes capacity after (moved t (node_at (w.named d)) c (node_at (w.named p)) name)
   enacts_free_move d s p c name after within used is none directory short sets =
@@ -109,7 +109,7 @@ module _ (capacity : ℕ) (row : List ℕ) (w : World) (enc : EncodesWorld capac
       subst (λ (es : List Entry). Encodes capacity after record { entries = placed (node_at (w.named d)) c (node_at (w.named p)) name es; next = t.next }) (sym (without-none t.entries (node_at (w.named p)) name none))
       (subst (λ (z : ℕ). Encodes capacity after record { entries = placed (node_at (w.named d)) c z name t.entries; next = t.next }) (sym e) put)
 
-  -- to a place where one stands, which goes first
+  -- to a place where there is one, which is removed first
   module _ (d s p r : ℕ) (c name between after : List ℕ) (within : p < slots) (within_r : r < slots) (filled_r : (f r).kind ≢ 0) (used : IsUsed slots f s) (is : child_of t (w.named d) c ≡ Some (w.named s))
       (onto : child_of t (w.named p) name ≡ Some (w.named r)) (other : node_at (w.named r) ≢ node_at (w.named s)) (empty : shape_of (kind_at (w.named r)) ≡ kind.Directory → is_empty t.entries (node_at (w.named r)) ≡ true)
       (directory : shape_of (kind_at (w.named p)) ≡ kind.Directory) (short : length name ≤ LONGEST_COMPONENT) (frees : FreesSlot row r between) (sets : SetsSlot between s (moved_slot (slot_at between s) p name) after) where
@@ -140,7 +140,7 @@ module _ (capacity : ℕ) (row : List ℕ) (w : World) (enc : EncodesWorld capac
     apart_s : s ≢ r
     apart_s e = other (ap (λ (z : ℕ). node_at (w.named z)) (sym e))
 
-    -- the directory of the new place is not the one that goes, which has no entry
+    -- the directory of the new place is not the one that is removed, which has no entry
     apart_p : p ≢ r
     apart_p e = none_is_some (entry_at f r) (sym (empty_none t.entries into name (subst (λ (z : ℕ). is_empty t.entries (node_at (w.named z)) ≡ true) (sym e) (empty (subst (λ (z : ℕ). shape_of (kind_at (w.named z)) ≡ kind.Directory) e directory)))) ∙ found_r)
 
@@ -159,7 +159,7 @@ module _ (capacity : ℕ) (row : List ℕ) (w : World) (enc : EncodesWorld capac
     entry_between : entry_at h s ≡ entry_at f s
     entry_between = same_entry f h s same_s (ap (λ (z : Slot). z.node) (stays_directory (f s).parent (childless r used_r empty s used) (enc.tree.slots.in_directory s used)))
 
-    -- the two entries stand at different places
+    -- the two entries are at different places
     places_apart : Apart into name from c
     places_apart a b =
         let e : entry_at f s ≡ entry_at f r = some_inj (entry_at f s) (entry_at f r) (sym found_s ∙ (λ i. find t.entries (a i) (b i)) ∙ found_r) in
@@ -176,7 +176,7 @@ module _ (capacity : ℕ) (row : List ℕ) (w : World) (enc : EncodesWorld capac
         subst (λ (z : ℕ). Encodes capacity after record { entries = placed from c z name gone.entries; next = t.next }) node_p
         (encodes_moved capacity between gone encodes_between after s p from c name used_between found none directory_between short sets)
 
-  -- whatever stood at the new place
+  -- whatever was at the new place
   pub enacts_move : (d s p : ℕ) (c name : List ℕ) (replaced : Option RowEntry) (plan : List Cell) → p < slots → s < slots → (f s).kind ≢ 0
       → IfSome replaced (λ e. (e.slot < slots) × ((f e.slot).kind ≢ 0)) → child_of t (w.named d) c ≡ Some (w.named s)
       → child_of t (w.named p) name ≡ option_map (λ (e : RowEntry). w.named e.slot) replaced → IfSome replaced (λ e. node_at (w.named e.slot) ≢ node_at (w.named s))

@@ -1,5 +1,5 @@
--- The row that an act leaves, word for word. What it means is what the row then encodes; that nothing of it is free makes a
--- change have one plan.
+-- The row that an act leaves, word for word. Its meaning is what the row then encodes; since all of it is determined, a change has
+-- one plan.
 use Rattle.std.specs.Prelude.{◌≡◌, ℕ, zero, suc, ◌+◌, ◌*◌, ◌/◌, List, [], ◌∷◌, length, slice_index, slice_set, Option, Some, None}
 use Rattle.std.specs.Option.{option_map}
 use Rattle.std.specs.Int.{from_le_bytes, w64}
@@ -12,7 +12,7 @@ use Rattle.tree_row.specs.Slots.{Slot, slot_at}
 use Rattle.tree_row.specs.Questions.{IsFirstFree}
 use Rattle.row_look.specs.declared.look.RowEntry.{RowEntry}
 
--- the row with so many words set from a place on
+-- the row with this many words set from a place on
 abbrev pub with_words : List ℕ → ℕ → (ℕ → ℕ) → ℕ → List ℕ
 with_words row base word zero = row
 with_words row base word (suc n) = slice_set (with_words row base word n) (base + n) (word n)
@@ -30,7 +30,7 @@ abbrev pub with_slot : List ℕ → ℕ → Slot → List ℕ
 with_slot row s own =
     with_text (with_text (with_words row (164 * s) (slice_index (own.kind ∷ own.node ∷ own.parent ∷ (length own.component + 65536 * length own.text) ∷ [])) 4) (164 * s + 4) own.component) (164 * s + 36) own.text
 
--- with a slot, or any that is given, freed
+-- the row with a slot freed, or with any that is given freed
 abbrev pub without_slot : List ℕ → ℕ → List ℕ
 without_slot row s = with_words row (164 * s) (slice_index (0 ∷ [])) 1
 
@@ -38,12 +38,12 @@ abbrev pub without_any : List ℕ → Option ℕ → List ℕ
 without_any row None = row
 without_any row (Some s) = without_slot row s
 
--- with the entry of a slot at another place: the slot of its directory, the length of its component, and that
+-- the row with the entry of a slot at another place: the slot of its directory, the length of its component, and the component
 abbrev pub with_place : List ℕ → ℕ → ℕ → List ℕ → List ℕ
 with_place row s parent name =
     with_text (with_words row (164 * s + 2) (slice_index (parent ∷ (length name + 65536 * (slice_index row (164 * s + 3) / 65536)) ∷ [])) 2) (164 * s + 4) name
 
--- the number by which a slot tells its kind, and the text that it has
+-- the number that a kind has in a slot, and the text that it has
 abbrev pub code_of : NodeKind → ℕ
 code_of Directory = 1
 code_of File = 2
@@ -57,8 +57,8 @@ text_in (Link text) = text
 abbrev pub new_slot : NodeKind → ℕ → ℕ → List ℕ → Slot
 new_slot kind node parent component = record { kind = code_of kind; node = node; parent = parent; component = component; text = text_in kind }
 
--- A new entry comes to the first free slot; one that goes frees its slot; and one that moves keeps its slot, once that of the entry
--- which it replaces is free.
+-- A new entry goes to the first free slot; an entry that is removed frees its slot; and one that moves keeps its slot, after the
+-- slot of the entry that it replaces is freed.
 abbrev pub Leaves : ℕ → List ℕ → ℕ → Act RowEntry → List ℕ → Type 0
 Leaves capacity row next (act.Make place node) after = (s : ℕ) × IsFirstFree (capacity + 1) (slot_at row) s
     × (after ≡ with_slot row s (new_slot (kind_of_new node) next place.directory.slot place.component.now))

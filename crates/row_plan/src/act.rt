@@ -46,7 +46,7 @@ pub(crate) fn plan_make<C: Cells>(
     fill_slot(alloc, cells, slot, &entry)
 }
 
-// By what number a slot tells the kind of the new node.
+// The number that the kind of the new node has in a slot.
 fn kind_word(node: &NewNode<'_>) -> u64
     ensures { result ≡ code_of (kind_of_new node.now) }
 {
@@ -67,7 +67,7 @@ fn link_text<'a>(node: &NewNode<'a>) -> &'a [u8]
     }
 }
 
-// The first free slot, where the tree has room for one more entry.
+// The first free slot of a tree that has room for one more entry.
 fn vacant_slot<C: Cells>(cells: &mut C) -> usize
     requires { (row : List ℕ) × (w : World) × C.whole (C.kept cells.old) row × EncodesWorld (C.capacity_of (C.kept cells.old)) row w × (has_room (C.capacity_of (C.kept cells.old)) w.tree ≡ true) }
     ensures kept { C.kept cells.new ≡ C.kept cells.old }
@@ -83,7 +83,7 @@ fn vacant_slot<C: Cells>(cells: &mut C) -> usize
     }
 }
 
-/// The cells of one more entry of a file (link(2)).
+/// The cells of one more entry for a file (link(2)).
 pub(crate) fn plan_link<C: Cells>(
     alloc: Global,
     cells: &mut C,
@@ -111,7 +111,7 @@ pub(crate) fn plan_link<C: Cells>(
     fill_slot(alloc, cells, slot, &entry)
 }
 
-/// The cell of an entry that goes (unlink(2), rmdir(2)).
+/// The cell of an entry that is removed (unlink(2), rmdir(2)).
 pub(crate) fn plan_remove<C: Cells>(
     alloc: Global,
     cells: &mut C,
@@ -127,7 +127,7 @@ pub(crate) fn plan_remove<C: Cells>(
     clear_slot(alloc, cells, entry.slot())
 }
 
-/// The cells of an entry that moves (rename(2)). The slot of what stood at the new place is freed first.
+/// The cells of an entry that moves (rename(2)). The slot of the entry at the new place is freed first.
 pub(crate) fn plan_move<C: Cells>(
     alloc: Global,
     cells: &mut C,

@@ -1,4 +1,4 @@
-//! A plan as it is made: the cells that are to be set, without those whose word stands there already.
+//! A plan as it is made: the cells to be set, without those whose word is there already.
 ghost use Rattle.std.specs.Prelude.{◌≡◌, ◌<◌, ◌≤◌, ◌+◌, ◌/◌, ℕ, List, OnOk, length, slice_index, slice_set};
 ghost use Rattle.tree_row.specs.Rows.{row_length};
 ghost use Rattle.row_plan.specs.Leaves.{with_words, with_text};
@@ -9,7 +9,7 @@ use names::NoMemory;
 use row_rule::Cell;
 use tree_row::Cells;
 
-/// Adds a cell to a plan, where another word stands there.
+/// Adds a cell to a plan, unless its word is there already.
 pub(crate) fn add_cell<C: Cells>(
     cells: &mut C,
     plan: &mut Vec<Cell>,
@@ -47,7 +47,7 @@ pub(crate) fn add_words<C: Cells>(
     ensures ok { OnOk result ((row after : List ℕ) → C.whole (C.kept cells.old) row → base + length words.now ≤ length row → Drafts row plan.old.items after
         → SameFrom row after base (length words.now) → Drafts row plan.new.items (with_words after base (slice_index words.now) (length words.now))) }
 {
-    // No row has more slots, and so no place is large.
+    // The capacity is at most `MOST_ENTRIES`, so no place is large.
     let _most = cells.capacity();
     for (i, word) in words.iter().enumerate() {
         add_cell(cells, plan, base + i, *word)?;
@@ -69,7 +69,7 @@ pub(crate) fn add_text<C: Cells>(
     ensures ok { OnOk result ((row after : List ℕ) → C.whole (C.kept cells.old) row → base + (length text.now + 7) / 8 ≤ length row → Drafts row plan.old.items after
         → SameFrom row after base ((length text.now + 7) / 8) → Drafts row plan.new.items (with_text after base text.now)) }
 {
-    // No row has more slots, and so no place is large.
+    // The capacity is at most `MOST_ENTRIES`, so no place is large.
     let _most = cells.capacity();
     for k in 0..text.len().div_ceil(8) {
         add_cell(cells, plan, base + k, packed_word(text, k))?;

@@ -1,4 +1,4 @@
--- Each step of the keeper keeps the rule. What encodes what comes from the keeper's own view and from its plan alone.
+-- Each step of the keeper keeps the rule. What the cells encode follows from the keeper's own view and its plan alone.
 use Rattle.std.proofs.Common.{◌≡◌, ℕ, ◌+◌, ◌*◌, List, [], ◌∷◌, ◌++◌, length, set, Some, None, sym, refl, ap, ◌∙◌, subst, arith, length-append, length-set, add-one}
 use Rattle.std.specs.Prelude.{Option, slice_index}
 use mathlib.Core.Option.{some}

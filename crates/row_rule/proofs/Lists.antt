@@ -1,4 +1,4 @@
--- Lists read by place, one place set or one element more; beginnings of lists.
+-- Lists read by place, with one place set or one more element; prefixes of lists.
 use Rattle.std.proofs.Common.{◌≡◌, ℕ, zero, suc, ◌≢◌, ◌⊎◌, List, [], ◌∷◌, ◌++◌, length, replicate, take, set, sym, refl, ap, ◌∙◌, inl, inr, ⊎_elim, append_assoc, append-nil}
 use Rattle.std.proofs.Math.Seq.{take-append_seam}
 use mathlib.Core.Option.{some, some-injective, some-ne-none}
@@ -25,7 +25,7 @@ module _ {A : Type 0} where
   set_here (x ∷ xs) zero a b e = refl
   set_here (x ∷ xs) (suc i) a b e = set_here xs i a b e
 
-  -- what stands there already changes nothing
+  -- setting what is there already changes nothing
   pub set_again : (l : List A) (i : ℕ) (a : A) → get_elem? l i ≡ some a → set l i a ≡ l
   set_again [] i a e = refl
   set_again (x ∷ xs) zero a e = λ k. sym (some-injective x a e) k ∷ xs
@@ -56,7 +56,7 @@ module _ {A : Type 0} where
   pub prefix_snoc : (xs ys : List A) (y : A) → IsPrefix xs ys → IsPrefix xs (ys ++ y ∷ [])
   prefix_snoc xs ys y p = (p.0 ++ y ∷ [], sym (append_assoc xs p.0 (y ∷ [])) ∙ ap (λ w. w ++ y ∷ []) p.1)
 
-  -- two beginnings of one list that are as long
+  -- two prefixes of one list that are equally long
   pub prefixes_alike : (xs ys zs : List A) → IsPrefix xs zs → IsPrefix ys zs → length xs ≡ length ys → xs ≡ ys
   prefixes_alike xs ys zs p q e =
       sym (take-append_seam xs p.0) ∙ (ap (λ (l : List A). take (length xs) l) (p.1 ∙ sym q.1) ∙ (ap (λ (n : ℕ). take n (ys ++ q.0)) e ∙ take-append_seam ys q.0))

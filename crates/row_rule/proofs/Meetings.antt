@@ -1,4 +1,4 @@
--- The three loads of a meeting keep the rule, and tell the keeper that what the walker had seen is a beginning of its history.
+-- The three loads of a meeting keep the rule, and show the keeper that what the walker had seen is a prefix of its history.
 use Rattle.std.proofs.Common.{◌≡◌, ◌≢◌, ℕ, List, [], ◌∷◌, ◌++◌, set, sym, refl, ◌∙◌, subst, le_refl}
 use mathlib.Core.Option.{some}
 use mathlib.Core.List.{IsPrefix}

@@ -1,4 +1,4 @@
--- What the rule says of the count and of the seats, and what is left of it after a step. Nothing here knows what encodes what.
+-- What the rule says about the count and the seats, and what is left of it after a step. Nothing here depends on the encoding.
 use Rattle.std.proofs.Common.{◌≡◌, ◌≢◌, ℕ, zero, suc, ◌+◌, ◌*◌, ◌/◌, ◌%◌, ◌<◌, ◌≤◌, ◌↔◌, List, [], ◌∷◌, ◌++◌, length, replicate, get_or, set, Some, None, sym, refl, ap, ◌∙◌, subst, ⊎_elim, arith}
 use Rattle.std.proofs.lemmas.List.{nil_from_length}
 use Rattle.std.specs.Prelude.{Option}
@@ -40,7 +40,7 @@ newcomer_fits k = record {
   still = λ _ e. (sym (nil_from_length k.history (omega arith)), tt);
 }
 
--- what a walker knows stays so where the count grows and the history only gets longer
+-- what a walker knows stays true where the count grows and the history only gets longer
 pub later_fits : (k k' : KeeperView) → count_of k < count_of k' → ((seen : List Change) → IsPrefix seen k.history → IsPrefix seen k'.history) → (w : WalkerView) → FitsWalker k w → FitsWalker k' w
 later_fits k k' more longer w f = let low = f.noted_low in let low' = f.last_low in record {
   begins = longer w.seen f.begins;
@@ -82,7 +82,7 @@ module _ (Encodes : List ℕ → List Change → Type 0) (size : ℕ) where
   first_or_not zero k j views seated fits at = (refl, cc)
   first_or_not (suc n) k j views seated fits at = absurd (fits (Keeps j) (λ e. omega arith) at)
 
-  -- who keeps is the keeper, and the rule is kept by its view
+  -- a seat that keeps is the keeper's, and the rule holds with its view
   pub keeper_at : (j : KeeperView) (id : ℕ) (words : List ℕ) (views : List View) → Holds Encodes size words views → get_elem? views id ≡ some (Keeps j) → (id ≡ 0) × KeptBy Encodes size j words views
   keeper_at j id words views (k, r) at =
       let t = first_or_not id k j views r.seated (r.fits id) at in (t.0, subst (λ (z : KeeperView). KeptBy Encodes size z words views) t.1 r)

@@ -1,4 +1,4 @@
--- Each step of a walker keeps the rule, and tells the walker what it may know.
+-- Each step of a walker keeps the rule, and gives the walker what it may know.
 use Rattle.std.proofs.Common.{◌≡◌, ℕ, ◌+◌, ◌%◌, ◌<◌, List, [], ◌∷◌, ◌++◌, get_or, set, Some, sym, refl, ap, ◌∙◌, arith, add-one}
 use Rattle.std.proofs.lemmas.Option.{slice_get-get_or}
 use Rattle.std.specs.Prelude.{slice_get, slice_index}
@@ -51,7 +51,7 @@ module _ (Encodes : List ℕ → List Change → Type 0) (size : ℕ) where
         still = λ even stands. (refl, (f.still even stands).1);
       }
 
-  -- where the count stood and was even, the row encodes the history, and all that was read stands in it
+  -- where the count is unchanged and even, the row encodes the history, and holds all that was read
   pub was_whole : (k : KeeperView) (w : WalkerView) (id : ℕ) (words : List ℕ) (views : List View) → KeptBy Encodes size k words views → get_elem? views id ≡ some (Walks w)
       → slice_index words 0 ≡ w.noted → w.noted % 2 ≡ 0 → (w.seen ≡ k.history) × Encodes k.cells k.history × Agrees w.reads k.cells
   was_whole k w id words views r at found even =
@@ -59,7 +59,7 @@ module _ (Encodes : List ℕ → List Change → Type 0) (size : ℕ) where
       let f : FitsWalker k w = walker_fits Encodes size k w id words views r at in
       let t = f.still even stands in (t.0, even_encodes Encodes size k words views r (ap (λ (z : ℕ). z % 2) found ∙ even), t.1)
 
-  -- the word at a place behind the count is the cell's
+  -- the word at a place after the count is the cell's
   pub cell_word : (k : KeeperView) (place : ℕ) (words : List ℕ) (views : List View) → KeptBy Encodes size k words views → slice_index words (place + 1) ≡ slice_index k.cells place
   cell_word k place words views r = ap (λ (ws : List ℕ). get_or ws (place + 1) 0) r.words_are ∙ rw add-one refl
 

@@ -1,4 +1,4 @@
--- What the count at the first word of a row tells, and what a walk saw by the two counts that it read first and last.
+-- What the count, the first word of a row, means, and what a walk saw by the two counts that it read first and last.
 use Rattle.std.specs.Prelude.{◌≡◌, ◌≢◌, ◌⊎◌, ℕ, ◌+◌, ◌%◌}
 use Rattle.row_rule.specs.declared.count.Busy.{Busy}
 

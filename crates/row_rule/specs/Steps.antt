@@ -1,4 +1,4 @@
--- What each step makes of the view of the seat that takes it, and what it tells that seat.
+-- What each step makes of the view of the seat that takes it, and what that seat learns.
 use Rattle.std.specs.Prelude.{◌≡◌, ℕ, ◌+◌, ◌/◌, ◌≤◌, List, [], ◌∷◌, length, drop, slice_set, Some, None, Option}
 use mathlib.Core.List.{IsPrefix}
 use Rattle.directory_tree.specs.declared.change.Change.{Change}
@@ -22,8 +22,8 @@ reading w read = record { seen = w.seen; count_reads = w.count_reads; noted = w.
 abbrev pub ending : WalkerView → ℕ → List Change → WalkerView
 ending w count seen = record { seen = seen; count_reads = w.count_reads + 1; noted = w.noted; last = count; reads = w.reads }
 
--- who reads this count has now seen these changes: those of before and maybe more, half as many as the count, which hasn't
--- fallen since the last reading
+-- a walker that reads this count has now seen these changes: the earlier ones and maybe more, half as many as the count, which
+-- hasn't fallen since the last reading
 abbrev pub Sees : WalkerView → ℕ → List Change → Type 0
 Sees w count seen = IsPrefix w.seen seen × (length seen ≡ count / 2) × (w.last ≤ count)
 
@@ -47,7 +47,7 @@ setting k cell =
 abbrev pub closing : KeeperView → KeeperView
 closing k = record { history = target_of k.history k.pending; cells = k.cells; pending = None; met = k.met }
 
--- the changes that were made before are the first ones still, and the count hasn't fallen
+-- the changes that were made before are still the first ones, and the count hasn't fallen
 abbrev pub IsLater : KeeperView → KeeperView → Type 0
 IsLater k later = IsPrefix k.history later.history × (count_of k ≤ count_of later)
 

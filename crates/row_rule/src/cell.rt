@@ -1,4 +1,4 @@
-/// A word and its place in a row. Place 0 is the first word behind the count.
+/// A word and its place in a row. Place 0 is the first word after the count.
 #[derive(Clone, Copy, Debug, PartialEq, Eq)]
 pub struct Cell {
     pub place: usize,

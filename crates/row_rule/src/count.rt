@@ -1,7 +1,7 @@
 ghost use Rattle.std.specs.Prelude.{IfSome, IfNone, IfOk, IfErr};
 ghost use Rattle.row_rule.specs.Counts.{IsDisturbed, IsOdd, IsStill, IsVersion};
 
-/// The two counts of a walk beside a change: the first is odd, or they differ.
+/// The two counts of a walk that ran concurrently with a change: the first is odd, or they differ.
 #[derive(Clone, Copy, Debug, PartialEq, Eq)]
 pub struct Busy {
     pub began: u64,
@@ -16,7 +16,7 @@ pub fn version_of(count: u64) -> Option<u64>
     (count % 2 == 0).then_some(count / 2)
 }
 
-/// The version that a walk saw, by the counts that it read first and last: they are one even number. Else Busy.
+/// The version that a walk saw, if the counts that it read first and last are one even number; else `Busy`.
 pub fn version_between(began: u64, ended: u64) -> Result<u64, Busy>
     ensures still { IfOk result (IsStill began ended) }
     ensures busy { IfErr result (IsDisturbed began ended) }

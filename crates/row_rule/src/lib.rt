@@ -1,6 +1,6 @@
-//! The rule that a row of words keeps while one keeper changes it and walkers read it beside the keeper, and its laws: each
-//! step of a seat keeps the rule, and tells that seat what it may know. The functions of the laws do nothing: each stands
-//! for its contract. What the cells of a row hold is open: the rule and the laws are of any `Encoding`.
+//! The rule that a row of words keeps while one keeper changes it and walkers read it concurrently, and its laws: each step of a
+//! seat keeps the rule, and gives that seat what it may know. The functions of the laws do nothing: each stands for its contract.
+//! What the cells of a row hold is open: the rule and the laws are for any `Encoding`.
 //!
 //! The definitions to believe are those in `specs/`.
 #![tactic(auto)]

@@ -1,20 +1,20 @@
-//! What the seats of a row know. No value of these types is made: they are what contracts speak of.
+//! What the seats of a row know. No values of these types are made: only contracts use them.
 use crate::cell::Cell;
 use directory_tree::Change;
 use std::collections::LinkedList;
 
-/// A change that the keeper has begun, and the cells that it has still to set, the next one first.
+/// A change that the keeper has begun, and the cells that it still has to set, the next one first.
 pub struct Pending {
     pub change: Change<'static>,
     pub left: LinkedList<Cell>,
 }
 
-/// What the keeper knows: the changes that it has made, oldest first, and the cells as they stand.
+/// What the keeper knows: the changes that it has made, oldest first, and the current cells.
 pub struct KeeperView {
     pub history: LinkedList<Change<'static>>,
     pub cells: LinkedList<u64>,
     pub pending: Option<Pending>,
-    /// What a walker had seen when its seat was last taken in, until the keeper is told.
+    /// What a walker had seen when its seat was last taken in, until the keeper learns that this is a prefix of its history.
     pub met: LinkedList<Change<'static>>,
 }
 

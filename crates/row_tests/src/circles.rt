@@ -1,4 +1,4 @@
-//! Directories in a circle, each the parent of another one: no tree has them, but words may be read so while the row changes.
+//! Directories in a circle, each the parent of another one: no tree has them, but such words may be read while the row changes.
 use crate::lying::{LyingCells, reach_lying};
 use crate::rows::{Slot, path, row_of};
 use directory_tree::Last;
@@ -45,8 +45,8 @@ const CHAIN: [Slot<'static>; 4] = [
     },
 ];
 
-// The first directories, so many, in a circle: the first one stands in the last. It is found in the root where that is told
-// once, before the circle is.
+// The first `directories` directories in a circle: the parent of the first one is the last one. With one honest read, a walk finds
+// the first one in the root before it meets the circle.
 fn circle(alloc: Global, directories: u64, honest_reads: u64) -> Result<LyingCells, Fail> {
     Ok(LyingCells {
         row: row_of(alloc, 4, &CHAIN)?,
@@ -65,7 +65,7 @@ fn slot_of(cells: LyingCells, text: &[u8]) -> Result<Result<usize, WalkFault>, F
     }
 }
 
-// The longest path of components of one byte: so many directories, round and round.
+// The longest path of one-byte components, round and round through `directories` directories.
 fn longest(directories: usize) -> [u8; 4094] {
     let mut text = [b'/'; 4094];
     for i in 0..2047 {
@@ -127,7 +127,7 @@ fn names_grow_too_long(rt: HostRuntime) -> Result<(), Fail> {
     Ok(())
 }
 
-// Each link leads back to it.
+// Following the link leads back to it.
 #[test]
 fn links_in_a_circle_are_counted(rt: HostRuntime) -> Result<(), Fail> {
     let (_, end) = reach_lying(circle(rt.alloc(), 1, 1)?, b"/a/l")?;

@@ -1,4 +1,4 @@
-//! Walks over words that come to be known one after the other.
+//! Walks over words that become known one after the other.
 use crate::rows::{SLOTS, path, row_of};
 use directory_tree::Last;
 use names::Errno;
@@ -11,17 +11,17 @@ use std::alloc::Global;
 use std::test::Fail;
 use tree_row::KnownRow;
 
-// A path, how many words a walk along it and the name of what is there need, and the name.
+// A path, how many words a walk along it and the name of what it leads to need, and the name.
 type Walk<'a> = (&'a [u8], usize, Result<&'a [u8], Errno>);
 
-// Of the slots: a free one has its kind read; one in use its kind and its directory, and its lengths where that is the one
-// that is looked in; and its component's words where the length is the same, too, as far as they agree.
+// Of the slots: of a free one the kind is read; of one in use the kind and the directory, then the lengths if the directory is the
+// one that is searched, and then the component's words, as far as they agree, if the length is the same, too.
 const WALKS: [Walk<'static>; 5] = [
     // No word at all: the root is the root in every row.
     (b"/", 0, Ok(b"/")),
     // Slots 1 to 4: 2, 2, 3 and 1 words; slot 5: 3 words, and 2 of its component.
     (b"/a_long_directory", 13, Ok(b"/a_long_directory/")),
-    // Besides, of slot 1 the lengths, of slot 2 the lengths and 3 words of the component.
+    // In addition, the lengths of slot 1, and of slot 2 the lengths and 3 words of the component.
     (
         b"/a_long_directory/file.of.17.bytes.",
         18,
@@ -33,7 +33,8 @@ const WALKS: [Walk<'static>; 5] = [
     (b"/ring", 9, Err(Errno::ELOOP)),
 ];
 
-// The words that a walk asks for, one after the other, and whether none is asked for twice and the end is this.
+// Gives a walk the words that it asks for, one after the other. Returns whether it asks for none twice, and the number of words
+// and the end are as listed.
 fn is_asked(alloc: Global, row: &KnownRow, walk: &Walk) -> Result<bool, Fail> {
     let (text, words, want) = walk;
     let text = path(text)?;
@@ -55,7 +56,7 @@ fn is_asked(alloc: Global, row: &KnownRow, walk: &Walk) -> Result<bool, Fail> {
     Ok(false)
 }
 
-// The same walk, which reads at most so many words at a time.
+// The same for a walk that reads at most `most` words at a time.
 fn is_read(alloc: Global, row: &KnownRow, walk: &Walk, most: usize) -> Result<bool, Fail> {
     let (text, words, want) = walk;
     let text = path(text)?;
@@ -165,7 +166,7 @@ fn words_are_read_where_they_may_be(rt: HostRuntime) -> Result<(), Fail> {
 fn what_is_known_may_fit_no_tree(rt: HostRuntime) -> Result<(), Fail> {
     let mut known = KnownWords::new(rt.alloc(), 8);
     let at = path(b"/a")?;
-    // Slot 1 holds the entry `a` of the root, and its kind is none.
+    // Slot 1 holds the entry `a` of the root, and its kind is invalid.
     for (place, word) in [(164, 4), (166, 0), (167, 1), (168, 97)] {
         known.learn(place, word).ok().ok_or("memory")?;
     }

@@ -1,4 +1,4 @@
-//! Lengths that no component and no text has, told once an entry is found.
+//! Lengths that no component and no text has, read once an entry is found.
 use crate::lying::{LyingCells, reach_lying};
 use crate::rows::{Slot, path, row_of};
 use crate::torn::{SMALL, set};
@@ -14,7 +14,7 @@ use tree_row::{DIRECTORY, LENGTHS, LINK, SLOT_LENGTH, TEXT_FACTOR};
 // How long the name is, or why there is none.
 type Row = (u64, Result<usize, WalkFault>);
 
-// Cells whose slot tells other lengths than those by which its entry was found.
+// Cells whose slot returns lengths other than those by which its entry was found.
 fn lengths_of(alloc: Global, slot: usize, word: u64) -> Result<LyingCells, Fail> {
     let place = SLOT_LENGTH.checked_mul(slot).ok_or("a slot")?;
     Ok(LyingCells {
@@ -43,7 +43,7 @@ fn expect_ends(
     Ok(())
 }
 
-// Where a component is as long as it may be, its bytes are put into the name, whatever they are.
+// A component of the greatest length has its bytes put into the name, whatever they are.
 #[test]
 fn lengths_of_components(rt: HostRuntime) -> Result<(), Fail> {
     expect_ends(
@@ -63,8 +63,8 @@ fn lengths_of_components(rt: HostRuntime) -> Result<(), Fail> {
     )
 }
 
-// The slot holds the link `l`, whose text leads to `/a/f`. Where its text is as long as it may be, the bytes behind `f` make
-// a component that is longer than any.
+// The slot holds the link `l`, whose text leads to `/a/f`. If the text has the greatest length, the bytes after `f` make a
+// component that is longer than any.
 #[test]
 fn lengths_of_texts(rt: HostRuntime) -> Result<(), Fail> {
     expect_ends(
@@ -83,7 +83,7 @@ fn lengths_of_texts(rt: HostRuntime) -> Result<(), Fail> {
     )
 }
 
-// A link whose text is one component of 300 bytes, and a directory that is told to have it.
+// A link whose text is one component of 300 bytes, and a directory, whose slot the test gives that length.
 fn long_component(text: &[u8]) -> [Slot<'_>; 2] {
     [
         Slot {

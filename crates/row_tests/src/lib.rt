@@ -1,4 +1,4 @@
-//! Tests of `tree_row`, `row_look` and `walk_words`, and nothing else: as they stand here, each library is proved once.
+//! Tests of `tree_row`, `row_look` and `walk_words`, and nothing else: with the tests here, each library is proved once.
 #![tactic(auto)]
 
 #[cfg(test)]

@@ -1,4 +1,4 @@
-//! Cells that tell at times what no row has: over any answers a walk and a name come to an end.
+//! Cells that sometimes return what no row has: whatever they return, walking and naming terminate.
 use crate::rows::{path, row_of};
 use crate::torn::SMALL;
 use directory_tree::Last;
@@ -9,7 +9,7 @@ use std::alloc::Global;
 use std::test::Fail;
 use tree_row::{Cells, KnownRow};
 
-/// The cells of a row, of which one tells another word, once it was asked for so often.
+/// The cells of a row, one of which returns another word after `honest_reads` reads.
 #[derive(Drop)]
 pub(crate) struct LyingCells {
     pub row: KnownRow,
@@ -27,7 +27,7 @@ impl Cells for LyingCells {
 
     ghost capacity_of = { λ k. k };
 
-    // No row is told.
+    // No row may be the one that is read.
     ghost may = { λ _ _. ⊥ };
 
     ghost whole = { λ _ _. ⊥ };
@@ -68,7 +68,7 @@ pub(crate) fn reach_lying(
     Ok((look.into_cells().row, end))
 }
 
-// All comes to an end, whichever word is another one from the first, the second or the third time on.
+// Everything terminates, whichever word changes from the first, the second or the third read on.
 fn ends_with_one_lie(alloc: Global) -> Result<(), Fail> {
     let mut row = row_of(alloc, 3, &SMALL)?;
     for place in 0..row.length() {
@@ -95,7 +95,7 @@ fn one_cell_lies(rt: HostRuntime) -> Result<(), Fail> {
 #[test]
 fn a_directory_becomes_its_own(rt: HostRuntime) -> Result<(), Fail> {
     let row = row_of(rt.alloc(), 3, &SMALL)?;
-    // Of slot 1, the directory's, the parent is asked for when it is looked up, and then when it is named.
+    // The parent of slot 1, the directory's, is read when it is looked up, and again when it is named.
     let cells = LyingCells {
         row,
         place: 164 + 2,

@@ -1,4 +1,4 @@
-//! The walk of one open, which goes on from the words that it has read.
+//! The walk of one open, which continues from the words that it has read.
 use crate::rows::{SLOTS, Slot, row_of};
 use names::{Errno, Perms};
 use path_lookup::Scratch;
@@ -8,8 +8,8 @@ use std::test::Fail;
 use tree_row::KnownRow;
 use walk_words::{Lack, Outcome, WalkWords, reach_on};
 
-// A path, how many words an open of it needs, and the name and the node of the file that it reaches. Besides what its walk and
-// its name need, the word of the node is read, but for the root's.
+// A path, how many words an open of it needs, and the name and the node of the file that it reaches. In addition to what the walk
+// and the name need, the word of the node is read, except for the root.
 type Open<'a> = (&'a [u8], usize, Result<(&'a [u8], u64), Errno>);
 
 const OPENS: [Open<'static>; 5] = [
@@ -24,7 +24,7 @@ const OPENS: [Open<'static>; 5] = [
     (b"/ring", 9, Err(Errno::ELOOP)),
 ];
 
-// Whether the open, which reads at most so many words at a time, comes to this end after so many words.
+// Whether the open, which reads at most `most` words at a time, ends as listed, after the listed number of words.
 fn comes(alloc: Global, row: &KnownRow, open: &Open, most: usize) -> Result<bool, Fail> {
     let (text, needed, want) = open;
     let ask = Perms::from_letters(b"r").ok_or("letters")?;
@@ -123,7 +123,7 @@ fn no_word_is_read_where_none_may_be(rt: HostRuntime) -> Result<(), Fail> {
 
 #[test]
 fn words_may_be_those_of_no_tree(rt: HostRuntime) -> Result<(), Fail> {
-    // A slot in use of no kind.
+    // A slot in use, of an invalid kind.
     let slot = Slot {
         number: 1,
         kind: 4,

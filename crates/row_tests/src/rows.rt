@@ -74,7 +74,7 @@ pub(crate) fn path(text: &[u8]) -> Result<Path<'_>, Fail> {
     Ok(Path::check(text).ok().ok_or("a path")?)
 }
 
-/// The row of these slots, with room for so many entries.
+/// The row of these slots, with room for `capacity` entries.
 pub(crate) fn row_of(alloc: Global, capacity: usize, slots: &[Slot]) -> Result<KnownRow, Fail> {
     if capacity > 16384 {
         return Err("a capacity")?;

@@ -1,4 +1,4 @@
-//! Rows that encode no tree: over any words a walk and a name come to an end.
+//! Rows that encode no tree: over any words, walking and naming terminate.
 use crate::rows::{Slot, path, row_of};
 use directory_tree::Last;
 use path_lookup::{Scratch, WalkFault};
@@ -39,7 +39,7 @@ fn words_for(place: usize) -> [u64; 5] {
     [0, 1, 3, place as u64 / 164, 0xffff_ffff_ffff_ffff]
 }
 
-// Whether the walk and the name come to an end, and a name begins as names do.
+// Whether walking and naming terminate, and a name begins as names do.
 fn ends(row: KnownRow) -> Result<(KnownRow, bool), Fail> {
     let mut look = RowLook::new(row);
     let mut room = [0; 4096];
@@ -68,7 +68,7 @@ pub(crate) fn set(row: &mut KnownRow, place: usize, word: u64) {
     }
 }
 
-// Whether all comes to an end where a word at a time is another one.
+// Whether everything terminates when one word at a time is replaced.
 fn ends_with_one_torn(alloc: Global) -> Result<bool, Fail> {
     let mut row = row_of(alloc, 3, &SMALL)?;
     for place in 0..row.length() {

@@ -9,10 +9,10 @@ use std::process::Abort;
 use std::test::Fail;
 use tree_row::{DIRECTORY, FILE, KnownRow};
 
-// A path, whether a link at its end is followed, and what it leads to is named.
+// A path, whether a link at its end is followed, and the name of what it leads to.
 type Walk<'a> = (&'a [u8], Last, Result<&'a [u8], Errno>);
 
-// Whether a path leads to what is named so, or is refused by this number.
+// Whether a path leads to what has this name, or is refused with this error.
 fn leads_there(look: &mut RowLook<KnownRow>, row: &Walk) -> Result<bool, Fail> {
     let (text, last, want) = row;
     let mut room = [0; 4096];
@@ -30,7 +30,7 @@ fn expect_walks(rt: &impl Abort, look: &mut RowLook<KnownRow>, rows: &[Walk]) ->
     Ok(())
 }
 
-/// Walks in the row of the slots above.
+/// Walks in the row of `SLOTS`.
 pub(crate) const WALKS: [Walk<'static>; 16] = [
     (b"/", Last::Follow, Ok(b"/")),
     (b"/..", Last::Follow, Ok(b"/")),
@@ -66,7 +66,7 @@ pub(crate) const WALKS: [Walk<'static>; 16] = [
     (b"/a_long_directory_", Last::Follow, Err(Errno::ENOENT)),
     (b"/a_long_director", Last::Follow, Err(Errno::ENOENT)),
     (b"/a_long_directorx", Last::Follow, Err(Errno::ENOENT)),
-    // It stands in another directory.
+    // It is in another directory.
     (b"/file.of.17.bytes.", Last::Follow, Err(Errno::ENOENT)),
     (b"/l/file.of.17.bytes./", Last::Follow, Err(Errno::ENOTDIR)),
     (b"/l/file.of.17.bytes./x", Last::Follow, Err(Errno::ENOTDIR)),
@@ -98,7 +98,7 @@ fn the_opening_row_is_empty(rt: HostRuntime) -> Result<(), Fail> {
 
 #[test]
 fn a_full_row_has_no_room(rt: HostRuntime) -> Result<(), Fail> {
-    // The file stands in the last slot.
+    // The file is in the last slot.
     let slots = [
         Slot {
             number: 1,

@@ -10,7 +10,7 @@ use Rattle.rule_profile.specs.declared.profile.Rule.{Rule}
 use Rattle.rule_profile.specs.Profile.{rule_value}
 use Rattle.verdicts.specs.declared.kind.RuleKind.TheVariants.{Allow}
 
--- a rule that says nothing, which stands where there is none
+-- a rule that says nothing, used where there is none
 abbrev pub nothing : RuleValue
 nothing = record { kind = Allow; perms = set_of (λ p. false); items = [] }
 

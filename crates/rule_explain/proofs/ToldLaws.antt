@@ -1,4 +1,4 @@
--- The rules that are told: where they stand, and what is told of them.
+-- The rules that explanations name: where they are, and what is said about them.
 use Rattle.std.proofs.Common.{◌≡◌, ℕ, zero, suc, ◌-◌, ◌<◌, ◌≤◌, true, List, [], ◌∷◌, ◌++◌, length, map, get_or, Option, Some, Ok, refl, sym, ap, ◌∙◌, append_assoc, arith}
 use Rattle.std.specs.Prelude.{codes, decimal, slice_get}
 use Rattle.std.specs.List.{list_all}
@@ -35,7 +35,7 @@ told_so text rules n rule some most is =
 
 -- ---- the rules of a text
 
--- a rule at its place, and where it stands
+-- a rule by its index, and where it is in the text
 record Found (text : List ℕ) (rules : List RuleValue) (spans : List Span) (i : ℕ) : Type 0 where
   rule : RuleValue
   span : Span
@@ -53,7 +53,7 @@ found text past (rule ∷ rules) (span ∷ spans) (suc i) again valid lt =
     let f = found text span.end rules spans i again.2 (and_parts (is_rule rule) (list_all is_rule rules) valid).1 (omega arith) in
     record { rule = f.rule; span = f.span; is = f.is; at = f.at; again = f.again; valid = f.valid }
 
--- a rule's text is read again as it
+-- a rule's text is read again as that rule
 abbrev pub IsWritten : Type 0
 IsWritten = (r : RuleValue) (more : List ℕ) → is_rule r ≡ true → rule_at (rule_text r ++ more) ≡ Ok (r, more)
 

@@ -1,4 +1,4 @@
--- The verdict agrees with the reasons of what is asked.
+-- The verdict agrees with the reasons for what is asked.
 use Rattle.std.proofs.Common.{◌≡◌, ℕ, List, IsTrue, subst}
 use Rattle.names.specs.declared.permissions.Permission.{Permission}
 use Rattle.names.specs.declared.permissions.Perms.{Perms}

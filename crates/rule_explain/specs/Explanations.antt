@@ -1,4 +1,4 @@
--- What is said of a name by the rules of a text: the verdict, and for each permission that is asked why it is allowed or not.
+-- What the rules of a text say about a name: the verdict, and for each permission that is asked why it is allowed or not.
 use Rattle.std.specs.Prelude.{ℕ, ◌-◌, List, [], ◌∷◌, ◌++◌, codes, decimal, filter, flat_map, slice_get}
 use Rattle.std.specs.Option.{option_map_or}
 use Rattle.names.specs.declared.permissions.Permission.{Permission}
@@ -14,7 +14,7 @@ use Rattle.rule_explain.specs.declared.reason.Reason.TheVariants.{Allowed, Denie
 use Rattle.rule_explain.specs.Places.{place_at}
 use Rattle.rule_explain.specs.Reasons.{reason}
 
--- the line in which the first byte of the rule with this number stands
+-- the line with the first byte of the rule with this number
 abbrev pub line_of_rule : List ℕ → List Span → ℕ → ℕ
 line_of_rule text spans n = (place_at text (option_map_or (λ span. span.start) (slice_get spans (n - 1)) 0)).line
 

@@ -1,4 +1,4 @@
--- How it is shown where a text is refused: the fault as a sentence, its line, and a caret below the byte.
+-- How a refused text's fault is shown: the fault as a sentence, its line, and a caret below the byte.
 use Rattle.std.specs.Prelude.{ℕ, Bool, List, ◌++◌, ◌&&◌, ◌==◌, nat_le, if◌then◌else◌, codes, decimal, length, map, replicate, unwrap_or}
 use Rattle.rule_reader.specs.declared.fault.ReadFault.{ReadFault}
 use Rattle.rule_reader.specs.FaultNumber.{fault_offset}
@@ -10,8 +10,8 @@ use Rattle.rule_explain.specs.Places.{front_of_line, rest_of_line, place_at}
 abbrev pub is_printable : ℕ → Bool
 is_printable b = nat_le 32 b && nat_le b 126
 
--- A byte as it is shown. No other than printable ASCII is, lest a text drive the terminal: a tab is one space, and each other
--- byte is `?`. So a byte takes one column (our choice).
+-- A byte as it is shown. Only printable ASCII is, so that a text can't drive the terminal: a tab is one space, and each other byte
+-- is `?`. So a byte takes one column (our choice).
 abbrev pub shown : ℕ → ℕ
 shown b = if b == 9 then 32 else if is_printable b then b else 63
 
@@ -28,7 +28,7 @@ shown_line text offset = map shown (front_of_line text offset ++ rest_of_line te
 abbrev pub caret_line : List ℕ → ℕ → List ℕ
 caret_line text offset = replicate (length (front_of_line text offset)) 32 ++ codes "^"
 
--- the three lines, without the end of the last one; want of memory, which is no fault of the text, is told at its start
+-- the three lines, without the end of the last one; running out of memory, which is no fault of the text, is shown at its start
 abbrev pub lines_at : List ℕ → ℕ → ReadFault → List ℕ
 lines_at text offset fault =
     sentence (place_at text offset) fault ++ (codes "\n" ++ (shown_line text offset ++ (codes "\n" ++ caret_line text offset)))

@@ -6,15 +6,15 @@ use Rattle.rule_explain.specs.declared.place.Place.{Place}
 abbrev pub is_line_feed : ℕ → Bool
 is_line_feed b = b == 10
 
--- what of its line stands before the byte before which so many stand
+-- the bytes of a line before the byte at this offset
 abbrev pub front_of_line : List ℕ → ℕ → List ℕ
 front_of_line text offset = after_last is_line_feed (take offset text)
 
--- and what from it on, without the line feed that ends the line
+-- and those from it on, without the line feed that ends the line
 abbrev pub rest_of_line : List ℕ → ℕ → List ℕ
 rest_of_line text offset = before_first is_line_feed (drop offset text)
 
--- where that byte stands: lines and columns are counted from 1, and columns count bytes
+-- the place of that byte: lines and columns are counted from 1, and columns count bytes
 abbrev pub place_at : List ℕ → ℕ → Place
 place_at text offset = record {
   line = count_by is_line_feed (take offset text) + 1;

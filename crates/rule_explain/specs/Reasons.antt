@@ -1,5 +1,5 @@
--- Why a permission is allowed to a name, or not: the least deny rule that holds it and takes the name, if any does; else the
--- least allow rule that does (apparmor.d(5), "Rule Qualifiers").
+-- Why a permission is allowed to a name, or not: the least deny rule that holds it and takes the name, if there is one; otherwise
+-- the least allow rule that does (apparmor.d(5), "Rule Qualifiers").
 use Rattle.std.specs.Prelude.{ℕ, ◌+◌, Bool, true, false, ◌&&◌, List, Option, Some, None, option_map, position}
 use Rattle.names.specs.declared.permissions.Permission.{Permission}
 use Rattle.rule_globs.specs.PlainVerdict.{takes}

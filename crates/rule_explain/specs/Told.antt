@@ -1,4 +1,4 @@
--- What is said of a rule that is told.
+-- What is said about a rule that an explanation names.
 use Rattle.std.specs.Prelude.{◌≡◌, ℕ, List, ◌++◌, Ok}
 use Rattle.names.specs.declared.permissions.Permission.{Permission}
 use Rattle.rule_globs.specs.Verdict.{IsRuleAt}
@@ -12,8 +12,8 @@ use Rattle.rule_explain.specs.Explanations.{line_of_rule, text_of_rule}
 use Rattle.rule_explain.specs.Places.{place_at}
 use Rattle.rule_explain.specs.Reasons.{IsReason}
 
--- The rule with this number is read again twice: in the text, from its first byte on, whose line is told; and by itself, from
--- what is told of it, whatever stands behind.
+-- The rule with this number is read again twice: in the text, from its first byte on, whose line is shown; and by itself, from its
+-- text in the explanation, whatever follows.
 pub record IsToldRule (text : List ℕ) (rules : List RuleValue) (n : ℕ) : Type 0 where
   pub rule : RuleValue
   pub numbered : IsRuleAt rules n rule
@@ -22,7 +22,7 @@ pub record IsToldRule (text : List ℕ) (rules : List RuleValue) (n : ℕ) : Typ
   pub line : line_of_rule text (spans_of text) n ≡ (place_at text span.start).line
   pub told : (more : List ℕ) → rule_at (text_of_rule rules n ++ more) ≡ Ok (rule, more)
 
--- the reason is right, and the rule that it names is told so
+-- the reason is right, and the rule that it names is shown rightly
 abbrev pub IsRightlyTold : List ℕ → List RuleValue → List ℕ → Permission → Reason → Type 0
 IsRightlyTold text rules name p (Allowed n) = IsReason rules name p (Allowed n) × IsToldRule text rules n
 IsRightlyTold text rules name p (Denied n) = IsReason rules name p (Denied n) × IsToldRule text rules n

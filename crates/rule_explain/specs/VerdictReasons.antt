@@ -21,7 +21,8 @@ IsAllowed (Allowed n) = Unit {0}
 IsAllowed (Denied n) = ⊥
 IsAllowed NoRule = ⊥
 
--- The least rule by which something asked is denied; else just what no rule says something of; else each is allowed.
+-- The least rule by which something that is asked is denied; otherwise exactly the permissions about which no rule says anything;
+-- otherwise each is allowed.
 abbrev pub AgreesWithReasons : List RuleValue → List ℕ → Perms → Verdict → Type 0
 AgreesWithReasons rules name ask (verdicts.Denied n) = IsLeast (IsDeniedBy rules name ask) n
 AgreesWithReasons rules name ask (verdicts.NoRule missing) =

@@ -1,4 +1,4 @@
-//! What is said of a name, and why.
+//! What is said about a name, and why.
 ghost use Rattle.std.specs.Prelude.{◌≡◌, ◌≤◌, ◌++◌, IfOk, codes, decimal, length, map, string_bytes};
 ghost use Rattle.rule_explain.specs.Explanations.{explanation, reason_line, reason_text, rule_told};
 ghost use Rattle.rule_explain.specs.inner.Numbers.{TellsRuleOf};
@@ -15,9 +15,9 @@ use rule_writer::write_rule;
 use std::alloc::Global;
 use verdicts::Verdict;
 
-/// Says what a profile makes of a name and of the permissions that are asked for it, and why: a line with the verdict, and for
-/// each permission that is asked a line with the least rule that denies it, or else that allows it, by its number, its line
-/// in the text that the profile was read from, and its text.
+/// Says what a profile makes of a name and of the permissions that are asked for it, and why: a line with the verdict, and for each
+/// permission that is asked a line with the least rule that denies it, or otherwise the least that allows it, by its number, its
+/// line in the text that the profile was read from, and its text.
 #[tactic(auto, unfolding(crate::specs::Explanations::explanation))]
 pub fn explain(
     alloc: Global,
@@ -96,7 +96,7 @@ fn put_reason(
     }
 }
 
-/// Adds a rule by its number, the line where it stands, and its text.
+/// Adds a rule by its number, its line, and its text.
 fn put_rule(
     lines: &mut Vec<u8>,
     alloc: Global,
@@ -116,7 +116,7 @@ fn put_rule(
     put(lines, &write_rule(alloc, rule)?)
 }
 
-/// What stands before a rule's text: its number, and its line.
+/// What comes before a rule's text: its number, and its line.
 fn rule_front(alloc: Global, number: u16, line: usize) -> Result<String, NoMemory>
     ensures { IfOk result (λ front. string_bytes front
         ≡ codes "rule " ++ (decimal number ++ (codes ", line " ++ (decimal line ++ codes ": ")))) }

@@ -1,4 +1,4 @@
-//! Laws of reasons, and of the rules that are told. The functions do nothing: each stands for its contract.
+//! Laws of reasons, and of the rules that explanations name. The functions do nothing: each stands for its contract.
 ghost use Rattle.std.specs.Prelude.{◌≡◌, ℕ, List, Ok};
 ghost use Rattle.names.specs.declared.permissions.Permission.{Permission};
 ghost use Rattle.names.specs.declared.permissions.Perms.{Perms};
@@ -22,17 +22,17 @@ pub fn reasons_are_right()
         IsReason rules name p first → IsReason rules name p second → first ≡ second }
 {}
 
-/// The verdict agrees with the reasons: denied by the least rule by which something that is asked is denied; else no rule for
-/// just what no rule says something of; else allowed, each permission by some rule.
+/// The verdict agrees with the reasons: denied by the least rule by which something that is asked is denied; otherwise no rule for
+/// exactly the permissions about which no rule says anything; otherwise allowed, each permission by some rule.
 pub fn verdicts_agree_with_reasons()
     ensures { (rules : List RuleValue) (name : List ℕ) (ask : Perms) → AgreesWithReasons rules name ask (verdict rules name ask) }
 {
     one_verdict_is_right();
 }
 
-/// What is said of a permission by the rules of a text is right: the least deny rule that holds it and takes the name, or else
-/// the least allow rule. That rule stands in the text where it is told: from there on it is read again. What is told of it is
-/// read again as it, too.
+/// What is said about a permission by the rules of a text is right: the least deny rule that holds it and takes the name, or
+/// otherwise the least allow rule. That rule is in the text where it is said to be: from there on it is read again. Its text in the
+/// explanation is read again as that rule, too.
 pub fn explanations_are_right()
     ensures { (text : List ℕ) (profile : ProfileValue) (name : List ℕ) (p : Permission) → outcome_of text ≡ Ok profile →
         IsRightlyTold text profile.rules name p (reason profile.rules name p) }

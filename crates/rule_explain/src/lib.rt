@@ -1,5 +1,5 @@
-//! What the rules of a text say of a name, and why: for each permission the least rule that hits, where it stands in the text
-//! and how it is written; and for a text that is refused, the line with its fault.
+//! What the rules of a text say about a name, and why: for each permission the least rule that hits, where it is in the text and
+//! how it is written; and for a text that is refused, the line with its fault.
 //!
 //! The definitions to believe are those in `specs/`.
 #![tactic(auto)]

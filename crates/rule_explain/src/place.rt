@@ -10,7 +10,7 @@ pub struct Place {
     pub column: usize,
 }
 
-/// The place of the byte before which so many stand.
+/// The place of the byte at this offset.
 pub fn place_at(text: &[u8], offset: usize) -> Place
     ensures { result ≡ place_at text.now offset }
 {
@@ -44,7 +44,7 @@ fn line_feeds(bytes: &[u8]) -> usize
     bytes.iter().filter(|byte| **byte == b'\n').count()
 }
 
-/// What stands behind the last line feed.
+/// The bytes after the last line feed.
 fn last_line(bytes: &[u8]) -> &[u8]
     ensures { result.now ≡ after_last is_line_feed bytes.now }
 {
@@ -55,7 +55,7 @@ fn last_line(bytes: &[u8]) -> &[u8]
     &bytes[start..]
 }
 
-/// What stands before the first line feed.
+/// The bytes before the first line feed.
 fn first_line(bytes: &[u8]) -> &[u8]
     ensures { result.now ≡ before_first is_line_feed bytes.now }
 {

@@ -13,11 +13,11 @@ use verdicts::RuleKind;
 /// order of the text.
 #[derive(Clone, Copy, Debug, PartialEq, Eq)]
 pub enum Reason {
-    /// The least of the allow rules, where no deny rule does.
+    /// The least of the allow rules, if there is no such deny rule.
     Allowed { rule: u16 },
     /// The least of the deny rules.
     Denied { rule: u16 },
-    /// No rule does.
+    /// There is no such rule.
     NoRule,
 }
 
@@ -41,7 +41,7 @@ fn first_hit(profile: &Profile, kind: RuleKind, permission: Permission, name: &[
     None
 }
 
-/// Why a profile allows a permission to a name, or doesn't (apparmor.d(5), "Rule Qualifiers"). No memory is taken.
+/// Why a profile allows a permission to a name, or doesn't (apparmor.d(5), "Rule Qualifiers"). Allocates nothing.
 pub fn reason_of(profile: &Profile, name: &[u8], permission: Permission) -> Reason
     // The reason, by sets of hits and least members.
     ensures reason { IsReason (profile_value profile.now).rules name.now permission result }

@@ -1,4 +1,4 @@
-//! Where a text is refused, and for what.
+//! Where a text is refused, and why.
 ghost use Rattle.std.specs.Prelude.{◌≡◌, ◌<◌, ◌++◌, ◌∷◌, [], IfOk, codes, map, replicate, string_bytes};
 ghost use Rattle.rule_explain.specs.FaultLines.{fault_lines, sentence, shown};
 

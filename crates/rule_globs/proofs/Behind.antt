@@ -1,4 +1,4 @@
--- What is reached behind a pattern, and its live places, by the parts of the pattern.
+-- What is reached after a pattern, and its live places, by the parts of the pattern.
 use Rattle.std.proofs.Common.{◌≡◌, ℕ, ◌+◌, ◌<◌, Bool, true, ◌&&◌, ◌||◌, ◌⊎◌, ◌↔◌, inl, inr, ⊎_elim, List, [], ◌∷◌, ◌++◌, IsTrue, refl, sym, ap, ◌∙◌, subst, arith}
 use Rattle.std.specs.List.{list_all}
 use Rattle.std.proofs.lemmas.List.{append-nil, append_assoc}
@@ -60,7 +60,7 @@ Live-below none x p h = absurd h
 Live-below (alt a b) x p (inl h) = omega (arith, Live-below a x p h)
 Live-below (alt a b) x p (inr h) = omega (arith, Live-below b x h.0 h.2, h.1)
 
--- what is behind two parts, and which places are live in them
+-- what is reached after two parts, and which places are live in them
 pub cat_behind : (E : List ℕ → Type 0) (a b : Glob) (x : List ℕ) → Behind E (cat a b) x ↔ Behind (Behind E a) b x
 cat_behind E a b x = (
   λ h. (h.0 ++ h.4.0, h.4.1, h.2 ∙ ap (λ z. h.0 ++ z) h.4.2 ∙ sym (append_assoc h.0 h.4.0 h.4.1), (h.0, h.4.0, refl, h.3, h.4.3), h.4.4),
@@ -110,7 +110,7 @@ alt_right E a b x q = (
   λ h. (h.0, h.1, h.2, h.3, inr (q, refl, h.4)),
 )
 
--- what is behind one byte or a run, after one byte more
+-- what is reached after one byte or a run, with one more byte
 pub one_behind : (E : List ℕ → Type 0) (set : ByteSet) (x : List ℕ) (c : ℕ) (live : Bool) →
     (IsTrue live ↔ LiveAfter E (one set) x 0) →
     IsTrue (live && fits set c) ↔ Behind E (one set) (x ++ (c ∷ []))
@@ -150,7 +150,7 @@ run_behind E set x c here live now reached = (
       (split_last h.0 h.1 x c h.2),
 )
 
--- a run's place is live where what stands behind it is reached
+-- a run's place is live where what follows it is reached
 pub run_live : (E : List ℕ → Type 0) (set : ByteSet) (x : List ℕ) → Behind E (run set) x ↔ LiveAfter E (run set) x 0
 run_live E set x = (λ h. (h.0, h.1, h.2, h.3, (refl, h.4)), λ h. (h.0, h.1, h.2, h.3, h.4.1))
 

@@ -8,7 +8,7 @@ use Rattle.rule_globs.specs.Glob.{in_range}
 use Rattle.rule_globs.specs.inner.ByteBits.{has_bit}
 use Rattle.rule_globs.specs.declared.items.ByteRange.{ByteRange}
 
--- a number whose low bits are set, as many as n
+-- a number whose n lowest bits are set
 pub low_ones : (n i : ℕ) → has_bit (2 ^ n - 1) i ≡ nat_lt i n
 low_ones n i = ⊎_elim
     (λ lt. ap (λ z. z == 1) (bit_at_ones n i lt) ∙ sym (lt-ltb i n lt))

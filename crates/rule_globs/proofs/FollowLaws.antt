@@ -12,7 +12,7 @@ use Rattle.rule_globs.proofs.Behind.{both_empty, split_last, last_alone, Live-be
 abbrev OwnLive : Glob → ℕ → List ℕ → Numbers
 OwnLive g base bytes q = (p : ℕ) × (q + p + 1 ≡ base + places g) × Live g bytes p
 
--- the same, or the bytes lead behind the pattern
+-- the same, or the bytes lead past the pattern
 abbrev LiveNumber : Glob → ℕ → Numbers → List ℕ → Numbers
 LiveNumber g base behind bytes q = OwnLive g base bytes q ⊎ (Takes g bytes × behind q)
 
@@ -35,14 +35,14 @@ cat_own : (a b : Glob) (base : ℕ) (behind : Numbers) (bytes : List ℕ) (q : �
     OwnLive a (base + places b) bytes q → LiveNumber (cat a b) base behind bytes q
 cat_own a b base behind bytes q h = inl (h.0, omega (arith, h.1), inl h.2)
 
--- what is live in the second part, or behind it, after what the first part takes
+-- what is live in the second part, or after it, once the first part has taken its bytes
 cat_join : (a b : Glob) (base : ℕ) (behind : Numbers) (bytes : List ℕ) (q : ℕ) (front back : List ℕ) → bytes ≡ front ++ back →
     Takes a front → LiveNumber b base behind back q → LiveNumber (cat a b) base behind bytes q
 cat_join a b base behind bytes q front back e t (inl h) =
     inl (places a + h.0, omega (arith, h.1), inr (h.0, front, back, refl, e, t, h.2))
 cat_join a b base behind bytes q front back e t (inr h) = inr ((front, back, e, t, h.0), h.1)
 
--- one or the other: what is live is so in one of the alternatives
+-- one or the other: what is live is live in one of the alternatives
 alt_split : (a b : Glob) (base : ℕ) (behind : Numbers) (bytes : List ℕ) (q : ℕ) → LiveNumber (alt a b) base behind bytes q →
     LiveNumber a (base + places b) behind bytes q ⊎ LiveNumber b base behind bytes q
 alt_split a b base behind bytes q (inl h) = ⊎_elim
@@ -50,7 +50,7 @@ alt_split a b base behind bytes q (inl h) = ⊎_elim
     (λ t. inr (inl (t.0, omega (arith, h.1, t.1), t.2))) h.2
 alt_split a b base behind bytes q (inr h) = ⊎_elim (λ t. inl (inr (t, h.1))) (λ t. inr (inr (t, h.1))) h.0
 
--- and what is live in an alternative is so in the choice
+-- and what is live in an alternative is live in the choice
 alt_first : (a b : Glob) (base : ℕ) (behind : Numbers) (bytes : List ℕ) (q : ℕ) →
     LiveNumber a (base + places b) behind bytes q → LiveNumber (alt a b) base behind bytes q
 alt_first a b base behind bytes q (inl h) = inl (h.0, omega (arith, h.1), inl h.2)
@@ -145,7 +145,7 @@ part_second a b base m c q before behind lt t h = (
   ⊎_elim (λ u. absurd (omega (arith, lt, (goes-own a (base + places b) before m q u).0))) (λ u. u) h,
 )
 
--- bytes with one more are not none
+-- bytes with one more are not empty
 not_empty : (x : List ℕ) (c : ℕ) → x ++ (c ∷ []) ≡ [] → ⊥
 not_empty x c e = let both : (x ≡ []) × (c ∷ [] ≡ []) = both_empty x (c ∷ []) (sym e) in cc (both.1)
 
@@ -161,7 +161,7 @@ cat_last a b base behind x c q h = ⊎_elim
     (split_last t.0 t.1 x c t.2))
     (cat_split a b base behind (x ++ (c ∷ [])) q h)
 
--- what is live after one byte more follows a live place that takes the byte
+-- what is live after one more byte follows a live place that takes the byte
 live-follows : (g : Glob) (base : ℕ) (behind : Numbers) (x : List ℕ) (c q : ℕ) →
     LiveNumber g base behind (x ++ (c ∷ [])) q → Follows g base behind x c q
 live-follows empty base behind x c q (inl h) = absurd h.2
@@ -226,7 +226,7 @@ follows-live (alt a b) base behind x c q h = ⊎_elim
     alt_second a b base behind (x ++ (c ∷ [])) q
     (follows-live b base behind x c q (l.0, h.1, omega (arith, h.2, l.1), l.2, part.0, part.1))) h.3
 
--- In a whole pattern the end is all that is behind.
+-- In a whole pattern only the end follows.
 numbered : (g : Glob) (end p : ℕ) (bytes : List ℕ) → p ≤ places g →
     LiveOrEnd g bytes p ↔ LiveNumber g (end + 1) (λ q. q ≡ end) bytes (end + (places g - p))
 numbered g end p bytes le = (
@@ -246,7 +246,7 @@ live-at_first g end p le = (
   λ h. (numbered g end p [] le).1 (starts-live g (end + 1) (λ q. q ≡ end) (end + (places g - p)) h),
 )
 
--- The law for one byte more: each place live then follows a live place that takes the byte.
+-- The law for one more byte: each place live then follows a live place that takes the byte.
 pub live-after_byte : (g : Glob) (end p : ℕ) (bytes : List ℕ) (b : ℕ) → p ≤ places g →
     LiveOrEnd g (bytes ++ b ∷ []) p
     ↔ ((r : ℕ) × (r < places g) × LiveOrEnd g bytes r × TakesAt g (end + 1) (end + (places g - r)) b

@@ -50,7 +50,7 @@ left xs i x lt e =
     let one_more : suc i ≡ i + 1 = omega arith in
     drop-cons xs i x lt ∙ ap (λ z. z ∷ drop (suc i) xs) (sym e) ∙ ap (λ n. x ∷ drop n xs) one_more
 
--- one item more: `now` says what the whole pass comes to from here
+-- one more item: `now` says what the whole pass results in from here
 pub items-step : (items : List Item) (i : ℕ) (item : Item) (c : ℕ) (all s : Pass) → i < length items → item ≡ get_or items i item →
     all ≡ sweep (meaning_of (drop i items)) c s → all ≡ sweep (meaning_of (drop (i + 1) items)) c (sweep (meaning item) c s)
 unfolding sweep
@@ -67,7 +67,7 @@ items-room items i item c n s0 s lt e now room =
     ap (λ z. places (meaning_of z)) (left items i item lt e) in
     omega arith
 
--- behind the last item nothing is left of the pass
+-- after the last item nothing is left of the pass
 pub items-end : (items : List Item) (i : ℕ) (c : ℕ) (s : Pass) → length items ≤ i → sweep (meaning_of (drop i items)) c s ≡ s
 unfolding sweep
 items-end items i c s h = ap (λ z. sweep (meaning_of z) c s) (drop_of_length-le items h)
@@ -83,7 +83,7 @@ or_false false = refl
 join_twice : (x y : Bool) (s : Pass) → join x (join y s) ≡ join (x || y) s
 join_twice x y s = ap (λ z. record { place = s.place; reached = z; live = s.live }) (or_assoc x y s.reached)
 
--- one alternative more
+-- one more alternative
 pub alternatives-step : (all : List (Vec Item Global)) (i : ℕ) (alternative : Vec Item Global) (c : ℕ) (reached : Bool) (total s : Pass) →
     i < length all → alternative ≡ get_or all i alternative →
     total ≡ join reached (sweep (alternatives_meaning (drop i all)) c s) →
@@ -108,7 +108,7 @@ alternatives-room all i alternative c n reached s0 s lt e now room =
     ap (λ z. places (alternatives_meaning z)) (left all i alternative lt e) in
     omega arith
 
--- behind the last alternative nothing is left of the pass
+-- after the last alternative nothing is left of the pass
 pub alternatives-end : (all : List (Vec Item Global)) (i : ℕ) (c : ℕ) (reached : Bool) (s : Pass) → length all ≤ i →
     join reached (sweep (alternatives_meaning (drop i all)) c s) ≡ record { place = s.place; reached = reached; live = s.live }
 unfolding sweep
@@ -129,7 +129,7 @@ alternatives-next all i alternative items c before after total s r lt e f now g 
     ∙ ap (λ (z : Pass). join (before || z.reached) (sweep (alternatives_meaning (drop (i + 1) all)) c (restart s.reached z))) same
     ∙ ap (λ z. join z (sweep (alternatives_meaning (drop (i + 1) all)) c (restart s.reached r))) (sym h)
 
--- As the calls say them: what a pass comes to, from what its parts do.
+-- As the calls say them: the result of a pass, from what its parts do.
 pub at-Byte : (item : Item) (b c : ℕ) (s r : Pass) (taken : Bool) → item ≡ v.Byte b → taken ≡ fits (exactly b) c →
     r ≡ pass_one taken s → r ≡ sweep (meaning item) c s
 at-Byte item b c s r taken e f g = g ∙ ap (λ z. pass_one z s) f ∙ sym (sweep-Byte item b c s e)

@@ -1,4 +1,4 @@
--- The computed verdict is right, and what it is to be allowed.
+-- The computed verdict is right, and what being allowed means.
 use Rattle.std.proofs.Common.{[], ◌≡◌, ℕ, ◌+◌, ◌-◌, ◌<◌, ◌≤◌, Bool, true, false, not, ◌&&◌, ◌↔◌, ⊎_elim, List, IsTrue, Option, Some, None, length, get_or, nat_lt, cond, refl, sym, ap, ◌∙◌, subst, arith, if◌then◌else◌, true≢false}
 use Rattle.std.specs.List.{list_any, position, position_or_len}
 use Rattle.std.proofs.lemmas.Bool.{and_parts, and_from, cases_Bool, not-true, not_from_false, ltb-false, cases_lt}
@@ -56,7 +56,7 @@ no_place : (b : Bool) (i : ℕ) → cond b (Some i) None ≡ None → b ≡ fals
 no_place true i e = let never : ⊥ = cc (e) in absurd never
 no_place false i e = refl
 
--- a rule that says nothing, which stands where there is none
+-- a rule that says nothing, used where there is none
 nothing : RuleValue
 nothing = record { kind = Allow; perms = set_of (λ p. false); items = [] }
 

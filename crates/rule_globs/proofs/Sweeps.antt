@@ -80,7 +80,7 @@ written live place b room =
 at_first : {A : Type 0} (live : List Bool) (place : ℕ) → (IsTrue (get_or live (place + 0) false) ↔ A) → IsTrue (get_or live place false) ↔ A
 at_first {A} live place h = let e : place + 0 ≡ place = omega arith in subst (λ z. IsTrue (get_or live z false) ↔ A) e h
 
--- If the bits are the live places after some bytes, then the sweep makes them those after one byte more.
+-- If the bits are the live places after some bytes, then the sweep makes them those after one more byte.
 pub sweep-holds : (g : Glob) (E : List ℕ → Type 0) (x : List ℕ) (c : ℕ) (s : Pass) → s.place + places g ≤ length s.live →
     Lit E g x s.place s.live → (IsTrue s.reached ↔ E (x ++ (c ∷ []))) →
     Lit E g (x ++ (c ∷ [])) s.place (sweep g c s).live × (IsTrue (sweep g c s).reached ↔ Behind E g (x ++ (c ∷ [])))

@@ -1,4 +1,4 @@
--- The items of a path and the row of its tokens stand for the same pattern, and have places enough.
+-- The items of a path and the row of its tokens stand for the same pattern, and have enough places.
 use Rattle.std.proofs.Common.{◌≡◌, ◌≤◌, ◌*◌, IsTrue, Bool, true, false, not, ◌==◌, List, [], ◌∷◌, ◌++◌, length, Vec, Global, refl, sym, ap, ◌∙◌, append_assoc, append-nil, arith, length-append}
 use Rattle.std.proofs.lemmas.Bool.{and_parts}
 use Rattle.std.specs.List.{list_all}
@@ -13,7 +13,7 @@ use Rattle.rule_globs.specs.Each.{Each}
 
 -- ---- the pattern
 
--- the patterns, one after another, in front of what stands behind them
+-- the patterns, one after another, in front of what follows them
 abbrev pub in_front : List Item → Behind → Behind
 in_front [] behind = behind
 in_front (item ∷ items) behind = one_more (meaning item) (in_front items behind)
@@ -36,7 +36,7 @@ items_stand (item ∷ items) each rest full =
     ap behind_all (append_assoc (tokens item) (tokens_of items) rest)
     ∙ each.0 (tokens_of items ++ rest) parts.0 ∙ ap (one_more (meaning item)) (items_stand items each.1 rest parts.1)
 
--- behind the opening brace of a group
+-- after the opening brace of a group
 abbrev within : List (Vec Item Global) → Behind → Behind
 within [] behind = behind
 within (first ∷ others) behind =
@@ -145,6 +145,6 @@ each_fits (item ∷ items) = (item_fits item, each_fits items)
 pub places_fit : (items : List Item) → places (meaning_of items) ≤ 2 * length (tokens_of items)
 places_fit items = items_fit items (each_fits items)
 
--- With so few tokens there is room for the places.
+-- With this few tokens there is room for the places.
 pub room_of : (items : List Item) → length (tokens_of items) ≤ 1024 → places (meaning_of items) ≤ 2048
 room_of items few = omega (arith, places_fit items)

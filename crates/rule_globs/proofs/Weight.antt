@@ -1,4 +1,4 @@
--- The size of a pattern: what a pass goes down by.
+-- The size of a pattern, by which a pass decreases.
 use Rattle.std.proofs.Common.{ℕ, ◌+◌}
 use Rattle.rule_globs.specs.Glob.{Glob, empty, one, run, cat, none, alt}
 

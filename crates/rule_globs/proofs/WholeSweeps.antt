@@ -1,4 +1,4 @@
--- A whole pattern: the beginning is a byte 0 that stands before the name.
+-- A whole pattern: the beginning is a byte 0 before the name.
 use Rattle.std.proofs.Common.{◌≡◌, ℕ, ◌+◌, ◌<◌, ◌≤◌, Bool, true, false, ◌↔◌, inr, ⊎_elim, List, [], ◌∷◌, ◌++◌, IsTrue, length, get_or, replicate, take, refl, sym, ap, ◌∙◌, subst, arith, zero-add, true≢false}
 use Rattle.std.proofs.lemmas.List.{get_or-replicate, length-replicate, take_more}
 use Rattle.rule_globs.specs.Glob.{Glob, Takes, places, Live, LiveOrEnd}

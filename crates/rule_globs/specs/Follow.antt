@@ -1,5 +1,5 @@
 -- How live places go on, byte by byte. Here the places of a pattern have numbers from its last one, `base`, up to its first
--- one. What is live behind the pattern is given by the numbers themselves.
+-- one. What is live after the pattern is given by the numbers themselves.
 use Rattle.std.specs.Prelude.{◌≡◌, ◌⊎◌, ℕ, ◌+◌, IsTrue}
 use Rattle.rule_globs.specs.Glob.{Glob, empty, one, run, cat, none, alt, fits, places}
 

@@ -1,5 +1,5 @@
 -- What a pattern over the bytes of a name is, which lists of bytes it takes as a whole (apparmor.d(5), "Globbing"), and its
--- places: the positions at which a match can stand.
+-- places: the positions at which a match can be.
 pub use Rattle.names.specs.Paths.{is_slash}
 use Rattle.std.specs.Prelude.{◌≡◌, ℕ, ◌+◌, Bool, true, not, ◌&&◌, ◌⊎◌, ◌==◌, List, [], ◌∷◌, ◌++◌, IsTrue, nat_lt, nat_le, if◌then◌else◌}
 use Rattle.std.specs.List.{list_all, list_any}
@@ -45,7 +45,7 @@ contains (class negated ranges) b = if negated then not (in_ranges ranges b) els
 abbrev pub fits : ByteSet → ℕ → Bool
 fits set b = nat_lt 0 b && contains set b
 
--- A pattern. Each kind of item is one of these: a strict run of stars is one byte that is no slash, and then a run.
+-- A pattern. Each kind of item is one of these: a strict run of stars is one byte that isn't a slash, and then a run.
 pub data Glob : Type 0 where
   -- the list without bytes alone
   empty : Glob
@@ -78,8 +78,7 @@ places (cat a b) = places a + places b
 places none = 0
 places (alt a b) = places a + places b
 
--- The place `p` may take the next byte once `bytes` are taken: by what stands before it and, where it is a run, by the run
--- too.
+-- The place `p` may take the next byte once `bytes` are taken: by what is before it and, where it is a run, by the run too.
 abbrev pub Live : Glob → List ℕ → ℕ → Type 0
 Live empty bytes p = ⊥
 Live (one set) bytes p = (p ≡ 0) × (bytes ≡ [])
@@ -89,6 +88,6 @@ Live (cat a b) bytes p = Live a bytes p ⊎
 Live none bytes p = ⊥
 Live (alt a b) bytes p = Live a bytes p ⊎ ((q : ℕ) × (p ≡ places a + q) × Live b bytes q)
 
--- The end is live once the whole pattern is taken. It is the place behind all others.
+-- The end is live once the whole pattern is taken. It is the place after all others.
 abbrev pub LiveOrEnd : Glob → List ℕ → ℕ → Type 0
 LiveOrEnd g bytes p = Live g bytes p ⊎ ((p ≡ places g) × Takes g bytes)

@@ -23,7 +23,7 @@ pub data Steps : List Left → List ℕ → List Left → Type 0 where
   take_more : (at : ℕ) (set : ByteSet) (c : ℕ) (rest then : List Left) (bytes : List ℕ) → IsTrue (fits set c) →
       Steps (left at (run set) ∷ rest) bytes then → Steps (left at (run set) ∷ rest) (c ∷ bytes) then
 
--- The item at this place stands first; nothing left is the end.
+-- The item at this place is first; nothing left is the end.
 abbrev pub StandsAt : Glob → List Left → ℕ → Type 0
 StandsAt g [] p = p ≡ places g
 StandsAt g (left at (one set) ∷ rest) p = p ≡ at

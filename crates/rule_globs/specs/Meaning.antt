@@ -20,7 +20,7 @@ alt_all (a ∷ rest) = alt a (alt_all rest)
 abbrev pub in_stars : Bool → ByteSet
 in_stars crosses_slashes = if crosses_slashes then every_byte else not_slash
 
--- a strict run takes one byte that is no slash, and then as any run (our choice; the page shows it by examples)
+-- a strict run takes one byte that isn't a slash, and then what any run does (our choice; the page shows it by examples)
 abbrev pub stars_glob : Bool → Bool → Glob
 stars_glob crosses_slashes strict =
     if strict then cat (one not_slash) (run (in_stars crosses_slashes)) else run (in_stars crosses_slashes)

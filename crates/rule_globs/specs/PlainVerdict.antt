@@ -1,4 +1,4 @@
--- Matching and the verdict computed in the plainest way, beside their definitions. Laws say that they are the same.
+-- Matching and the verdict computed in the plainest way, next to their definitions. Laws say that they are the same.
 use Rattle.std.specs.Prelude.{ℕ, ◌+◌, Bool, true, false, ◌&&◌, ◌||◌, not, List, [], ◌∷◌, map, position, Some, None, if◌then◌else◌}
 use Rattle.std.specs.List.{list_all, list_any}
 use Rattle.names.specs.declared.permissions.Permission.{Permission}

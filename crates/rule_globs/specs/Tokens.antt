@@ -24,8 +24,8 @@ pub data Token : Type 0 where
 
 -- ---- the pattern
 
--- What stands behind a place of a path: the pattern from there to the end of the innermost open alternative; and for each
--- open group, innermost first, that of its further alternatives and that of what stands behind the group.
+-- What follows a place of a path: the pattern from there to the end of the innermost open alternative; and for each open
+-- group, innermost first, that of its further alternatives and that of what follows the group.
 pub record Behind : Type 0 where
   pub here : Glob
   pub groups : List (Glob × Glob)
@@ -41,7 +41,7 @@ whole_group here (group ∷ groups) = record { here = cat (alt here group.0) gro
 abbrev pub one_more : Glob → Behind → Behind
 one_more g behind = record { here = cat g behind.here; groups = behind.groups }
 
--- one token more, in front of what stands behind it
+-- one more token, in front of what follows it
 abbrev pub before : Token → Behind → Behind
 before (byte b) behind = one_more (one (exactly b)) behind
 before any_byte behind = one_more (one not_slash) behind

@@ -15,7 +15,7 @@ pub(crate) struct ByteBits {
 }
 
 impl ByteBits {
-    /// The bytes of some range.
+    /// The set of the bytes that are in some range.
     pub(crate) fn of(ranges: &[ByteRange]) -> ByteBits
         ensures { (b : ℕ) → b < 256 → has result b ≡ in_ranges ranges.now b }
     {
@@ -40,7 +40,7 @@ impl ByteBits {
         }
     }
 
-    // The word of this index, with the bytes of the range added that it has the bits of.
+    // The word of this index, with those bytes of the range added that it has bits for.
     fn word_with(self, index: usize, range: ByteRange) -> u64
         requires { index < 4 }
         ensures { (i : ℕ) → i < 64 → has_bit result i
@@ -61,7 +61,7 @@ impl ByteBits {
     }
 }
 
-/// A word of which so many low bits are set, or all where it has no more.
+/// A word with its lowest `count` bits set, or all of them where it has no more.
 fn low_bits(count: u64) -> u64
     ensures { (i : ℕ) → i < 64 → has_bit result i ≡ nat_lt i count }
 {

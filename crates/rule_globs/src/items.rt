@@ -32,7 +32,7 @@ pub struct Class {
     negated: bool,
     // In the order written; a single byte is a range of one.
     ranges: Vec<ByteRange>,
-    // The bytes of the ranges, so that the number of ranges counts nothing where a name is matched.
+    // The bytes of the ranges, so that the cost of matching a name doesn't depend on the number of ranges.
     listed: ByteBits,
 }
 
@@ -51,7 +51,8 @@ impl Model for Class {
 impl Class {
     ghost use Rattle.rule_globs.specs.Glob.{ClassValue, fits, class};
 
-    /// The class of these ranges, in the order written; a single byte is a range of one. The time grows as the ranges.
+    /// The class of these ranges, in the order written; a single byte is a range of one. The time grows with the number of
+    /// ranges.
     pub fn new(negated: bool, ranges: Vec<ByteRange>) -> Class
         ensures { result ≡ record { negated = negated; ranges = ranges.items } }
     {
@@ -77,7 +78,7 @@ impl Class {
         &self.ranges
     }
 
-    /// Whether the class takes the byte, in constant time. No class takes byte 0; a slash is a byte as any other here.
+    /// Whether the class takes the byte, in constant time. No class takes byte 0; a slash is a byte like any other here.
     pub fn takes(&self, byte: u8) -> bool
         ensures { result ≡ fits (class self.now.negated self.now.ranges) byte }
     {
@@ -90,7 +91,7 @@ impl Class {
 pub struct Stars {
     /// Whether the bytes may have slashes among them: two stars or more.
     pub crosses_slashes: bool,
-    /// Whether the run takes at least one byte, the first of which is no slash. It is so where the run is written
+    /// Whether the run takes at least one byte, the first of which isn't a slash. This holds where the run is written
     /// directly after a plain `/` and directly before a plain `/` or the end of the rule's path.
     pub strict: bool,
 }
@@ -99,7 +100,7 @@ impl Stars {
     ghost use Rattle.rule_globs.specs.Glob.{fits};
     ghost use Rattle.rule_globs.specs.Meaning.{in_stars};
 
-    /// Whether the byte can be one of those that the stars take. The first byte of a strict run is no slash besides.
+    /// Whether the byte can be one of those that the stars take. In addition, the first byte of a strict run isn't a slash.
     pub fn takes(self, byte: u8) -> bool
         ensures { result ≡ fits (in_stars self.crosses_slashes) byte }
     {

@@ -23,7 +23,7 @@ pub fn live_is_left_first()
         IsLeftFirst pattern bytes place ↔ LiveOrEnd pattern bytes place }
 {}
 
-/// Which places are live at first, and which after one byte more. A pattern's end has the number `end` here, and the place
+/// Which places are live at first, and which after one more byte. A pattern's end has the number `end` here, and the place
 /// `p`, counted from 0 in the order written, the number `end + (places pattern - p)`.
 pub fn live_places_go_on()
     ensures begin { (pattern : Glob) (end p : ℕ) → p ≤ places pattern →

@@ -1,4 +1,4 @@
-//! The live places of a path: those at which a match can stand after some bytes of a name. One pass over the items
+//! The live places of a path: those at which a match can be after some bytes of a name. One pass over the items
 //! moves them on by one byte.
 ghost use Rattle.std.specs.Prelude.{◌≡◌, ◌+◌, ◌≤◌, length};
 ghost use Rattle.rule_globs.specs.Glob.{places, fits, exactly, not_slash};
@@ -8,15 +8,15 @@ ghost use Rattle.rule_globs.specs.inner.Cursor.{pass_at};
 
 use crate::items::{Item, Stars};
 
-/// Where a pass over the items stands: the number of the next place, and whether it is reached after the byte.
+/// Where a pass over the items is: the number of the next place, and whether it is reached after the byte.
 #[derive(Clone, Copy)]
 pub(crate) struct Cursor {
     pub(crate) place: usize,
     pub(crate) reached: bool,
 }
 
-/// Moves the live places of the items on by one byte. The items' places begin at the cursor's, and what is returned
-/// stands behind them.
+/// Moves the live places of the items on by one byte. The items' places begin at the cursor's, and the returned cursor
+/// is after them.
 #[cycle(pass)]
 pub(crate) fn pass_items(items: &[Item], byte: u8, mut cursor: Cursor, live: &mut [bool]) -> Cursor
     requires { cursor.place + places (meaning_of items.now) ≤ length live.old }
@@ -44,7 +44,7 @@ fn pass_item(item: &Item, byte: u8, cursor: Cursor, live: &mut [bool]) -> Cursor
     }
 }
 
-// Each alternative begins where the group does, and behind the group is what is behind one of them.
+// Each alternative begins where the group does, and the end of the group is reached where that of one of them is.
 #[cycle(pass)]
 fn pass_alternatives(
     alternatives: &[Vec<Item>],

@@ -6,7 +6,7 @@ use std::marker::Model;
 /// The most items of a path, with the braces and commas of its groups.
 pub const MAX_ITEMS: usize = 1024;
 
-/// The most places of a path, at each of which a match can stand: two for each item.
+/// The most places of a path, at each of which a match can be: two for each item.
 pub const MAX_PLACES: usize = 2 * MAX_ITEMS;
 
 /// The path of a rule. To contracts it is the row of its tokens. Each of its groups has an alternative, and it has 2,048
@@ -58,8 +58,8 @@ impl RulePath {
 
     /// Whether the path takes all the bytes (apparmor.d(5), "Globbing").
     ///
-    /// The time grows as the items times the bytes. No memory is taken: each byte moves the live places on in one pass over
-    /// the items, in room on the stack.
+    /// The time grows with the number of items times the number of bytes. No memory is taken: each byte moves the live places
+    /// on in one pass over the items, in room on the stack.
     pub fn takes(&self, bytes: &[u8]) -> bool
         ensures { IsTrue result ↔ Takes (pattern_of self.now) bytes.now }
     {

@@ -1,4 +1,4 @@
--- A class that is written is read so again: the ranges of its members, read one by one, are those of all of them.
+-- A class that is written is read back: the ranges of its members, read one by one, are those of all of them.
 use Rattle.std.proofs.Common.{◌≡◌, ℕ, Bool, true, false, cond, eqb, ltb, List, [], ◌∷◌, ◌++◌, length, Option, Some, None, Ok, refl, sym, ap, subst, ◌∙◌, append_assoc, ◌⊎◌, inl, inr, ◌==◌, arith}
 use Rattle.std.specs.Prelude.{◌||◌, not, codes, option_map, if◌then◌else◌}
 use Rattle.std.specs.Char.{is_ascii_alphanumeric}
@@ -32,7 +32,7 @@ abbrev go : (Pending → Option (List ByteRange)) → Option (List ByteRange × 
 go then_read None = None
 go then_read (Some x) = option_map (λ others. x.0 ++ others) (then_read x.1)
 
--- the ranges that reading comes to, with this pending
+-- the ranges that reading results in, with this pending
 abbrev reading : Pending → List Cell → Option (List ByteRange)
 reading p [] = at_end p
 reading p (c ∷ cells) = go (λ q. reading q cells) (with_member p (is_plain 45 c) (byte_of c))
@@ -96,7 +96,7 @@ members_read quoted left p (escaped b ∷ cells) ranges rest h e =
 
 -- ---- reading cell by cell and all members at once
 
--- the ranges of what is pending and of the cells behind it
+-- the ranges of what is pending and of the cells after it
 abbrev whole : Pending → List Cell → Option (List ByteRange)
 whole Start [] = None
 whole Start (c ∷ cells) = members true (c ∷ cells)
@@ -106,14 +106,14 @@ whole (Single d) cells = members false (plain d ∷ cells)
 whole (Dash d) cells = members false (plain d ∷ plain 45 ∷ cells)
 whole (Dashes d) cells = members false (plain d ∷ plain 45 ∷ plain 45 ∷ cells)
 
--- of the first of cells that do not stand apart only its byte counts
+-- of the first of cells that are not apart, only its byte matters
 byte_alone : (c : Cell) (cells : List Cell) → members false (plain (byte_of c) ∷ cells) ≡ members false (c ∷ cells)
 unfolding members
 byte_alone c [] = refl
 byte_alone c (d ∷ []) = refl
 byte_alone c (d ∷ e ∷ cells) = refl
 
--- as of those whose first is no dash
+-- the same where the first cell is apart and is no dash
 apart_alone : (c : Cell) (cells : List Cell) → is_plain 45 c ≡ false → members false (plain (byte_of c) ∷ cells) ≡ members true (c ∷ cells)
 unfolding members
 apart_alone c [] h = refl
@@ -131,7 +131,7 @@ unfolding members
 single_first d c [] h = refl
 single_first d c (e ∷ cells) h = rw (h) (ap (option_map (λ (others : List ByteRange). single d ∷ others)) (byte_alone c (e ∷ cells)))
 
--- one step of reading, with what reading gives behind it
+-- one step of reading, with what reading gives after it
 abbrev Step : List Cell → Type 0
 Step cells = (p : Pending) → reading p cells ≡ whole p cells
 
@@ -221,7 +221,7 @@ class_bytes quoted left false (escaped x ∷ cells) ranges rest h b e = rw (memb
 bracket_regrouped : (mark cells rest : List ℕ) → (mark ++ (cells ++ 93 ∷ [])) ++ rest ≡ mark ++ (cells ++ 93 ∷ rest)
 bracket_regrouped mark cells rest = simp append_assoc
 
--- what stands behind the opening bracket
+-- what follows the opening bracket
 pub class_again : (quoted : Bool) (left : ℕ) (c : WrittenClass) (rest : List ℕ) → IsClass quoted c
     → class_at quoted left (((if c.negated then codes "^" else []) ++ (print_cells c.cells ++ codes "]")) ++ rest) ≡ Ok ((c.negated, c.ranges), rest)
 class_again quoted left c rest h =

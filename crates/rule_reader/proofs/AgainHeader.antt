@@ -1,4 +1,4 @@
--- A header that is written is read so again.
+-- A header that is written is read back.
 use Rattle.std.proofs.Common.{◌≡◌, ℕ, ◌≤◌, ◌<◌, Bool, true, false, List, [], ◌∷◌, ◌++◌, length, length-append, Option, Some, None, Ok, refl, sym, ap, subst, ◌∙◌, append_assoc, ◌==◌, arith}
 use Rattle.std.specs.Prelude.{◌||◌, ◌&&◌, not, codes}
 use Rattle.std.specs.Str.{bytes_eq}
@@ -14,7 +14,7 @@ use Rattle.rule_reader.proofs.AgainWords.{quote_regrouped, gap_again, gap_stops,
 
 -- ---- names
 
--- what a name ends before: anything behind its quote, or white
+-- what a name ends before: anything after its quote, or white
 abbrev pub BareEnds : Bool → List ℕ → Type 0
 BareEnds true rest = Unit {0}
 BareEnds false rest = begins is_white rest ≡ true
@@ -92,13 +92,13 @@ name_again true cells rest h f few end =
 name_again false cells rest h f few end =
     rw (no_quote cells rest h f, no_colon false cells rest f, begins_so cells rest f) (name_in_again false 255 cells rest h (some_first false cells f) few end)
 
--- ---- what stands behind a name
+-- ---- what follows a name
 
 gap_ends_bare : (quoted : Bool) (pieces : List Piece) (rest : List ℕ) → IsGap pieces → Stands quoted pieces → BareEnds quoted (print_blank pieces ++ rest)
 gap_ends_bare true pieces rest h s = tt
 gap_ends_bare false pieces rest h s = gap_ends pieces rest h s
 
--- a name is no longer than what stands from it on
+-- a name is no longer than the bytes from its start on
 fits_itself : (quoted : Bool) (cells rest : List ℕ) → length cells ≤ length (in_quotes quoted cells ++ rest)
 fits_itself true cells rest = omega (arith, length-append (cells ++ 34 ∷ []) rest, length-append cells (34 ∷ []))
 fits_itself false cells rest = omega (arith, length-append cells rest)
@@ -139,7 +139,7 @@ no_word : (quoted : Bool) (cells : List Cell) (rest : List ℕ) → BeginsWithSl
 no_word true cells rest s = refl
 no_word false cells rest s = rw (slash_first cells rest is_letter_byte s) refl
 
--- the word profile, and what stands behind it step by step
+-- the word profile, and what follows it step by step
 named_steps : (bytes from name t2 t3 t4 rest : List ℕ) → is_word (codes "profile") bytes ≡ true → gap (after_word bytes) ≡ Ok from → name_at from ≡ Ok (name, t2) → gap t2 ≡ Ok t3 → attachment_at t3 ≡ Ok t4 → brace_at t4 ≡ Ok rest
     → header_at bytes ≡ Ok (name, rest)
 unfolding header_at named_header_at

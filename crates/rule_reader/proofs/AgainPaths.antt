@@ -1,4 +1,4 @@
--- A path that is written is read so again.
+-- A path that is written is read back.
 use Rattle.rule_profile.specs.PathTokens.{is_plain_slash}
 use Rattle.std.proofs.Common.{◌≡◌, ℕ, zero, suc, ◌-◌, ◌≤◌, ◌<◌, Bool, true, false, eqb, List, [], ◌∷◌, ◌++◌, length, drop, Option, Ok, refl, sym, ap, subst, ◌∙◌, append_assoc, inl, inr, ◌==◌, arith}
 use Rattle.std.specs.Prelude.{◌||◌, ◌&&◌, not}
@@ -41,7 +41,7 @@ end_goes true (b ∷ rest) e =
     ]
 end_goes false (b ∷ rest) e = rw (end_stops (λ x. x == 0) false (b ∷ rest) refl refl refl refl refl refl e, e) refl
 
--- ---- what stands behind an item
+-- ---- what follows an item
 
 next_again : (test : ℕ → Bool) (bytes rest : List ℕ) → begins test rest ≡ false → begins test (bytes ++ rest) ≡ next_is test (first_byte bytes)
 next_again test [] rest s = s
@@ -51,7 +51,7 @@ comma_goes : (bytes rest : List ℕ) → next_is (λ c. not (ends_behind_comma c
 comma_goes [] rest h = absurd cc
 comma_goes (b ∷ bytes) rest h = not-true _ h
 
--- what the bytes behind an item say of the next byte of the path
+-- what the bytes after an item say about the next byte of the path
 record Behind (next : Option ℕ) (tail : List ℕ) : Type 0 where
   star : begins is_star tail ≡ next_is is_star next
   brace : begins is_open_brace tail ≡ next_is is_open_brace next
@@ -191,7 +191,7 @@ item_token quoted depth next after_slash open_brace tail h behind = refl
 item_token quoted depth next after_slash comma tail h behind = rw (some_depth depth h) refl
 item_token quoted depth next after_slash close_brace tail h behind = refl
 
--- ---- the trees and the bytes tell alike whether a slash or the end stands behind
+-- ---- the trees and the bytes agree on whether a slash or the end follows
 
 eqb_turned : (a b : ℕ) → eqb a b ≡ eqb b a
 eqb_turned a b =
@@ -296,7 +296,7 @@ items_again quoted (suc room) braces after_slash (i ∷ items) rest h few e =
 
 -- ---- a path is read again
 
--- what a path ends before: anything behind its quote, or what ends a bare one
+-- what a path ends before: anything after its quote, or what ends a bare one
 abbrev pub PathEnds : Bool → List ℕ → Type 0
 PathEnds true rest = Unit {0}
 PathEnds false rest = path_ends false 0 rest ≡ true

@@ -1,4 +1,4 @@
--- Rules that are written are read so again.
+-- Rules that are written are read back.
 use Rattle.std.proofs.Common.{◌≡◌, ℕ, zero, suc, ◌≤◌, Bool, true, false, eqb, List, [], ◌∷◌, ◌++◌, length, Some, None, Ok, refl, sym, ap, subst, ◌∙◌, append_assoc, inl, inr, ◌==◌, arith}
 use Rattle.std.specs.Prelude.{◌||◌, codes, if◌then◌else◌}
 use Rattle.std.specs.List.{list_all, list_any}
@@ -126,7 +126,7 @@ start_perms_steps : (bytes w rest : List ℕ) (perms : Perms) → (begins is_sla
 unfolding start_at
 start_perms_steps bytes w rest perms e1 e2 e3 e4 e5 = rw (e1, e2, e3, e4, e5) refl
 
--- ---- what stands behind a path
+-- ---- what follows a path
 
 -- white ends a bare path
 white_ends : (quoted : Bool) (pieces : List Piece) (rest : List ℕ) → IsGap pieces → Stands quoted pieces → PathEnds quoted (print_blank pieces ++ rest)
@@ -170,7 +170,7 @@ parts_regrouped a b c d = simp append_assoc
 abbrev body_bytes : Bool → WrittenRule → List ℕ
 body_bytes first r = if first then print_path r.path ++ (print_blank r.gap ++ r.letters) else r.letters ++ (print_blank r.gap ++ print_path r.path)
 
--- the bytes behind the body
+-- the bytes after the body
 abbrev past_body : WrittenRule → List ℕ → List ℕ
 past_body r rest = print_blank r.before_comma ++ 44 ∷ rest
 

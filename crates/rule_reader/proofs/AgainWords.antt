@@ -1,4 +1,4 @@
--- What is written below rules is read so again: blanks, words and names.
+-- What is written below rules is read back: blanks, words and names.
 use Rattle.std.proofs.Common.{◌≡◌, ℕ, zero, suc, ◌≤◌, ◌<◌, Bool, true, false, eqb, List, [], ◌∷◌, ◌++◌, length, take, drop, Option, Some, None, Result, Ok, refl, sym, ap, subst, ◌∙◌, append_assoc, ◌==◌, arith}
 use Rattle.std.specs.Prelude.{◌||◌, ◌&&◌, not, codes, nat_eq}
 use Rattle.std.specs.Cmp.Lexicographic.{pointwise}
@@ -14,11 +14,11 @@ use Rattle.rule_reader.proofs.ReadRuns.{Passes, leading_again, after_again, whit
 
 -- ---- comments
 
--- the word stands here, and a byte behind it that makes it an include
+-- the word is here, with a byte after it that makes it an include
 abbrev includes : List ℕ → List ℕ → Bool
 includes w bytes = pointwise nat_eq w (take (length w) bytes) && begins is_include_mark (drop (length w) bytes)
 
--- no more than the bytes up to LF tells whether a word without LF stands here
+-- whether a word without LF is here depends only on the bytes up to LF
 includes_line : (w bytes rest : List ℕ) → Passes (λ x. not (x == 10)) w → includes w (bytes ++ 10 ∷ rest) ≡ includes w (bytes ++ 10 ∷ [])
 includes_line [] [] rest h = refl
 includes_line [] (b ∷ bytes) rest h = refl
@@ -100,7 +100,7 @@ after_word_again w rest h s = after_again is_word_byte w rest h s
 
 -- ---- names
 
--- what a byte that may stand is not
+-- what a byte that is allowed is not
 pub may_parts : (quoted : Bool) (b : ℕ) → may_stand quoted b ≡ true → (eqb b 0 ≡ false) × (eqb b 10 ≡ false) × ((not quoted && is_white b) ≡ false)
 may_parts quoted b h =
     let all = not-true _ h in
@@ -183,7 +183,7 @@ pub quoted_name_again : (room : ℕ) (cells : List Cell) (rest : List ℕ) → E
 unfolding quoted_name
 quoted_name_again room cells rest h some few = rw (name_in_again true room cells (34 ∷ rest) h some few refl) refl
 
--- directly behind a bare name or path stands white
+-- directly after a bare name or path there is white
 pub gap_ends : (pieces : List Piece) (rest : List ℕ) → IsGap pieces → Stands false pieces → begins is_white (print_blank pieces ++ rest) ≡ true
 gap_ends [] rest h s = absurd h
 gap_ends (white b ∷ pieces) rest h s = h.0

@@ -22,7 +22,7 @@ use Rattle.rule_reader.proofs.ReadSteps.{chosen, some_is, none_some}
 
 -- ---- bytes
 
--- a byte that may stand is neither byte 0 nor LF
+-- a byte that is allowed is neither byte 0 nor LF
 may_can : (quoted : Bool) (b : ℕ) → may_stand quoted b ≡ true → can_stand b ≡ true
 may_can quoted b h = not_from_false (b == 0 || b == 10) (or_parts (b == 0 || b == 10) (not quoted && is_white b) (not-true _ h)).0
 
@@ -155,7 +155,7 @@ same_depth strict open_brace depth = refl
 same_depth strict comma depth = refl
 same_depth strict close_brace depth = refl
 
--- no run begins where no star stands
+-- no run begins where there is no star
 no_run : (after_slash : Bool) (items : List WrittenItem) → next_is is_star (first_byte (print_items items)) ≡ false → readable.begins_with_run (items_mean after_slash items) ≡ false
 no_run after_slash [] h = refl
 no_run after_slash (cell c ∷ items) h = refl

@@ -1,4 +1,4 @@
--- What more bytes behind a text leave as it is: a part that was read with enough left over is read so whatever follows, and
+-- What more bytes after a text leave unchanged: a part that was read with enough left over is read the same whatever follows, and
 -- where a part has a settled fault it has a fault whatever follows.
 use Rattle.std.proofs.Common.{◌≡◌, ℕ, Bool, true, false, cond, List, [], ◌∷◌, ◌++◌, Option, Some, None, Result, Ok, Err, refl, sym, ap, subst, ◌∙◌}
 use Rattle.rule_reader.specs.declared.reading.local_fault.LocalFault.{LocalFault}
@@ -17,7 +17,7 @@ abbrev pub Same : {A : Type 0} → (A → A) → Result A LocalFault → Result 
 Same put (Ok a) y = y ≡ Ok (put a)
 Same put (Err s) y = IsFault y
 
--- what is claimed of x (a part read alone) holds of y (the part with more bytes behind it)
+-- what is claimed of x (a part read alone) holds of y (the part with more bytes after it)
 pub record Kept {A : Type 0} (put : A → A) (enough : A → Bool) (x y : Result A LocalFault) : Type 0 where
   pub same : claims enough x ≡ true → Same put x y
 
@@ -85,7 +85,7 @@ pub none_claimed : {A B : Type 0} (ea : A → Bool) (eb : B → Bool) (x : Resul
 none_claimed ea eb (Ok a) k none after = after a none
 none_claimed ea eb (Err s) k none after = none
 
--- The second part is kept behind what the first left over; where that is too little, nothing is claimed of the second.
+-- The second part is kept after what the first left over; where that is too little, nothing is claimed of the second.
 pub kept_bind : {A B : Type 0} {pa : A → A} {ea : A → Bool} {pb : B → B} {eb : B → Bool} {x y : Result A LocalFault} (k l : A → Result B LocalFault)
     → Kept pa ea x y → ((a : A) → ea a ≡ true → Kept pb eb (k a) (l (pa a))) → ((a : A) → ea a ≡ false → claims eb (k a) ≡ false)
     → Kept pb eb (x >>= k) (y >>= l)

@@ -1,4 +1,4 @@
--- What stands before a profile's rules with more bytes behind it.
+-- What comes before a profile's rules, with more bytes after it.
 use Rattle.std.proofs.Common.{◌≡◌, ℕ, ◌≤◌, false, List, [], ◌∷◌, ◌++◌, length, length-append, Result, refl, subst, ◌==◌, arith}
 use Rattle.std.specs.Prelude.{◌||◌, codes, if◌then◌else◌, nat_eq}
 use Rattle.std.specs.List.{starts_with}

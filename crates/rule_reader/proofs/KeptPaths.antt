@@ -1,4 +1,4 @@
--- Paths with more bytes behind them. A bare path whose end was told by a comma at the text's end may go on.
+-- Paths with more bytes after them. A bare path that ends at a comma, if the comma is the text's last byte, may go on.
 use Rattle.std.proofs.Common.{◌≡◌, ℕ, zero, suc, Bool, true, false, cond, List, [], ◌∷◌, ◌++◌, length, Result, Ok, Err, refl, sym, ap, subst, ◌==◌, inl, inr, ◌⊎◌, arith}
 use Rattle.std.specs.Prelude.{◌&&◌, ◌||◌, not, codes, drop, nat_le}
 use Rattle.std.specs.Char.{is_ascii_alphanumeric}
@@ -74,13 +74,14 @@ escaped_kept (b ∷ bytes) more = kept_less (λ a _. refl) (escaped_seen b bytes
 
 -- ---- where a path ends
 
--- Whether a path ends here is seen. Not at the text's end, at a last backslash, and at the last comma of a bare path outside groups.
+-- It is certain whether a path ends here. It isn't at the text's end, at a last backslash, and at the last comma of a bare path
+-- outside groups.
 abbrev sure : Bool → ℕ → List ℕ → Bool
 sure quoted depth [] = false
 sure quoted depth (b ∷ []) = not (92 == b || (not quoted && (is_comma b && (depth == 0))))
 sure quoted depth (b ∷ c ∷ bytes) = true
 
--- what is left over is seen to be none of the path: not nothing, and behind a bare path not a last comma
+-- what is left over is certainly no part of the path: it isn't empty, and after a bare path it isn't a last comma
 abbrev pub over : Bool → List ℕ → Bool
 over quoted [] = false
 over quoted (b ∷ []) = quoted || not (is_comma b)
@@ -112,7 +113,7 @@ sure_goes : (quoted : Bool) (depth : ℕ) (bytes : List ℕ) → sure quoted dep
 sure_goes quoted depth [] h = h
 sure_goes quoted depth (b ∷ bytes) h = refl
 
--- @ is the text's last byte: a brace behind it would be a fault
+-- @ is the text's last byte: a brace after it would be a fault
 abbrev at_last : ℕ → List ℕ → Bool
 at_last b bytes = b == 64 && not (goes_on bytes)
 
@@ -139,7 +140,7 @@ goes_kept quoted depth b bytes more h ends =
 
 -- ---- tokens
 
--- how deep the groups are behind a token, whatever the places of the braces are
+-- the depth of groups after a token, whatever the places of the braces are
 abbrev Alike : List ℕ → List ℕ → Type 0
 Alike braces others = length others ≡ length braces
 
@@ -161,7 +162,7 @@ behind_alike (stars crosses strict) here there braces others h = h
 abbrev rest_over : {V : Type 0} → Bool → V × List ℕ → Bool
 rest_over quoted x = over quoted x.1
 
--- what stands behind a token is enough
+-- what follows a token is enough
 abbrev token_over : Bool → ℕ → List ℕ → Token × List ℕ → Bool
 token_over quoted left braces x = sure quoted (length (braces_behind x.0 left braces)) x.1
 
@@ -316,7 +317,7 @@ path_in_kept quoted (b ∷ bytes) more =
     kept_if (is_slash b) (λ _. tokens_kept quoted 1024 [] [] false (b ∷ bytes) more refl) (λ _.
     kept_if (b == 0 || (quoted && b == 10)) (λ _. stays) (λ _. stays))
 
--- less than enough behind a path in quotes is nothing, and nothing is no quote
+-- less than enough after a path in quotes is nothing, and nothing is no quote
 none_quoted : (rest : List ℕ) → over true rest ≡ false → rest ≡ []
 none_quoted [] h = refl
 none_quoted (b ∷ []) h = both h

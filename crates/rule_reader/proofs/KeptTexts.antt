@@ -1,4 +1,4 @@
--- Rules and whole texts with more bytes behind them: a settled fault stays whatever follows.
+-- Rules and whole texts with more bytes after them: a settled fault stays whatever follows.
 use Rattle.std.proofs.Common.{◌≡◌, ℕ, zero, suc, Bool, true, false, cond, List, [], ◌∷◌, ◌++◌, length, Option, Some, None, Result, Ok, Err, refl, sym, ap, subst, ◌==◌}
 use Rattle.std.specs.Prelude.{◌||◌, codes, drop, if◌then◌else◌}
 use Rattle.std.specs.List.{list_all}
@@ -59,7 +59,7 @@ unfolding perms_behind perms_at
 behind_kept [] more h = nothing refl
 behind_kept (b ∷ bytes) more h = kept_if (is_comma b) (λ _. stays) (λ _. after_bytes _ _ (gap_kept (b ∷ bytes) more) (λ from. perms_kept from more) refl)
 
--- nothing stands here, or a comma at the end
+-- nothing is here, or a comma at the end
 over_cases : (P : List ℕ → Type 0) (rest : List ℕ) → over false rest ≡ false → P [] → P (44 ∷ []) → P rest
 over_cases P [] h none comma = none
 over_cases P (b ∷ []) h none comma = subst (λ x. P (x ∷ [])) (sym (eqb-true b 44 (not-false _ h))) comma
@@ -67,7 +67,7 @@ over_cases P (b ∷ c ∷ rest) h none comma = both h
 
 -- ---- rules
 
--- what stands here is seen not to be a longer word
+-- what is here is certainly not a longer word
 abbrev word_over : List ℕ → Bool
 word_over [] = false
 word_over (b ∷ bytes) = cond (is_letter_byte b) (goes_on (after_word (b ∷ bytes))) true
@@ -104,7 +104,7 @@ open_start : (bytes : List ℕ) (perms : Option Perms) → after_word bytes ≡ 
 open_start bytes (Some p) e = rw e refl
 open_start bytes None e = rw e refl
 
--- where a word that the end ends stands, or nothing
+-- a word that ends at the text's end is here, or nothing
 start_none : (bytes : List ℕ) → word_over bytes ≡ false → claims start_over (start_at bytes) ≡ false
 unfolding start_at
 start_none [] h = refl

@@ -1,4 +1,4 @@
--- Blanks, words and names with more bytes behind them.
+-- Blanks, words and names with more bytes after them.
 use Rattle.std.proofs.Common.{◌≡◌, ℕ, zero, suc, ◌≤◌, Bool, true, false, cond, List, [], ◌∷◌, ◌++◌, length, drop, Result, Ok, refl, sym, ap, subst, ◌⊎◌, inl, inr, ◌==◌, arith}
 use Rattle.std.specs.Prelude.{◌&&◌, ◌||◌, not, codes, nat_eq}
 use Rattle.std.specs.List.{starts_with}
@@ -33,18 +33,18 @@ leading_more test (b ∷ bytes) more some =
     ] in
     P (test b) some
 
--- bytes of which none are left behind a run are a run
+-- bytes with none left after a run are a run
 some_word : (b : ℕ) (bytes : List ℕ) → goes_on (after_word (b ∷ bytes)) ≡ false → length (leading is_word_byte (b ∷ bytes)) == 0 ≡ false
 some_word b bytes end =
     by_test (is_word_byte b)
     (λ e. rw e (ne_eqb _ 0 (λ h. absurd (omega arith))))
     (λ e. let left = rw e at end in both left)
 
--- a word that the end ends
+-- a word that ends at the text's end
 pub ended_word : (b : ℕ) (bytes : List ℕ) → is_letter_byte b ≡ true → goes_on (after_word (b ∷ bytes)) ≡ false → (after_word (b ∷ bytes) ≡ []) × (length (word (b ∷ bytes)) == 0 ≡ false)
 ended_word b bytes letter end = (ends_here (λ x. x ≡ []) (after_word (b ∷ bytes)) end refl, rw letter (some_word b bytes end))
 
--- The word that stands here: none; one with something behind it, which is the same whatever follows; or one that the end ends.
+-- The word here: none; one with something after it, which is the same whatever follows; or one that ends at the text's end.
 pub word_cases : {P : Type 0} (b : ℕ) (bytes more : List ℕ) → (is_letter_byte b ≡ false → P)
     → (is_letter_byte b ≡ true → word (b ∷ bytes ++ more) ≡ word (b ∷ bytes) → after_word (b ∷ bytes ++ more) ≡ after_word (b ∷ bytes) ++ more → P)
     → (is_letter_byte b ≡ true → after_word (b ∷ bytes) ≡ [] → length (word (b ∷ bytes)) == 0 ≡ false → P) → P
@@ -58,7 +58,7 @@ word_cases b bytes more none whole open_word =
 
 -- ---- blanks
 
--- the bytes behind the # of a comment are this word and a mark behind it
+-- the bytes after the # of a comment are this word and a mark after it
 abbrev marked : List ℕ → List ℕ → Bool
 marked word bytes = starts_with nat_eq bytes word && begins is_include_mark (drop (length word) bytes)
 
@@ -66,7 +66,7 @@ abbrev in_line : List ℕ → Type 0
 in_line [] = Unit {0}
 in_line (c ∷ word) = ((c == 0 ≡ false) × (c == 10 ≡ false)) × in_line word
 
--- a comment goes on behind another byte than LF and 0
+-- a comment continues after any byte but LF and 0
 in_comment : (b : ℕ) (bytes : List ℕ) → (b == 0 ≡ false) × (b == 10 ≡ false) → claims goes_on (blank_at true (b ∷ bytes)) ≡ true → claims goes_on (blank_at true bytes) ≡ true
 in_comment b bytes h seen = let zero_not = h.0 in let line_not = h.1 in rw (zero_not, line_not) at seen
 

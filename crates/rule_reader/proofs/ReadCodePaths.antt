@@ -1,4 +1,4 @@
--- A token that goes on with a group or ends it stands in one.
+-- A token that continues a group or ends it is in one.
 use Rattle.std.proofs.Common.{◌≡◌, ℕ, ◌<◌, Bool, true, false, cond, List, [], ◌∷◌, length, Result, Ok, Err, refl, subst, arith}
 use Rattle.std.specs.Prelude.{◌&&◌, ◌||◌, ◌==◌, not, nat_le}
 use Rattle.std.proofs.lemmas.Bool.{eqb-false, not-true, and_parts}

@@ -10,7 +10,7 @@ use Rattle.rule_reader.proofs.ReadSteps.{some_is, none_some}
 
 -- ---- qualifiers
 
--- what stands here as a qualifier
+-- the qualifier here
 abbrev pub found : (allow deny : Bool) → List ℕ → Option (RuleKind × List ℕ)
 found allow deny rest = cond allow (Some (Allow, rest)) (cond deny (Some (Deny, rest)) None)
 

@@ -25,12 +25,12 @@ regroup : {A : Type 0} (front : List A) (n : A) (read : Result (List A × List �
 regroup {A = A} front n (Ok x) = ap (λ (ns : List A). Ok (ns, x.1)) (simp append_assoc)
 regroup {A = A} front n (Err s) = refl
 
--- where a step failed, all behind it do
+-- if a step failed, all steps after it do
 pub fails_on : {A B : Type 0} (failure : Failure) (read : Result A LocalFault) (f : A → Result B LocalFault) → Fails failure read → Fails failure (read >>= f)
 fails_on failures.NoMemory read f h = tt
 fails_on {A = A} {B = B} (failures.At s) read f h = ap (λ (r : Result A LocalFault). r >>= f) h
 
--- the same behind what was read before
+-- the same after what was read before
 pub front_fails : {A : Type 0} (failure : Failure) (front : List A) (read total : Result (List A × List ℕ) LocalFault) → with_front front read ≡ total → Fails failure read → Fails failure total
 front_fails {A = A} failure front read total so_far h = subst (λ (r : Result (List A × List ℕ) LocalFault). Fails failure r) so_far (fails_on failure read (λ x. Ok (front ++ x.0, x.1)) h)
 

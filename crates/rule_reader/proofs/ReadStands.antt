@@ -1,4 +1,4 @@
--- What is read of a path's text may stand where it does.
+-- The tokens that are read from a path's text are valid where they are.
 use Rattle.std.proofs.Common.{◌≡◌, ℕ, List, [], false, true, Ok, subst}
 use Rattle.rule_globs.specs.Tokens.{Token}
 use Rattle.rule_reader.specs.ReadPaths.{tokens_at}

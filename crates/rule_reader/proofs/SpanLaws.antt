@@ -1,4 +1,4 @@
--- Where the rules of a text stand, they are read again.
+-- The rules of a text are read again at their places.
 use Rattle.std.proofs.Common.{◌≡◌, ℕ, zero, suc, ◌-◌, ◌+◌, ◌<◌, ◌≤◌, true, false, List, [], ◌∷◌, ◌++◌, length, drop, Result, Ok, refl, sym, ap, subst, ◌∙◌, append_assoc, inl, inr, arith}
 use Rattle.std.specs.Prelude.{codes}
 use Rattle.std.proofs.lemmas.List.{length-append}
@@ -23,14 +23,14 @@ use Rattle.rule_reader.proofs.TakeHeader.{header_takes, header_some}
 use Rattle.rule_reader.proofs.TakeRules.{rule_ends, rules_some}
 use Rattle.rule_reader.proofs.TakeWords.{middle_blank}
 
--- what stands behind the front part of a text is found again by how many bytes it has
+-- the bytes after a prefix of a text are found again by their number
 found_again : (text front bytes : List ℕ) → text ≡ front ++ bytes → drop (length text - length bytes) text ≡ bytes
 found_again text front bytes e =
     let long : length text ≡ length front + length bytes = ap length e ∙ length-append front bytes in
     let k : length text - length bytes ≡ length front = omega (arith, long) in
     ap (λ n. drop n text) k ∙ ap (drop (length front)) e ∙ drop-append_seam front bytes
 
--- a rule that stands behind the front part of a text
+-- a rule after a prefix of a text
 rule_again : (text front bytes taken more : List ℕ) (r : RuleValue) → text ≡ front ++ bytes → bytes ≡ taken ++ more → 0 < length taken → rule_at bytes ≡ Ok (r, more) → IsReadAgain text r (span_between (length text) bytes more)
 rule_again text front bytes taken more r e1 e2 some h =
     let long : length text ≡ length front + length bytes = ap length e1 ∙ length-append front bytes in
@@ -63,7 +63,7 @@ one_more : (n room : ℕ) (bytes : List ℕ) (r : RuleValue) (more from : List �
 unfolding spans_at
 one_more n room bytes r more from goes h b = rw (spans_at, goes, h, b) refl
 
--- one more rule is read, and a blank, if the others stand behind them
+-- one more rule is read, and a blank, if the others follow them
 next_again : (text front bytes taken more blanks from : List ℕ) (past room : ℕ) (r : RuleValue) (rules : List RuleValue) → text ≡ front ++ bytes → bytes ≡ taken ++ more → more ≡ blanks ++ from → 0 < length taken → past ≤ length front
     → begins is_close_brace bytes ≡ false → rule_at bytes ≡ Ok (r, more) → blank more ≡ Ok from
     → ((ahead : List ℕ) → text ≡ ahead ++ from → length text - length more ≤ length ahead → AreReadAgain text (length text - length more) rules (spans_at (length text) room from))
@@ -79,7 +79,7 @@ next_again text front bytes taken more blanks from past room r rules e1 e2 e3 so
 those_again : (text : List ℕ) (past : ℕ) (spans : List Span) (x y : List RuleValue × List ℕ) → done x ≡ Ok y → AreReadAgain text past x.0 spans → AreReadAgain text past y.0 spans
 those_again text past spans x y e h = subst (λ (z : List RuleValue × List ℕ). AreReadAgain text past z.0 spans) (ok_is x y e) h
 
--- rules that stand behind the front part of a text
+-- rules after a prefix of a text
 rules_again : (text : List ℕ) (room : ℕ) (front bytes : List ℕ) (past : ℕ) (x : List RuleValue × List ℕ) → rules_at room bytes ≡ Ok x → text ≡ front ++ bytes → past ≤ length front
     → AreReadAgain text past x.0 (spans_at (length text) room bytes)
 unfolding rules_at
@@ -105,7 +105,7 @@ rules_again text (suc room) front bytes past x e there near =
           (λ ahead e k. rules_again text room ahead g.0 (length text - length f.0.1) m.0 m.1 e k))
     ]
 
--- the rules behind a text's header
+-- the rules after a text's header
 inside_again : (text from header name inside : List ℕ) (start within : List ℕ) (x : List RuleValue × List ℕ) → text ≡ start ++ from → from ≡ header ++ (codes "{" ++ name) → name ≡ within ++ inside → rules_at 1024 inside ≡ Ok x
     → AreReadAgain text 0 x.0 (spans_at (length text) 1024 inside)
 inside_again text from header name inside start within x e1 e2 e3 h =

@@ -1,4 +1,4 @@
--- Where rules stand, one after the other, as a loop reads them.
+-- Where rules are, one after the other, as a loop reads them.
 use Rattle.std.proofs.Common.{◌≡◌, ℕ, zero, suc, ◌-◌, ◌+◌, ◌<◌, List, [], ◌∷◌, ◌++◌, length, map, Ok, refl, sym, ◌∙◌, append_assoc, append-nil, arith}
 use Rattle.std.proofs.lemmas.List.{length-append, map_push}
 use Rattle.rule_profile.specs.declared.profile.Rule.{Rule}
@@ -11,13 +11,13 @@ use Rattle.rule_profile.specs.RuleSpans.{rule_span}
 use Rattle.rule_reader.specs.Spans.{span_between, spans_at, spans_of}
 use Rattle.rule_reader.proofs.ReadLoops.{closing, nothing, just, is_closing, not_closing}
 
--- no rule stands before the closing brace
+-- there is no rule before the closing brace
 ended : (n room : ℕ) (bytes rest : List ℕ) → closing bytes ≡ just rest → spans_at n room bytes ≡ []
 unfolding spans_at
 ended n zero bytes rest h = refl
 ended n (suc room) bytes rest h = let p = is_closing bytes rest h in rw (spans_at, p.0) refl
 
--- one more rule stands here
+-- there is one more rule here
 one_more : (n i : ℕ) (bytes : List ℕ) (r : Rule) (more rest : List ℕ) → i < 1024 → closing bytes ≡ nothing → rule_at bytes ≡ Ok (rule_value r, more) → blank more ≡ Ok rest
     → spans_at n (1024 - i) bytes ≡ span_between n bytes more ∷ spans_at n (1024 - (i + 1)) rest
 unfolding spans_at
@@ -39,7 +39,7 @@ spans_step n old new bytes r more rest total e lt none h b here so_far =
     append_assoc (map rule_span old) (rule_span r ∷ []) (spans_at n (1024 - (length old + 1)) rest) in
     rw (e, k, m, regrouped, here) (rw one at so_far)
 
--- the rules of a text stand behind its header
+-- the rules of a text come after its header
 pub spans_there : (text from name rest inside : List ℕ) → blank text ≡ Ok from → header_at from ≡ Ok (name, rest) → blank rest ≡ Ok inside → spans_of text ≡ spans_at (length text) 1024 inside
 unfolding spans_of
 spans_there text from name rest inside h1 h2 h3 = rw (spans_of, h1, h2, h3) refl

@@ -1,4 +1,4 @@
--- Classes: what is read is written so.
+-- Classes: what is read is in the grammar.
 use Rattle.std.proofs.Common.{◌≡◌, ℕ, suc, Bool, true, false, cond, eqb, List, [], ◌∷◌, ◌++◌, length, drop, Option, Some, None, Result, Ok, refl, sym, ap, subst, ◌∙◌, append_assoc, inl, inr, ◌==◌, option_map, arith}
 use Rattle.std.specs.Prelude.{◌||◌, ◌&&◌, not, nat_lt, codes, if◌then◌else◌}
 use Rattle.std.specs.Char.{is_ascii_alphanumeric}
@@ -78,7 +78,7 @@ dash_apart [] = refl
 dash_apart (e ∷ []) = refl
 dash_apart (e ∷ f ∷ cells) = refl
 
--- so is what stands before something else than a dash
+-- so is a member before anything but a dash
 single_before : (b : ℕ) (c : Cell) (cells : List Cell) → is_plain 45 c ≡ false → members false (plain b ∷ c ∷ cells) ≡ option_map (one b) (members false (c ∷ cells))
 unfolding members
 single_before b c [] h = refl
@@ -97,7 +97,7 @@ range_to d c cells h g =
     ap (λ t. cond (t && (length cells == 0)) (Some (one d (one 45 (one (byte_of c) [])))) (cond (nat_lt (byte_of c) d) None all)) h
     ∙ ap (λ t. cond t None all) g
 
--- a range to a dash, with more behind it
+-- a range to a dash, with more after it
 range_to_dash : (d : ℕ) (c : Cell) (cells : List Cell) → nat_lt 45 d ≡ false
     → members false (plain d ∷ plain 45 ∷ plain 45 ∷ c ∷ cells) ≡ option_map (λ (others : List ByteRange). range d 45 ∷ others) (members true (c ∷ cells))
 unfolding members
@@ -262,7 +262,7 @@ backslash_is quoted false b e =
       ]
     ]
 
--- ---- the members are written so
+-- ---- the members are in the grammar
 
 pub record MembersTaken (quoted : Bool) (pending : Pending) (behind : Bool) (bytes : List ℕ) (ranges : List ByteRange) (rest : List ℕ) : Type 0 where
   pub cells : List Cell
@@ -348,7 +348,7 @@ members_take quoted bracket pending behind (b ∷ bytes) ranges rest e =
     ] in
     P (class_byte quoted behind b) refl e
 
--- ---- a class is written so
+-- ---- a class is in the grammar
 
 pub record ClassTaken (quoted : Bool) (bytes : List ℕ) (negated : Bool) (ranges : List ByteRange) (rest : List ℕ) : Type 0 where
   pub written : WrittenClass

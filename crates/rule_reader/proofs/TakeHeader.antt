@@ -1,4 +1,4 @@
--- What stands before the rules: what is read is written so.
+-- What comes before the rules: what is read is in the grammar.
 use Rattle.std.proofs.Common.{◌≡◌, ℕ, ◌≤◌, ◌<◌, Bool, true, false, cond, List, [], ◌∷◌, ◌++◌, length, drop, Option, Some, None, Result, Ok, refl, sym, ap, subst, ◌∙◌, append_assoc, inl, inr, ◌==◌, arith}
 use Rattle.std.specs.Prelude.{◌||◌, ◌&&◌, not, nat_eq, codes}
 use Rattle.std.specs.List.{starts_with}
@@ -19,7 +19,7 @@ use Rattle.rule_reader.proofs.TakeRules.{goes_behind}
 
 -- ---- names
 
--- a name of the bytes `inner`, which stand in quotes or not
+-- a name of the bytes `inner`, which are in quotes or not
 record NameRead (room : ℕ) (quoted : Bool) (bytes inner : List ℕ) (x : List ℕ × List ℕ) : Type 0 where
   cells : List Cell
   valid : Each (IsNameCell quoted) cells

@@ -1,4 +1,4 @@
--- Paths: what is read is written so.
+-- Paths: what is read is in the grammar.
 use Rattle.rule_profile.specs.PathTokens.{is_plain_slash}
 use Rattle.std.proofs.Common.{◌≡◌, ℕ, zero, suc, ◌≤◌, ◌<◌, Bool, true, false, cond, eqb, List, [], ◌∷◌, ◌++◌, length, drop, Result, Ok, refl, sym, ap, subst, ◌∙◌, append_assoc, ◌⊎◌, inl, inr, ◌==◌, arith, length-drop}
 use Rattle.std.specs.Prelude.{◌||◌, ◌&&◌, not, nat_eq, nat_le, codes}
@@ -21,7 +21,7 @@ use Rattle.rule_reader.proofs.ReadSteps.{bind_ok, chosen, ok_is, not_ok}
 use Rattle.rule_reader.proofs.TakeWords.{no_line_feed, begins_so, literal_takes, NoHash}
 use Rattle.rule_reader.proofs.TakeClasses.{ClassTaken, class_takes}
 
--- ---- what stands here: the path's end, or a byte of it
+-- ---- what is here: the path's end, or a byte of it
 
 -- an item begins here
 record GoesOn (quoted : Bool) (depth b : ℕ) (bytes : List ℕ) : Type 0 where
@@ -74,7 +74,7 @@ path_ends_at quoted depth (b ∷ bytes) e =
       | inr h ↦ absurd (let no = h.0 in cc)
     ]
 
--- what ends a bare path ends it behind a comma
+-- what ends a bare path also ends it after a comma
 comma_ends_too : (q w m x h k : Bool) → (q || (w || (m && true && x))) ≡ true → (w || h || k || q || m) ≡ true
 comma_ends_too q true m x h k e = refl
 comma_ends_too q false m x true k e = refl
@@ -87,14 +87,14 @@ pub end_behind_comma : (rest : List ℕ) → path_ends false 0 rest ≡ true →
 end_behind_comma [] e = refl
 end_behind_comma (b ∷ rest) e = comma_ends_too (is_quote b) (is_white b) (is_comma b) (comma_ends rest) (is_hash b) (is_close_brace b) e
 
--- ---- an item is written so
+-- ---- an item is in the grammar
 
 -- where the text has no such byte, the path has none
 next_false : (test : ℕ → Bool) (bytes w rest : List ℕ) → bytes ≡ w ++ rest → begins test bytes ≡ false → next_is test (first_byte w) ≡ false
 next_false test bytes [] rest e h = refl
 next_false test bytes (b ∷ w) rest e h = ap (begins test) (sym e) ∙ h
 
--- no byte that ends a path stands behind a comma: then one of the path does
+-- if the byte after a comma doesn't end the path there, it is one of the path
 comma_next : (bytes w rest : List ℕ) → bytes ≡ w ++ rest → path_ends false 0 rest ≡ true → comma_ends bytes ≡ false → next_is (λ c. not (ends_behind_comma c)) (first_byte w) ≡ true
 comma_next bytes [] rest e ends h = let yes = end_behind_comma rest ends in let same : comma_ends bytes ≡ comma_ends rest = ap comma_ends e in absurd cc
 comma_next bytes (b ∷ w) rest e ends h = not_from_false (ends_behind_comma b) (ap comma_ends (sym e) ∙ h)
@@ -108,7 +108,7 @@ record OneItem (quoted : Bool) (depth : ℕ) (after_slash : Bool) (bytes : List 
   same : is_plain_slash t ≡ is_plain_slash_item written
   deeper : (left : ℕ) (braces : List ℕ) → length braces ≡ depth → length (braces_behind t left braces) ≡ depth_behind_item written depth
 
--- a run of stars is so many stars, and no star stands behind it
+-- a run of stars is n stars, and no star follows it
 run_of_stars : (bytes : List ℕ) → (n : ℕ) × (bytes ≡ star_bytes n ++ after is_star bytes) × (begins is_star (after is_star bytes) ≡ false)
 run_of_stars [] = (0, refl, refl)
 run_of_stars (b ∷ bytes) =
@@ -219,7 +219,7 @@ escaped_takes quoted depth after_slash c bytes e = record {
   deeper = λ left braces l. l;
 }
 
--- a byte by itself may stand
+-- a byte by itself is allowed
 stand_so : (quoted z l w c : Bool) → (z || (quoted && l)) ≡ false → (not quoted && (w || c)) ≡ false → (w ≡ false → l ≡ false) → not (z || l || (not quoted && w)) ≡ true
 stand_so quoted true l w c e1 e2 e3 = absurd cc
 stand_so true false true w c e1 e2 e3 = absurd cc
@@ -238,7 +238,7 @@ record Plain (depth b : ℕ) : Type 0 where
   no_comma : (is_comma b && not (depth == 0)) ≡ false
   no_backslash : (b == 92) ≡ false
 
--- a comma behind which the path goes on
+-- a comma after which the path goes on
 comma_stays : (quoted : Bool) (depth b : ℕ) (bytes w rest : List ℕ) → (not quoted && (is_white b || (is_comma b && (depth == 0) && comma_ends bytes))) ≡ false → is_comma b ≡ true → (depth == 0) ≡ true
     → bytes ≡ w ++ rest → path_ends quoted 0 rest ≡ true → (quoted || next_is (λ c. not (ends_behind_comma c)) (first_byte w)) ≡ true
 comma_stays true depth b bytes w rest h e1 e2 p ends = refl
@@ -368,7 +368,7 @@ token_of quoted depth after_slash (b ∷ bytes) x g e =
       | inr h ↦ (h.1.inside, token_takes quoted depth after_slash b bytes x h.1 e)
     ]
 
--- ---- items are written so
+-- ---- items are in the grammar
 
 pub record ItemsTaken (quoted : Bool) (room depth : ℕ) (after_slash : Bool) (bytes : List ℕ) (tokens : List Token) (rest : List ℕ) : Type 0 where
   pub written : List WrittenItem
@@ -450,9 +450,9 @@ tokens_take quoted (suc room) braces after_slash bytes x e =
     ] in
     P k.0 k.1 k.2
 
--- ---- a path is written so
+-- ---- a path is in the grammar
 
--- what stands behind a bare path ends it
+-- what follows a bare path ends it
 abbrev pub PathEnds : Bool → List ℕ → Type 0
 PathEnds true rest = Unit {0}
 PathEnds false rest = path_ends false 0 rest ≡ true

@@ -1,4 +1,4 @@
--- Rules: what is read is written so.
+-- Rules: what is read is in the grammar.
 use Rattle.std.proofs.Common.{◌≡◌, ℕ, zero, suc, ◌≤◌, ◌<◌, Bool, true, false, cond, List, [], ◌∷◌, ◌++◌, length, drop, Option, Some, None, Result, Ok, refl, sym, ap, subst, ◌∙◌, append_assoc, inl, inr, ◌==◌, arith}
 use Rattle.std.specs.Prelude.{◌||◌, codes, if◌then◌else◌}
 use Rattle.std.specs.List.{list_all}
@@ -30,7 +30,7 @@ use Rattle.rule_reader.proofs.TakePaths.{PathEnds, path_no_hash, comma_behind, P
 abbrev WordTaken : List ℕ → Perms × List ℕ → Type 0
 WordTaken bytes x = (letters : List ℕ) × IsWord letters x.0 × (bytes ≡ letters ++ x.1)
 
--- the word that stands here, where it has a set
+-- the word here, if it has a set
 word_so : (bytes : List ℕ) (perms : Perms) → (length (word bytes) == 0) ≡ false → perms_of (word bytes) ≡ Some perms → WordTaken bytes (perms, after_word bytes)
 word_so bytes perms e h =
     let none_left : length (word bytes) ≡ 0 → ⊥ = eqb-false (length (word bytes)) 0 e in
@@ -66,7 +66,7 @@ unfolding perms_at
 perms_some [] x e = absurd (not_ok _ x e)
 perms_some (b ∷ bytes) x e = refl
 
--- the gap and the permissions directly behind a path
+-- the gap and the permissions directly after a path
 abbrev BehindTaken : List ℕ → Perms × List ℕ → Type 0
 BehindTaken bytes x = (from : List ℕ) × GapTaken bytes from × WordTaken from x
 
@@ -109,7 +109,7 @@ qualifier_takes bytes x e more =
       ]
     ]
 
--- the permissions that stand before a path
+-- the permissions before a path
 start_takes : (bytes : List ℕ) (x : Perms × List ℕ) → start_at bytes ≡ Ok (Some x) → WordTaken bytes x
 unfolding start_at
 start_takes bytes x e =
@@ -132,7 +132,7 @@ start_takes bytes x e =
 
 -- ---- path and permissions
 
--- what stands behind the path, if it is first and if it is last
+-- what follows the path, if it is first and if it is last
 abbrev BodyStands : Bool → Bool → List Piece → List ℕ → Type 0
 BodyStands true quoted gap rest = Stands quoted gap
 BodyStands false quoted gap rest = PathEnds quoted rest
@@ -227,7 +227,7 @@ comma_takes bytes rest e =
       | inr h ↦ elim (chosen (is_arrow k.0) (fault_here (kinds.LeftOut 2) k.0) (syntax k.0) (Ok rest) h.1) [ inl m ↦ absurd (not_ok _ rest m.1) | inr m ↦ absurd (not_ok _ rest m.1) ]
     ]
 
--- directly behind a bare path the comma ends it
+-- directly after a bare path the comma ends it
 comma_stands : (pieces : List Piece) (quoted : Bool) (bytes rest behind others : List ℕ) → PathEnds quoted bytes → bytes ≡ print_blank pieces ++ (44 ∷ rest) → rest ≡ behind ++ others → goes_on behind ≡ true → CommaEnds pieces quoted behind
 comma_stands (p ∷ pieces) quoted bytes rest behind others ends e1 e2 more = tt
 comma_stands [] true bytes rest behind others ends e1 e2 more = tt
@@ -237,7 +237,7 @@ comma_stands [] false bytes rest (b ∷ behind) others ends e1 e2 more =
 
 -- ---- a rule
 
--- the rule and the blank behind it; `tail` is what stands behind that, to the closing brace
+-- the rule and the blank after it; `tail` is what follows that, up to the closing brace
 pub record OneRule (bytes : List ℕ) (r : RuleValue) (from tail : List ℕ) : Type 0 where
   pub written : WrittenRule
   pub valid : IsRule (print_blank written.past ++ tail) written
@@ -300,7 +300,7 @@ rule_takes bytes x past from tail others e is_past e1 e2 more =
 some_parts : (q p w : List ℕ) → 0 < length (q ++ (p ++ (w ++ codes ",")))
 some_parts q p w = omega (arith, length-append q (p ++ (w ++ codes ",")), length-append p (w ++ codes ","), length-append w (codes ","))
 
--- these are left behind some bytes
+-- these are left after some bytes
 abbrev pub IsBehind : List ℕ → List ℕ → Type 0
 IsBehind bytes rest = (front : List ℕ) × (0 < length front) × (bytes ≡ front ++ rest)
 
@@ -328,7 +328,7 @@ rule_ends bytes x e =
       four_parts bytes (print_qualifier w.0) q.0.1 inner b.0.1 (print_blank k.0) c.0 c.0 w.2 p.parts k.2 (refl {a = c.0}),
     )
 
--- ---- rules are written so
+-- ---- rules are in the grammar
 
 pub record RulesTaken (room : ℕ) (bytes : List ℕ) (x : List RuleValue × List ℕ) : Type 0 where
   pub written : List WrittenRule

@@ -1,4 +1,4 @@
--- Blanks, words and names: what is read is written so.
+-- Blanks, words and names: what is read is in the grammar.
 use Rattle.std.proofs.Common.{◌≡◌, ℕ, zero, suc, ◌≤◌, ◌<◌, Bool, true, false, cond, List, [], ◌∷◌, ◌++◌, length, drop, Option, Some, None, Result, Ok, refl, sym, ap, subst, ◌∙◌, append_assoc, ◌⊎◌, inl, inr, ◌==◌, arith}
 use Rattle.std.specs.Prelude.{◌||◌, ◌&&◌, not, nat_eq, codes}
 use Rattle.std.specs.List.{starts_with}
@@ -41,7 +41,7 @@ no_include w more h = false_from_ne_true (is_include w) (λ e.
 
 -- ---- blanks
 
--- a comment that isn't ended stands at the text's end
+-- a comment that isn't ended is at the text's end
 abbrev pub AtEnd : Option (List ℕ) → List ℕ → Type 0
 AtEnd None rest = Unit {0}
 AtEnd (Some bytes) rest = rest ≡ []
@@ -55,7 +55,7 @@ pub record BlankTaken (bytes rest : List ℕ) : Type 0 where
   pub at_end : AtEnd last rest
   pub stops : begins opens_blank rest ≡ false
 
--- behind the # of a comment, which the text's end ends, or LF
+-- after the # of a comment, which ends at the text's end or at LF
 CommentTaken : List ℕ → List ℕ → Type 0
 CommentTaken bytes rest =
     (Each IsCommentByte bytes × (rest ≡ [])) ⊎ ((inner : List ℕ) × (more : List ℕ) × Each IsCommentByte inner × (bytes ≡ inner ++ (10 ∷ more)) × BlankTaken more rest)
@@ -175,7 +175,7 @@ gap_takes bytes rest e more =
           P m.0 m.1 m.2
     ]
 
--- behind a bare part stands no #
+-- after a bare part there is no #
 abbrev pub NoHash : Bool → List ℕ → Type 0
 NoHash true rest = Unit {0}
 NoHash false rest = begins is_hash rest ≡ false
@@ -202,7 +202,7 @@ literal_takes (w ∷ word) (b ∷ bytes) rest e =
       | inr h ↦ absurd (not_ok _ rest h.1)
     ]
 
--- a word is what stands before the bytes after it
+-- a word is what comes before the bytes after it
 pub word_takes : (bytes : List ℕ) → 0 < length (word bytes) → bytes ≡ word bytes ++ after_word bytes
 word_takes bytes =
     elim (begins is_letter_byte bytes) as (λ t. 0 < length (cond t (leading is_word_byte bytes) []) → bytes ≡ cond t (leading is_word_byte bytes) [] ++ after_word bytes) [
@@ -229,7 +229,7 @@ no_hash true rest h = tt
 no_hash false [] h = refl
 no_hash false (b ∷ rest) h = white_stops is_hash b refl refl refl refl h
 
--- directly behind a backslash, that is the first byte of the cells
+-- directly after a backslash, that is the first byte of the cells
 abbrev pub held : Bool → List ℕ → List ℕ
 held behind bytes = cond behind (92 ∷ bytes) bytes
 

@@ -1,4 +1,4 @@
--- The numbers by which faults of reading are told.
+-- The numbers by which faults of reading are reported.
 use Rattle.std.specs.Prelude.{ℕ, Option, Some, None}
 use Rattle.rule_reader.specs.declared.fault.ReadFault.{ReadFault}
 use Rattle.rule_reader.specs.declared.fault.ReadFault.TheVariants.{Syntax, LeftOut, Permission, EmptyPermissions, NotAbsolute, Class, Group, Depth, TooManyRules, TooManyItems, NoMemory}
@@ -16,7 +16,7 @@ fault_number (TooManyRules offset) = 9
 fault_number (TooManyItems offset) = 10
 fault_number NoMemory = 11
 
--- how many bytes stand before the fault
+-- how many bytes are before the fault
 abbrev pub fault_offset : ReadFault → Option ℕ
 fault_offset (Syntax offset) = Some offset
 fault_offset (LeftOut offset len) = Some offset

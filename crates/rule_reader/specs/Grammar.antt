@@ -15,7 +15,7 @@ use Rattle.rule_reader.specs.TextBytes.{begins, ends_behind_comma}
 
 pub data Qualifier : Type 0 where
   none : Qualifier
-  -- the word, and the gap behind it
+  -- the word, and the gap after it
   allow : List Piece → Qualifier
   deny : List Piece → Qualifier
 
@@ -41,7 +41,7 @@ IsWord letters perms = (0 < length letters) × (perms_of letters ≡ Some perms)
 
 pub record WrittenRule : Type 0 where
   pub qualifier : Qualifier
-  -- the path stands before the permissions
+  -- the path comes before the permissions
   pub path_first : Bool
   pub path : WrittenPath
   -- the gap between path and permissions
@@ -62,18 +62,18 @@ print_body r =
 abbrev pub print_rule : WrittenRule → List ℕ
 print_rule r = print_qualifier r.qualifier ++ (print_body r ++ (print_blank r.before_comma ++ codes ","))
 
--- The comma directly behind a bare path is the rule's only before certain bytes: it would be one of the path.
+-- Directly after a bare path, a comma is the rule's only before certain bytes: otherwise it is part of the path.
 abbrev pub CommaEnds : List Piece → Bool → List ℕ → Type 0
 CommaEnds [] false behind = begins ends_behind_comma behind ≡ true
 CommaEnds [] true behind = Unit {0}
 CommaEnds (p ∷ pieces) quoted behind = Unit {0}
 
--- what stands behind the path
+-- what follows the path
 abbrev pub PathStands : Bool → WrittenRule → List ℕ → Type 0
 PathStands true r behind = Stands r.path.quoted r.gap
 PathStands false r behind = Stands r.path.quoted r.before_comma × CommaEnds r.before_comma r.path.quoted behind
 
--- valid with these bytes behind the comma
+-- valid with these bytes after the comma
 pub record IsRule (behind : List ℕ) (r : WrittenRule) : Type 0 where
   pub qualifier : IsQualifier r.qualifier
   pub path : IsPath r.path
@@ -91,7 +91,7 @@ abbrev pub print_rules : List WrittenRule → List ℕ
 print_rules [] = []
 print_rules (r ∷ rules) = print_rule r ++ (print_blank r.past ++ print_rules rules)
 
--- what stands behind a rule: a blank, the other rules and the closing brace
+-- what follows a rule: a blank, the other rules and the closing brace
 abbrev pub behind_rule : WrittenRule → List WrittenRule → List ℕ
 behind_rule r rules = print_blank r.past ++ (print_rules rules ++ codes "}")
 
@@ -105,12 +105,12 @@ rules_mean (r ∷ rules) = rule_means r ∷ rules_mean rules
 
 -- ---- headers (apparmor.d(5), "Format")
 
--- a path's name that the profile is attached to, which is not kept; and the gap behind it
+-- the name of the path that the profile is attached to, which is not kept; and the gap after it
 pub record Attachment : Type 0 where
   pub name : WrittenName
   pub gap : List Piece
 
--- What stands between the word profile, if it is written, and the opening brace.
+-- What is between the word profile, if it is written, and the opening brace.
 pub data WrittenHeader : Type 0 where
   -- the gap, the name, the gap and perhaps an attachment
   named : List Piece → WrittenName → List Piece → Option Attachment → WrittenHeader
@@ -126,7 +126,7 @@ print_header (named gap name behind attachment) =
     codes "profile" ++ (print_blank gap ++ (print_name name ++ (print_blank behind ++ print_attachment attachment)))
 print_header (by_path name behind) = print_name name ++ print_blank behind
 
--- a gap, directly behind a name
+-- a gap, directly after a name
 abbrev pub IsGapBehind : WrittenName → List Piece → Type 0
 IsGapBehind name gap = IsGap gap × Stands name.quoted gap
 
@@ -153,7 +153,7 @@ pub record WrittenText : Type 0 where
   -- the blank before the first rule
   pub inside : List Piece
   pub rules : List WrittenRule
-  -- the blank after the closing brace, and a comment that the text's end ends
+  -- the blank after the closing brace, and a comment that ends at the text's end
   pub past : List Piece
   pub last : Option (List ℕ)
 

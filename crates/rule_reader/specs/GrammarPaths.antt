@@ -12,9 +12,9 @@ use Rattle.rule_globs.specs.Tokens.{Token, byte, any_byte, bracket, stars, openi
 
 -- ---- classes
 
--- The members of a class, from left to right. A dash (45) by itself makes a range of what stands before and behind it; but
--- one that is first or last or directly after a range is a member, and no end of a range. `apart` says that a dash is first,
--- or directly after a range. None where a range is reversed.
+-- The members of a class, from left to right. A dash (45) by itself makes a range of the members before and after it; but one that
+-- is first, last or directly after a range is a member, and not the end of a range. `apart` says that a dash here is first, or
+-- directly after a range. None where a range is reversed.
 unfoldable pub members : Bool → List Cell → Option (List ByteRange)
 members apart [] = Some []
 members apart (c ∷ []) = Some (single (byte_of c) ∷ [])
@@ -35,7 +35,7 @@ pub record WrittenClass : Type 0 where
 abbrev pub print_class : WrittenClass → List ℕ
 print_class c = codes "[" ++ ((if c.negated then codes "^" else []) ++ (print_cells c.cells ++ codes "]"))
 
--- Any byte but a quote, a closing bracket (93) and a backslash, where it may stand.
+-- Any byte but a quote, a closing bracket (93) and a backslash, where it is allowed.
 abbrev pub IsClassCell : Bool → Cell → Type 0
 IsClassCell quoted (plain b) = (may_stand quoted b && not (is_quote b || b == 93 || b == 92)) ≡ true
 IsClassCell quoted (escaped b) = is_escapable b ≡ true
@@ -56,7 +56,7 @@ pub data WrittenItem : Type 0 where
   cell : Cell → WrittenItem
   question : WrittenItem
   star : WrittenItem
-  -- two stars, and so many more
+  -- two stars, and this many more
   two_stars : ℕ → WrittenItem
   class : WrittenClass → WrittenItem
   -- { , }
@@ -64,7 +64,7 @@ pub data WrittenItem : Type 0 where
   comma : WrittenItem
   close_brace : WrittenItem
 
--- so many stars
+-- this many stars
 abbrev pub star_bytes : ℕ → List ℕ
 star_bytes zero = []
 star_bytes (suc n) = 42 ∷ star_bytes n
@@ -83,7 +83,7 @@ abbrev pub print_items : List WrittenItem → List ℕ
 print_items [] = []
 print_items (i ∷ items) = print_item i ++ print_items items
 
--- the first byte of what stands behind, if it is of the path
+-- the path's next byte, if there is one
 abbrev pub first_byte : List ℕ → Option ℕ
 first_byte [] = None
 first_byte (b ∷ bytes) = Some b
@@ -93,16 +93,16 @@ abbrev pub next_is : (ℕ → Bool) → Option ℕ → Bool
 next_is test None = false
 next_is test (Some b) = test b
 
--- A byte by itself is no other item: no star, question mark, bracket, brace or backslash, and no comma within groups. In a
--- bare path a comma outside groups would end the path before certain bytes and at its end. A variable would begin with @ (64)
--- and a brace.
+-- A byte that stands for itself is none of the other items: no star, question mark, bracket, brace or backslash, and no comma
+-- within groups. In a bare path a comma outside groups would end the path before certain bytes and at its end. A variable would
+-- begin with @ (64) and a brace.
 abbrev pub stands_for_itself : Bool → ℕ → Option ℕ → ℕ → Bool
 stands_for_itself quoted depth next b =
     may_stand quoted b && not (is_quote b || b == 42 || b == 63 || b == 91 || b == 92 || b == 123 || b == 125)
     && not (b == 44 && not ((depth == 0) && (quoted || next_is (λ c. not (ends_behind_comma c)) next)))
     && not (b == 64 && next_is is_open_brace next)
 
--- Valid at this depth of groups, with this byte of the path behind it. A run of stars is one item: no star stands behind it.
+-- Valid at this depth of groups, before this next byte of the path. A run of stars is one item, so no star follows it.
 abbrev pub IsItem : Bool → ℕ → Option ℕ → WrittenItem → Type 0
 IsItem quoted depth next (cell (plain b)) = stands_for_itself quoted depth next b ≡ true
 IsItem quoted depth next (cell (escaped b)) = is_escapable b ≡ true
@@ -125,7 +125,7 @@ item_means strict open_brace = opening
 item_means strict comma = between
 item_means strict close_brace = closing
 
--- the token that stands there, strict or not: enough where a slash, a brace or a comma counts
+-- the item's token, strict or not: enough where only a slash, a brace or a comma matters
 abbrev pub token_there : WrittenItem → Token
 token_there i = item_means false i
 
@@ -138,7 +138,7 @@ slash_or_end_behind_item items = slash_or_end_behind (map token_there items)
 abbrev pub depth_behind_item : WrittenItem → ℕ → ℕ
 depth_behind_item i depth = depth_behind (token_there i) depth
 
--- each item is valid where it stands, and all groups are closed in the end
+-- each item is valid at its place, and all groups are closed at the end
 abbrev pub AreItems : Bool → ℕ → List WrittenItem → Type 0
 AreItems quoted depth [] = depth ≡ 0
 AreItems quoted depth (i ∷ items) =

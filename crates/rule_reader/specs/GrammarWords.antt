@@ -6,7 +6,7 @@ use Rattle.rule_reader.specs.TextBytes.{is_white, is_quote, is_include}
 
 -- ---- cells
 
--- a byte as it is written: by itself, or behind a backslash (92)
+-- a byte as it is written: by itself, or after a backslash (92)
 pub data Cell : Type 0 where
   plain : ℕ → Cell
   escaped : ℕ → Cell
@@ -29,7 +29,7 @@ abbrev pub is_plain : ℕ → Cell → Bool
 is_plain wanted (plain b) = b == wanted
 is_plain wanted (escaped b) = false
 
--- Neither byte 0 nor LF, and no white in a bare part
+-- neither byte 0 nor LF, and no white in a bare part
 abbrev pub may_stand : Bool → ℕ → Bool
 may_stand quoted b = not (b == 0 || b == 10 || (not quoted && is_white b))
 
@@ -37,7 +37,7 @@ may_stand quoted b = not (b == 0 || b == 10 || (not quoted && is_white b))
 
 pub data Piece : Type 0 where
   white : ℕ → Piece
-  -- what stands between # and LF
+  -- what is between # and LF
   comment : List ℕ → Piece
 
 abbrev pub print_piece : Piece → List ℕ
@@ -64,13 +64,13 @@ abbrev pub IsGap : List Piece → Type 0
 IsGap [] = ⊥
 IsGap (p ∷ pieces) = IsBlank (p ∷ pieces)
 
--- Directly behind a bare name or path a blank begins with white: # would be a byte of that.
+-- Directly after a bare name or path a blank begins with white: a # would be a byte of that name or path.
 abbrev pub Stands : Bool → List Piece → Type 0
 Stands quoted [] = Unit {0}
 Stands quoted (white b ∷ pieces) = Unit {0}
 Stands quoted (comment bytes ∷ pieces) = quoted ≡ true
 
--- a comment that the text's end ends, or nothing
+-- a comment that ends at the text's end, or nothing
 abbrev pub print_last : Option (List ℕ) → List ℕ
 print_last None = []
 print_last (Some bytes) = 35 ∷ bytes
@@ -96,12 +96,12 @@ print_name n = in_quotes n.quoted (print_cells n.cells)
 abbrev pub name_means : WrittenName → List ℕ
 name_means n = print_cells n.cells
 
--- a backslash goes with the byte behind it, and no quote stands by itself
+-- a backslash goes with the byte after it, and no quote is by itself
 abbrev pub IsNameCell : Bool → Cell → Type 0
 IsNameCell quoted (plain b) = (may_stand quoted b && not (is_quote b || b == 92)) ≡ true
 IsNameCell quoted (escaped b) = (b == 0 || b == 10) ≡ false
 
--- what a bare name doesn't begin with: { } , #; and what none begins with, which is a colon
+-- a bare name doesn't begin with { } , or #, and no name begins with a colon
 abbrev pub begins_name : Bool → Cell → Bool
 begins_name quoted (plain b) = not (b == 58 || (not quoted && (b == 123 || b == 125 || b == 44 || b == 35)))
 begins_name quoted (escaped b) = true
@@ -116,7 +116,7 @@ abbrev pub BeginsWithSlash : List Cell → Type 0
 BeginsWithSlash [] = ⊥
 BeginsWithSlash (c ∷ cells) = is_plain 47 c ≡ true
 
--- at least one byte, and no more than fit
+-- at least one byte, and at most `max_name`
 pub record IsWrittenName (n : WrittenName) : Type 0 where
   pub cells : Each (IsNameCell n.quoted) n.cells
   pub some : 0 < length n.cells

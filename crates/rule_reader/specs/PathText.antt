@@ -1,11 +1,11 @@
--- A text that is a path's as a whole, as it stands within quotes, but that it need not begin with a slash.
+-- A text that as a whole is the inside of a quoted path, except that it need not begin with a slash.
 use Rattle.std.specs.Prelude.{ℕ, List, [], ◌++◌, length, codes, Result, Ok, Err, Option, Some, None, true, false, ◌==◌, if◌then◌else◌}
 use Rattle.rule_globs.specs.Tokens.{Token}
 use Rattle.rule_reader.specs.declared.reading.local_fault.LocalFault.{LocalFault}
 use Rattle.rule_profile.specs.Limits.{max_items}
 use Rattle.rule_reader.specs.ReadPaths.{tokens_at}
 
--- what was read, where the closing quote alone is left
+-- what was read, if only the closing quote is left
 abbrev pub whole_tokens : Result (List Token × List ℕ) LocalFault → Option (List Token)
 whole_tokens (Ok x) = if length x.1 == 1 then Some x.0 else None
 whole_tokens (Err fault) = None

@@ -12,7 +12,7 @@ use Rattle.rule_reader.specs.declared.reading.local_fault.LocalFault.{LocalFault
 use Rattle.rule_reader.specs.ReadSteps.{◌>>=◌, fault_with_left, syntax}
 use Rattle.rule_reader.specs.TextBytes.{begins, is_white, is_quote}
 
--- What a byte is in a class: in a quoted path or a bare one, and directly behind a backslash or not.
+-- What a byte is in a class: in a quoted path or a bare one, and directly after a backslash or not.
 abbrev pub class_byte : Bool → Bool → ℕ → ClassByte
 class_byte quoted escaped b =
     if b == 0 || (b == 10 && (quoted || escaped)) then Wrong
@@ -22,12 +22,12 @@ class_byte quoted escaped b =
     else if b == 92 then Backslash
     else Member
 
--- A member where a dash can only stand by itself: at the class's start and directly after a range.
+-- A member where a dash can only stand for itself: at the class's start and directly after a range.
 abbrev pub alone : Bool → ℕ → List ByteRange × Pending
 alone dash b = if dash then (single 45 ∷ [], AfterDash) else ([], Single b)
 
--- One member byte more, a dash that is not behind a backslash or another: the ranges that are complete by it, and what is
--- pending then. None where a range is reversed. A dash (45) is the end of a range only where the class goes on behind it.
+-- One more member byte, either a dash that is not after a backslash or any other byte: the ranges that it completes, and what is
+-- pending then. None where a range is reversed. A dash (45) is the end of a range only where the class goes on after it.
 abbrev pub with_member : Pending → Bool → ℕ → Option (List ByteRange × Pending)
 with_member Start dash b = Some (alone dash b)
 with_member AfterRange dash b = Some (alone dash b)
@@ -47,7 +47,7 @@ is_reversed AfterDash = false
 is_reversed (Single d) = false
 is_reversed (Dash d) = false
 
--- what is left of the ranges at the class's end, where a dash stands by itself. None for a class without members
+-- the ranges that are left at the class's end, where a dash stands for itself. None for a class without members
 abbrev pub at_end : Pending → Option (List ByteRange)
 at_end Start = None
 at_end AfterRange = Some []
@@ -56,7 +56,7 @@ at_end (Single d) = Some (single d ∷ [])
 at_end (Dash d) = Some (single d ∷ single 45 ∷ [])
 at_end (Dashes d) = Some (single d ∷ single 45 ∷ single 45 ∷ [])
 
--- The members' ranges, in the order written, up to the closing bracket. From the opening one on, `bracket` bytes are left.
+-- The members' ranges, in the order written, up to the closing bracket. From the opening bracket on, `bracket` bytes are left.
 unfoldable pub members_at : Bool → ℕ → Pending → Bool → List ℕ → Result (List ByteRange × List ℕ) LocalFault
 members_at quoted bracket pending escaped [] = if quoted || escaped then syntax [] else fault_with_left kinds.Class bracket []
 members_at quoted bracket pending escaped (b ∷ bytes) = elim (class_byte quoted escaped b) [
@@ -72,7 +72,7 @@ members_at quoted bracket pending escaped (b ∷ bytes) = elim (class_byte quote
   | Wrong ↦ syntax (b ∷ bytes)
 ]
 
--- Whether it is negated, and its ranges: what stands behind the opening bracket (94 is ^).
+-- Whether it is negated, and its ranges: what follows the opening bracket (94 is ^).
 unfoldable pub class_at : Bool → ℕ → List ℕ → Result ((Bool × List ByteRange) × List ℕ) LocalFault
 class_at quoted bracket bytes =
     if begins (λ b. b == 94) bytes

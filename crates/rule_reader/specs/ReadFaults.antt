@@ -6,7 +6,7 @@ use Rattle.rule_reader.specs.Grammar.{ReadsAs}
 use Rattle.rule_reader.specs.declared.reading.local_fault.LocalFault.{LocalFault}
 use Rattle.rule_reader.specs.Reading.{text_at, outcome_of}
 
--- reading the text stops first with this fault
+-- reading the text first stops with this fault
 abbrev pub FaultsAs : List ℕ → ReadFault → Type 0
 FaultsAs text fault = outcome_of text ≡ Err fault
 
@@ -18,8 +18,8 @@ HasOutcome text = ((p : ProfileValue) × ReadsAs text p) ⊎ ((fault : ReadFault
 abbrev pub Refused : List ℕ → Type 0
 Refused text = (fault : ReadFault) × FaultsAs text fault
 
--- The text has a fault that is settled. Not settled are: a Syntax fault at the text's end; a word left out, or told as no
--- permissions, that the end ends; the comma of missing permissions directly behind a path, as the last byte; and an open class
--- or group where the end ends the path.
+-- The text has a settled fault. These are not settled: a Syntax fault at the text's end; a word that is left out or reported as no
+-- permissions, if it ends at the text's end; the comma of missing permissions directly after a path, if it is the last byte; and an
+-- open class or group, if the path ends at the text's end.
 abbrev pub IsSettled : List ℕ → Type 0
 IsSettled text = (s : LocalFault) × (text_at text ≡ Err s) × (s.settled ≡ true)

@@ -1,4 +1,4 @@
--- Reading what stands before a profile's rules (apparmor.d(5), "Format").
+-- Reading what comes before a profile's rules (apparmor.d(5), "Format").
 use Rattle.std.specs.Prelude.{ℕ, List, length, codes, Result, Ok, Bool, false, ◌||◌, ◌==◌, if◌then◌else◌, drop, nat_eq}
 use Rattle.std.specs.List.{starts_with}
 use Rattle.rule_reader.specs.declared.reading.local_fault.FaultKind.TheVariants as kinds
@@ -24,7 +24,7 @@ is_colon b = b == 58
 abbrev pub begins_no_name : ℕ → Bool
 begins_no_name b = is_open_brace b || is_close_brace b || is_comma b || is_hash b
 
--- a name after the word profile; one that begins with a colon is of a namespace
+-- a name after the word profile; one that begins with a colon belongs to a namespace
 unfoldable pub name_at : List ℕ → Result (List ℕ × List ℕ) LocalFault
 name_at bytes =
     if begins is_quote bytes then (if begins is_colon (drop 1 bytes) then fault_here (kinds.LeftOut 1) (drop 1 bytes) else quoted_name max_name (drop 1 bytes))
@@ -32,7 +32,7 @@ name_at bytes =
     else if begins begins_no_name bytes then syntax bytes
     else name_in false max_name bytes
 
--- an attachment, if one stands here, and the blank after it. It is not kept, and may have any length (our choice)
+-- an attachment, if there is one here, and the blank after it. It is not kept, and may have any length (our choice)
 unfoldable pub attachment_at : List ℕ → Result (List ℕ) LocalFault
 attachment_at bytes =
     if begins is_slash bytes || begins is_quote bytes then (slash_name_at (length bytes) bytes >>= λ x. gap x.1)
@@ -65,8 +65,8 @@ slash_header_at bytes = do
   inside ← brace_at brace
   Ok (name.0, inside)
 
--- The name, and what is left after the opening brace. What else may stand here is not supported: a word (a rule outside a
--- profile, a preamble) or a variable (64 is @).
+-- The name, and what is left after the opening brace. What else is allowed here is not supported: a word (a rule outside a profile,
+-- a preamble) or a variable (64 is @).
 unfoldable pub header_at : List ℕ → Result (List ℕ × List ℕ) LocalFault
 header_at bytes =
     if is_word (codes "profile") bytes then named_header_at bytes

@@ -13,7 +13,7 @@ use Rattle.rule_reader.specs.ReadWords.{after, literal}
 use Rattle.rule_reader.specs.TextBytes.{begins, is_white, is_quote, is_comma, is_star, is_open_brace, is_close_brace, ends_behind_comma}
 use Rattle.rule_globs.specs.Tokens.{Token, byte, any_byte, bracket, stars, opening, between, closing}
 
--- what follows a comma ends a path there: so does the text's end
+-- what follows a comma ends a path at the comma; so does the text's end
 abbrev pub comma_ends : List ℕ → Bool
 comma_ends [] = true
 comma_ends (b ∷ bytes) = ends_behind_comma b
@@ -25,7 +25,7 @@ path_ends quoted depth [] = not quoted
 path_ends quoted depth (b ∷ bytes) =
     is_quote b || (not quoted && (is_white b || (is_comma b && (depth == 0) && comma_ends bytes)))
 
--- the byte behind a backslash, before these bytes
+-- the byte after a backslash, which precedes these bytes
 abbrev pub escaped_at : List ℕ → Result (ℕ × List ℕ) LocalFault
 escaped_at [] = syntax []
 escaped_at (b ∷ bytes) =
@@ -33,7 +33,7 @@ escaped_at (b ∷ bytes) =
     else if is_ascii_alphanumeric b then fault_with_left (kinds.LeftOut 2) (suc (length (b ∷ bytes))) (b ∷ bytes)
     else Ok (b, bytes)
 
--- Whether an item, a brace or a comma begins here, or the path ends; else it is a fault for itself.
+-- Whether an item, a brace or a comma begins here, or the path ends; anything else is a fault.
 unfoldable pub goes_on_at : Bool → ℕ → List ℕ → Result Bool LocalFault
 goes_on_at quoted depth [] = if quoted then syntax [] else Ok false
 goes_on_at quoted depth (b ∷ bytes) =
@@ -45,13 +45,13 @@ goes_on_at quoted depth (b ∷ bytes) =
     else if b == 92 then (escaped_at bytes >>= λ _. Ok true)
     else Ok true
 
--- a plain slash stands here, by itself or behind a backslash, or the path ends
+-- a plain slash is here, by itself or after a backslash, or the path ends
 abbrev pub slash_or_end : Bool → ℕ → List ℕ → Bool
 slash_or_end quoted depth bytes =
     begins is_slash bytes || starts_with nat_eq bytes (codes "\\/") || path_ends quoted depth bytes
 
--- What begins here; `after_slash` says that a plain slash stands directly before it. A run of stars is strict between such a
--- slash and another or the path's end.
+-- What begins here; `after_slash` says that a plain slash is directly before it. A run of stars is strict between such a slash and
+-- another or the path's end.
 unfoldable pub token_at : Bool → ℕ → Bool → List ℕ → Result (Token × List ℕ) LocalFault
 token_at quoted depth after_slash [] = syntax []
 token_at quoted depth after_slash (b ∷ bytes) =
@@ -64,7 +64,7 @@ token_at quoted depth after_slash (b ∷ bytes) =
     else if b == 92 then (escaped_at bytes >>= λ x. Ok (byte x.0, x.1))
     else Ok (byte b, bytes)
 
--- the open braces behind a token that begins with so many bytes left
+-- the open braces after a token, which begins with `left` bytes left
 abbrev pub braces_behind : Token → ℕ → List ℕ → List ℕ
 braces_behind opening left braces = left ∷ braces
 braces_behind closing left braces = drop 1 braces
@@ -79,8 +79,8 @@ abbrev pub all_closed : List ℕ → List ℕ → Result (List Token × List ℕ
 all_closed [] bytes = Ok ([], bytes)
 all_closed (brace ∷ braces) bytes = fault_with_left kinds.Group brace bytes
 
--- The tokens up to the path's end, with room for so many. Of the open braces, innermost first, `braces` has how many bytes
--- are left from each on.
+-- The tokens up to the path's end, at most as many as there is room for. `braces` has the number of bytes left from each open brace
+-- on, innermost first.
 unfoldable pub tokens_at : Bool → ℕ → List ℕ → Bool → List ℕ → Result (List Token × List ℕ) LocalFault
 tokens_at quoted zero braces after_slash bytes =
     goes_on_at quoted (length braces) bytes >>= λ more. if more then fault_here kinds.TooManyItems bytes else all_closed braces bytes
@@ -90,7 +90,7 @@ tokens_at quoted (suc room) braces after_slash bytes =
     tokens_at quoted room (braces_behind x.0 (length bytes) braces) (is_plain_slash x.0) x.1 >>= λ others. Ok (x.0 ∷ others.0, others.1))
     else all_closed braces bytes
 
--- nothing stands here that could be a path's first byte
+-- there is no byte here that could be a path's first
 abbrev pub no_byte : Bool → List ℕ → Bool
 no_byte quoted [] = true
 no_byte quoted (b ∷ bytes) = b == 0 || (quoted && b == 10)

@@ -1,5 +1,4 @@
--- Reading the parts of a text that lie below rules: blanks, words and names. What reads a part answers its value and the
--- bytes after it.
+-- Reading the parts of a text below rules: blanks, words and names. Reading a part returns its value and the bytes after it.
 use Rattle.std.specs.Prelude.{ℕ, zero, suc, List, [], ◌∷◌, length, codes, Result, Ok, Bool, true, false, not, ◌&&◌, ◌||◌, ◌==◌, if◌then◌else◌}
 use Rattle.std.specs.Str.{bytes_eq}
 use Rattle.rule_reader.specs.declared.reading.name.NameByte.{NameByte}
@@ -12,7 +11,7 @@ use Rattle.rule_reader.specs.TextBytes.{begins, is_white, is_hash, opens_blank, 
 
 -- ---- runs of bytes
 
--- the longest front part whose bytes pass the test
+-- the longest prefix whose bytes pass the test
 abbrev pub leading : (ℕ → Bool) → List ℕ → List ℕ
 leading test [] = []
 leading test (b ∷ bytes) = if test b then b ∷ leading test bytes else []
@@ -24,7 +23,7 @@ after test (b ∷ bytes) = if test b then after test bytes else b ∷ bytes
 
 -- ---- blanks: any run of white and comments
 
--- within a comment, or outside one. A comment goes to before the next LF or to the end
+-- within a comment, or outside one. A comment ends before the next LF or at the text's end
 abbrev pub blank_at : Bool → List ℕ → Result (List ℕ) LocalFault
 blank_at comment [] = Ok []
 blank_at true (b ∷ bytes) = if b == 0 then syntax (b ∷ bytes) else blank_at (not (b == 10)) bytes
@@ -48,7 +47,7 @@ literal [] bytes = Ok bytes
 literal (w ∷ word) [] = syntax []
 literal (w ∷ word) (b ∷ bytes) = if b == w then literal word bytes else syntax (b ∷ bytes)
 
--- the longest run of letters, digits and _ that begins with a letter; none is the empty one
+-- the longest run of letters, digits and _ that begins with a letter; empty if there is none
 abbrev pub word : List ℕ → List ℕ
 word bytes = if begins is_letter_byte bytes then leading is_word_byte bytes else []
 
@@ -56,22 +55,22 @@ word bytes = if begins is_letter_byte bytes then leading is_word_byte bytes else
 abbrev pub after_word : List ℕ → List ℕ
 after_word bytes = after is_word_byte bytes
 
--- the word that stands here is this one
+-- the word here is this one
 abbrev pub is_word : List ℕ → List ℕ → Bool
 is_word wanted bytes = bytes_eq (word bytes) wanted
 
--- a fault of the word that stands here: what stands behind it was looked at
+-- a fault of the word here, found by looking at what follows the word
 abbrev pub fault_of_word : {A : Type 0} → FaultKind → List ℕ → Result A LocalFault
 fault_of_word kind bytes = fault_with_left kind (length bytes) (after_word bytes)
 
--- the word that stands here is not supported
+-- the word here is not supported
 abbrev pub word_left_out : {A : Type 0} → List ℕ → Result A LocalFault
 word_left_out bytes = fault_of_word (kinds.LeftOut (length (word bytes))) bytes
 
 -- ---- names (of profiles and of attachments)
 
--- In quotes or not, and directly behind a backslash or not: a backslash goes with the byte after it. LF and byte 0 are in
--- no name. A bare one ends before white and has no quote, one in quotes ends before the next.
+-- In quotes or not, and directly after a backslash or not: a backslash goes with the byte after it. No name has LF or byte 0. A
+-- bare name ends before white and has no quote; one in quotes ends before the next quote.
 abbrev pub name_byte : Bool → Bool → ℕ → NameByte
 name_byte quoted escaped b =
     if b == 0 || (b == 10 && (quoted || escaped)) then Wrong
@@ -80,8 +79,8 @@ name_byte quoted escaped b =
     else if not quoted && is_white b then Ends
     else OfName
 
--- The bytes of a name, with room for so many; one more is a fault at the name's first byte, from which on `first` bytes are
--- left.
+-- The bytes of a name, at most as many as there is room for; one more is a fault at the name's first byte, from which on `first`
+-- bytes are left.
 unfoldable pub name_bytes : Bool → ℕ → Bool → ℕ → List ℕ → Result (List ℕ × List ℕ) LocalFault
 name_bytes quoted first escaped room [] = if quoted || escaped then syntax [] else Ok ([], [])
 name_bytes quoted first escaped zero (b ∷ bytes) = elim (name_byte quoted escaped b) [

@@ -20,11 +20,11 @@ use Rattle.rule_globs.specs.Tokens.{Token}
 
 -- ---- permissions (apparmor.d(5), "Access Modes")
 
--- a letter of the access modes that file rules have, those that are not supported among them
+-- a letter of the access modes that file rules have, including those that are not supported
 abbrev pub is_mode : ℕ → Bool
 is_mode b = list_any (λ mode. mode == b) (codes "rwlkmaxipcuPCU")
 
--- The permissions that stand behind a path. A word of access modes of which some are not supported is left out as a whole.
+-- The permissions after a path. A word of access modes of which some are not supported is left out as a whole.
 unfoldable pub perms_at : List ℕ → Result (Perms × List ℕ) LocalFault
 perms_at bytes =
     if begins is_comma bytes then fault_here kinds.EmptyPermissions bytes
@@ -35,7 +35,7 @@ perms_at bytes =
       | None ↦ if list_all is_mode (word bytes) then word_left_out bytes else fault_of_word kinds.Permission bytes
     ]
 
--- a gap and the permissions, directly behind a path. A bare path ended at a comma only by what stands behind that
+-- a gap and the permissions, directly after a path. A bare path ends at a comma only because of the byte after the comma
 unfoldable pub perms_behind : List ℕ → Result (Perms × List ℕ) LocalFault
 perms_behind bytes =
     if begins is_comma bytes then fault_with_left kinds.EmptyPermissions (length bytes) (drop 1 bytes)
@@ -43,14 +43,14 @@ perms_behind bytes =
 
 -- ---- rules
 
--- what the rule does: the word allow or deny, if one stands here, and a gap; without it the rule allows
+-- what the rule does: the word allow or deny, if there is one here, and a gap; without it the rule allows
 unfoldable pub qualifier_at : List ℕ → Result (RuleKind × List ℕ) LocalFault
 qualifier_at bytes =
     if is_word (codes "allow") bytes then (gap (after_word bytes) >>= λ from. Ok (Allow, from))
     else if is_word (codes "deny") bytes then (gap (after_word bytes) >>= λ from. Ok (Deny, from))
     else Ok (Allow, bytes)
 
--- Behind the qualifier: none for a path, or permissions. Other words, variables (@, 64), hats (^, 94) and $ (36) are not
+-- What follows the qualifier: none for a path, or permissions. Other words, variables (@, 64), hats (^, 94) and $ (36) are not
 -- supported.
 unfoldable pub start_at : List ℕ → Result (Option (Perms × List ℕ)) LocalFault
 start_at bytes =
@@ -85,13 +85,13 @@ rule_at bytes = do
   past ← comma_at body.1
   Ok (record { kind = kind.0; perms = body.0.0; items = body.0.1 }, past)
 
--- a rule begins here; else it is a fault for itself
+-- a rule begins here; anything else is a fault
 unfoldable pub rule_begins : List ℕ → Result (Unit {0}) LocalFault
 rule_begins bytes =
     if is_word (codes "allow") bytes || is_word (codes "deny") bytes then Ok tt
     else (start_at bytes >>= λ _. Ok tt)
 
--- the rules up to the closing brace, with room for so many
+-- the rules up to the closing brace, at most as many as there is room for
 unfoldable pub rules_at : ℕ → List ℕ → Result (List RuleValue × List ℕ) LocalFault
 rules_at zero bytes =
     if begins is_close_brace bytes then Ok ([], drop 1 bytes)
@@ -118,6 +118,6 @@ text_at bytes = do
   all ← end_at past
   Ok (record { name = name.0; rules = rules.0 })
 
--- what reading a text comes to, memory aside: its profile or its first fault
+-- the outcome of reading a text, memory aside: its profile or its first fault
 unfoldable pub outcome_of : List ℕ → Result ProfileValue ReadFault
 outcome_of text = elim (text_at text) [ Ok p ↦ Ok p | Err s ↦ Err (fault_of (length text) s) ]

@@ -1,4 +1,4 @@
--- Where the rules of a text stand in it.
+-- Where the rules of a text are in it.
 use Rattle.std.specs.Prelude.{◌≡◌, ◌<◌, ◌≤◌, ℕ, zero, suc, ◌-◌, List, [], ◌∷◌, length, drop, Ok, Err, if◌then◌else◌}
 use Rattle.rule_profile.specs.declared.profile.Span.{Span}
 use Rattle.rule_profile.specs.Limits.{max_rules}
@@ -9,12 +9,12 @@ use Rattle.rule_reader.specs.ReadWords.{blank}
 use Rattle.rule_reader.specs.Reading.{rule_at}
 use Rattle.rule_reader.specs.TextBytes.{begins, is_close_brace}
 
--- in a text of n bytes, from where `from` are left to where `past` are
+-- in a text of n bytes, from where `from` is left to where `past` is left
 abbrev pub span_between : ℕ → List ℕ → List ℕ → Span
 span_between n from past = record { start = n - length from; end = n - length past }
 
--- The rules up to the closing brace, with room for so many, or up to the first fault: where each of them stands in a text of
--- n bytes, of which these are left. A rule is read from its first byte to its comma, and then the blank behind it.
+-- The rules up to the closing brace, at most as many as there is room for, or up to the first fault: where each of them is in a
+-- text of n bytes, of which these are left. A rule is read from its first byte to its comma, followed by the blank after it.
 unfoldable pub spans_at : ℕ → ℕ → List ℕ → List Span
 spans_at n zero bytes = []
 spans_at n (suc room) bytes =
@@ -24,20 +24,20 @@ spans_at n (suc room) bytes =
       | Ok first ↦ span_between n bytes first.1 ∷ elim (blank first.1) [ Err s ↦ [] | Ok from ↦ spans_at n room from ]
     ]
 
--- where the rules stand behind the text's header
+-- where the rules after the text's header are
 unfoldable pub spans_of : List ℕ → List Span
 spans_of text = elim (blank text >>= λ from. header_at from >>= λ name. blank name.1) [
   | Err s ↦ []
   | Ok inside ↦ spans_at (length text) max_rules inside
 ]
 
--- Read from where it stands on, the text is read as this rule, up to where it ends.
+-- Read from the span's start on, the text is read as this rule, up to the span's end.
 pub record IsReadAgain (text : List ℕ) (rule : RuleValue) (span : Span) : Type 0 where
   pub some : span.start < span.end
   pub within : span.end ≤ length text
   pub read : rule_at (drop span.start text) ≡ Ok (rule, drop span.end text)
 
--- So is each of the rules, one behind another, from so many bytes on.
+-- The same for each of the rules, which follow one another from byte `past` on.
 abbrev pub AreReadAgain : List ℕ → ℕ → List RuleValue → List Span → Type 0
 AreReadAgain text past [] [] = Unit {0}
 AreReadAgain text past (rule ∷ rules) (span ∷ spans) =

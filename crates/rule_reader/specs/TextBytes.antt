@@ -20,7 +20,7 @@ is_hash b = b == 35
 abbrev pub opens_blank : ℕ → Bool
 opens_blank b = is_white b || is_hash b
 
--- what makes the word #include more than a comment when it stands behind it: space, tab, < or "
+-- a byte that makes the word #include before it more than a comment: space, tab, < or "
 abbrev pub is_include_mark : ℕ → Bool
 is_include_mark b = b == 32 || b == 9 || b == 60 || b == 34
 
@@ -59,10 +59,10 @@ is_close_brace b = b == 125
 abbrev pub is_arrow : List ℕ → Bool
 is_arrow bytes = starts_with nat_eq bytes (codes "->")
 
--- what stands behind a comma that ends a bare path: white, #, }, " or another comma
+-- a byte after a comma that ends a bare path: white, #, }, " or another comma
 abbrev pub ends_behind_comma : ℕ → Bool
 ends_behind_comma b = is_white b || is_hash b || is_close_brace b || is_quote b || is_comma b
 
--- What may stand behind a backslash in a path: neither LF nor byte 0, and no letter or digit, which would be a character code.
+-- What may follow a backslash in a path: neither LF nor byte 0, and no letter or digit, which would be a character code.
 abbrev pub is_escapable : ℕ → Bool
 is_escapable b = not (b == 0 || b == 10 || is_ascii_alphanumeric b)

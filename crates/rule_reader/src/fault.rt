@@ -5,14 +5,14 @@ ghost use Rattle.rule_reader.specs.FaultText.{fault_text};
 use std::error::Error;
 use std::fmt;
 
-/// Why a text is no profile. An offset counts the bytes before the place of the fault. It is printed as a sentence.
+/// Why a text is no profile. An offset counts the bytes before the place of the fault. Prints as a sentence.
 #[derive(Clone, Copy, Debug, PartialEq, Eq)]
 pub enum ReadFault {
-    /// The grammar doesn't go on so.
+    /// The grammar doesn't allow what is here.
     Syntax { offset: usize },
     /// A word that file rules have and that isn't supported: the `len` bytes from `offset` on.
     LeftOut { offset: usize, len: usize },
-    /// A word that stands where permissions are expected.
+    /// A word where permissions are expected.
     Permission { offset: usize },
     /// A rule without permissions.
     EmptyPermissions { offset: usize },
@@ -24,11 +24,11 @@ pub enum ReadFault {
     Group { offset: usize },
     /// Groups that are nested too deep.
     Depth { offset: usize },
-    /// A rule too many begins here.
+    /// One rule too many begins here.
     TooManyRules { offset: usize },
-    /// An item too many begins here.
+    /// One item too many begins here.
     TooManyItems { offset: usize },
-    /// Memory was refused; nothing is said of the text.
+    /// Out of memory; this says nothing about the text.
     NoMemory,
 }
 
@@ -52,7 +52,7 @@ impl ReadFault {
         }
     }
 
-    /// The place of the fault in the text. None for want of memory.
+    /// The place of the fault in the text. None when out of memory.
     pub fn offset(self) -> Option<usize>
         ensures { result ≡ fault_offset self }
     {

@@ -1,9 +1,9 @@
-//! Profile texts read: the grammar, the faults of a text by number and place, the profiles that reading makes, and where
-//! their rules stand in the text. A profile is also made of a name and rules, which pass the same tests. The text of a path
-//! alone is read to its items.
+//! Reading of profile texts: the grammar, the faults of a text by number and place, the profiles that reading makes, and where
+//! their rules are in the text. A profile can also be made from a name and rules, which pass the same tests. The text of a path
+//! alone can be read as its items.
 //!
-//! The definitions to believe are those in `specs/`: the grammar, its profiles, the places of rules, and which
-//! fault is the first. Those in `specs/inner/` are of private contracts and proofs.
+//! The definitions to believe are those in `specs/`: the grammar, its profiles, the places of rules, and which fault is the first.
+//! Those in `specs/inner/` are of private contracts and proofs.
 #![tactic(auto)]
 
 mod fault;

@@ -28,7 +28,7 @@ pub use path::read_path;
 use rule_profile::Profile;
 use std::alloc::Global;
 
-/// The fault that a local fault is of a text of so many bytes.
+/// A local fault as a fault of a text of `len` bytes.
 fn fault_of(len: usize, fault: LocalFault) -> ReadFault
     ensures { result ≡ fault_of len fault }
 {
@@ -47,7 +47,7 @@ fn fault_of(len: usize, fault: LocalFault) -> ReadFault
     }
 }
 
-/// Reads a profile text. A text that is no profile is told by its first fault.
+/// Reads a profile text. If the text is no profile, returns its first fault.
 pub fn read(alloc: Global, text: &[u8]) -> Result<Profile, ReadFault>
     // What is read is in the grammar.
     ensures found { IfOk result (λ p. ReadsAs text.now (profile_value p)) }
@@ -56,10 +56,10 @@ pub fn read(alloc: Global, text: &[u8]) -> Result<Profile, ReadFault>
         → MatchResult result (λ q. profile_value q ≡ p) (λ e. e ≡ ReadFault.NoMemory) }
     // A fault is the one at which reading from left to right stops first.
     ensures fault { IfErr result (λ e. (e ≡ ReadFault.NoMemory) ⊎ FaultsAs text.now e) }
-    // The same in one: what reading the text comes to.
+    // The same in one clause: the outcome of reading the text.
     ensures outcome { MatchResult result (λ p. outcome_of text.now ≡ Ok (profile_value p))
         (λ e. (e ≡ ReadFault.NoMemory) ⊎ (outcome_of text.now ≡ Err e)) }
-    // Where its rules stand in the text.
+    // Where its rules are in the text.
     ensures spans { IfOk result (λ p. profile_spans p ≡ spans_of text.now) }
 {
     match text_of(alloc, text) {

@@ -1,4 +1,4 @@
--- Which faults are settled, found out by reading.
+-- Which faults are settled, determined by reading.
 use Rattle.std.proofs.Common.{◌≡◌, ◌∙◌, ℕ, Bool, true, false, not, List, Ok, Err, refl, sym, ap, true≢false}
 use Rattle.std.specs.List.{All, list_all}
 use Rattle.std.proofs.lemmas.List.Sums.{AllPass-from_list_all}

@@ -1,4 +1,4 @@
--- Front parts of texts, by whether their fault is settled.
+-- Prefixes of texts, by whether their fault is settled.
 use Rattle.std.specs.Prelude.{ℕ, List, [], ◌∷◌, codes}
 
 abbrev pub settled_fronts : List (List ℕ)

@@ -1,5 +1,5 @@
-//! Tests of calls that no text of `text_cases` reaches, of the libraries that it shows. A library with tests of its own would be
-//! proved twice, once with them; as they stand here, each of these libraries is proved once.
+//! Tests of calls that no text of `text_cases` reaches, in the libraries that it covers. A library with tests of its own would
+//! be proved twice, once with them; with the tests in this crate, each of these libraries is proved once.
 #![tactic(auto)]
 
 #[cfg(test)]

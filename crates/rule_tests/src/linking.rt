@@ -10,12 +10,12 @@ fn perms(letters: &[u8]) -> Result<Perms, Fail> {
     Ok(Perms::from_letters(letters).ok_or("a letter of no permission")?)
 }
 
-/// The verdict on a link whose new name is allowed these permissions, and whose old one those.
+/// The verdict on a link whose old name is allowed the permissions `old`, and whose new name is allowed `new`.
 fn verdict_of(old: &[u8], new: &[u8]) -> Result<LinkVerdict, Fail> {
     Ok(judge_link(perms(old)?, perms(new)?, Verdict::Allowed))
 }
 
-/// The verdict where what goes beyond the old name's permissions is this.
+/// The verdict if these permissions are what goes beyond the old name's.
 fn beyond(letters: &[u8]) -> Result<LinkVerdict, Fail> {
     match perms(letters)? {
         extra if extra.is_empty() => Ok(LinkVerdict::Fine),
@@ -23,7 +23,7 @@ fn beyond(letters: &[u8]) -> Result<LinkVerdict, Fail> {
     }
 }
 
-/// What the old name is allowed, what the new one is, and what of that goes beyond the old one's.
+/// Each row has what the old name is allowed, what the new one is, and what of that goes beyond the old one's.
 fn expect_beyond(rt: &impl Abort, rows: &[[&[u8]; 3]]) -> Result<(), Fail> {
     for row in rows {
         let is_so = verdict_of(row[0], row[1])? == beyond(row[2])?;
@@ -55,7 +55,7 @@ fn links_to_names_that_refuse_them(rt: HostRuntime) -> Result<(), Fail> {
     let missing = Verdict::NoRule {
         missing: perms(b"l")?,
     };
-    // The refusal goes before what the new name is allowed beyond the old one.
+    // The refusal takes precedence over what the new name is allowed beyond the old one.
     let verdict = judge_link(Perms::NONE, perms(b"rw")?, missing);
     assert_eq!(rt; verdict, LinkVerdict::Refused(missing));
     Ok(())

@@ -19,7 +19,7 @@ fn rule_of(alloc: Global, letters: &[u8]) -> Result<Rule, Fail> {
     Ok(Rule::new(RuleKind::Allow, perms, path))
 }
 
-/// Whether there is a profile of this name with so many rules.
+/// Whether a profile with this name and `count` rules can be made.
 fn is_made(alloc: Global, name: &[u8], letters: &[u8], count: usize) -> Result<bool, Fail> {
     let mut rules = Vec::new(alloc);
     for _ in 0..count {

@@ -1,4 +1,4 @@
-//! Verdicts told by records that no profile has, and faults of compiling.
+//! Verdicts of records that no profile has, and faults of compiling.
 use crate::printing::is_printed;
 use glob_automaton::{CompileFault, LeastHits, Record, told};
 use names::{Permission, Perms};

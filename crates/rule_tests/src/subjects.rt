@@ -1,5 +1,5 @@
-//! What restating rules changes. To whom a rule applies is as apparmor_parser's tables have it, which hold the owner's
-//! permissions and the others' apart.
+//! What restating rules changes. To whom a rule applies follows apparmor_parser's tables, which keep the owner's permissions
+//! separate from the others'.
 use names::{Permission, Perms};
 use std::test::Fail;
 use subject_rules::{AppliesTo, Change, Effect, Mode, RuleShape, Subject, restated_perms};

@@ -3,7 +3,7 @@ use profile_variables::{ExpandFault, Lists, Variable};
 use std::alloc::Global;
 use std::test::Fail;
 
-/// Variables of these names, of which each has one value.
+/// Variables with these names, each with one value.
 fn one_value_each<'t>(
     alloc: Global,
     names: &'t [String],

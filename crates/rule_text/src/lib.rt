@@ -1,5 +1,5 @@
-//! Profiles of file rules: their text, what a path's items match, and the plain judge of a name. This crate hands on what its
-//! parts have: `verdicts`, `rule_globs`, `rule_reader`, `rule_writer` and `rule_judge`.
+//! Profiles of file rules: their text, what a path's items match, and the plain judge of a name. This crate re-exports its parts:
+//! `verdicts`, `rule_globs`, `rule_reader`, `rule_writer` and `rule_judge`.
 #![tactic(auto)]
 
 pub use rule_globs::{

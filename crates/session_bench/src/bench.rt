@@ -11,11 +11,11 @@ use std::alloc::Global;
 use std::sync::Wait;
 use tree_row::MOST_ENTRIES;
 
-/// A keeper of the row of words that threads may share, a publisher, and a session beside both.
+/// A keeper of the row of words that threads may share, a publisher, and a session that uses both.
 ///
 /// It is not `Drop`: end it by [`close`](SessionBench::close).
 pub struct SessionBench<'a, R: Wait> {
-    // A publication waits for readers, by this.
+    // A publication uses this to wait for readers.
     pub(crate) rt: &'a R,
     pub(crate) alloc: Global,
     pub(crate) keeper: Keeper,
@@ -27,7 +27,7 @@ pub struct SessionBench<'a, R: Wait> {
 }
 
 impl<'a, R: Wait> SessionBench<'a, R> {
-    /// The root alone, with room for so many entries, and no profile.
+    /// The root alone, with room for `capacity` entries, and no profile.
     pub fn new(rt: &'a R, alloc: Global, capacity: usize) -> Result<SessionBench<'a, R>, NoMemory>
         requires { capacity ≤ MOST_ENTRIES }
         ensures { IfOk result (λ bench. history_of bench.keeper bench.publisher.published ≡ new_history capacity) }
@@ -64,8 +64,7 @@ impl<'a, R: Wait> SessionBench<'a, R> {
     }
 }
 
-/// A session beside both, which has selected no profile's name yet. Places for it are free, so that only memory can be
-/// wanting.
+/// A session that uses both, which has selected no profile's name yet. There are free places for it, so only memory can be lacking.
 fn first_session(
     alloc: Global,
     keeper: &mut Keeper,

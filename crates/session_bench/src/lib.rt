@@ -1,4 +1,4 @@
-//! Judged opens and links as sessions answer them: a keeper, a publisher and one session in one hand, in one thread.
+//! Judged opens and links as sessions answer them: one value owns a keeper, a publisher and one session, in one thread.
 //!
 //! [`SessionBench`] is a [`Bench`], which is what a script works on.
 #![tactic(auto)]

@@ -8,10 +8,10 @@ use names::NoMemory;
 use profile_registry::Publisher;
 use std::sync::Wait;
 
-/// Publishes one change, and answers the policy's new version.
+/// Publishes one change, and returns the policy's new version.
 ///
-/// Where memory is refused once a change is staged, it stays staged. Then no other is taken any more, since both would be
-/// published at once: memory is told to be wanting for each.
+/// If memory runs out after a change was staged, it stays staged. Then no other change is taken any more, since both would be
+/// published at once: each fails as out of memory.
 pub(crate) fn publish_one<R: Wait>(
     rt: &R,
     publisher: &mut Publisher,

@@ -15,7 +15,7 @@ use policy_map::replacement;
 use rule_profile::Profile;
 use std::sync::Wait;
 
-/// Opens by the profile of this name from now on, where another one is selected.
+/// Opens by the profile of this name from now on, if another one is selected.
 fn select(session: &mut Session, profile: &[u8]) -> Result<(), NoMemory>
     ensures ok { OnOk result (session.new ≡ record session.old { profile = profile.now }) }
     ensures err { OnErr result (session.new ≡ session.old) }
@@ -26,13 +26,13 @@ fn select(session: &mut Session, profile: &[u8]) -> Result<(), NoMemory>
     session.select(profile)
 }
 
-/// Makes a change of the tree, said of the plain tree that the keeper stands for.
+/// Makes a change of the tree, stated for the plain tree that the keeper stands for.
 fn apply(keeper: &mut Keeper, change: &Change<'_>) -> Result<u64, Errno>
     ensures table { keeper.new.table ≡ keeper.old.table }
     ensures ok { IfOk result (λ version. Accepted (plain_of keeper.old) (plain_of keeper.new) change.now version) }
     ensures err { IfErr result (λ errno. Refused (plain_of keeper.old) (plain_of keeper.new) change.now errno) }
 {
-    // No cell is read: a look tells that the history comes to a tree, which the plain tree's outcome is told of.
+    // No cell is read: a look shows that the history results in a tree, for which the plain tree's outcome is stated.
     keeper.look();
     keeper.apply(change)
 }
@@ -57,7 +57,7 @@ impl<R: Wait> Bench for SessionBench<'_, R> {
                 self.has_answered = true;
                 Ok(answer)
             }
-            // No share of the profile was given, or no place for what is told.
+            // No share of the profile was given, or no place was free for a `Told`.
             Err(_) => Err(NoMemory),
         }
     }
@@ -73,7 +73,7 @@ impl<R: Wait> Bench for SessionBench<'_, R> {
                 self.has_answered = true;
                 Ok(answer)
             }
-            // As in `open`, or memory was refused for a link that would be made.
+            // As in `open`, or memory ran out for a link that would be made.
             Err(_) => Err(NoMemory),
         }
     }

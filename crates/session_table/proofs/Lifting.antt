@@ -40,7 +40,7 @@ module _ (number : ℕ) (es fs : List (ℕ × (ℕ × Session))) (now : ℕ × S
       subst (λ (o : Option (ℕ × Session)). IfSome o (λ k. k.0 ≡ capacity)) (sym (puts q))
       (elim (is_eq (nat_cmp number q)) as (λ (b : Bool). IfSome (cond b (Some now) (found q es)) (λ k. k.0 ≡ capacity)) [ true ↦ own | false ↦ share q ])
 
-  -- nothing changes, where what was found is put back
+  -- nothing changes, if what was found is put back
   same_at : Some now ≡ found number es → (q : ℕ) → found q fs ≡ found q es
   same_at is q = puts q ∙ elim (is_eq (nat_cmp number q)) as (λ (b : Bool). is_eq (nat_cmp number q) ≡ b → cond b (Some now) (found q es) ≡ found q es) [
     | true ↦ λ here. is ∙ ap (λ (n : ℕ). found n es) (key_is number q here)
@@ -54,7 +54,7 @@ module _ (number : ℕ) (es fs : List (ℕ × (ℕ × Session))) (now : ℕ × S
     | false ↦ λ other. ap (λ (c : Bool). if c then now.1 else session_in (b, es) q) (sym (ne_eqb number q (λ same. false≢true (sym other ∙ found_here number q same))))
   ] refl
 
--- a session is put in, unless memory is refused
+-- a session is put in, unless memory runs out
 pub share_inserted : {A E : Type 0} (r : Result A E) (number : ℕ) (m n : BTreeMap ℕ (ℕ × Session)) (now : ℕ × Session) → OnOk r (Updates nat_cmp m n number (Some now)) → OnErr r (IsUnchanged m n)
     → (capacity : ℕ) → ShareCapacity capacity m.entries → now.0 ≡ capacity → ShareCapacity capacity n.entries
 share_inserted (Ok x) number m n now ok err capacity share own = share_after number m.entries n.entries now ok.0 capacity share own
@@ -69,7 +69,7 @@ module _ (table : ℕ × List (ℕ × (ℕ × Session))) (capacity number : ℕ)
   pub found_session : was.1 ≡ session_in table number
   found_session = ap or_new is ∙ ap (λ (t : ℕ × List (ℕ × (ℕ × Session))). session_in t number) view_is
 
-  -- what is so of it is so of that of the table, and the other way round
+  -- what holds of it holds of the table's session, and vice versa
   pub of_found : (P : ℕ → Session → Type 0) → P was.0 was.1 → P table.0 (session_in table number)
   of_found P p = subst (λ (k : ℕ). P k (session_in table number)) found_capacity (subst (λ (s : Session). P was.0 s) found_session p)
 
@@ -89,7 +89,7 @@ not_there table capacity number m view_is none = ap or_new none ∙ ap (λ (t : 
 pub still_new : (capacity number : ℕ) (m n : BTreeMap ℕ (ℕ × Session)) → None ≡ found number m.entries → n ≡ m → new_session ≡ session_in (capacity, n.entries) number
 still_new capacity number m n none same = ap or_new none ∙ ap (λ (b : BTreeMap ℕ (ℕ × Session)). session_in (capacity, b.entries) number) (sym same)
 
--- One that never began a call reads no cell and answers nothing.
+-- A session that never began a call reads no cell and answers nothing.
 pub no_cell_yet : (capacity : ℕ) (cells : List ℕ) → ¬ (MayStep (ReadsCell capacity cells) new_session)
 no_cell_yet capacity cells (new, (p, w, place, word, next, at, stands, may, is)) = cc at
 
@@ -133,7 +133,7 @@ module _ (table : ℕ × List (ℕ × (ℕ × Session))) (capacity number : ℕ)
     (λ i q. with_at number m.entries n.entries now updated.0 capacity capacity q i) ∙ ap (λ (t : ℕ × List (ℕ × (ℕ × Session))). with_session (session_in t) number now.1) view_is,
   )
 
-  -- what is so of it then is so of that of the table
+  -- what then holds of it holds of the table's session
   pub of_written : (P : ℕ → Session → Type 0) → P was.0 now.1 → P table.0 (session_in (capacity, n.entries) number)
   of_written P p = subst (λ (k : ℕ). P k (session_in (capacity, n.entries) number)) (found_capacity table capacity number m view_is share was is)
       (subst (λ (s : Session). P was.0 s) (sym (ap or_new updated.1)) p)

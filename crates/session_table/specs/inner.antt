@@ -1,2 +1,2 @@
--- Words of private contracts and proofs alone.
+-- Definitions for private contracts and proofs only.
 pub mod Sharing

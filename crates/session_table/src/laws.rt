@@ -25,7 +25,7 @@ pub fn steps_leave_other_sessions()
         StepsIn (Answers capacity answer) number old new → new other ≡ old other }
 {}
 
-/// A step that was made moves its session on: none is lost, and none is made twice or out of its turn.
+/// Each step moves its session on: none is lost, and none is made twice or out of turn.
 pub fn steps_move_their_session()
     ensures lost_call { (call : Call) (number : ℕ) (old new : ℕ → Session) →
         IsResting (new number).stage → StepsIn (Begins call) number old new → ⊥ }

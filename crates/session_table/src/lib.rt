@@ -1,8 +1,8 @@
 //! The sessions of a machine, by their numbers. Each step of one of them is a step of the machine over events, and leaves the
 //! others as they are.
 //!
-//! The definitions to believe are those in `specs/`, and those of the crates below; those in `specs/inner/` are of
-//! private contracts and proofs.
+//! The definitions to believe are those in `specs/`, and those of the crates below; those in `specs/inner/` are of private
+//! contracts and proofs.
 #![tactic(auto)]
 
 mod laws;

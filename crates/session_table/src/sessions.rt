@@ -11,7 +11,7 @@ use tree_row::MOST_ENTRIES;
 
 /// Any number of sessions, which read rows of one capacity. A session is made when it first begins a call.
 ///
-/// It is seen as the pair of that capacity and of the sessions that were made, by their numbers, each with the capacity.
+/// Modelled as the pair of that capacity and the sessions that were made, by their numbers, each with the capacity.
 #[derive(Drop)]
 pub struct Sessions {
     pub(crate) alloc: Global,
@@ -33,7 +33,7 @@ impl Model for Sessions {
 }
 
 impl Sessions {
-    /// None of them began a call yet. They read rows with room for so many entries.
+    /// A table whose sessions began no call yet, and read rows with room for `capacity` entries.
     pub fn new(alloc: Global, capacity: usize) -> Sessions
         requires { capacity ≤ MOST_ENTRIES }
         ensures capacity { result.0 ≡ capacity }
@@ -46,7 +46,7 @@ impl Sessions {
         }
     }
 
-    /// The name that the session's last answer judged, empty where it judged none.
+    /// The name that the session's last answer judged, empty if it judged none.
     pub fn name(&self, number: u32) -> &[u8]
         ensures { result.now ≡ (session_in self.now number).name }
     {

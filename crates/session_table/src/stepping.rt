@@ -36,7 +36,7 @@ impl Sessions {
         }
     }
 
-    /// A session that isn't there yet begins its first call. It is there from then on.
+    /// A session that isn't there yet begins its first call. From then on it is there.
     fn begin_first(
         &mut self,
         number: u32,
@@ -62,7 +62,7 @@ impl Sessions {
         }
     }
 
-    /// The session reads the policy: its version, and what it says of the profile's name.
+    /// The session reads the policy: its version, and what it says about the profile's name.
     pub fn read_policy(&mut self, number: u32, policy: &Policy) -> Result<(), StepFault>
         ensures capacity { self.new.0 ≡ self.old.0 }
         ensures ok { OnOk result (StepsIn (ReadsPolicy policy.now) number (session_in self.old) (session_in self.new)) }
@@ -96,7 +96,7 @@ impl Sessions {
         }
     }
 
-    /// The session reads the word at the place that it chose, and chooses anew.
+    /// The session reads the word at the place that it chose, and chooses again.
     pub fn read_cell(
         &mut self,
         number: u32,
@@ -117,8 +117,8 @@ impl Sessions {
         }
     }
 
-    /// The session reads as many cells as its walk needs, at most so many. Answers how many there were. Where memory is refused,
-    /// those before it were read.
+    /// The session reads as many cells as its walk needs, at most `most`. Returns how many there were. If memory runs out, those
+    /// before that were read.
     pub fn read_cells(
         &mut self,
         number: u32,
@@ -156,7 +156,7 @@ impl Sessions {
         }
     }
 
-    /// The session answers its call, and rests. No memory is taken.
+    /// The session answers its call, and rests. Allocates nothing.
     pub fn answer(&mut self, number: u32) -> Result<Answer, StepFault>
         ensures capacity { self.new.0 ≡ self.old.0 }
         ensures ok { IfOk result (λ told. StepsIn (Answers self.old.0 told) number (session_in self.old) (session_in self.new)) }

@@ -1,4 +1,4 @@
-//! Tests of `path_session`, and nothing else: as they stand here, the library is proved once.
+//! Tests of `path_session`, and nothing else: as they are in their own crate, the library is proved once.
 #![tactic(auto)]
 
 #[cfg(test)]

@@ -15,7 +15,7 @@ use std::process::Abort;
 use std::sync::Wait;
 use std::test::Fail;
 
-// Makes a link. Where memory is refused nothing is made, and it is asked for again.
+// Makes a link. If an allocation fails nothing is made, and the link is requested again.
 fn link(
     rt: &impl Abort,
     session: &mut Session,
@@ -72,7 +72,7 @@ fn fails<'a>(old: &'a [u8], new: &'a [u8], errno: Errno) -> Unmade<'a> {
     }
 }
 
-// Links that the profile doesn't allow, each for another reason.
+// Links that the profile doesn't allow, each for a different reason.
 fn not_allowed<'a>(link: Perms, write: Perms) -> [Unmade<'a>; 3] {
     [
         refused(b"/n", LinkVerdict::Wider { extra: write }),
@@ -94,7 +94,7 @@ fn failures<'a>() -> [Unmade<'a>; 4] {
     ]
 }
 
-// Nothing is changed: walks beside the keeper still tell the version before, and of the new name that nothing stands there.
+// Nothing is changed: walks concurrent with the keeper still see the version before, and that the new name doesn't exist.
 fn expect_unmade(
     rt: &impl Abort,
     session: &mut Session,

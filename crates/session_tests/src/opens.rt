@@ -1,4 +1,4 @@
-//! Opens concurrently with a keeper that is at rest, and where it is at hand.
+//! Opens concurrently with a keeper that is at rest, and with the keeper at hand.
 ghost use Rattle.std.specs.Prelude.{◌≡◌};
 
 use crate::testing::{
@@ -17,10 +17,10 @@ use std::process::Abort;
 use std::sync::Wait;
 use std::test::Fail;
 
-/// So many sessions share a keeper and a publisher.
+/// The number of sessions that share a keeper and a publisher.
 const SESSIONS: usize = 16;
 
-/// So often does each of them open a file.
+/// The number of times that each of them opens a file.
 const OPENS: usize = 1000;
 
 // The sessions open the file in turn.
@@ -45,7 +45,7 @@ fn open_quietly<R: Abort + Wait>(
     Ok(())
 }
 
-// With nobody else at work no open is busy.
+// With nothing else running, no open is busy.
 #[test]
 fn quiet_open(rt: HostRuntime) -> Result<(), Fail> {
     let mut publisher = new_publisher(rt.alloc())?;
@@ -141,7 +141,7 @@ fn failures<'a>(long: &'a [u8]) -> [Row<'a>; 7] {
     ]
 }
 
-// Opens concurrently with the keeper, and where it is at hand.
+// Opens concurrently with the keeper, and with it at hand.
 fn expect_both(
     rt: &impl Abort,
     session: &mut Session,

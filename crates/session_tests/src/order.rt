@@ -1,4 +1,4 @@
-//! Which answer comes first, where several reasons not to judge meet.
+//! Which answer takes precedence when there are several reasons not to judge.
 ghost use Rattle.std.specs.Prelude.{◌≡◌};
 
 use crate::testing::{
@@ -14,10 +14,10 @@ use std::process::Abort;
 use std::sync::Wait;
 use std::test::Fail;
 
-// What is opened: a file that would be judged, what isn't there, a loop of links, and what is no path.
+// What is opened: a file that would be judged, a file that doesn't exist, a loop of links, and a text that is no path.
 const PATHS: [&[u8]; 4] = [b"/d/f", b"/x", b"/r", b"d"];
 
-// Each open has this answer, whatever its path, and also where it asks for too much.
+// Each open has this answer, whatever its path, even if it asks for too much.
 fn expect_always(rt: &impl Abort, session: &mut Session, answer: Answer) -> Result<(), Fail>
     ensures { session.new.walk.table ≡ session.old.walk.table }
 {
@@ -40,7 +40,7 @@ fn stop(keeper: Keeper, made: &Change<'_>) -> Result<(), Fail> {
     }
 }
 
-// A session whose keeper has stopped. The count is odd for ever: twice the version, and one.
+// A session whose keeper has stopped. The count stays odd forever: twice the version, plus one.
 fn left_alone<R: Abort + Wait>(
     rt: &R,
     alloc: Global,
@@ -52,7 +52,7 @@ fn left_alone<R: Abort + Wait>(
     Ok(session)
 }
 
-// Busy comes before any failure, and no profile before busy.
+// Busy takes precedence over any failure, and no profile over busy.
 fn open_alone<R: Abort + Wait>(
     rt: &R,
     alloc: Global,
@@ -69,7 +69,7 @@ fn open_alone<R: Abort + Wait>(
     Ok(session)
 }
 
-// Once the publisher is closed no entry comes before all.
+// Once the publisher is closed, no entry takes precedence over all others.
 #[test]
 fn answers_beside_a_stopped_keeper(rt: HostRuntime) -> Result<(), Fail> {
     let mut publisher = new_publisher(rt.alloc())?;

@@ -23,7 +23,7 @@ fn open_each(rt: &impl Abort, sessions: &mut [Session]) -> Result<(), Fail> {
     Ok(())
 }
 
-// All of them open, the last one too. Where one ends, its place is free.
+// All of them open, including the last one. When one ends, its place becomes free.
 fn fill<R: Abort + Wait>(rt: &R, alloc: Global, publisher: &mut Publisher) -> Result<(), Fail> {
     let mut keeper = first_keeper(alloc)?;
     publish_first(rt, alloc, publisher)?;
@@ -44,7 +44,7 @@ fn a_session_has_a_place(rt: HostRuntime) -> Result<(), Fail> {
     outcome
 }
 
-// By all that the publisher has published neither an open nor a link is answered, and no name is judged.
+// By everything that the publisher has published, neither an open nor a link is answered, and no name is judged.
 fn expect_no_entry(
     rt: &impl Abort,
     session: &mut Session,
@@ -107,7 +107,7 @@ fn expect_no_place(
     expect_no_entry(rt, session, keeper, publisher)
 }
 
-// What the publisher tells takes a place. Where none is free there is no entry by it, and beside it there is.
+// Asking the publisher takes a place. If none is free, there is no entry with the publisher, but there is one without it.
 fn ask_without_a_place<R: Abort + Wait>(
     rt: &R,
     alloc: Global,

@@ -1,5 +1,5 @@
-//! A keeper, a publisher, and sessions of both. Where memory is refused once, it is asked for again, as
-//! `rt try --test --fail-alloc N` refuses it.
+//! A keeper, a publisher, and sessions of both. An allocation that fails is retried once, as `rt try --test --fail-alloc N` makes
+//! one fail.
 ghost use Rattle.std.specs.Prelude.{◌≡◌, IfOk};
 
 use dentry_cache::{Keeper, Walker};
@@ -20,7 +20,7 @@ const ROOM: usize = 9;
 /// The file `/d/f` has this node.
 pub(crate) const FILE: u64 = 3;
 
-/// How many changes made the tree of [`first_keeper`].
+/// The number of changes that made the tree of [`first_keeper`].
 pub(crate) const TREE: u64 = 5;
 
 /// The profile that is published under the name `p`.
@@ -35,7 +35,7 @@ pub(crate) fn perms(letters: &[u8]) -> Result<Perms, Fail> {
     Ok(Perms::from_letters(letters).ok_or("letters")?)
 }
 
-/// The profile that a text tells.
+/// Compiles the profile of a text.
 pub(crate) fn compiled(alloc: Global, text: &[u8]) -> Result<Arc<AnyProfile>, Fail> {
     match compile(alloc, text) {
         Some(profile) => Ok(profile),
@@ -48,7 +48,7 @@ fn compile(alloc: Global, text: &[u8]) -> Option<Arc<AnyProfile>> {
     Arc::new(alloc, AnyProfile::Compiled(compiled)).ok()
 }
 
-/// The root alone.
+/// Returns the keeper of the root alone.
 pub(crate) fn new_keeper(alloc: Global) -> Result<Keeper, Fail> {
     match Keeper::new(alloc, ROOM) {
         Ok(keeper) => Ok(keeper),
@@ -56,7 +56,7 @@ pub(crate) fn new_keeper(alloc: Global) -> Result<Keeper, Fail> {
     }
 }
 
-/// `/d` with the files `/d/f` and `/d/k`, a link `/l` to it, and a link `/r` to itself.
+/// Returns the keeper of `/d` with the files `/d/f` and `/d/k`, a link `/l` to it, and a link `/r` to itself.
 pub(crate) fn first_keeper(alloc: Global) -> Result<Keeper, Fail> {
     let mut keeper = new_keeper(alloc)?;
     make_first(&mut keeper)?;
@@ -89,7 +89,7 @@ pub(crate) fn apply(keeper: &mut Keeper, change: &Change<'_>) -> Result<u64, Err
     }
 }
 
-/// Nothing is published. It is to be closed, whatever comes of the test that it is lent to.
+/// Returns a publisher with nothing published. It must be closed, whatever the outcome of the test that it is lent to.
 pub(crate) fn new_publisher(alloc: Global) -> Result<Publisher, NoMemory> {
     match Publisher::new(alloc) {
         Ok(publisher) => Ok(publisher),
@@ -97,7 +97,7 @@ pub(crate) fn new_publisher(alloc: Global) -> Result<Publisher, NoMemory> {
     }
 }
 
-/// Publishes a profile under a name, and answers the policy's version.
+/// Publishes a profile under a name, and returns the policy's version.
 pub(crate) fn publish<R: Wait>(
     rt: &R,
     publisher: &mut Publisher,
@@ -173,7 +173,7 @@ pub(crate) fn first_session<R: Wait>(
     Ok((keeper, session))
 }
 
-/// As many sessions, which open by the profile `p`.
+/// Returns `count` sessions, which open by the profile `p`.
 pub(crate) fn sessions_of(
     alloc: Global,
     keeper: &mut Keeper,
@@ -214,7 +214,7 @@ pub(crate) fn failed(errno: Errno, tree_version: u64) -> Answer {
     }
 }
 
-/// An open, and what is to come of it.
+/// An open, and its expected outcome.
 #[derive(Clone, Copy)]
 pub(crate) struct Row<'a> {
     pub path: &'a [u8],
@@ -244,7 +244,7 @@ pub(crate) fn allowed<'a>() -> Row<'a> {
     opened(b"/l/f", b"r", judged(Verdict::Allowed, FILE, TREE), b"/d/f")
 }
 
-/// Opens beside the keeper, one after another.
+/// Opens concurrently with the keeper, one after another.
 pub(crate) fn expect_beside(
     rt: &impl Abort,
     session: &mut Session,
@@ -260,7 +260,7 @@ pub(crate) fn expect_beside(
     Ok(())
 }
 
-/// Opens where the keeper is at hand, one after another.
+/// Opens with the keeper at hand, one after another.
 pub(crate) fn expect_with(
     rt: &impl Abort,
     session: &mut Session,

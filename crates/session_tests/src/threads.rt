@@ -1,4 +1,4 @@
-//! A session beside a keeper that is at work in another thread.
+//! A session concurrent with a keeper that is at work in another thread.
 ghost use Rattle.std.specs.Prelude.{◌≡◌};
 
 use crate::testing::{
@@ -18,13 +18,13 @@ use std::sync::Wait;
 use std::test::Fail;
 use std::thread::{Threads, join};
 
-/// So many times a directory is renamed, to and fro.
+/// The number of times that a directory is renamed, back and forth.
 const RENAMES: u64 = 600;
 
 /// The last version: before the renames the directory is made, and a file in it.
 const LAST: u64 = RENAMES + 2;
 
-/// A session gives up after so many opens, which take some seconds: the renames take some milliseconds.
+/// A session gives up after this many opens, which take some seconds; the renames take some milliseconds.
 const OPENS: u64 = 1 << 22;
 
 // The directory is `/d` at each even version, and `/e` at each odd one.
@@ -44,7 +44,7 @@ fn changes(alloc: Global) -> Result<Vec<Change<'static>>, Fail> {
     Ok(changes)
 }
 
-// Makes the changes. Says whether each was made.
+// Makes the changes. Returns whether each was made.
 fn make_all(keeper: Keeper, changes: &[Change<'static>]) -> (Keeper, bool)
     ensures { result.0.table ≡ keeper.table }
 {
@@ -65,8 +65,8 @@ fn tree_version(answer: &Answer) -> Option<u64> {
     }
 }
 
-// Opens the file until the last version is seen, and notes each answer that isn't that of the open before. Says whether it was
-// seen.
+// Opens the file until the last version is seen, and records each answer that differs from that of the open before. Returns
+// whether it was seen.
 fn open_often(session: Session, ask: Perms, answers: Vec<Answer>) -> (Session, Vec<Answer>, bool)
     ensures { result.0.walk.table ≡ session.walk.table }
 {
@@ -84,7 +84,7 @@ fn open_often(session: Session, ask: Perms, answers: Vec<Answer>) -> (Session, V
     (session, answers, false)
 }
 
-// Each answer is right of the changes that were really made.
+// Each answer is justified by the changes that were actually made.
 fn justify_all(
     rt: &impl Abort,
     alloc: Global,

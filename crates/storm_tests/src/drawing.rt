@@ -1,4 +1,4 @@
-//! Numbers that look random, and are the same in each run.
+//! Pseudorandom numbers that are the same in each run.
 ghost use Rattle.std.specs.Prelude.{◌≡◌, ◌≤◌, ◌<◌};
 
 /// Knuth's linear congruential generator.
@@ -12,7 +12,7 @@ impl Random {
         Random { state: seed }
     }
 
-    /// A number below this one.
+    /// Returns a number below `n`.
     pub(crate) fn below(&mut self, n: u64) -> u64
         requires { 0 < n }
         ensures { result < n }

@@ -1,4 +1,4 @@
-//! Guards. Where memory is refused once, it is asked for again, as `rt try --test --fail-alloc N` refuses it.
+//! Guards. An allocation that fails is retried once, as `rt try --test --fail-alloc N` makes one fail.
 ghost use Rattle.std.specs.Prelude.{◌≡◌, IfOk};
 
 use dentry_cache::Keeper;
@@ -10,7 +10,7 @@ use std::sync::Wait;
 use std::test::Fail;
 use std::thread::Threads;
 
-/// The keeper of a row with room for the two entries of a storm.
+/// Returns the keeper of a row with room for the two entries of a storm.
 pub(crate) fn keeper(alloc: Global) -> Result<Keeper, Fail> {
     match Keeper::new(alloc, 2) {
         Ok(keeper) => Ok(keeper),
@@ -25,7 +25,7 @@ fn publisher(alloc: Global) -> Result<Publisher, Fail> {
     }
 }
 
-/// A storm on a guard of this keeper, which ends with it.
+/// Runs a storm on a guard of this keeper, and closes the guard.
 pub(crate) fn storm_on<M: Row + Send + Sync, R: Threads + Wait + Sync, G: Gate + Sync>(
     rt: &R,
     alloc: Global,

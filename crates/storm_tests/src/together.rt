@@ -1,4 +1,4 @@
-//! Two opens that stand beside each other.
+//! Two concurrent opens.
 use crate::testing::{keeper, storm_on};
 use path_storm::{Gate, Plan, StormReport};
 use std::alloc::Global;
@@ -9,17 +9,17 @@ use std::sync::atomic::{AtomicBool, Ordering};
 use std::test::Fail;
 use std::thread::{Threads, yield_now};
 
-// Who waits longer fails the test, and goes on.
+// A worker that waits longer fails the test, and continues.
 const MOST_TURNS: u64 = 100_000_000;
 
-// After so many turns it gives way, so that the other worker gets on where processors are few.
+// A worker yields every this many turns, so that the other one makes progress even on few processors.
 const TURNS_AT_ONCE: u64 = 4096;
 
 /// The first worker opens only after the second one has opened, and the second one only after the first one has begun: one at a
 /// time, neither of them would open.
 #[derive(Drop)]
 struct Meeting {
-    // The first worker stands before its open.
+    // The first worker is about to open.
     begun: AtomicBool,
     // The second worker has opened.
     opened: AtomicBool,

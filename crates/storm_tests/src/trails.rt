@@ -1,4 +1,4 @@
-//! Answers that are put to a trail.
+//! Answers that are checked against a trail.
 use crate::drawing::Random;
 use answer_trail::Trail;
 use directory_tree::Change;
@@ -25,8 +25,8 @@ fn profile(alloc: Global, text: &[u8]) -> Result<Arc<AnyProfile>, Fail> {
     Ok(Arc::new(alloc, profile).ok().ok_or("memory")?)
 }
 
-// The file `/a/f` is node 3 at version 2, `/b/f` at version 3, and `/a/f` again at version 4. Node 4 takes its place at version 6. The
-// seventh change is refused, so that there is no tree of versions 7 and 8.
+// The file `/a/f` is node 3 at version 2, `/b/f` at version 3, and `/a/f` again at version 4. Node 4 takes its place at version 6.
+// The seventh change is refused, so that there is no tree of versions 7 and 8.
 fn changes() -> Result<[Change<'static>; 8], Fail> {
     Ok([
         Change::Mkdir(path(b"/a")?),
@@ -44,8 +44,8 @@ fn replaced(alloc: Global, name: &[u8], text: &[u8]) -> Result<PolicyChange, Fai
     Ok(PolicyChange::Replace(Vec::from_slice(alloc, name)?, profile(alloc, text)?))
 }
 
-// Under `p` the file may be read at versions 1 and 2, it is denied at version 3, nothing stands there at versions 4 and 5, and no
-// rule tells of the file at version 6.
+// Under `p` the file may be read at versions 1 and 2, it is denied at version 3, `p` isn't published at versions 4 and 5, and
+// no rule mentions the file at version 6.
 fn policy(alloc: Global) -> Result<[PolicyChange; 6], Fail> {
     Ok([
         replaced(alloc, b"p", b"profile p {\n  /*/f r,\n}\n")?,
@@ -73,7 +73,7 @@ fn failed(errno: Errno, tree_version: u64) -> Answer {
     }
 }
 
-// Whether the trail of `/a/f`, opened to read, says this of each answer by `p`.
+// Expects the trail of `/a/f`, opened to read, to justify these answers by `p` or not, as listed.
 fn expect(rt: &impl Abort, alloc: Global, rows: &[(Answer, bool)]) -> Result<(), Fail> {
     let changes = changes()?;
     let policy = policy(alloc)?;
@@ -97,7 +97,7 @@ fn verdicts(rt: HostRuntime) -> Result<(), Fail> {
         (judged(Verdict::Allowed, 4, 6, 2), true),
         (judged(Verdict::Denied { rule: 1 }, 3, 4, 3), true),
         (judged(Verdict::NoRule { missing }, 4, 6, 6), true),
-        // With one field altered.
+        // With one field changed.
         (judged(Verdict::NoRule { missing }, 3, 2, 1), false),
         (judged(Verdict::Denied { rule: 2 }, 3, 4, 3), false),
         (judged(Verdict::Allowed, 4, 2, 1), false),
@@ -161,10 +161,10 @@ fn draw(random: &mut Random, missing: Perms) -> Answer {
     }
 }
 
-// So many answers are drawn for each open.
+// The number of answers drawn for each open.
 const DRAWS: usize = 1000;
 
-// How many of the answers are justified, by the trail and by a tree that is made anew for each.
+// Returns how many of the answers are justified, by the trail and by a tree that is rebuilt for each.
 fn agree(rt: &impl Abort, alloc: Global, file: &[u8], ask: &[u8]) -> Result<u64, Fail> {
     let changes = changes()?;
     let policy = policy(alloc)?;
@@ -191,7 +191,7 @@ fn agree(rt: &impl Abort, alloc: Global, file: &[u8], ask: &[u8]) -> Result<u64,
 #[test]
 fn a_trail_says_what_the_trees_say(rt: HostRuntime) -> Result<(), Fail> {
     let alloc = rt.alloc();
-    // At least the busy answers and those of no profile hold of each open, some of them.
+    // For each open, at least some of the busy answers and of those of no profile hold.
     assert!(&rt; agree(&rt, alloc, b"/a/f", b"r")? > 100);
     assert!(&rt; agree(&rt, alloc, b"/b/f", b"r")? > 100);
     assert!(&rt; agree(&rt, alloc, b"/a/f/", b"r")? > 100);

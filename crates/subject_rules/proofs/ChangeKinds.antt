@@ -27,7 +27,7 @@ pub lost_is_gained : (kind : RuleKind) → lost kind ≡ gained kind → ⊥
 lost_is_gained Allow e = wider_is_narrower (sym e)
 lost_is_gained Deny e = wider_is_narrower e
 
--- what is told where something may be lost, and nothing is gained
+-- the change where something may be lost, and nothing is gained
 pub is_lost : (kind : RuleKind) (loses : Bool) → (if loses then lost kind else Exact) ≡ lost kind → loses ≡ true
 is_lost kind true e = refl
 is_lost kind false e = absurd (exact_loses_nothing kind Exact refl e)

@@ -1,4 +1,4 @@
--- A change that is told has a cause: a permission that is lost, or one that is gained.
+-- A change that is reported has a cause: a permission that is lost, or one that is gained.
 use Rattle.std.proofs.Common.{◌≡◌, true, false, ◌&&◌, ⊎_elim, IsTrue, is_some, sym, ap, ◌∙◌, subst, true≢false}
 use Rattle.std.specs.List.{Contains}
 use Rattle.std.proofs.lemmas.Bool.{and_parts, cases_Bool}

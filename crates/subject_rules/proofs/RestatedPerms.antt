@@ -1,4 +1,4 @@
--- Permissions that are restated: all of them, but for link that is bound to a target.
+-- Permissions that are restated: all of them, except link that is bound to a target.
 use Rattle.std.proofs.Common.{◌≡◌, Bool, true, false, not, ◌&&◌, ⊎_elim, List, ℕ, Option, Some, None, IsTrue, is_some, refl, sym, ◌∙◌, subst, true≢false}
 use Rattle.std.proofs.lemmas.Bool.{and_parts, and_from, cases_Bool, not_from_false}
 use Rattle.names.specs.declared.permissions.Permission.{Permission}

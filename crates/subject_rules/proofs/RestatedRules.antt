@@ -54,7 +54,7 @@ module _ (chosen subject : Subject) (rule : SubjectRule) where
   pub same_kind : (value : RuleValue) → Contains (restated chosen rule) value → rule.kind ≡ value.kind
   same_kind value here = ap (λ v. v.kind) (made value here).1.2
 
-  -- of what is restated, all stands in the rule, if nothing is gained
+  -- what is restated says nothing that the rule doesn't, if nothing is gained
   pub says_no_more : (unknown : Unknown) (p : Permission) (name : List ℕ) (value : RuleValue) →
       change chosen subject (shape_of rule) ≢ gained rule.kind → Contains (restated chosen rule) value →
       IsTrue (holds value p) → Takes (pattern value) name → SaysOf unknown subject p name rule

@@ -59,7 +59,7 @@ module _ (unknown : Unknown) (chosen subject : Subject) (rules : List SubjectRul
         hit_of_rule (restated_all chosen rules) kind p name value.0
         (in_all_lists (restated chosen) rules rule value.0 here value.1, value.2 ∙ some.4.0, value.3, value.4)
 
-  -- ---- by what is told of all rules
+  -- ---- by the changes of all rules
 
   all_none : (kind : RuleKind) (told untold : RuleKind → Change) → ((k : RuleKind) → k ≡ kind → told kind ≡ untold k) →
       All (λ rule. change chosen subject (shape_of rule) ≢ told kind) rules →

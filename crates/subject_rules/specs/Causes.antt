@@ -1,4 +1,4 @@
--- Why a change is told.
+-- Why a change is reported.
 use Rattle.std.specs.Prelude.{ℕ, List, Contains, IsTrue}
 use Rattle.names.specs.declared.permissions.Permission.{Permission}
 use Rattle.rule_globs.specs.Rules.{RuleValue, holds}

@@ -32,7 +32,7 @@ has_some perms = list_any (has perms) all_permissions
 abbrev pub without_link : Perms → Perms
 without_link perms = set_of (λ p. has perms p && not (has (only Link) p))
 
--- link stays out where it is bound to a target: a restated rule would speak of every link
+-- link is left out where it is bound to a target: a restated rule would apply to every link
 abbrev pub restated_perms : Perms → Bool → Perms
 restated_perms perms has_target = if has_target then without_link perms else perms
 

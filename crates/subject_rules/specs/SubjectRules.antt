@@ -15,7 +15,7 @@ pub record SubjectRule : Type 0 where
   pub applies_to : AppliesTo
   -- of r, w, l, k and m; an execute mode with `i` counts as m
   pub perms : Perms
-  -- the text behind `->`, where that binds link (apparmor.d(5), "Link rules")
+  -- the text after `->`, where that binds link (apparmor.d(5), "Link rules")
   pub target : Option (List ℕ)
   pub path : SubjectPath
 

@@ -31,7 +31,7 @@ pub struct Effect {
 }
 
 impl Effect {
-    /// What it changes that a rule is restated for the chosen subject, or left out.
+    /// The effect of restating a rule for the chosen subject, or of leaving it out.
     pub fn of(chosen: Subject, shape: RuleShape) -> Effect
         ensures { result ≡ effect chosen shape }
     {

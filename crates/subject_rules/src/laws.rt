@@ -68,7 +68,7 @@ pub fn wider_rules_allow_no_less()
         IsAllowedTo unknown mode subject rules name ask → IsVerdict (restated_all chosen rules) name ask Allowed }
 {}
 
-/// A change isn't told without a cause: where the rule is lost, some permission of it is in nothing that is restated; where
+/// A change isn't reported without a cause: where the rule is lost, some permission of it is in nothing that is restated; where
 /// it is gained, what is restated has one that the rule doesn't say to the subject.
 pub fn changes_have_causes()
     ensures lost { (chosen subject : Subject) (rule : SubjectRule) →
@@ -77,8 +77,8 @@ pub fn changes_have_causes()
         change chosen subject (shape_of rule) ≡ gained rule.kind → GainsSome chosen subject rule }
 {}
 
-/// What isn't exact of a rule is what its qualifier alone changes, or what the rest would change for everybody: so both may be
-/// told apart.
+/// What isn't exact of a rule is what its qualifier alone changes, or what the rest would change for everybody, so that the two
+/// may be reported separately.
 pub fn changes_are_told_in_parts()
     ensures { (chosen subject : Subject) (shape : RuleShape) →
         (change chosen subject shape ≡ Exact)

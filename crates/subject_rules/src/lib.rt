@@ -1,5 +1,5 @@
 //! AppArmor's file rules with a subject: a second judge, which knows whether the subject owns the file, what a rule's
-//! link may lead to, and a profile's mode; how a rule is restated for one of both subjects, without a qualifier or a
+//! link may lead to, and a profile's mode; how a rule is restated for one of the two subjects, without a qualifier or a
 //! target; and what the restating changes, for each subject.
 //!
 //! What the judge says is a definition, and nothing here reads a text. Nothing here takes memory.

@@ -10,14 +10,14 @@ use crate::subject::Subject;
 pub enum Mode {
     /// It refuses it.
     Enforcing,
-    /// It allows it, but for what a deny rule denies, as `complain` does.
+    /// It allows it, except what a deny rule denies, as `complain` does.
     Permissive,
     /// It allows everything.
     Unconfined,
 }
 
 impl Mode {
-    /// What it changes that restated rules are enforced, told for the chosen subject.
+    /// The effect of enforcing restated rules, reported for the chosen subject.
     pub fn effect(self, chosen: Subject) -> Effect
         ensures { result ≡ mode_effect chosen self }
     {

@@ -8,14 +8,14 @@ use crate::subject::{AppliesTo, Subject};
 use names::{Permission, Perms};
 use verdicts::RuleKind;
 
-/// A file rule but for its path and its target.
+/// A file rule without its path and its target.
 #[derive(Clone, Copy, Debug, PartialEq, Eq)]
 pub struct RuleShape {
     /// Whether it allows or denies.
     pub kind: RuleKind,
     /// To whom.
     pub applies_to: AppliesTo,
-    /// What it holds of r, w, l, k and m. An execute mode with `i` counts as m.
+    /// Which of r, w, l, k and m it holds. An execute mode with `i` counts as m.
     pub perms: Perms,
     /// Whether `->` binds link to a target.
     pub has_target: bool,
@@ -63,7 +63,7 @@ impl RuleShape {
         }
     }
 
-    /// The rule as if its qualifier were all that can't be restated: what that changes is told apart from the rest.
+    /// The rule as if its qualifier were all that can't be restated: what that changes is reported separately from the rest.
     pub fn qualifier_alone(self) -> RuleShape
         ensures { result ≡ qualifier_alone self }
     {
@@ -74,7 +74,7 @@ impl RuleShape {
         }
     }
 
-    /// The rule as if it had no qualifier: what its target changes, or a path that wasn't read, is told apart.
+    /// The rule as if it had no qualifier: what its target changes, or a path that wasn't read, is reported separately.
     pub fn for_everybody(self) -> RuleShape
         ensures { result ≡ for_everybody self }
     {
@@ -84,7 +84,7 @@ impl RuleShape {
         }
     }
 
-    // What a rule that is restated changes: who it didn't apply to gains it, and link to a target is lost.
+    // What a rule that is restated changes: a subject that it didn't apply to gains it, and link to a target is lost.
     fn restated_change(self, subject: Subject) -> Change
         ensures { result ≡ restated_change subject self }
     {
@@ -97,7 +97,7 @@ impl RuleShape {
         }
     }
 
-    // What a rule that is left out changes: who it applied to loses it, if it holds anything.
+    // What a rule that is left out changes: a subject that it applied to loses it, if it holds anything.
     fn left_out_change(self, subject: Subject) -> Change
         ensures { result ≡ left_out_change subject self }
     {
@@ -108,7 +108,7 @@ impl RuleShape {
         }
     }
 
-    // What it changes that something of the rule is lost.
+    // The change where something of the rule is lost.
     fn lost(self) -> Change
         ensures { result ≡ lost self.kind }
     {
@@ -118,7 +118,7 @@ impl RuleShape {
         }
     }
 
-    // What it changes that the rule says more.
+    // The change where the rule says more.
     fn gained(self) -> Change
         ensures { result ≡ gained self.kind }
     {

@@ -26,7 +26,7 @@ impl Subject {
 /// To whom a rule applies, by its qualifier (apparmor.d(5), "Rule Qualifiers").
 #[derive(Clone, Copy, Debug, PartialEq, Eq)]
 pub enum AppliesTo {
-    /// Neither qualifier stands there.
+    /// There is neither qualifier.
     Everybody,
     /// `owner`
     Owners,

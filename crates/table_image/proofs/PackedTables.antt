@@ -10,7 +10,7 @@ use Rattle.table_image.specs.Packing.{IsTableOf}
 use Rattle.tables.specs.Tables.{Table, next_state, state_from, record_of}
 use Rattle.table_image.proofs.PackedStates.{source_there}
 
--- a number that stands in a list is what is read there
+-- a number that is in a list is what is read there
 read_at : (list : List ℕ) (i n : ℕ) → slice_get list i ≡ Some n → (i < length list) × (slice_index_or list i 0 ≡ n)
 read_at list i n at = (slice_get_within list i n at, get_or_from_slice_get list i n 0 at)
 

@@ -1,4 +1,4 @@
-//! The tables of an automaton. The names of tables, of their images and of records are handed on.
+//! The tables of an automaton. Re-exports the names of tables, of their images and of records.
 //!
 //! The definitions to believe are those in `specs/`; those in `specs/inner/` are of private contracts and proofs.
 #![tactic(auto)]

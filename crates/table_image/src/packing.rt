@@ -12,8 +12,8 @@ use std::alloc::{AllocError, Global};
 use tables::{FEWEST_STATES, ROW_LENGTH, RawTable};
 use verdicts::{Record, equal_records_are_one};
 
-/// The tables of an automaton: each state has a row of 256 cells of its own, in the order of the states, and equal records
-/// stand once, in the order of their least states. An automaton of state 0 alone has a second state, which is as dead.
+/// The tables of an automaton: each state has a row of 256 cells of its own, in the order of the states, and equal records are
+/// stored once, in the order of their least states. An automaton of state 0 alone has a second state, which is as dead.
 pub fn pack(alloc: Global, dfa: &Dfa) -> Result<RawTable, NoMemory>
     ensures { IfOk result (λ table. IsTableOf dfa.now (table_value table)) }
 {
@@ -43,7 +43,7 @@ fn pack_states(alloc: Global, dfa: &Dfa) -> Result<RawTable, AllocError>
     Ok(table)
 }
 
-// Room for so many states, to which the lists then grow without a copy.
+// Reserves room for `states` states, so that the lists then grow without a copy.
 fn make_room(table: &mut RawTable, states: u32) -> Result<(), AllocError>
     requires { states ≤ 16384 }
     ensures { table_value table.new ≡ table_value table.old }
@@ -57,7 +57,7 @@ fn make_room(table: &mut RawTable, states: u32) -> Result<(), AllocError>
     table.check.reserve_exact(cells)
 }
 
-// One state more, with its record and its row.
+// Adds a state, with its record and its row.
 fn push_state(
     table: &mut RawTable,
     numbers: &mut IndexSet<Record>,
@@ -80,7 +80,7 @@ fn push_state(
     Ok(())
 }
 
-// One number more.
+// Adds a number.
 fn push_number(list: &mut Vec<u32>, number: u32) -> Result<(), AllocError>
     ensures { OnOk result (list.new.items ≡ list.old.items ++ number ∷ []) }
 {

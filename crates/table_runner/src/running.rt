@@ -7,8 +7,8 @@ use std::mem;
 use table_verifier::{State, Steps, VerifiedTable};
 use verdicts::Record;
 
-/// The state that a list of bytes leads to. Whoever made the table, no index leaves it, whatever the bytes are, and there is
-/// exactly one look-up for each byte. No memory is taken, and there is nothing to refuse.
+/// The state that a list of bytes leads to. Whoever made the table and whatever the bytes are, no index leaves it, and there is
+/// exactly one look-up for each byte. Allocates nothing, and can't be refused.
 // It stays a function of its own, with a count of its own: so the count and the places of the tables are in registers.
 #[inline(never)]
 pub fn run(table: &VerifiedTable, bytes: &[u8], steps: &mut Steps) -> State
@@ -27,7 +27,7 @@ pub fn run(table: &VerifiedTable, bytes: &[u8], steps: &mut Steps) -> State
     state
 }
 
-/// The record of the state that a name leads to. It takes as many look-ups as the name has bytes, and no memory.
+/// The record of the state that a name leads to. It takes as many look-ups as the name has bytes, and allocates nothing.
 pub fn record_of_name(table: &VerifiedTable, name: &[u8], steps: &mut Steps) -> Record
     requires { steps.old + length name.now < 2 ^ 64 }
     ensures record { record_after table.now name.now ≡ Some result }

@@ -62,7 +62,7 @@ pub(crate) fn altered(
     Ok(bytes)
 }
 
-// The tables of an image, which is written of them again.
+// The tables of an image, from which the same image is written again.
 fn tables_and_back(rt: &impl Abort, alloc: Global, image: &[u8]) -> Result<RawTable, Fail> {
     let table = from_bytes(alloc, image)?;
     let again = to_bytes(alloc, &table)?;

@@ -1,5 +1,5 @@
 //! Tests of `table_image`, `table_verifier`, `image_judge` and `matcher`, and nothing else. A library with tests of its own would
-//! be proved twice, once with them; as they stand here, each of these libraries is proved once.
+//! be proved twice, once with them; with the tests here, each of these libraries is proved once.
 #![tactic(auto)]
 
 #[cfg(test)]

@@ -46,7 +46,7 @@ fn push_row(image: &mut Vec<u8>, of_a: u32, of_others: u32) -> Result<(), Fail> 
     Ok(())
 }
 
-// An answer that each call must write over.
+// An answer that each call must overwrite.
 const STALE: Answer = Answer {
     steps: 9,
     verdict: 9,
@@ -63,7 +63,7 @@ fn answer(verdict: u16, rule: u16, missing: u16, steps: u64) -> Answer {
     }
 }
 
-// Whether an image is accepted: then it may be judged by.
+// Whether an image is accepted: then names may be judged by it.
 fn is_accepted(image: &[u8]) -> bool
     ensures { IsTrue result → IsNoneOrLoaded image.now }
 {

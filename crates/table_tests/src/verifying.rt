@@ -10,7 +10,7 @@ mod altered;
 mod running;
 mod shapes;
 
-// So many dead states that share one row, so many cells, which state 0 owns, and so many records.
+// A table of `states` dead states that share one row, `cells` cells, which state 0 owns, and `records` records.
 fn counted(alloc: Global, states: usize, cells: usize, records: usize) -> Result<RawTable, Fail> {
     let zeros = Vec::from_elem(alloc, 0u32, states)?;
     Ok(RawTable {

@@ -56,7 +56,7 @@ impl VerifiedTable {
     {
         steps.add();
         let cell = self.table.base[state as usize] as usize + byte as usize;
-        // It is read whoever owns the cell: so a loop finds out once where `next` stands, and not in each turn again.
+        // It is read whoever owns the cell, so that a loop finds out once where `next` is, and not again in each turn.
         let next = self.table.next[cell];
         if self.table.check[cell] == state {
             next
@@ -65,9 +65,9 @@ impl VerifiedTable {
         }
     }
 
-    // The state to go to from a state that doesn't own the cell. This stays a call of its own. If it were laid into the
+    // The state to go to from a state that doesn't own the cell. This stays a call of its own. If it were inlined into the
     // loop of a run, the reads of `next` and `default` would be made one, of a place in either, and that one would wait
-    // until the cell's owner is known. As it is, the processor foretells the owner and goes on.
+    // until the cell's owner is known. As it is, the processor predicts the owner and goes on.
     #[cold]
     #[inline(never)]
     fn default_of(&self, state: State) -> State
@@ -77,7 +77,7 @@ impl VerifiedTable {
         self.table.default[state as usize]
     }
 
-    /// What is told of names that end in a state.
+    /// The record of names that end in a state.
     pub fn record_of(&self, state: State) -> Record
         requires { state < state_count self.now }
         ensures { record_of self.now state ≡ Some result }

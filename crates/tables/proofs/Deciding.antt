@@ -57,7 +57,7 @@ decided_shaped t = ⊎_elim
     (λ no. inr (λ h. no h.bases))
     (decided_equal (length t.base) (state_count t))
 
--- each number below the bound has the one, or the least that hasn't has the other
+-- each number below the bound has the first property, or the least that hasn't has the second
 pub all_or_least : (P Q : ℕ → Type 0) (n : ℕ) → ((i : ℕ) → i < n → P i ⊎ Q i) →
     ((i : ℕ) → i < n → P i) ⊎ ((i : ℕ) × Q i × ((j : ℕ) → j < i → P j))
 all_or_least P Q zero h = inl (λ i lt. absurd (omega (arith, lt)))
@@ -72,7 +72,7 @@ all_or_least P Q (suc n) h = ⊎_elim
         (λ past. let e : n ≡ i = omega (arith, past, lt) in subst P e p)
         (cases_lt i n)
 
--- each number of a list has the one, or the first that hasn't has the other
+-- each number of a list has the first property, or the first number that hasn't has the second
 pub entries_outcome : (xs : List ℕ) (Low Past : ℕ → Type 0) → ((n : ℕ) → Low n ⊎ Past n) →
     ((i n : ℕ) → slice_get xs i ≡ Some n → Low n)
     ⊎ ((i : ℕ) × ((n : ℕ) × (slice_get xs i ≡ Some n) × Past n) × ((j n : ℕ) → j < i → slice_get xs j ≡ Some n → Low n))

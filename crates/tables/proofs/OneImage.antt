@@ -137,7 +137,7 @@ whole_has_none bytes w fault.NoMemory h = h
 
 -- ---- one table
 
--- lists of entries that their bytes tell apart
+-- lists of entries that their bytes distinguish
 concat_one : {X : Type 0} (f : X → List ℕ) (P : X → Type 0) (n : ℕ) → ((x : X) → length (f x) ≡ n) →
     ((x y : X) → P x → P y → f x ≡ f y → x ≡ y) → (xs ys : List X) → length xs ≡ length ys → All P xs → All P ys →
     concat (map f xs) ≡ concat (map f ys) → xs ≡ ys
@@ -181,7 +181,7 @@ record_one same made r q p s e =
 words_one : (xs ys : List ℕ) → length xs ≡ length ys → All (λ n. n < 4294967296) xs → All (λ n. n < 4294967296) ys → words xs ≡ words ys → xs ≡ ys
 words_one = concat_one (little_bytes 4) (λ n. n < 4294967296) 4 (λ x. refl) word_one
 
--- the words at the beginning, and what is behind them
+-- the words at the beginning, and what comes after them
 words_first : (xs ys : List ℕ) (rest more : List ℕ) → length xs ≡ length ys → All (λ n. n < 4294967296) xs → All (λ n. n < 4294967296) ys →
     words xs ++ rest ≡ words ys ++ more → (xs ≡ ys) × (rest ≡ more)
 words_first xs ys rest more same p q e =

@@ -1,4 +1,4 @@
--- Bytes with no fault are the image of the table that stands in them.
+-- Bytes with no fault are the image of the table that is read from them.
 use Rattle.std.proofs.Common.{◌≡◌, ⊎_elim, ℕ, zero, suc, ◌+◌, ◌*◌, ◌<◌, ◌≤◌, List, ◌++◌, length, map, take, drop, sym, ap, ◌∙◌, subst, arith, get_or}
 use Rattle.std.specs.Prelude.{codes, All}
 use Rattle.std.specs.List.{concat}
@@ -22,7 +22,7 @@ low_bytes bytes all k = ⊎_elim
     (λ le. let past = get_or_past bytes k 0 le in omega (arith, past))
     (cases_lt k (length bytes))
 
--- a piece behind the first bytes
+-- a piece after the first bytes
 fronts : (bytes : List ℕ) (m n : ℕ) (xs ys : List ℕ) → xs ≡ take m bytes → ys ≡ piece bytes m n → xs ++ ys ≡ take (m + n) bytes
 fronts bytes m n xs ys e f = ap (λ z. z ++ ys) e ∙ ap (λ z. take m bytes ++ z) f ∙ take_both m n bytes
 

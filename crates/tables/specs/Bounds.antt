@@ -1,4 +1,4 @@
--- Tables that no index leaves, and the faults of the others.
+-- Tables whose indices all stay within them, and the faults of the others.
 use Rattle.std.specs.Prelude.{◌≡◌, ◌⊎◌, ℕ, ◌+◌, ◌<◌, ◌≤◌, length, Option, Some, None, slice_get, unwrap_or}
 use Rattle.tables.specs.Tables.{Table, state_count, cell_count, record_count}
 use Rattle.tables.specs.declared.fault.ImageFault.{ImageFault}
@@ -26,13 +26,13 @@ pub record InLimits (states cells records : ℕ) : Type 0 where
   pub one_record : 1 ≤ records
   pub most_records : records ≤ record_limit
 
--- each table is as long as the others of its group
+-- each list is as long as the others of its group
 pub record IsShaped (t : Table) : Type 0 where
   pub bases : length t.base ≡ state_count t
   pub accepts : length t.accept ≡ state_count t
   pub checks : length t.check ≡ cell_count t
 
--- there are as many states, cells and records as there may be
+-- the numbers of states, cells and records are within the limits
 abbrev pub IsWithinLimits : Table → Type 0
 IsWithinLimits t = InLimits (state_count t) (cell_count t) (record_count t)
 

@@ -39,7 +39,7 @@ IsShortRecord r = All AreShort (hits_list r)
 abbrev pub AreWords : List ℕ → Type 0
 AreWords numbers = All (λ n. n < 4294967296) numbers
 
--- each number has room in its bytes: without that, two tables could have the same image
+-- each number fits in its bytes: without that, two tables could have the same image
 pub record HasRoom (t : Table) : Type 0 where
   pub defaults : AreWords t.default
   pub bases : AreWords t.base
@@ -55,14 +55,14 @@ pub record IsImageOf (bytes : List ℕ) (t : Table) : Type 0 where
   pub limits : IsWithinLimits t
   pub is : bytes ≡ image_of t
 
--- what stands at a place of the header
+-- the number at a place of the header
 abbrev pub short_at : List ℕ → ℕ → ℕ
 short_at bytes i = little_number 2 (drop i bytes)
 
 abbrev pub word_at : List ℕ → ℕ → ℕ
 word_at bytes i = little_number 4 (drop i bytes)
 
--- the length that the header tells
+-- the length that the header says
 abbrev pub told_length : List ℕ → ℕ
 told_length bytes = 20 + 12 * word_at bytes 8 + 8 * word_at bytes 12 + 20 * word_at bytes 16
 

@@ -32,8 +32,8 @@ cell_count t = length t.next
 abbrev pub record_count : Table → ℕ
 record_count t = length t.records
 
--- The state after a state and a byte: that in the cell which the state's base and the byte tell, if the cell's check names
--- the state; else the state's default. None where an index leaves its table.
+-- The state after a state and a byte: that in the cell given by the state's base and the byte, if the cell's check names the
+-- state; else the state's default. None where an index is past the end of its list.
 abbrev pub next_state : Table → ℕ → ℕ → Option ℕ
 next_state t s b = option_and_then (λ base. option_and_then
     (λ owner. if owner == s then slice_get t.next (base + b) else slice_get t.default s)
@@ -44,7 +44,7 @@ abbrev pub state_from : Table → ℕ → List ℕ → Option ℕ
 state_from t s [] = Some s
 state_from t s (b ∷ bytes) = option_and_then (λ n. state_from t n bytes) (next_state t s b)
 
--- state 0 is left by no byte
+-- no byte leads out of state 0
 abbrev pub StaysDead : Table → Type 0
 StaysDead t = (b : ℕ) → b < 256 → next_state t 0 b ≡ Some 0
 

@@ -16,7 +16,7 @@ use names::{NoMemory, Permission, permissions_are_numbered};
 use std::alloc::{AllocError, Global};
 use verdicts::{LeastHits, Record};
 
-/// The image of tables whose counts are within the limits and whose groups are of one length each.
+/// The image of tables whose counts are within the limits and whose lists are equally long within each group.
 pub fn to_bytes(alloc: Global, table: &RawTable) -> Result<Vec<u8>, NoMemory>
     requires shaped { IsShaped (table_value table.now) }
     requires limits { IsWithinLimits (table_value table.now) }

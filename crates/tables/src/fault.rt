@@ -1,4 +1,4 @@
-//! Why bytes are no image, or tables can't be run.
+//! Why bytes aren't an image, or tables can't be run.
 ghost use Rattle.std.specs.Prelude.{◌≡◌};
 ghost use Rattle.tables.specs.Bounds.{fault_index, fault_number};
 
@@ -6,7 +6,7 @@ use names::NoMemory;
 use std::alloc::AllocError;
 use thiserror::Error;
 
-/// Why an image or its tables are refused. The faults are in the order in which they are tested; those of one kind are told
+/// Why an image or its tables are refused. The faults are in the order in which they are tested; those of one kind are reported
 /// at their least state or cell.
 #[derive(Clone, Copy, Debug, PartialEq, Eq, Error)]
 pub enum ImageFault {
@@ -26,7 +26,7 @@ pub enum ImageFault {
     /// 65,536 records.
     #[error("a count out of its limits")]
     Counts,
-    /// Another length than the counts tell.
+    /// Another length than the counts say.
     #[error("another length than the counts tell")]
     Length,
     /// A state's default is no state.

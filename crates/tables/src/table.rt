@@ -1,8 +1,8 @@
-//! Tables as they come, from an automaton or from a stranger.
+//! Unverified tables, from an automaton or from an untrusted source.
 use verdicts::Record;
 
-/// The tables of an automaton. Anybody may fill them: nothing is said of what stands in them. There are as many states as
-/// `default` has entries, as many cells as `next`, and as many records as `records`.
+/// The tables of an automaton. Anyone may fill them: nothing is known of their contents. There are as many states as `default`
+/// has entries, as many cells as `next`, and as many records as `records`.
 #[derive(Drop)]
 pub struct RawTable {
     /// For each state the state to go to where it has no cell for the byte.

@@ -4,16 +4,16 @@
 //! `no rule for LETTERS`. `aa-trace compile` writes the image of that profile. `aa-trace check` tests the image on standard
 //! input, and `aa-trace match PERMS NAME` judges a name by it. `aa-trace run --capacity N` answers the script on standard
 //! input line by line: changes of a tree, profiles, and judged opens. `aa-trace test --capacity N` compares the answers with lines
-//! of the script that expect them. `aa-trace steps --capacity N` takes the events of the
-//! script on standard input one at a time: opens by several sessions, each read of a word and each store, in the script's order.
-//! `aa-trace storm --sessions N --opens N --changes N` opens a file in threads beside renames and new profiles, and writes how many
-//! answers there were, and how many of them aren't justified by what was changed.
+//! of the script that expect them. `aa-trace steps --capacity N` takes the events of the script on standard input one at a time:
+//! opens by several sessions, each read of a word and each store, in the script's order.
+//! `aa-trace storm --sessions N --opens N --changes N` opens a file in threads, concurrently with renames and new profiles, and
+//! writes how many answers there were, and how many of them aren't justified by what was changed.
 //! `aa-trace explain PERMS NAME` writes what `judge` does, and why; where the profile is refused, it shows the line of the fault.
 //! `aa-trace import` brings a profile of the flattened AppArmor text on standard input into this program's language, and gives an
 //! account of the rest on standard error.
 //! Faults go to standard error, and the exit status is 0 for answers, 1 for an answer that a test doesn't expect, 2 for a bad command
-//! line, 3 for a refused text, profile,
-//! image or stream, or an answer of a storm that isn't justified, and 4 for want of memory, of a thread or of a seat.
+//! line, 3 for a refused text, profile, image or stream, or an answer of a storm that isn't justified, and 4 where there is no
+//! memory, no thread or no seat.
 //!
 //! `trace_program` does all of this over any streams; here are the command line and the standard streams.
 #![tactic(auto)]

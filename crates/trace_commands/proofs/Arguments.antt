@@ -1,4 +1,4 @@
--- What bad arguments and good ones come to, whatever is read.
+-- The outcomes of bad arguments and of good ones, whatever is read.
 use Rattle.std.proofs.Common.{◌≡◌, ◌≢◌, ◌⊎◌, ℕ, List, Result, Ok, Err, refl, inl, inr}
 use Rattle.names.specs.declared.permissions.Perms.{Perms}
 use Rattle.rule_profile.specs.Profile.{ProfileValue}
@@ -10,7 +10,7 @@ use Rattle.trace_report.specs.declared.fault.Fault.TheVariants.{Permissions, Nam
 use Rattle.trace_report.specs.Fault.{fault_text, IsFaultOf}
 use Rattle.trace_commands.specs.Judge.{ask_of, verdict_output, judge_output}
 
--- bad arguments are told as such, whatever the text
+-- bad arguments are reported as such, whatever the text
 pub asked_in_vain : (perms name text : List ℕ) (f : Fault) → ask_of perms name ≡ Err (fault_text f) → (f ≡ Permissions) ⊎ (f ≡ Name)
     → IsFaultOf (judge_output perms name text) f
 asked_in_vain perms name text Permissions e which = rw (e, judge_output) refl
@@ -26,7 +26,7 @@ asked_in_vain perms name text (Compiling f) e (inr p) = cc
 asked_in_vain perms name text (Image f) e (inl p) = cc
 asked_in_vain perms name text (Image f) e (inr p) = cc
 
--- good arguments aren't told as bad ones
+-- good arguments aren't reported as bad ones
 judged_status : (ask : Perms) (name : List ℕ) (outcome : Result ProfileValue ReadFault) → (verdict_output ask name outcome).status ≢ BadArguments
 judged_status ask name (Ok profile) = λ e. cc
 judged_status ask name (Err f) = λ e. cc
@@ -34,7 +34,7 @@ judged_status ask name (Err f) = λ e. cc
 good_arguments : (perms name text : List ℕ) (ask : Perms) → ask_of perms name ≡ Ok ask → (judge_output perms name text).status ≢ BadArguments
 good_arguments perms name text ask e = rw (e, judge_output) (judged_status ask name (outcome_of text))
 
--- what hides the text says only that the arguments are good
+-- a fault that hides the text says only that the arguments are good
 pub unread : (perms name text : List ℕ) (ask : Perms) (f : Fault) → ask_of perms name ≡ Ok ask → (f ≡ Input) ⊎ (f ≡ Memory)
     → IsFaultOf (judge_output perms name text) f
 unread perms name text ask f e (inl h) = rw h (good_arguments perms name text ask e)

@@ -1,4 +1,4 @@
--- Of each image there is one answer.
+-- Each image has one answer.
 use Rattle.std.proofs.Common.{◌≡◌, ℕ, List, Result, Ok, Err, Some, sym, ap, subst, ◌∙◌, inl, inr}
 use Rattle.std.proofs.lemmas.Option.{same_Some}
 use Rattle.verdicts.specs.Records.{IsTold}

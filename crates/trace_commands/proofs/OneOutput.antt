@@ -1,4 +1,4 @@
--- Commands that may write one of some outputs.
+-- Commands that may write one of several outputs.
 use Rattle.table_runner.specs.Loading.{IsRefusedFor}
 use Rattle.table_verifier.specs.Loading.{IsLoadFault}
 use Rattle.std.specs.Prelude.{Vec}
@@ -29,7 +29,7 @@ use Rattle.trace_report.specs.declared.status.Status.{Status}
 use Rattle.trace_report.specs.declared.status.Status.TheVariants.{BadArguments, Done, FaultsFailed, InputFailed, NoMemory, OutputFailed, Refused, Unmet}
 use Rattle.trace_report.proofs.Endings.{keeps, told_alone, written}
 
--- answers and refusals tell of no bad arguments
+-- answers and refusals don't report bad arguments
 not_bad : (output : Output) (bytes : List ℕ) → output ≡ whole_answer bytes → output.status ≢ BadArguments
 not_bad output bytes e = rw e (λ bad. cc)
 
@@ -67,7 +67,7 @@ one_given streams Wanted output NoMemory good of h = record { answers = h.answer
 one_given streams Wanted output OutputFailed good of h = (output, of, h)
 one_given streams Wanted output FaultsFailed good of h = inr (output, of, h)
 
--- a command that told its fault ends as it should
+-- a command that reported its fault ends as it should
 pub one_told : (answers before after : Option (List ℕ)) (Wanted : Output → Type 0) (f : Fault) (status : Status)
     → IsFaultOfOne Wanted f → IsTold before after (fault_text f) (fault_status f) status → EndsInOne (told_alone answers before after) Wanted status
 one_told answers before after Wanted f status of (inl e) = rw e (inl (keeps answers))
@@ -84,12 +84,12 @@ one_told answers before after Wanted (Image f) status of (inr h) =
 one_told answers before after Wanted Input status of (inr h) = rw h.0 (record { answers = keeps answers; faults = h.1; arguments = of })
 one_told answers before after Wanted Memory status of (inr h) = rw h.0 (record { answers = keeps answers; faults = h.1; arguments = of })
 
--- what hides the text says only that the arguments are good
+-- a fault that hides the text says only that the arguments are good
 pub unread_one : (Wanted : Output → Type 0) (f : Fault) → AreGood Wanted → (f ≡ Input) ⊎ (f ≡ Memory) → IsFaultOfOne Wanted f
 unread_one Wanted f good (inl h) = rw h good
 unread_one Wanted f good (inr h) = rw h good
 
--- bad arguments are told as such, whatever the image
+-- bad arguments are reported as such, whatever the image
 asked_one : (asked : Result Perms (List ℕ)) (name image : List ℕ) (f : Fault) → asked ≡ Err (fault_text f) → (f ≡ Permissions) ⊎ (f ≡ Name)
     → IsFaultOfOne (IsMatchOutputOf asked name image) f
 asked_one asked name image Permissions e which = rw e refl
@@ -109,7 +109,7 @@ pub match_in_vain : (perms name image : List ℕ) (f : Fault) → ask_of perms n
     → IsFaultOfOne (IsMatchOutput perms name image) f
 match_in_vain perms name image f e which = asked_one (ask_of perms name) name image f e which
 
--- with good arguments, what is wanted is what is wanted of what is asked
+-- good arguments: the wanted outputs are those for the permissions asked for
 asked_arguments : (asked : Result Perms (List ℕ)) (ask : Perms) (name image : List ℕ) → asked ≡ Ok ask → AreGood (IsMatchOutputOf asked name image)
 asked_arguments asked ask name image e = rw e (matched_arguments ask name image)
 
@@ -125,7 +125,7 @@ pub match_answer : (perms name image name_here image_here : List ℕ) (ask : Per
     → IsAnswered (IsMatchedOutput ask name_here image_here) result → IsAnswered (IsMatchOutput perms name image) result
 match_answer perms name image name_here image_here ask result n i e h = asked_answer (ask_of perms name) ask name image result e (rw (n, i) at h)
 
--- the first fault of an image is told
+-- the first fault of an image is reported
 told_fault : (image : List ℕ) (Wanted : Output → Type 0) (f : ImageFault)
     → ((output : Output) → IsImageRefused image output → Wanted output) → IsLoadFault image f → IsFaultOfOne Wanted (fault_of_image f)
 told_fault image Wanted fault_here.NoMemory wants (inl first) = absurd first.has
@@ -141,14 +141,14 @@ told_fault image Wanted (fault_here.Base s) wants h = wants _ (fault_here.Base s
 told_fault image Wanted (fault_here.Accept s) wants h = wants _ (fault_here.Accept s, h, refl)
 told_fault image Wanted (fault_here.Next s) wants h = wants _ (fault_here.Next s, h, refl)
 
--- or want of memory in place of it
+-- or out of memory in place of it
 pub image_fault : (image : List ℕ) (Wanted : Output → Type 0) (f : ImageFault) → AreGood Wanted
     → ((output : Output) → IsImageRefused image output → Wanted output) → IsRefusedFor image f
     → IsFaultOfOne Wanted (fault_of_image f)
 image_fault image Wanted f good wants (inl none) = rw none.0 good
 image_fault image Wanted f good wants (inr first) = told_fault image Wanted f wants first
 
--- and where memory is wanted, the bytes are whole
+-- and where memory runs out, the bytes are whole
 pub image_memory : (image : List ℕ) (f : ImageFault) → IsRefusedFor image f → IsMemoryOfWhole image (fault_of_image f)
 image_memory image fault_here.NoMemory (inl none) e = none.1
 image_memory image fault_here.NoMemory (inr (inl first)) e = absurd first.has

@@ -11,11 +11,11 @@ use Rattle.trace_commands.specs.Judge.{ask_of}
 use Rattle.trace_report.specs.Output.{Output, fault, line, refusal, whole_answer}
 use Rattle.trace_report.specs.declared.status.Status.TheVariants.{BadArguments, Refused}
 
--- of a text that is refused: the line that other commands tell, too, and then where the fault stands
+-- for a text that is refused: the line that other commands write, too, and then where the fault is
 abbrev pub refusal_text : List ℕ → ReadFault → List ℕ
 refusal_text text f = line (refusal f) ++ fault_lines text f
 
--- what is said of the name by a text that was read, or why nothing is
+-- the explanation for the name by a text that was read, or why there is none
 abbrev pub explained_output : Perms → List ℕ → List ℕ → Result ProfileValue ReadFault → Output
 explained_output ask name text (Ok profile) = whole_answer (explanation text profile.rules (spans_of text) name ask)
 explained_output ask name text (Err f) = fault (refusal_text text f) Refused
@@ -27,7 +27,7 @@ explain_output perms name text = elim (ask_of perms name) [
   | Ok ask ↦ explained_output ask name text (outcome_of text)
 ]
 
--- the same status, and on each stream the same, and perhaps more behind it
+-- the same status, and on each stream the same, perhaps with more after it
 pub record GoesOnFrom (one other : Output) : Type 0 where
   pub status : other.status ≡ one.status
   pub answers : (more : List ℕ) × (other.answers ≡ one.answers ++ more)

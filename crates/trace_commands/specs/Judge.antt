@@ -10,7 +10,7 @@ use Rattle.verdicts.specs.VerdictText.{verdict_text}
 use Rattle.trace_report.specs.declared.status.Status.TheVariants.{BadArguments, Refused}
 use Rattle.trace_report.specs.Output.{Output, answer, fault, refusal}
 
--- the permissions that are asked: one letter or more
+-- the permissions asked for: one letter or more
 abbrev pub asked_by : List ℕ → Option Perms
 asked_by [] = None
 asked_by (b ∷ letters) = perms_of (b ∷ letters)
@@ -20,7 +20,7 @@ abbrev pub is_absolute : List ℕ → Bool
 is_absolute [] = false
 is_absolute (b ∷ name) = b == 47
 
--- what is asked, or what is told of the arguments
+-- the permissions asked for, or the message about the arguments
 abbrev pub ask_of : List ℕ → List ℕ → Result Perms (List ℕ)
 ask_of perms name = elim (asked_by perms) [
   | None ↦ Err (codes "bad permissions")

@@ -27,7 +27,7 @@ abbrev pub IsImageOutput : ProfileValue → Output → Type 0
 IsImageOutput profile output = (t : Table) × IsTableOfRules profile.rules t × (bytes : List ℕ) × IsLoaded bytes t
     × (output ≡ whole_answer bytes)
 
--- what is written of a profile that was read, or of a text that is refused
+-- what is written for a profile that was read, or for a text that is refused
 abbrev pub IsCompileOutputOf : Result ProfileValue ReadFault → Output → Type 0
 IsCompileOutputOf (Err f) output = output ≡ fault (refusal f) Refused
 IsCompileOutputOf (Ok profile) output =
@@ -38,11 +38,11 @@ IsCompileOutputOf (Ok profile) output =
 abbrev pub IsCompileOutput : List ℕ → Output → Type 0
 IsCompileOutput text output = IsCompileOutputOf (outcome_of text) output
 
--- what is written of an image that is refused: its first fault
+-- what is written for an image that is refused: its first fault
 abbrev pub IsImageRefused : List ℕ → Output → Type 0
 IsImageRefused image output = (f : ImageFault) × IsLoadFault image f × (output ≡ fault (image_refusal f) Refused)
 
--- want of memory hides what is told of an image only where its bytes have none of the header's faults
+-- running out of memory hides the outcome for an image only where its bytes have none of the header's faults
 abbrev pub IsMemoryOfWhole : List ℕ → Fault → Type 0
 IsMemoryOfWhole image f = f ≡ Memory → IsWhole image
 
@@ -60,18 +60,18 @@ IsCheckOutput image output =
 abbrev pub match_text : List ℕ → Verdict → List ℕ
 match_text name verdict = verdict_text verdict ++ (codes "\nsteps " ++ (decimal (length name) ++ codes "\n"))
 
--- what the record of the name tells in the table
+-- the verdict by the record of the name in the table
 abbrev pub IsVerdictOf : Table → List ℕ → Perms → Verdict → Type 0
 IsVerdictOf t name ask verdict = (r : Record) × (record_after t name ≡ Some r) × IsTold r ask verdict
 
--- what is written of a name by an image
+-- what is written for a name by an image
 abbrev pub IsMatchedOutput : Perms → List ℕ → List ℕ → Output → Type 0
 IsMatchedOutput ask name image output =
     ((t : Table) × IsLoaded image t × (verdict : Verdict) × IsVerdictOf t name ask verdict
     × (output ≡ whole_answer (match_text name verdict)))
     ⊎ IsImageRefused image output
 
--- the same by what is asked, or by what is told of the arguments
+-- the same, for the permissions asked for or the message about the arguments
 abbrev pub IsMatchOutputOf : Result Perms (List ℕ) → List ℕ → List ℕ → Output → Type 0
 IsMatchOutputOf (Err told) name image output = output ≡ fault told BadArguments
 IsMatchOutputOf (Ok ask) name image output = IsMatchedOutput ask name image output

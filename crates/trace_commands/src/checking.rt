@@ -14,8 +14,8 @@ use table_verifier::VerifiedTable;
 use tables::images_are_whole;
 use trace_report::{Fault, Status, fail, write_answer};
 
-/// Reads an image from `input` and writes to `answers` how many states, cells and records it has. Its first fault is told on
-/// `faults` in place of that.
+/// Reads an image from `input` and writes to `answers` how many states, cells and records it has. Its first fault is reported on
+/// `faults` instead.
 pub fn check<R: Read, A: Write, F: Write>(
     alloc: Global,
     input: &mut R,
@@ -45,7 +45,7 @@ fn counts_read<R: Read>(alloc: Global, input: &mut R) -> Result<Vec<u8>, Fault>
     counts_of_image(alloc, &image)
 }
 
-/// The same of an image that was read.
+/// The same for an image that was read.
 fn counts_of_image(alloc: Global, image: &[u8]) -> Result<Vec<u8>, Fault>
     ensures output { IsAnswered (IsCheckOutput image.now) result }
     ensures memory { IfErr result (IsMemoryOfWhole image.now) }

@@ -13,7 +13,7 @@ use std::io::{Read, Write};
 use tables::to_bytes;
 use trace_report::{Fault, Status, fail, write_answer};
 
-/// Reads a profile from `input` and writes the image of its table to `answers`. A fault is told on `faults` in place of it.
+/// Reads a profile from `input` and writes the image of its table to `answers`. A fault is reported on `faults` instead.
 pub fn compile<R: Read, A: Write, F: Write>(
     alloc: Global,
     input: &mut R,

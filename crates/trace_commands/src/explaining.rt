@@ -1,4 +1,4 @@
-//! `explain PERMS NAME`: the verdict on a name by the profile that is read, and why it is so.
+//! `explain PERMS NAME`: the verdict on a name by the profile that is read, and the reasons for it.
 ghost use Rattle.std.specs.Prelude.{◌≡◌, ◌⊎◌, ◌++◌, ℕ, List, IsErr, IfOk, string_bytes};
 ghost use Rattle.std.specs.Io.KnownBytes.{Keeps};
 ghost use Rattle.names.specs.Errors.{no_memory_text};
@@ -16,9 +16,9 @@ use std::alloc::Global;
 use std::io::{Read, Write};
 use trace_report::{Fault, Status, fail, write_answer};
 
-/// Reads a profile from `input` and writes to `answers` what it says of the name and the permissions that are asked, and for
-/// each of them why. A text that is refused is told on `faults` in place of that, with the line where its fault stands. The
-/// arguments are tested before anything is read.
+/// Reads a profile from `input` and writes to `answers` its verdict on the name for the permissions asked for, and the reason for
+/// each of them. A text that is refused is reported on `faults` instead, with the line that has its fault. The arguments are
+/// tested before anything is read.
 pub fn explain<R: Read, A: Write, F: Write>(
     alloc: Global,
     perms: &str,
@@ -44,7 +44,7 @@ pub fn explain<R: Read, A: Write, F: Write>(
     }
 }
 
-/// What is asked, and the text that is left to read.
+/// The permissions asked for, and the text that is left to read.
 fn text_asked<R: Read>(
     alloc: Global,
     perms: &str,
@@ -61,7 +61,7 @@ fn text_asked<R: Read>(
     Ok((ask, text))
 }
 
-/// Explains the verdict on a name by a text, or tells where the text is refused.
+/// Explains the verdict on a name by a text, or reports where the text is refused.
 fn explain_text<A: Write, F: Write>(
     alloc: Global,
     ask: Perms,
@@ -91,7 +91,7 @@ fn explain_text<A: Write, F: Write>(
     }
 }
 
-/// Tells where a text is refused, and for what.
+/// Reports where a text is refused, and for what.
 fn refuse<F: Write>(alloc: Global, text: &[u8], fault: ReadFault, faults: &mut F) -> Status
     ensures { IsTold (F.contents faults.old) (F.contents faults.new) (refusal_text text.now fault) Status.Refused result
         ⊎ IsTold (F.contents faults.old) (F.contents faults.new) no_memory_text Status.NoMemory result }

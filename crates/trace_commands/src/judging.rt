@@ -16,8 +16,8 @@ use std::io::{Read, Write};
 use trace_report::{Fault, Status, fail, write_answer};
 use verdicts::Verdict;
 
-/// Reads a profile from `input` and writes to `answers` what it says of the name and the permissions that are asked.
-/// A fault is told on `faults` in place of an answer. The arguments are tested before anything is read.
+/// Reads a profile from `input` and writes to `answers` its verdict on the name for the permissions asked for. A fault is
+/// reported on `faults` instead of an answer. The arguments are tested before anything is read.
 pub fn judge<R: Read, A: Write, F: Write>(
     alloc: Global,
     perms: &str,
@@ -43,7 +43,7 @@ pub fn judge<R: Read, A: Write, F: Write>(
     }
 }
 
-/// Writes the verdict as a line. Where that fails, a front part of the line was written.
+/// Writes the verdict as a line. If that fails, a prefix of the line was written.
 fn answer<A: Write, F: Write>(
     alloc: Global,
     verdict: Verdict,
@@ -86,7 +86,7 @@ fn verdict_on<R: Read>(
     }
 }
 
-/// What is asked, if the arguments say so.
+/// The permissions asked for, if the arguments are valid.
 pub(crate) fn ask_of(perms: &str, name: &str) -> Result<Perms, Fault>
     ensures { IsAsked (ask_of perms.now name.now) result }
 {

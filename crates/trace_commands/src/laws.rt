@@ -13,7 +13,7 @@ use matcher::tables_of_rules_tell_their_verdicts;
 use tables::{bytes_have_one_outcome, tables_have_one_outcome};
 use verdicts::records_tell_one_verdict;
 
-/// Of each image `check` and `match` may write one output alone.
+/// For each image there is only one output that `check` may write, and only one that `match` may write.
 pub fn images_have_one_answer()
     ensures checked { (image : List ℕ) (one other : Output) →
         IsCheckOutput image one → IsCheckOutput image other → one ≡ other }
@@ -25,7 +25,7 @@ pub fn images_have_one_answer()
     records_tell_one_verdict();
 }
 
-/// By an image that `compile` wrote, `match` tells the verdict of the profile's rules.
+/// For an image that `compile` wrote, `match` gives the verdict of the profile's rules.
 pub fn images_of_rules_tell_their_verdicts()
     ensures { (profile : ProfileValue) (image matched : Output) (ask : Perms) (name : List ℕ) → are_bytes name →
         IsImageOutput profile image → IsMatchedOutput ask name image.answers matched →
@@ -36,7 +36,7 @@ pub fn images_of_rules_tell_their_verdicts()
     tables_of_rules_tell_their_verdicts();
 }
 
-/// `explain` begins as `judge` does, on both streams, and ends as it.
+/// `explain` begins with what `judge` writes, on both streams, and ends with the same status.
 pub fn explain_goes_on_from_judge()
     ensures { (perms name text : List ℕ) → GoesOnFrom (judge_output perms name text) (explain_output perms name text) }
 {}

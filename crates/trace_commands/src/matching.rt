@@ -18,8 +18,8 @@ use tables::images_are_whole;
 use trace_report::{Fault, Status, fail, write_answer};
 use verdicts::told;
 
-/// Reads an image from `input` and writes to `answers` what it says of the name and the permissions that are asked, and how
-/// many cells were looked up. A fault is told on `faults` in place of that. The arguments are tested before anything is read.
+/// Reads an image from `input` and writes to `answers` its verdict on the name for the permissions asked for, and how many cells
+/// were looked up. A fault is reported on `faults` instead. The arguments are tested before anything is read.
 pub fn match_name<R: Read, A: Write, F: Write>(
     alloc: Global,
     perms: &str,
@@ -62,7 +62,7 @@ fn match_read<R: Read>(
     match_image(alloc, &image, name.as_bytes(), ask)
 }
 
-/// The same of an image that was read.
+/// The same for an image that was read.
 fn match_image(alloc: Global, image: &[u8], name: &[u8], ask: Perms) -> Result<Vec<u8>, Fault>
     ensures output { IsAnswered (IsMatchedOutput ask name.now image.now) result }
     ensures memory { IfErr result (IsMemoryOfWhole image.now) }

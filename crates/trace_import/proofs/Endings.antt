@@ -1,4 +1,4 @@
--- How an import ends that was refused, or of which nothing could be told.
+-- How an import ends that was refused, or of which nothing could be reported.
 use Rattle.std.proofs.Common.{◌≡◌, ◌≢◌, ◌⊎◌, ℕ, List, Option, Ok, Err, refl, inl, inr}
 use Rattle.std.specs.Prelude.{codes}
 use Rattle.names.specs.Errors.{no_memory_text}
@@ -15,7 +15,7 @@ use Rattle.trace_report.specs.Fault.{fault_text, fault_status}
 use Rattle.trace_report.proofs.Endings.{keeps, told_alone, written}
 use Rattle.trace_import.specs.Import.{IsImportOutput, import_output, refusal_of}
 
--- no import tells of bad arguments
+-- no import reports bad arguments
 no_arguments : (text : List ℕ) (outcome : Outcome) (output : Output) → output ≡ import_output text outcome → output.status ≢ BadArguments
 no_arguments text (Ok value) output e = rw e (λ bad. cc)
 no_arguments text (Err f) output e = rw e (λ bad. cc)
@@ -23,13 +23,13 @@ no_arguments text (Err f) output e = rw e (λ bad. cc)
 pub good : (options : ImportOptions) (text : List ℕ) (output : Output) → IsImportOutput options text output → output.status ≢ BadArguments
 good options text output is = no_arguments text is.0 output is.2
 
--- want of memory was told
+-- out of memory was reported
 pub out_of_memory : (options : ImportOptions) (text : List ℕ) (answers before after : Option (List ℕ)) (status : Status)
     → IsTold before after no_memory_text NoMemory status → EndsInOne (told_alone answers before after) (IsImportOutput options text) status
 out_of_memory options text answers before after status (inl e) = rw e (inl (keeps answers))
 out_of_memory options text answers before after status (inr h) = rw h.0 (record { answers = keeps answers; faults = h.1; arguments = good options text })
 
--- a refusal was told, or want of memory
+-- a refusal was reported, or out of memory
 pub refused_so : (options : ImportOptions) (text : List ℕ) (f : ImportFault) (answers before after : Option (List ℕ)) (status : Status)
     → Imports options text (Err f)
     → IsTold before after (refusal_of text f) Refused status ⊎ IsTold before after no_memory_text NoMemory status

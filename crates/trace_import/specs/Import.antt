@@ -20,7 +20,7 @@ use Rattle.trace_report.specs.declared.status.Status.TheVariants.{Done, Refused}
 abbrev pub between : ℕ → ℕ → List ℕ → List ℕ
 between start end text = take (end - start) (drop start text)
 
--- the line by which a span is told, if it is
+-- the line that reports a span, if it is reported
 abbrev pub kind_line : List ℕ → ℕ → ℕ → SpanKind → List ℕ
 kind_line text start end Kept = []
 kind_line text start end Blank = []
@@ -29,7 +29,7 @@ kind_line text start end (Told told) = account_line (place_at text start) told.w
 abbrev pub span_line : List ℕ → Span → List ℕ
 span_line text span = kind_line text span.start span.end span.kind
 
--- a line for each span that is told, in their order
+-- a line for each span that is reported, in their order
 abbrev pub account_text : List ℕ → List Span → List ℕ
 account_text text spans = flat_map (span_line text) spans
 

@@ -1,4 +1,4 @@
-//! What is told of a text, and why one is refused.
+//! The account of a text, and why a text is refused.
 ghost use Rattle.std.specs.Prelude.{◌≡◌, ◌++◌, IfOk, map};
 ghost use Rattle.profile_import.specs.Told.{import_fault_value};
 ghost use Rattle.trace_import.specs.Import.{between, span_line, account_text, refusal_of};
@@ -18,7 +18,7 @@ fn between(text: &[u8], start: usize, end: usize) -> &[u8]
     from.split_at(end.saturating_sub(start).min(from.len())).0
 }
 
-/// Adds the line by which a span is told, if it is.
+/// Adds the line that reports a span, if it is reported.
 fn push_span<'t>(
     lines: &mut Vec<u8>,
     alloc: Global,
@@ -38,7 +38,7 @@ fn push_span<'t>(
     push_account_line(lines, alloc, place, told.whats(), told.effect(), bytes)
 }
 
-/// A line for each span that is told.
+/// A line for each span that is reported.
 pub(crate) fn account_text(alloc: Global, text: &[u8], spans: &[Span]) -> Result<Vec<u8>, NoMemory>
     ensures { IfOk result (λ lines. lines.items ≡ account_text text.now spans.now) }
 {
@@ -50,7 +50,7 @@ pub(crate) fn account_text(alloc: Global, text: &[u8], spans: &[Span]) -> Result
     Ok(lines)
 }
 
-/// The names, as they are lent.
+/// The names, borrowed.
 fn lent(alloc: Global, names: &[Vec<u8>]) -> Result<Vec<&[u8]>, AllocError>
     ensures { IfOk result (λ lent. map (λ name. name.now) lent.items ≡ map (λ name. name.items) names.now) }
 {

@@ -1,4 +1,4 @@
-//! `import`: the profile that is asked for, and the account.
+//! `import`: the requested profile, and the account.
 ghost use Rattle.std.specs.Prelude.{◌≡◌, ◌⊎◌, Ok, IfOk};
 ghost use Rattle.std.specs.Io.KnownBytes.{Appends};
 ghost use Rattle.names.specs.Errors.{no_memory_text};
@@ -19,8 +19,8 @@ use std::alloc::Global;
 use std::io::{Read, Write};
 use trace_report::{Fault, Status, fail, write_answer, write_through};
 
-/// Reads a flattened profile text from `input`, writes the profile that is asked for to `answers`, in canonical text, and then
-/// the account to `faults`. A text that is refused is told on `faults`, and nothing is written to `answers`.
+/// Reads a flattened profile text from `input`, writes the requested profile to `answers`, in canonical text, and then the account
+/// to `faults`. If a text is refused, that is reported on `faults`, and nothing is written to `answers`.
 pub fn import<R: Read, A: Write, F: Write>(
     alloc: Global,
     options: ImportOptions<'_>,
@@ -108,7 +108,7 @@ fn texts_of(alloc: Global, text: &[u8], imported: &Imported) -> Result<(Vec<u8>,
     Ok((profile, account))
 }
 
-/// Writes the profile, and then the account. Where the former fails, a front part of it was written.
+/// Writes the profile, and then the account. If writing the profile fails, a prefix of it was written.
 fn write_both<A: Write, F: Write>(
     answers: &mut A,
     faults: &mut F,
@@ -140,7 +140,7 @@ fn told<F: Write>(faults: &mut F, bytes: &[u8], status: Status) -> Status
     }
 }
 
-/// Tells why a text is refused.
+/// Reports why a text is refused.
 fn refuse<F: Write>(alloc: Global, text: &[u8], fault: &ImportFault<'_>, faults: &mut F) -> Status
     ensures { IsTold (F.contents faults.old) (F.contents faults.new) (refusal_of text.now (import_fault_value fault.now)) Status.Refused result
         ⊎ IsTold (F.contents faults.old) (F.contents faults.new) no_memory_text Status.NoMemory result }

@@ -1,4 +1,4 @@
--- Facts that join what reading a command line says.
+-- Facts that combine the statements about reading a command line.
 use Rattle.std.proofs.Common.{◌≡◌, ◌∙◌, Bool, true, false, List, [], ◌∷◌, Option, Some, None, Result, Ok, Err, IfErr, IsErrAnd, ℕ, refl, ap, ap₂, subst, sym, inl, inr, drop}
 use Rattle.std.proofs.lemmas.Slice.Eq.{bytes_eq-Decides}
 use Rattle.std.specs.Prelude.{codes, is_some, option_map, unwrap_or}
@@ -43,7 +43,7 @@ is_exact = refl
 is_plain : is_simple program_app ≡ true
 is_plain = refl
 
--- where the words are a command line, only memory keeps them from being read
+-- if the words are a command line, only memory keeps them from being read
 pub refused_line : {T : Type 0} (app : App) (words : List Text) (e : Error) (r : Result T LineFault) → app ≡ program_app
     → (is_simple_and_free app ≡ true → HasKind (fault_of app words) e) → IsErrAnd r (IsLineFaultOf e)
     → IfErr r (λ fault. is_some (line_of words) ≡ true → fault ≡ NoMemory)
@@ -77,7 +77,7 @@ entered_line app words m is quiet matches =
 same_number : (o : Option ℕ) (a b : ℕ) → o ≡ Some a → o ≡ Some b → a ≡ b
 same_number o a b e f = let same : Some a ≡ Some b = sym e ∙ f in cc same
 
--- the line that the words have, by what was found behind a command's name
+-- the line of the words, by what was found after a command's name
 pub record HasLine (words : List Text) (name : Text) (found : Found) : Type 0 where
   pub form : CommandForm
   pub form_is : command_named commands name ≡ Some form
@@ -98,7 +98,7 @@ pairs_of (Some b) name_of rows_in name command found rows is_name is_found is =
       sym (ap (λ (o : Option (Text × List Row)). (unwrap_or o (command, rows)).1) same) ∙ sym founds,
     )
 
--- what `subcommand` gives of matches that are read
+-- what `subcommand` returns for matches that are read
 pub opened_line : (words : List Text) (m : ArgMatches) (given : Option (Bor Text × Bor ArgMatches)) (it : Bor Text × Bor ArgMatches) → IsReadAs words m
     → given ≡ Some it → option_map (λ p. p.0.now) given ≡ subcommand_name_of m
     → option_map (λ p. rows_of (found_of p.1.now)) given ≡ option_map (λ p. p.1) (subcommand_rows_of m) → HasLine words it.0.now (found_of it.1.now)

@@ -1,4 +1,4 @@
--- What the definition of options says of the first word.
+-- What the definition of options says about the first word.
 use Rattle.std.proofs.Common.{◌≡◌, Bool, cond, true, false, List, [], ◌∷◌, Option, Some, None, refl, sym}
 use Rattle.std.specs.Prelude.{codes, option_and_then}
 use Rattle.std.specs.Str.{bytes_eq}
@@ -16,11 +16,11 @@ neither true f g x y e h = rw e refl
 neither false f g x y e h = rw h refl
 
 module _ (options : List OptionForm) (given : Given) where
-  -- the options behind one more use
+  -- the options after one more use
   abbrev pub behind_use : Text → Option Text → List Text → Option Given
   behind_use name said words = option_and_then (λ more. given_by options more words) (one_more options given (Some name) said)
 
-  -- the options behind `--NAME`, which waits for a text
+  -- the options after `--NAME`, which waits for a text
   abbrev pub behind_name : Text → List Text → Option Given
   behind_name name [] = None
   behind_name name (next ∷ words) = behind_use name (text_behind next) words
@@ -43,7 +43,7 @@ module _ (options : List OptionForm) (given : Given) where
   name_first word cut o [] dashes long e is wanted = rw (dashes, long, e, is, wanted) refl
   name_first word cut o (next ∷ words) dashes long e is wanted = rw (long, e, is, wanted) refl
 
-  -- a word in which there is no name that is taken
+  -- a word without a name that is accepted
   none_first : (word : Text) (words : List Text) → bytes_eq word (codes "--") ≡ false
       → ((said : Option Text) → one_more options given (name_in word) said ≡ None) → given_by options given (word ∷ words) ≡ None
   none_first word [] dashes none = rw dashes (none (text_in word))
@@ -51,7 +51,7 @@ module _ (options : List OptionForm) (given : Given) where
       neither (is_whole options word) (λ more. given_by options more (next ∷ words)) (λ more. given_by options more words) _ _ (none (text_in word))
       (none (text_behind next))
 
-  -- a word that is no long option
+  -- a word that isn't a long option
   pub other_first : (word : Text) (words : List Text) → bytes_eq word (codes "--") ≡ false → long_of word ≡ None
       → given_by options given (word ∷ words) ≡ None
   other_first word words dashes long = none_first word words dashes (λ said. rw long refl)

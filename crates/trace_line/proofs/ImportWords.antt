@@ -10,12 +10,12 @@ use Rattle.trace_line.proofs.OptionEnds.{EndsAs}
 use Rattle.trace_line.proofs.OptionRules.{built_rules}
 use Rattle.trace_line.proofs.OptionWalk.{options_walk}
 
--- clap reads the words behind the command's name as `given_by` says
+-- clap reads the words after the command's name as `given_by` says
 import_walk : (name : Text) (words : List Text)
     → ComesTo (EndsAs import_options) (leaf_shape name (built_rules import_options)) [] (walk_at idle 1 false nothing_held) words (given_by import_options [] words)
 import_walk name words = options_walk name import_options refl words
 
--- nothing is asked
+-- no option is given
 bare : line_of (codes "aa-trace" ∷ codes "import" ∷ []) ≡ Some (import_text None Keep [] false)
 bare = refl
 
@@ -25,12 +25,12 @@ all_of_them : line_of (codes "aa-trace" ∷ codes "import" ∷ codes "--define=a
 unfolding chars
 all_of_them = refl
 
--- an option twice that comes once
+-- an option twice that may be given once
 twice : line_of (codes "aa-trace" ∷ codes "import" ∷ codes "--strict" ∷ codes "--strict" ∷ []) ≡ None
 unfolding chars
 twice = refl
 
--- a text for one that wants none
+-- a text for an option that takes none
 text_for_none : line_of (codes "aa-trace" ∷ codes "import" ∷ codes "--strict=x" ∷ []) ≡ None
 unfolding chars
 text_for_none = refl
@@ -40,7 +40,7 @@ own_name : line_of (codes "aa-trace" ∷ codes "import" ∷ codes "--define=prof
 unfolding chars
 own_name = refl
 
--- a value with an open backslash at its end; and one in which the last backslash is taken
+-- a value with an open backslash at its end; and one in which the last backslash is escaped
 open_value : line_of (codes "aa-trace" ∷ codes "import" ∷ codes "--define=a=b\\" ∷ []) ≡ None
 unfolding chars
 open_value = refl

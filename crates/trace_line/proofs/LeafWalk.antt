@@ -1,4 +1,4 @@
--- What clap's walk over words comes to, at a command whose flags are `-h` or `--help`, and `-V` or `--version`, at most.
+-- The outcome of clap's walk over words, at a command whose flags are at most `-h` or `--help`, and `-V` or `--version`.
 use Rattle.std.proofs.Common.{◌≡◌, ◌≢◌, ◌⊎◌, ℕ, ◌==◌, Bool, true, false, List, [], ◌∷◌, length, Option, Some, None, refl, sym, ◌∙◌, inl, inr}
 use Rattle.std.specs.Prelude.{slice_get, drop, encode_utf8, codes, fold, option_map}
 use Rattle.std.specs.Str.{bytes_eq, chars}
@@ -42,7 +42,7 @@ walk_at waiting position is_trailing h = record { held = h; waiting = waiting; p
 abbrev pub held : List Row → Option (Text × List Text) → Held
 held rows pending = record { rows = rows; pending = pending; skip = 0 }
 
--- the faults behind the last word
+-- the faults after the last word
 abbrev pub end_fault : Shape → Held → Kinds
 end_fault s h = or_else (settle_fault s.rules s.args_override_self h)
     (or_else (defaults_fault (settled s.rules h).rows s.rules) (check_fault s (finished s.rules h) false))
@@ -87,7 +87,7 @@ stop Has s w word words fault = some_fault _ (in_first _ _ (in_first _ _ fault))
 
 -- ---- one word
 
--- a command with no subcommands meets none
+-- a command without subcommands finds none
 pub no_names : (waiting : Waiting) (word : Text) → subcommand_met [] waiting word ≡ None
 no_names idle word = refl
 no_names (option id) word = refl
@@ -127,7 +127,7 @@ help = record help_rule { parser = Some String; range = Some (record { start_inc
 abbrev pub version : Rule
 version = record version_rule { parser = Some String; range = Some (record { start_inclusive = 0; end_inclusive = 0 }) }
 
--- what is found is answered with a text, or there is nothing
+-- what is found is answered with a text, or nothing is found
 abbrev pub IsToldOrNone : Option Rule → Type 0
 IsToldOrNone found = (found ≡ Some help) ⊎ ((found ≡ Some version) ⊎ (found ≡ None))
 
@@ -145,7 +145,7 @@ help_short_if x false e = inr (inr (rw e refl))
 pub help_short : (x : ℕ) → IsToldOrNone (arg_by_short (help ∷ []) x)
 help_short x = help_short_if x (104 == x) refl
 
--- beside help the program has the version
+-- in addition to help, the program has the version
 told_long_if : (name : Text) (help_is version_is : Bool) → bytes_eq (codes "help") name ≡ help_is → bytes_eq (codes "version") name ≡ version_is
     → IsToldOrNone (arg_by_long (help ∷ version ∷ []) name)
 told_long_if name true is e f = inl (rw e refl)

@@ -1,4 +1,4 @@
--- What clap's walk over the words comes to at a program with commands of two arguments and commands of options.
+-- The outcome of clap's walk over the words at a program with commands of two arguments and commands of options.
 use Rattle.std.proofs.Common.{◌≡◌, ◌≢◌, ◌∙◌, ◌&&◌, ◌++◌, Bool, true, false, not, List, [], ◌∷◌, map, Option, Some, None, refl, ap, ap₂, subst, sym, drop, inl, inr, ◌⊎◌, append_assoc, append-nil}
 use Rattle.std.specs.Prelude.{is_some, codes, find, fold, option_and_then, option_map}
 use Rattle.std.specs.List.{list_all}
@@ -43,7 +43,7 @@ has_sound_options (asks options line) = are_sound options
 abbrev pub leaf : CommandForm → Shape
 leaf command = leaf_shape command.name (rules_by command.takes)
 
--- what clap takes of the words behind a command's name, with the line that they give, if they give one
+-- what clap accepts of the words after a command's name, with the line that they give, if they give one
 abbrev pub parsed_by : Arguments → List Text → Option (Option LineValue)
 parsed_by (pair line) words = option_map (λ asked. Some (line asked.0 asked.1)) (pair_of (arguments_of words))
 parsed_by (numbers options line) words = option_map (λ given. Some (line (number_of given))) (given_by (map number_form options) [] words)
@@ -72,7 +72,7 @@ line_flat (pair line) words = pair_flat line (pair_of (arguments_of words))
 line_flat (numbers options line) words = given_flat (λ given. line (number_of given)) (given_by (map number_form options) [] words)
 line_flat (asks options line) words = asked_flat line (given_by options [] words)
 
--- clap reads the words behind a command's name as `line_by` says
+-- clap reads the words after a command's name as `line_by` says
 takes_walk : (name : Text) (takes : Arguments) → has_sound_options takes ≡ true → (words : List Text)
     → ComesTo (GivesLine takes) (leaf_shape name (rules_by takes)) [] start words (parsed_by takes words)
 takes_walk name (pair line) sound words =
@@ -100,11 +100,11 @@ program_of forms = record { top = top; subs = map leaf forms ++ help_leaf ∷ []
 program_is : built program_app ≡ program_of commands
 program_is = refl
 
--- the forms are of commands that are read as their definition says
+-- whether the form is of a command that is read as its definition says
 abbrev is_good : CommandForm → Bool
 is_good command = not (bytes_eq command.name (codes "help")) && has_sound_options command.takes
 
--- what clap takes by these commands, of the words behind the program's name
+-- what clap accepts of the words after the program's name, with these commands
 abbrev parsed_in : List CommandForm → List Text → Option (Option LineValue)
 parsed_in forms [] = None
 parsed_in forms (name ∷ words) = option_and_then (λ command. parsed_by command.takes words) (command_named forms name)
@@ -130,9 +130,9 @@ module _ (forms : List CommandForm) (good : list_all is_good forms ≡ true) whe
       ap (option_map (λ (s : Text × List Text). s.0)) (sym (find-map (answers_to word) label_of program.subs) ∙ ap (option_map label_of) (find_leaf word forms
       ∙ ap (found_by word) is))
 
-  -- ---- the words behind a command
+  -- ---- the words after a command
 
-  -- a command was met, and the words behind it wait
+  -- a command was met, and the words after it are kept
   stopped_walk : (w : Walk) (name : Text) (before words : List Text)
       → fold (walked top.rules names) (record w { stopped = Some (name, before) }) words ≡ record w { stopped = Some (name, before ++ words) }
   unfolding walked
@@ -149,7 +149,7 @@ module _ (forms : List CommandForm) (good : list_all is_good forms ≡ true) whe
       (or_else (settle_fault top.rules false w.held) (or_else (defaults_fault (settled top.rules w.held).rows top.rules)
       (check_fault top (finished top.rules w.held) (is_some (entered program w.stopped))))))
 
-  -- the faults of the words behind the program's name
+  -- the faults of the words after the program's name
   abbrev faults : List Text → Kinds
   faults words = built_fault program nothing_held words
 
@@ -157,7 +157,7 @@ module _ (forms : List CommandForm) (good : list_all is_good forms ≡ true) whe
   abbrev entered_by : List Text → Option (Text × List Row)
   entered_by words = entered program (stop_after top.rules names words)
 
-  -- the words behind a command that was met add no fault of the program's own
+  -- the words after a command that was met add no fault of the program's own
   behind : (name : Text) (words : List Text)
       → whole (fold (walked top.rules names) (met name) words) (walk_fault top names (met name) words) ≡ whole (record (met name) { stopped = Some (name, words) }) []
   behind name words = ap₂ whole (stopped_walk (met name) name [] words) (stopped_fault top names (met name) (name, []) words)
@@ -186,7 +186,7 @@ module _ (forms : List CommandForm) (good : list_all is_good forms ≡ true) whe
     found : find (λ t. answers_to command.name (label_of t)) program.subs ≡ Some (leaf command)
     found = find_leaf command.name forms ∙ ap (found_by command.name) is
 
-    -- the faults where the words enter this command, if there is one
+    -- the faults if the words enter this command, if there is one
     abbrev entered_whole : List Text → Option Shape → Kinds
     entered_whole words found = or_else (option_map_or (λ s. level_fault s [] nothing_held words false []) found [])
         (check_fault top [] (is_some (option_map (λ s. rows_at s words) found)))
@@ -227,7 +227,7 @@ module _ (forms : List CommandForm) (good : list_all is_good forms ≡ true) whe
       let turn : turn_fault top names start (codes "help") ≡ DisplayHelp ∷ InvalidSubcommand ∷ [] = rw is refl in
       in_first _ _ (in_first _ _ (DisplayHelp, InvalidSubcommand ∷ [], turn))
 
-  -- behind `--` no command is met
+  -- after `--` no command is met
   escaped_walk : subcommand_met names idle (codes "--") ≡ None → walked top.rules names start (codes "--") ≡ walk_at idle 1 true nothing_held
   unfolding walked
   escaped_walk none = rw none refl
@@ -289,7 +289,7 @@ module _ (forms : List CommandForm) (good : list_all is_good forms ≡ true) whe
   words_read [] = λ e. cc
   words_read (word ∷ words) = first_read word words (command_named forms word) refl
 
--- what clap takes of the words of a command line
+-- what clap accepts of the words of a command line
 abbrev pub parsed_of : List Text → Option (Option LineValue)
 parsed_of (first ∷ name ∷ words) = option_and_then (λ command. parsed_by command.takes words) (command_named commands name)
 parsed_of _ = None
@@ -299,7 +299,7 @@ named_flat : (words : List Text) (command : Option CommandForm)
 named_flat words None = refl
 named_flat words (Some command) = line_flat command.takes words
 
--- they are the line that they give
+-- the words' line is the one that they are parsed to
 pub line_parsed : (words : List Text) → line_of words ≡ flat (parsed_of words)
 line_parsed [] = refl
 line_parsed (first ∷ []) = refl

@@ -21,7 +21,7 @@ found_name {A} name_of name (y ∷ ys) x e = go (bytes_eq (name_of y) name) refl
     go true same behind is = let it : y ≡ x = cc is in ap name_of (sym it) ∙ (bytes_eq-Decides (name_of y) name).0 same
     go false same behind is = behind is
 
--- what is found passes a test that each passes
+-- what is found passes a test that each element passes
 pub found_passes : {A : Type 0} (passes test : A → Bool) (xs : List A) (x : A) → list_all passes xs ≡ true → find test xs ≡ Some x → passes x ≡ true
 found_passes passes test [] x all e = absurd (cc e)
 found_passes {A} passes test (y ∷ ys) x all e =
@@ -36,7 +36,7 @@ pub or_false : (b : Bool) → (b || false) ≡ b
 or_false true = refl
 or_false false = refl
 
--- a search over what is made of each, and some more
+-- a search over what is made of each element, and over some more
 pub find_made : {A B : Type 0} (made : A → B) (test : B → Bool) (passes : A → Bool) → ((x : A) → test (made x) ≡ passes x) → (xs : List A) (rest : List B)
     → find test (map made xs ++ rest) ≡ option_or (option_map made (find passes xs)) (find test rest)
 find_made made test passes same [] rest = refl

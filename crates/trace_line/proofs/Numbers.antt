@@ -53,7 +53,7 @@ and_false : (a : Bool) → (a && false) ≡ false
 and_false true = refl
 and_false false = refl
 
--- digits begin with no plus
+-- digits don't begin with a plus
 plus_numeral : (x : ℕ) (xs : Text) → x ≡ 43 → is_numeral (x ∷ xs) ≡ false
 plus_numeral x xs e = rw e (and_false _)
 
@@ -99,7 +99,7 @@ taken_if o x xs false e below is =
     let most : n ≤ o.most = leb-true n o.most (both (nat_le o.least n) (nat_le n o.most) range.1).1 in
     rw e (small_if (x ∷ xs) tests.0 (omega arith))
 
--- what an option takes, is read as the number that it writes
+-- what an option accepts is read as the number that it writes
 pub taken_read : (o : NumberOption) (text : Text) → nat_lt o.most 4294967296 ≡ true → is_number_of o text ≡ true
     → small_number (without_minus text) ≡ Some (digits_value 10 (without_leading_sign text))
 taken_read o [] below is = absurd (cc is)

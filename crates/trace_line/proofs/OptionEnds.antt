@@ -1,4 +1,4 @@
--- The rows of a list of options behind the last word, with the defaults of those that aren't given.
+-- The rows of a list of options after the last word, with the defaults of those that aren't given.
 use Rattle.std.proofs.Common.{◌≡◌, ◌∙◌, ◌&&◌, ◌||◌, Bool, cond, true, false, not, List, [], ◌∷◌, map, Option, Some, None, refl, ap, sym}
 use Rattle.std.specs.Prelude.{if◌then◌else◌, fold, is_some, nat_lt, unwrap_or}
 use Rattle.std.specs.List.{list_any}

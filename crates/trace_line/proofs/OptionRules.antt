@@ -135,7 +135,7 @@ none_without id (r ∷ rows) e = go (bytes_eq r.id id) (λ fresh. none_without i
     go true behind e = absurd (cc e)
     go false behind e = ap (λ (rs : List Row). r ∷ rs) (behind e)
 
--- the row of an id behind more values
+-- the row of an id after more values
 abbrev pub row_with : Text → Reading → ValueSource → List Text → Option Row → Row
 row_with id how s values None = record { id = id; values = values; count = None; source = Some s; reading = how }
 row_with id how s values (Some r) = record r { values = r.values ++ values; source = Some (stronger r.source s) }
@@ -185,7 +185,7 @@ abbrev pub row_by : Text → Wants → Given → Option Row
 row_by name many_texts given = rows_often name many_texts (texts_given given name)
 row_by name wants given = rows_once name wants (text_given given name)
 
--- the text that is given, or stands for it, is one that the option takes
+-- the text that is given, or the default in its place, is one that the option accepts
 abbrev pub is_passed : Wants → Option Text → Bool
 is_passed (one_number option) said = is_number_of option (unwrap_or said option.default)
 is_passed _ said = true
@@ -245,7 +245,7 @@ row_other no_text given name text other is = ap (rows_once other no_text) (text_
 abbrev pub reading_to : OptionForm → Reading
 reading_to o = reading_by (built_rule o)
 
--- the rows behind one more use
+-- the rows after one more use
 more_rows : (options : List OptionForm) (given : Given) (rows : List Row) (o : OptionForm) (text : Text) (values : List Text) → option_named options o.name ≡ Some o
     → Are options rows given
     → Some (row_with o.name (reading_to o) CommandLine values (row_named rows o.name)) ≡ row_by o.name o.wants (given ++ (o.name, text) ∷ [])
@@ -281,7 +281,7 @@ said_values (Some text) = text ∷ []
 abbrev pub more_given : Given → OptionForm → Option Text → Given
 more_given given o said = given ++ (o.name, unwrap_or said []) ∷ []
 
--- what a use comes to
+-- the outcome of a use
 pub data Use (options : List OptionForm) (given : Given) (rows : List Row) (o : OptionForm) (said : Option Text) : Type 0 where
   good : one_more options given (Some o.name) said ≡ Some (more_given given o said) → use_fault false (built_rule o) (said_values said) rows ≡ []
       → Are options (used (built_rule o) (said_values said) rows) (more_given given o said) → Use options given rows o said

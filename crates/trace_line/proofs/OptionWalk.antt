@@ -1,4 +1,4 @@
--- What clap's walk comes to over the words behind a command that takes options.
+-- The outcome of clap's walk over the words after a command that takes options.
 use Rattle.std.proofs.Common.{◌≡◌, ◌∙◌, Bool, true, false, List, [], ◌∷◌, Option, Some, None, length, refl, ap, ap₂, subst, sym, inl, inr}
 use Rattle.std.specs.Prelude.{codes, fold, option_and_then, slice_get}
 use Rattle.std.specs.Str.{bytes_eq, chars}
@@ -55,7 +55,7 @@ module _ (name : Text) (options : List OptionForm) (sound : are_sound options �
   abbrev Comes : Walk → List Text → Option Given → Type 0
   Comes = ComesTo Has shape []
 
-  -- ---- a fault that no more words mend
+  -- ---- a fault that no further words mend
 
   abbrev IsBad : Held → Type 0
   IsBad h = Some_of (settle_fault rules false h)
@@ -128,7 +128,7 @@ module _ (name : Text) (options : List OptionForm) (sound : are_sound options �
     settles : settled rules h ≡ held rows None
     are : Are options rows given
 
-  -- what the words come to, between two options and behind a name
+  -- the outcome of the words, between two options and after a name
   record Walks (words : List Text) : Type 0 where
     between : (given : Given) (rows : List Row) (p : Option (Text × List Text)) → Holds given (held rows p)
         → Comes (walk_at idle 1 false (held rows p)) words (given_by options given words)
@@ -151,7 +151,7 @@ module _ (name : Text) (options : List OptionForm) (sound : are_sound options �
 
   -- ---- a name that is an option's
 
-  -- a use that is whole: its faults, and the walk behind it
+  -- a use that is whole: its faults, and the walk after it
   record IsWhole (h : Held) (word : Text) (o : OptionForm) (said : Option Text) : Type 0 where
     turn : turn_fault shape [] (walk_at idle 1 false h) word
         ≡ or_else (settle_fault rules false h) (use_fault false (built_rule o) (said_values said) (settled rules h).rows)
@@ -184,7 +184,7 @@ module _ (name : Text) (options : List OptionForm) (sound : are_sound options �
     unfolding walked
     name_walked e wanted = rw (l.dashes, l.long, by_long options (name_and_value l.body).0 o is, e, one_value o.wants wanted) refl
 
-  -- behind a whole use
+  -- after a whole use
   whole_comes : (given : Given) (rows : List Row) (p : Option (Text × List Text)) (word : Text) (words : List Text) (o : OptionForm) (said : Option Text)
       → option_named options o.name ≡ Some o → IsWhole (held rows p) word o said → Holds given (held rows p) → Walks words
       → Comes (walk_at idle 1 false (held rows p)) (word ∷ words) (behind_use options given o.name said words)
@@ -285,7 +285,7 @@ module _ (name : Text) (options : List OptionForm) (sound : are_sound options �
         | is_plain o h ↦ nothing h.long (plain_fault rows p word h) h.dashes
       ]
 
-  -- ---- the word behind a name
+  -- ---- the word after a name
 
   abbrev waits : List Row → OptionForm → Held
   waits rows o = held rows (named o.name [])
@@ -372,6 +372,6 @@ module _ (name : Text) (options : List OptionForm) (sound : are_sound options �
     behind = λ given o rows at wanted are. behind_comes given o rows at wanted word words (walks_of words) are;
   }
 
-  -- clap reads the words behind the command's name as `given_by` says
+  -- clap reads the words after the command's name as `given_by` says
   pub options_walk : (words : List Text) → Comes (walk_at idle 1 false nothing_held) words (given_by options [] words)
   options_walk words = (walks_of words).between [] [] None (record { rows = []; quiet = refl; settles = refl; are = none_are options sound })

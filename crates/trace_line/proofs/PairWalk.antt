@@ -1,4 +1,4 @@
--- What clap's walk comes to over the words behind a command of two arguments.
+-- The outcome of clap's walk over the words after a command of two arguments.
 use Rattle.std.proofs.Common.{◌≡◌, ℕ, true, false, List, [], ◌∷◌, ◌++◌, Option, Some, None, refl}
 use Rattle.std.specs.Prelude.{codes, option_map}
 use Rattle.std.specs.Str.{bytes_eq}
@@ -29,7 +29,7 @@ pair_rules = positional (codes "PERMS") 1 ∷ positional (codes "NAME") 2 ∷ he
 
 -- ---- the arguments
 
--- what is held behind one argument, and behind two
+-- what is held after one argument, and after two
 abbrev one_held : Text → Held
 one_held p = held [] (Some (codes "PERMS", p ∷ []))
 
@@ -67,7 +67,7 @@ module _ (name : Text) where
       → Some_of (turn_fault shape [] (walk_at idle i false (held rows pending)) word)
   short_comes i rows pending word is = short_turn shape [] idle i rows pending word refl help_short is
 
-  -- behind `--`, by how many arguments stand before
+  -- after `--`, by the number of arguments before it
   escaped_two : (p n : Text) (words : List Text) → Comes (walk_at idle 3 true (two_held p n)) words (pair_of (Some (p ∷ n ∷ words)))
   unfolding walk_fault defaults_fault
   escaped_two p n [] = (refl, (refl, refl))
@@ -85,11 +85,11 @@ module _ (name : Text) where
   escaped_none (word ∷ words) =
       step HasPair shape (walk_at idle 1 true nothing_held) (walk_at idle 2 true (one_held word)) word words _ refl refl (escaped_one word words)
 
-  -- what the arguments come to behind these
+  -- the result of the arguments after these
   abbrev line_behind : List Text → Option (List Text) → Option (Text × Text)
   line_behind before arguments = pair_of (option_map (λ others. before ++ others) arguments)
 
-  -- an option, wherever it stands
+  -- an option, at any position
   refused_option : (i : ℕ) (rows : List Row) (pending : Option (Text × List Text)) (before : List Text) (word : Text) (words : List Text)
       → bytes_eq word (codes "--") ≡ false → is_option word ≡ true → Some_of (turn_fault shape [] (walk_at idle i false (held rows pending)) word)
       → Comes (walk_at idle i false (held rows pending)) (word ∷ words) (line_behind before (arguments_of (word ∷ words)))
@@ -101,7 +101,7 @@ module _ (name : Text) where
   three_or_more p n word None = refl
   three_or_more p n word (Some words) = refl
 
-  -- before any `--`, by how many arguments stand before
+  -- before any `--`, by the number of arguments so far
   free_two : (p n : Text) (words : List Text) → Comes (walk_at idle 3 false (two_held p n)) words (line_behind (p ∷ n ∷ []) (arguments_of words))
   unfolding walk_fault defaults_fault walked
   free_two p n [] = (refl, (refl, refl))
@@ -137,7 +137,7 @@ module _ (name : Text) where
             (plain_turn shape [] 2 rows pending word refl h) (plain_walked shape 2 rows pending word h) (free_two p word words))
       ]
 
-  -- no argument stands before
+  -- there is no argument before
   none_yet : (o : Option (List Text)) → line_behind [] o ≡ pair_of o
   none_yet None = refl
   none_yet (Some words) = refl
@@ -160,6 +160,6 @@ module _ (name : Text) where
             (plain_turn shape [] 1 [] None word refl h) (plain_walked shape 1 [] None word h) (free_one word words))
       ]
 
-  -- clap takes two arguments, and no other number of them
+  -- clap accepts two arguments, and no other number of them
   pub pair_walk : (words : List Text) → Comes (walk_at idle 1 false nothing_held) words (pair_of (arguments_of words))
   pair_walk words = rw (← none_yet (arguments_of words)) (free_none words)

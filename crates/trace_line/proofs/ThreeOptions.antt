@@ -15,12 +15,12 @@ numbers = sessions ∷ opens ∷ changes ∷ []
 abbrev three : List OptionForm
 three = map number_form numbers
 
--- clap reads the words behind the command's name as `given_by` says
+-- clap reads the words after the command's name as `given_by` says
 three_walk : (name : Text) (words : List Text)
     → ComesTo (EndsAs three) (leaf_shape name (built_rules three)) [] (walk_at idle 1 false nothing_held) words (given_by three [] words)
 three_walk name words = options_walk name three refl words
 
--- in any order, in one word or in two, and a last `--` says nothing
+-- in any order, in one word or in two, and a last `--` means nothing
 any_order : given_by three [] (codes "--opens=+07" ∷ codes "--sessions" ∷ codes "3" ∷ codes "--" ∷ [])
     ≡ Some ((codes "opens", codes "+07") ∷ (codes "sessions", codes "3") ∷ [])
 unfolding chars
@@ -39,7 +39,7 @@ twice = refl
 too_great : given_by three [] (codes "--sessions=17" ∷ []) ≡ None
 too_great = refl
 
--- no number behind a name
+-- no number after a name
 no_number : given_by three [] (codes "--sessions" ∷ codes "--opens=1" ∷ []) ≡ None
 unfolding chars
 no_number = refl

@@ -12,7 +12,7 @@ pub record IsPlainWord (word : Text) : Type 0 where
   pub long : long_of word ≡ None
   pub short : (short_of word ≡ None) ⊎ ((flags : Text) × (short_of word ≡ Some flags) × (chars flags ≡ []))
 
--- two hyphens, and a name with perhaps a value behind them
+-- two hyphens, followed by a name and perhaps a value
 pub record IsLongWord (word : Text) : Type 0 where
   pub dashes : bytes_eq word (codes "--") ≡ false
   pub body : Text
@@ -34,11 +34,11 @@ pub data Kind (word : Text) : Type 0 where
   is_short : is_option word ≡ true → IsShortWord word → Kind word
   is_plain : is_option word ≡ false → IsPlainWord word → Kind word
 
--- a word that begins with no hyphen
+-- a word that doesn't begin with a hyphen
 no_hyphen : (b : ℕ) (rest : Text) → (b == 45) ≡ false → Kind (b ∷ rest)
 no_hyphen b rest e = is_plain (rw e refl) (record { dashes = rw e refl; long = rw e refl; short = inl (rw e refl) })
 
--- a hyphen, and a byte that is none
+-- a hyphen, and a byte that isn't one
 short_or_plain : (c : ℕ) (rest cs : Text) → (c == 45) ≡ false → chars (c ∷ rest) ≡ cs → Kind (45 ∷ c ∷ rest)
 short_or_plain c rest [] e h = is_plain (rw h refl) (record { dashes = rw e refl; long = rw e refl; short = inr (c ∷ rest, rw e refl, h) })
 short_or_plain c rest (x ∷ xs) e h = is_short (rw h refl) (record {

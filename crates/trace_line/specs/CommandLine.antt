@@ -54,14 +54,14 @@ line_value (Steps capacity) = steps capacity
 line_value (Storm sessions opens changes) = storm sessions opens changes
 line_value (Import asked) = import_value asked
 
--- the word is an option: a hyphen with a character behind it
+-- the word is an option: a hyphen followed by a character
 abbrev pub is_option : List ℕ → Bool
 is_option [] = false
 is_option (b ∷ rest) = b == 45 && is_some (slice_get (chars rest) 0)
 
 -- ---- arguments
 
--- The arguments among the words, none of which may be an option. The first `--` is no argument; behind it any word is one.
+-- The arguments among the words, none of which may be an option. The first `--` isn't an argument; after it any word is one.
 abbrev pub arguments_of : List (List ℕ) → Option (List (List ℕ))
 arguments_of [] = Some []
 arguments_of (word ∷ words) =
@@ -76,19 +76,19 @@ pair_of _ = None
 -- ---- options
 
 pub record NumberOption : Type 0 where
-  -- what stands behind the two hyphens
+  -- what follows the two hyphens
   pub name : List ℕ
-  -- what stands for its number where the option isn't given
+  -- the text of its number if the option isn't given
   pub default : List ℕ
   -- the least and the greatest number that it takes
   pub least : ℕ
   pub most : ℕ
 
--- The text is a number that the option takes: decimal digits, perhaps behind a sign.
+-- The text is a number that the option takes: decimal digits, perhaps after a sign.
 abbrev pub is_number_of : NumberOption → List ℕ → Bool
 is_number_of option text = is_signed_in (pos option.least) (pos option.most) text
 
--- what an option wants behind its name, and how often it is given at most
+-- what an option takes after its name, and how often it may be given
 pub data Wants : Type 0 where
   -- a number that this one takes, once
   one_number : NumberOption → Wants
@@ -100,7 +100,7 @@ pub data Wants : Type 0 where
   no_text : Wants
 
 pub record OptionForm : Type 0 where
-  -- what stands behind the two hyphens
+  -- what follows the two hyphens
   pub name : List ℕ
   pub wants : Wants
 
@@ -122,7 +122,7 @@ abbrev pub comes_again : Wants → Bool
 comes_again many_texts = true
 comes_again _ = false
 
--- the names of the options that are given, each with its text; that of one that wants nothing is empty
+-- the names of the options that are given, each with its text; that of one that takes nothing is empty
 abbrev pub Given : Type 0
 Given = List (List ℕ × List ℕ)
 
@@ -136,30 +136,30 @@ texts_given given name = map (λ pair. pair.1) (filter (λ pair. bytes_eq pair.0
 abbrev pub may_come : Given → Option (List ℕ) → OptionForm → Bool
 may_come given said option = is_wanted option.wants said && (comes_again option.wants || not (is_some (text_given given option.name)))
 
--- one more option behind those given, if there is a name, and the command takes it so
+-- one more option after those given, if there is a name, and the command accepts it
 abbrev pub one_more : List OptionForm → Given → Option (List ℕ) → Option (List ℕ) → Option Given
 one_more options given None said = None
 one_more options given (Some name) said =
     if option_map_or (may_come given said) (option_named options name) false then Some (given ++ (name, unwrap_or said []) ∷ []) else None
 
--- of a word `--NAME=TEXT` or `--NAME` the name, and of the first the text
+-- the name in a word `--NAME=TEXT` or `--NAME`, and the text in the first
 abbrev pub name_in : List ℕ → Option (List ℕ)
 name_in word = option_map (λ cut. cut.0) (long_of word)
 
 abbrev pub text_in : List ℕ → Option (List ℕ)
 text_in word = option_and_then (λ cut. cut.1) (long_of word)
 
--- the word behind `--NAME` is the text, if it is no option itself
+-- the word after `--NAME` is the text, unless it is an option itself
 abbrev pub text_behind : List ℕ → Option (List ℕ)
 text_behind word = if is_option word then None else Some word
 
--- The word is an option by itself: it has the text, or none is wanted.
+-- The word is a complete option: it has the text, or none is wanted.
 abbrev pub is_whole : List OptionForm → List ℕ → Bool
 is_whole options word =
     is_some (text_in word) || option_map_or (λ option. is_wanted option.wants None) (option_and_then (option_named options) (name_in word)) false
 
--- The options that the words give behind those given: `--NAME=TEXT`, or `--NAME` and `TEXT`, or `--NAME` alone, in any order.
--- A `--` that stands last says nothing.
+-- The options that the words give after those given: `--NAME=TEXT`, or `--NAME` and `TEXT`, or `--NAME` alone, in any order. A `--`
+-- as the last word means nothing.
 abbrev pub given_by : List OptionForm → Given → List (List ℕ) → Option Given
 given_by options given [] = Some given
 given_by options given (word ∷ []) = if bytes_eq word (codes "--") then Some given else one_more options given (name_in word) (text_in word)
@@ -167,13 +167,13 @@ given_by options given (word ∷ next ∷ words) =
     if is_whole options word then option_and_then (λ more. given_by options more (next ∷ words)) (one_more options given (name_in word) (text_in word))
     else option_and_then (λ more. given_by options more words) (one_more options given (name_in word) (text_behind next))
 
--- the number of an option, by the text that is given or stands for it
+-- the number of an option, by the text that is given or by its default
 abbrev pub number_of : Given → NumberOption → ℕ
 number_of given option = digits_value 10 (without_leading_sign (unwrap_or (text_given given option.name) option.default))
 
 -- ---- an import
 
--- a letter, a digit or a low line (95)
+-- a letter, a digit or an underscore (95)
 abbrev pub is_name_byte : ℕ → Bool
 is_name_byte b = is_ascii_alphanumeric b || b == 95
 
@@ -181,20 +181,20 @@ abbrev pub begins_with_letter : List ℕ → Bool
 begins_with_letter [] = false
 begins_with_letter (b ∷ bytes) = is_ascii_alphabetic b
 
--- a letter, and then letters, digits and low lines; but `profile_name` has the profile's name
+-- a letter, and then letters, digits and underscores; but not `profile_name`, which has the profile's name
 abbrev pub is_variable : List ℕ → Bool
 is_variable text = begins_with_letter text && list_all is_name_byte text && not (bytes_eq text (codes "profile_name"))
 
--- The last of these bytes is a backslash (92) that would take a byte behind it, whether one stands directly before them or not.
+-- The last of these bytes is a backslash (92) that would escape a byte after it; `escaped`: an open backslash is directly before them.
 abbrev pub ends_open : Bool → List ℕ → Bool
 ends_open escaped [] = escaped
 ends_open escaped (b ∷ bytes) = ends_open (not escaped && b == 92) bytes
 
--- of a value: behind it stands what it would take with it in a path
+-- the value has no open backslash at its end, which would escape what follows it in a path
 abbrev pub is_value : List ℕ → Bool
 is_value value = not (ends_open false value)
 
--- what stands before the first `=` of VAR=VALUE, and what stands behind it
+-- what is before the first `=` of VAR=VALUE, and what is after it
 abbrev pub define_cut : List ℕ × Option (List ℕ) → Option (List ℕ × List ℕ)
 define_cut cut =
     option_and_then (λ value. if is_variable cut.0 && is_value value then Some (cut.0, value) else None) cut.1
@@ -207,7 +207,7 @@ abbrev pub defines_of : List (List ℕ) → Option (List (List ℕ × List ℕ))
 defines_of [] = Some []
 defines_of (text ∷ texts) = option_and_then (λ first. option_map (λ others. first ∷ others) (defines_of texts)) (define_of text)
 
--- they are kept where nothing is said of them
+-- they are kept if nothing is said about them
 abbrev pub owners_of : Option (List ℕ) → Option OwnerRules
 owners_of None = Some Keep
 owners_of (Some text) = if bytes_eq text (codes "keep") then Some Keep else (if bytes_eq text (codes "drop") then Some Drop else None)
@@ -230,7 +230,7 @@ import_options = record { name = codes "profile"; wants = one_text }
 
 -- ---- the commands
 
--- what the words behind a command's name are
+-- what the words after a command's name are
 pub data Arguments : Type 0 where
   -- two arguments, which give the line
   pair : (List ℕ → List ℕ → LineValue) → Arguments
@@ -258,7 +258,7 @@ changes = record { name = codes "changes"; default = codes "1000"; least = 0; mo
 abbrev pub storm_by : (NumberOption → ℕ) → LineValue
 storm_by number = storm (number sessions) (number opens) (number changes)
 
--- of a profile in this program's language
+-- the commands of a profile in this program's language
 abbrev pub profile_commands : List CommandForm
 profile_commands = record { name = codes "judge"; takes = pair judge } ∷ record { name = codes "explain"; takes = pair explain } ∷ []
 
@@ -266,13 +266,13 @@ abbrev pub script_commands : List CommandForm
 script_commands = record { name = codes "run"; takes = numbers (capacity ∷ []) (λ number. run (number capacity)) }
     ∷ record { name = codes "test"; takes = numbers (capacity ∷ []) (λ number. test (number capacity)) } ∷ []
 
--- of the image of a profile
+-- the commands of the image of a profile
 abbrev pub image_commands : List CommandForm
 image_commands = record { name = codes "compile"; takes = numbers [] (λ number. compile) }
     ∷ record { name = codes "check"; takes = numbers [] (λ number. check) }
     ∷ record { name = codes "match"; takes = pair match_name } ∷ []
 
--- of single events, and of threads
+-- the commands of single events, and of threads
 abbrev pub event_commands : List CommandForm
 event_commands = record { name = codes "steps"; takes = numbers (capacity ∷ []) (λ number. steps (number capacity)) }
     ∷ record { name = codes "storm"; takes = numbers (sessions ∷ opens ∷ changes ∷ []) storm_by } ∷ []
@@ -291,7 +291,7 @@ line_by (pair line) words = option_map (λ asked. line asked.0 asked.1) (pair_of
 line_by (numbers options line) words = option_map (λ given. line (number_of given)) (given_by (map number_form options) [] words)
 line_by (asks options line) words = option_and_then line (given_by options [] words)
 
--- the program's name, a command's and what it is asked
+-- the program's name, a command's name and its arguments
 abbrev pub line_of : List (List ℕ) → Option LineValue
 line_of (program ∷ name ∷ words) = option_and_then (λ command. line_by command.takes words) (command_named commands name)
 line_of _ = None

@@ -25,7 +25,7 @@ pub enum OwnerRules {
 pub struct Define<'a> {
     /// A letter, and then letters, digits and `_`.
     pub variable: &'a str,
-    /// Any text without a backslash at its end that takes nothing.
+    /// Any text that doesn't end with a backslash that escapes nothing.
     pub value: &'a str,
 }
 
@@ -37,7 +37,7 @@ pub struct ImportOptions<'a> {
     pub owners: OwnerRules,
     /// Values of variables, in the order of the words.
     pub defines: Vec<Define<'a>>,
-    /// Whether a profile is refused that isn't exact for the chosen subject.
+    /// Whether a profile that isn't exact for the chosen subject is refused.
     pub strict: bool,
 }
 
@@ -69,7 +69,7 @@ pub(crate) fn import_in<'a>(
     })
 }
 
-/// The fault of an option that has another text than it takes.
+/// The fault of an option whose text isn't one that it takes.
 fn text_fault(alloc: Global, told: &str) -> LineFault {
     match text_error(alloc, told) {
         Ok(error) => LineFault::Usage(error),
@@ -101,7 +101,7 @@ fn owners_of(text: Option<&str>) -> Option<OwnerRules>
     }
 }
 
-/// Each of the texts as a variable with its value, or none where one of them is no VAR=VALUE.
+/// Each of the texts as a variable with its value, or none if one of them isn't VAR=VALUE.
 fn defines_of<'a>(alloc: Global, texts: &[&'a str]) -> Result<Option<Vec<Define<'a>>>, AllocError>
     ensures { IfOk result (λ defines.
         option_map (λ list. map define_value list.items) defines ≡ defines_of (map (λ text. text.now) texts.now)) }
@@ -134,7 +134,7 @@ fn may_be_defined(variable: &str, value: &str) -> bool
     is_variable(variable) && is_value(value)
 }
 
-/// The text is a letter and then letters, digits and `_`, and not `profile_name`.
+/// Whether the text is a letter and then letters, digits and `_`, and not `profile_name`.
 fn is_variable(text: &str) -> bool
     ensures { result ≡ is_variable text.now }
 {
@@ -142,14 +142,14 @@ fn is_variable(text: &str) -> bool
     begins_with_letter(bytes) && are_name_bytes(bytes) && text != "profile_name"
 }
 
-/// The text doesn't end with a backslash that would take what stands behind the variable in a path.
+/// Whether the text doesn't end with a backslash that would escape what follows the variable in a path.
 fn is_value(text: &str) -> bool
     ensures { result ≡ is_value text.now }
 {
     !ends_open(text.as_bytes())
 }
 
-/// Whether the last of the bytes is a backslash that no other one takes.
+/// Whether the last of the bytes is a backslash that isn't itself escaped.
 fn ends_open(bytes: &[u8]) -> bool
     ensures { result ≡ ends_open false bytes.now }
 {
@@ -160,7 +160,7 @@ fn ends_open(bytes: &[u8]) -> bool
     escaped
 }
 
-/// The byte is a backslash, and none takes it.
+/// Whether the byte is a backslash that isn't escaped.
 fn escapes(escaped: bool, byte: u8) -> bool
     ensures { result ≡ (not escaped && byte == 92) }
 {

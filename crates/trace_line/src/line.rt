@@ -60,10 +60,10 @@ pub enum Line<'a> {
 /// Why a command line can't be followed.
 #[derive(Debug, Drop, Error)]
 pub enum LineFault {
-    /// The words are no command, or ask for help. The text ends with a line break.
+    /// The words aren't a command, or ask for help. The text ends with a line break.
     #[error("{0}")]
     Usage(clap::Error),
-    /// Memory was refused; nothing is said of the words.
+    /// Memory was refused; nothing is said about the words.
     #[error("{}", NoMemory)]
     NoMemory,
 }

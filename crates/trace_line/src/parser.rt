@@ -11,16 +11,16 @@ use std::alloc::{AllocError, Global};
 /// An option of a command, whose value is a number.
 #[derive(Clone, Copy)]
 pub(crate) struct NumberOption {
-    /// Its name, which stands behind two hyphens.
+    /// Its name, which follows two hyphens.
     pub(crate) name: &'static str,
-    /// The number that it has where it isn't given, in decimal digits.
+    /// Its number if it isn't given, in decimal digits.
     default: &'static str,
     least: u32,
     most: u32,
     help: &'static str,
 }
 
-/// What `--version` tells.
+/// The version that `--version` prints.
 const VERSION: &str = "0.1.0";
 
 /// How many entries the tree of `run`, `test` and `steps` has room for.
@@ -59,8 +59,8 @@ pub(crate) const CHANGES: NumberOption = NumberOption {
     help: "The number of renames meanwhile, and of new profiles, 0 to 100000",
 };
 
-/// The commands of the program. Each is added to the program before the next one is made, so that one command at a time has
-/// to be given up where memory is refused.
+/// The commands of the program. Each is added to the program before the next one is made, so that only one command at a time
+/// has to be dropped if memory is refused.
 pub(crate) fn program<'a>(alloc: Global) -> Result<Command<'a>, AllocError>
     ensures { IfOk result (λ command. app_of command ≡ program_app) }
 {
@@ -160,7 +160,7 @@ fn with_event_commands<'a>(program: Command<'a>, alloc: Global) -> Result<Comman
     )
 }
 
-/// The command that brings a profile into this program's language.
+/// The command that imports a profile into this program's language.
 pub(crate) fn import_command<'a>(alloc: Global) -> Result<Command<'a>, AllocError>
     ensures { IfOk result (λ command. app_of command ≡ options_app (codes "import") import_options) }
 {

@@ -1,4 +1,4 @@
--- How commands end that told a fault, or of whose answer a front part was written.
+-- How commands end that reported a fault, or that wrote a prefix of their answer.
 use Rattle.std.proofs.Common.{◌≡◌, ◌≢◌, ℕ, List, [], Option, Some, None, refl, inl, inr, rules}
 use Rattle.std.specs.Prelude.{codes}
 use Rattle.std.specs.Io.KnownBytes.{Keeps, Appends}
@@ -20,7 +20,7 @@ pub appends_nothing : (known : Option (List ℕ)) → Appends known known []
 appends_nothing None = tt
 appends_nothing (Some xs) = search rules
 
--- of any bytes nothing was written yet
+-- of any bytes the empty prefix was written
 pub nothing_yet : (known : Option (List ℕ)) (bytes : List ℕ) → AppendsFront known known bytes
 nothing_yet known bytes = ([], bytes, refl, appends_nothing known)
 
@@ -28,7 +28,7 @@ pub keeps : (known : Option (List ℕ)) → Keeps known known
 keeps None = tt
 keeps (Some xs) = refl
 
--- the streams of a command that told a fault and nothing else
+-- the streams of a command that reported a fault and wrote nothing else
 abbrev pub told_alone : Option (List ℕ) → Option (List ℕ) → Option (List ℕ) → Streams
 told_alone answers before after = record { answers_before = answers; answers_after = answers; faults_before = before; faults_after = after }
 
@@ -44,7 +44,7 @@ cut_short : (answers before after : Option (List ℕ)) (output : Output) (told :
     → output.status ≢ BadArguments → Appends before after (line told) → IsCutShort (told_alone answers before after) output told
 cut_short answers before after output told good h = record { answers = keeps answers; faults = h; arguments = good }
 
--- a command that told its fault ends as it should
+-- a command that reported its fault ends as it should
 pub ends_told : (answers before after : Option (List ℕ)) (output : Output) (f : Fault) (status : Status)
     → IsFaultOf output f → IsTold before after (fault_text f) (fault_status f) status → Ends (told_alone answers before after) output status
 ends_told answers before after output f status of (inl e) = rw e (nothing_yet answers output.answers)
@@ -63,7 +63,7 @@ ends_told answers before after output Input status of (inr h) =
 ends_told answers before after output Memory status of (inr h) =
     rw h.0 (cut_short answers before after output (fault_text Memory) of h.1)
 
--- an answer of which a front part was written, and then what is told of that
+-- an answer of which a prefix was written, and then the message about that
 pub unanswered : (answers after faults told : Option (List ℕ)) (output : Output) (status : Status)
     → output.status ≡ Done → AppendsFront answers after output.answers → IsTold faults told (codes "refused: output") OutputFailed status
     → Ends (record { answers_before = answers; answers_after = after; faults_before = faults; faults_after = told }) output status

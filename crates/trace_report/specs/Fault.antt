@@ -1,4 +1,4 @@
--- How a fault is told, and what it says of what is to be written.
+-- How a fault is reported, and what it says of what is to be written.
 use Rattle.names.specs.Errors.{no_memory_text}
 use Rattle.std.specs.Prelude.{◌≡◌, ◌≢◌, ℕ, List, codes}
 use Rattle.std.specs.IoError.{error_kind}
@@ -40,13 +40,13 @@ IsFaultOf output Input = output.status ≢ BadArguments
 IsFaultOf output Memory = output.status ≢ BadArguments
 IsFaultOf output f = output ≡ fault (fault_text f) (fault_status f)
 
--- what an error of a reader is told as
+-- what an error of a reader is reported as
 abbrev pub IsFaultOfReading : Error → Fault → Type 0
 IsFaultOfReading error Input = error_kind error ≢ OutOfMemory
 IsFaultOfReading error Memory = error_kind error ≡ OutOfMemory
 IsFaultOfReading error _ = ⊥
 
--- what faults of texts, of making profiles and of images are told as: want of memory is told as such
+-- what faults of texts, of making profiles and of images are reported as: running out of memory is reported as such
 abbrev pub fault_of_text : ReadFault → Fault
 fault_of_text reading.NoMemory = Memory
 fault_of_text f = Text f

@@ -33,7 +33,7 @@ fault text status = record { answers = []; faults = line text; status = status }
 abbrev pub refusal : ReadFault → List ℕ
 refusal f = codes "refused: read " ++ decimal (fault_number f) ++ codes " at " ++ decimal (unwrap_or (fault_offset f) 0)
 
--- where a fault of an image stands, if it tells
+-- where a fault of an image is, if it says
 abbrev pub at_index : Option ℕ → List ℕ
 at_index None = []
 at_index (Some index) = codes " at " ++ decimal index

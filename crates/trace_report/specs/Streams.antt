@@ -6,14 +6,14 @@ use Rattle.trace_report.specs.Output.{Output, line}
 use Rattle.trace_report.specs.declared.status.Status.{Status}
 use Rattle.trace_report.specs.declared.status.Status.TheVariants.{Done, Unmet, BadArguments, Refused, InputFailed, OutputFailed, FaultsFailed, NoMemory}
 
--- the bytes of both streams of output, before and after, where they are known
+-- the bytes of both output streams, before and after, where they are known
 pub record Streams : Type 0 where
   pub answers_before : Option (List ℕ)
   pub answers_after : Option (List ℕ)
   pub faults_before : Option (List ℕ)
   pub faults_after : Option (List ℕ)
 
--- a front part of the bytes was appended
+-- a prefix of the bytes was appended
 abbrev pub AppendsFront : Option (List ℕ) → Option (List ℕ) → List ℕ → Type 0
 AppendsFront before after bytes =
     (front : List ℕ) × (back : List ℕ) × (bytes ≡ front ++ back) × Appends before after front
@@ -24,23 +24,23 @@ pub record IsWritten (streams : Streams) (output : Output) (status : Status) : T
   pub faults : Appends streams.faults_before streams.faults_after output.faults
   pub ends : output.status ≡ status
 
--- good arguments, and then a fault of which the input says nothing
+-- good arguments, and then a fault that the input says nothing about
 pub record IsCutShort (streams : Streams) (output : Output) (told : List ℕ) : Type 0 where
   pub answers : Keeps streams.answers_before streams.answers_after
   pub faults : Appends streams.faults_before streams.faults_after (line told)
   pub arguments : output.status ≢ BadArguments
 
--- an answer that couldn't be written whole: a front part of it stands
+-- an answer that couldn't be written whole: a prefix of it was written
 pub record IsUnanswered (streams : Streams) (output : Output) : Type 0 where
   pub faults : Appends streams.faults_before streams.faults_after (line (codes "refused: output"))
   pub answers : AppendsFront streams.answers_before streams.answers_after output.answers
   pub answer : output.status ≡ Done
 
--- A message that couldn't be written: the answers are what they are to be, or a front part of that.
+-- A message that couldn't be written: the answers are what they should be, or a prefix of that.
 abbrev pub IsUntold : Streams → Output → Type 0
 IsUntold streams output = AppendsFront streams.answers_before streams.answers_after output.answers
 
--- How a command ends that is to write `output`.
+-- How a command that is to write `output` ends.
 abbrev pub Ends : Streams → Output → Status → Type 0
 Ends streams output Done = IsWritten streams output Done
 Ends streams output Unmet = ⊥
@@ -59,14 +59,14 @@ IsTextOf left text = IfSome left (λ known. text ≡ known)
 abbrev pub IsTold : Option (List ℕ) → Option (List ℕ) → List ℕ → Status → Status → Type 0
 IsTold before after told status result = (result ≡ FaultsFailed) ⊎ ((result ≡ status) × Appends before after (line told))
 
--- good arguments, and then a fault of which the input says nothing, whatever is wanted
+-- good arguments, and then a fault that the input says nothing about, whatever is wanted
 pub record AreCutShort (streams : Streams) (Wanted : Output → Type 0) (told : List ℕ) : Type 0 where
   pub answers : Keeps streams.answers_before streams.answers_after
   pub faults : Appends streams.faults_before streams.faults_after (line told)
   pub arguments : (output : Output) → Wanted output → output.status ≢ BadArguments
 
--- How a command ends that is to write one of some outputs. Where a message couldn't be written, no answer stands, or what
--- stands of one that is wanted.
+-- How a command that is to write one of several outputs ends. Where a message couldn't be written, nothing of an answer was
+-- written, or a prefix of a wanted one.
 abbrev pub EndsInOne : Streams → (Output → Type 0) → Status → Type 0
 EndsInOne streams Wanted Done = (output : Output) × Wanted output × IsWritten streams output Done
 EndsInOne streams Wanted Unmet = ⊥

@@ -1,4 +1,4 @@
-//! Why a command has no answer, and how that is told.
+//! Why a command has no answer, and how that is reported.
 ghost use Rattle.std.specs.Prelude.{◌≡◌, ◌↔◌, Some};
 ghost use Rattle.trace_report.specs.Fault.{fault_text, fault_status, IsFaultOfReading, fault_of_image, fault_of_making, fault_of_text};
 
@@ -13,7 +13,7 @@ use tables::ImageFault;
 /// Why a command has no answer.
 #[derive(Clone, Copy, Debug, PartialEq, Eq)]
 pub enum Fault {
-    /// The letters of what is asked are no set of permissions, or there are none.
+    /// The letters of the permissions asked for aren't a set of permissions, or there are none.
     Permissions,
     /// The name to be judged doesn't begin with a slash.
     Name,
@@ -46,7 +46,7 @@ impl Fault {
 impl From<io::Error> for Fault {
     ghost from_gives = { IsFaultOfReading };
 
-    // Growing the buffer for what is read may want memory.
+    // Growing the buffer for what is read may run out of memory.
     fn from(error: io::Error) -> Fault {
         if error.kind() == ErrorKind::OutOfMemory {
             Fault::Memory
@@ -56,7 +56,7 @@ impl From<io::Error> for Fault {
     }
 }
 
-// Want of memory is told as such.
+// Running out of memory is reported as such.
 impl From<ReadFault> for Fault {
     ghost from_gives = { λ fault told. told ≡ fault_of_text fault };
 
@@ -99,7 +99,7 @@ impl fmt::Display for Fault {
             Fault::Name => write!(f, "bad name"),
             Fault::Text(fault) => {
                 let number = fault.number();
-                // Only want of memory has no place, and that is told as such.
+                // Only running out of memory has no offset, and that is reported as such.
                 let offset = fault.offset().unwrap_or(0);
                 write!(f, "refused: read {number} at {offset}")
             }

@@ -8,14 +8,14 @@ ghost use Rattle.trace_report.specs.declared.fault.Fault.{Fault};
 ghost use Rattle.trace_report.specs.declared.status.Status.{Status};
 ghost use Rattle.trace_report.specs.declared.status.Status.TheVariants.{Done, Unmet, BadArguments, Refused, InputFailed, NoMemory};
 
-/// Only what is done ends with 0, and no fault is done.
+/// Only `Done` has the code 0, and no fault has the status `Done`.
 pub fn zero_is_done()
     ensures code { (status : Status) → status_code status ≡ 0 → status ≡ Done }
     ensures fault { (fault : Fault) → fault_status fault ≡ Done → ⊥ }
 {}
 
-/// No command ends as done that is to report a fault or that has written a part of its answer, none as refused that has an
-/// answer, and none with bad arguments goes on to read.
+/// No command that is to report a fault, or that has written a part of its answer, ends as done; none that has an answer ends as
+/// refused; and none with bad arguments goes on to read.
 pub fn commands_end_as_they_are_to()
     ensures fault_as_done { (streams : Streams) (output : Output) → output.status ≢ Done → Ends streams output Done → ⊥ }
     ensures answer_as_refused { (streams : Streams) (output : Output) → output.status ≡ Done → Ends streams output Refused → ⊥ }

@@ -1,4 +1,4 @@
-//! How commands end: exit statuses, why a command has no answer and how that is told, and what goes to the streams of output.
+//! How commands end: exit statuses, why a command has no answer and how that is reported, and what goes to the output streams.
 //!
 //! The definitions to believe are those in `specs/`.
 #![tactic(auto)]

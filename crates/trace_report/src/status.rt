@@ -24,7 +24,7 @@ pub enum Status {
 }
 
 impl Status {
-    /// What the process ends with.
+    /// The exit code of the process.
     pub fn code(self) -> u8
         ensures { result ≡ status_code self }
     {

@@ -1,4 +1,4 @@
-//! Lines on the streams of output.
+//! Lines on the output streams.
 ghost use Rattle.std.specs.Prelude.{◌≡◌, ◌⊎◌, OnOk, OnErr, IfSome, Some};
 ghost use Rattle.std.specs.Io.KnownBytes.{Appends};
 ghost use Rattle.trace_report.specs.Output.{line, whole_answer};
@@ -9,8 +9,7 @@ use std::fmt::Display;
 use std::io;
 use std::io::{ErrorKind, Write};
 
-/// Writes the bytes, in as many parts as the writer takes, and has them stand where they go to. At an error a front
-/// part of them was written.
+/// Writes the bytes, in as many parts as the writer takes, and flushes them. On an error a prefix of them was written.
 pub fn write_through<W: Write>(to: &mut W, bytes: &[u8]) -> io::Result<()>
     ensures ok { OnOk result (Appends (W.contents to.old) (W.contents to.new) bytes.now) }
     ensures err { OnErr result (AppendsFront (W.contents to.old) (W.contents to.new) bytes.now) }
@@ -33,7 +32,7 @@ pub fn write_through<W: Write>(to: &mut W, bytes: &[u8]) -> io::Result<()>
     Err(io::Error::from(ErrorKind::TimedOut))
 }
 
-/// Writes the text as a line, and has it stand where it goes to.
+/// Writes the text as a line, and flushes it.
 fn write_line<W: Write, D: Display + Drop>(to: &mut W, text: D) -> io::Result<()>
     ensures { OnOk result (IfSome (D.output text)
         (λ text. Appends (W.contents to.old) (W.contents to.new) (line text))) }
@@ -42,7 +41,7 @@ fn write_line<W: Write, D: Display + Drop>(to: &mut W, text: D) -> io::Result<()
     to.flush()
 }
 
-/// Tells why there is no answer, and ends with the status.
+/// Reports why there is no answer, and returns the status to end with.
 pub fn fail<F: Write, D: Display + Drop>(faults: &mut F, message: D, status: Status) -> Status
     ensures { IfSome (D.output message)
         (λ told. IsTold (F.contents faults.old) (F.contents faults.new) told status result) }
@@ -53,7 +52,7 @@ pub fn fail<F: Write, D: Display + Drop>(faults: &mut F, message: D, status: Sta
     }
 }
 
-/// Writes the bytes of an answer. Where that fails, a front part of them was written.
+/// Writes the bytes of an answer. If that fails, a prefix of them was written.
 pub fn write_answer<A: Write, F: Write>(answers: &mut A, faults: &mut F, bytes: &[u8]) -> Status
     ensures { Ends
         (record {

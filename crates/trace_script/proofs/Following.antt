@@ -30,7 +30,7 @@ text_of_lines-append xs ys = ap concat (map-append line xs ys) ∙ concat-append
 pub wrote_more : (a b c : Option (List ℕ)) (xs ys : List (List ℕ)) → Appends a b (text_of_lines xs) → Appends b c (text_of_lines ys) → Appends a c (text_of_lines (xs ++ ys))
 wrote_more a b c xs ys p q = rw (text_of_lines-append xs ys) (Appends-more a b c (text_of_lines xs) (text_of_lines ys) p q)
 
--- the first lines stand, and a front part of those after them
+-- the first lines were written, and a prefix of those after them
 pub cut_at : (a b c : Option (List ℕ)) (all lines some more : List (List ℕ)) → all ≡ lines ++ (some ++ more) → Appends a b (text_of_lines lines)
     → AppendsFront b c (text_of_lines some) → AppendsFront a c (text_of_lines all)
 cut_at a b c all lines some more e h (front, back, split, appended) = (
@@ -50,12 +50,12 @@ line_stopped step state wanted before after TooLong e h = absurd h
 line_stopped step state wanted before after Memory e h = h
 line_stopped step state wanted before after Output e h = (done_line step, e, h)
 
--- there was no memory for a command
+-- memory ran out for a command
 pub done_not : {S : Type 0} (step : Step S) (state : S) (before : Option (List ℕ)) (stop : Stop) → stop ≡ Memory → IsDone {T = Unit {0}} step state before before (Err stop)
 done_not step state before stop h = rw h (keeps before)
 
 module _ {C S : Type 0} (engine : Engine C S) where
-  -- what a line outside a policy comes to, by what it says
+  -- the outcome of a line outside a policy, by what it says
   abbrev pub followed_kind : S → ℕ → LineOf C → Result (Followed S) ℕ
   followed_kind state number s = elim s [
     | ignored ↦ Ok (silent_line state outside)
@@ -67,7 +67,7 @@ module _ {C S : Type 0} (engine : Engine C S) where
   pub outside_kind : (state : S) (number : ℕ) (line : List ℕ) (s : LineOf C) → s ≡ engine.grammar.kind number line → followed engine state outside number line ≡ followed_kind state number s
   outside_kind state number line s e = ap (followed_kind state number) (sym e)
 
-  -- what a line of a policy comes to
+  -- the outcome of a line of a policy
   abbrev pub followed_within : S → ℕ → List ℕ → List ℕ → Bool → Result (Followed S) ℕ
   followed_within state start text line ends =
       cond ends (Ok (done_line (engine.does state (engine.grammar.policy text)))) (Ok (silent_line state (within start (text ++ line ++ line_feed ∷ []))))
@@ -95,7 +95,7 @@ module _ {C S : Type 0} (engine : Engine C S) where
   abbrev from_line : Section → ℕ → List (List ℕ) → ScriptOf C
   from_line section before left = script_by engine.grammar section before left
 
-  -- what comes of a line, whatever lines are left: none or one command, or the script stops
+  -- the outcome of a line, whatever lines are left: none or one command, or the script stops
   abbrev Comes : S → (List (List ℕ) → ScriptOf C) → ℕ → Result (Followed S) ℕ → Type 0
   Comes state whole number (Ok f) = (more : List C) × (lines_by engine state more ≡ f.lines) × (state_by engine state more ≡ f.state)
       × ((left : List (List ℕ)) → (whole left).commands ≡ more ++ (from_line f.section number left).commands)
@@ -150,7 +150,7 @@ module _ {C S : Type 0} (engine : Engine C S) where
   still_few text done section before left ahead one =
       omega (arith, ap length ahead.commands, length-append done (from_line section before left).commands, few_commands engine.grammar before left section, one)
 
-  -- what the commands print that were done stands, and no more
+  -- what was printed is what the commands that were done print, and no more
   pub short_of : (state : S) (first after : Option (List ℕ)) (read text : List ℕ) (done : List C) (section : Section) (before : ℕ) (left : List (List ℕ)) (a b : Option (List ℕ))
       → Consumes first after read → length (script engine read).commands ≤ length done + 1 → IsAhead text done section before left
       → Appends a b (text_of_lines (lines_by engine state done)) → IsShort engine state first after text a b

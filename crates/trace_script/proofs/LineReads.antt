@@ -126,7 +126,7 @@ pub part_read : (left after : Option (List ℕ)) (cleared read : List ℕ) → c
 part_read left after cleared read none stops consumed =
     (taken_alone left after cleared read none consumed, part_of_line read (rw none at stops))
 
--- a failure to read, by what it is told as
+-- a failure to read, by the stop that reports it
 pub stopped_reading : (left after : Option (List ℕ)) (line : List ℕ) (error : Error) (result : Result LineRead Stop) → IsErrAnd result (IsStopOfReading error) → IsPartRead left after line
     → IsLineRead left after line result
 stopped_reading left after line error (Ok read) is part = absurd is

@@ -59,7 +59,7 @@ module _ (xs : List ℕ) where
   first_word : 0 < n → words_of xs ≡ front ∷ words_of (drop n xs)
   first_word some = elim (cases_lt n (length xs)) [ inl h ↦ followed some h | inr h ↦ alone some h ]
 
--- one step over a text xs: past the blanks in front of it, and then over what stands before the next blank
+-- one step over a text xs: past the blanks in front of it, and then over what comes before the next blank
 module _ (xs : List ℕ) where
   abbrev rest : List ℕ
   rest = drop (prefix_len is_blank xs) xs
@@ -67,7 +67,7 @@ module _ (xs : List ℕ) where
   long : length rest ≡ length xs - prefix_len is_blank xs
   long = length-drop (prefix_len is_blank xs) xs
 
-  -- past the blanks something stands before the next blank, unless nothing is left
+  -- after the blanks there is something before the next blank, unless nothing is left
   runs_on : 0 < length rest → 0 < position_or_len is_blank rest
   runs_on some = elim (cases_lt 0 (position_or_len is_blank rest)) [ inl h ↦ h | inr h ↦ absurd (stuck h) ]
     where

@@ -1,4 +1,4 @@
--- What is printed of a profile that was published, and what its line comes to.
+-- What is printed for a profile that was published, and the outcome of composing its line.
 use Rattle.std.proofs.Common.{◌≡◌, ℕ, ◌+◌, Bool, false, List, [], ◌∷◌, ◌++◌, Option, Result, Ok, Err, Vec, Global, sym, ap, ◌∙◌, length-append, codes, decimal}
 use Rattle.std.proofs.lemmas.Bool.{cases_Bool}
 use mathlib.Core.Logic.{⊎_elim}
@@ -15,7 +15,7 @@ use Rattle.trace_script.specs.RunOutput.{Printed, policy_printed, profile_printe
 is_not_over : (limit : StateLimit) (rules : List RuleValue) → ¬ (AreMoreThan most_sets rules) → limit.is_over rules ≡ false
 is_not_over limit rules few = ⊎_elim (λ over. absurd (few ((limit.right rules).0 over))) (λ h. h) (cases_Bool (limit.is_over rules))
 
--- a line that was composed, or memory was refused
+-- a line that was composed, or memory ran out
 pub composed : (p : Printed) (history : History) (text : List ℕ) (result : Result (Vec ℕ Global) Stop) → line text ≡ line p.text → history ≡ p.history → IsText text result → IsComposed p history result
 composed p history text (Ok bytes) same done is = (is ∙ same, done)
 composed p history text (Err stop) same done is = is

@@ -44,7 +44,7 @@ module _ (limit : StateLimit) (history now : History) (text : List ℕ) (left af
   abbrev Follows : Stop → Type 0
   Follows stop = IsFollowed (run_engine limit) {T = Unit {0}} history left after text now a b (Err stop)
 
-  -- the first lines stand
+  -- the first lines were written
   short_lines : (h : IsShort (run_engine limit) history left after text a b) → Appends a b (text_of_lines (take h.0 lines))
   short_lines h = rw (first_run_lines_are limit history h.0 (script_of text).commands) at h.2
 

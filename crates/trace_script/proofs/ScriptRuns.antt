@@ -40,7 +40,7 @@ as_read left after line seen r s e same h =
     let Q : List ℕ → Type 0 = λ l. IsLineRead left after l (Ok s) in
     subst Q (sym same) (subst P e h)
 
--- The lines that were read so far, and what came of them.
+-- The lines that were read so far, and their outcome.
 pub record IsRunning {C S : Type 0} (engine : Engine C S) (state : S) (left_first left answers_first answers : Option (List ℕ)) (now : S) (section : Section) (before : ℕ) : Type 0 where
   pub read : List ℕ
   pub done : List C
@@ -119,7 +119,7 @@ module _ {C S : Type 0} (engine : Engine C S) (state : S) (first left a b : Opti
             (Consumes-more first left after_line running.read part running.consumed consumed) few (running.ahead text.0) running.written,
       )
 
-  -- the reader failed, or there was no memory for a line
+  -- the reader failed, or memory ran out for a line
   pub running_unread : (after_line : Option (List ℕ)) (line : List ℕ) (stop : Stop) (last : S) → IsLineRead left after_line line (Err stop) → Comes {T = Unit {0}} engine state first after_line last a b (Err stop)
   running_unread after_line line (NoCommand number) last h = absurd h
   running_unread after_line line Input last h = running_short after_line line h
@@ -127,7 +127,7 @@ module _ {C S : Type 0} (engine : Engine C S) (state : S) (first left a b : Opti
   running_unread after_line line Memory last h = running_short after_line line h
   running_unread after_line line Output last h = absurd h
 
-  -- so many lines were read as are read of a script
+  -- as many lines were read as are read of a script at most
   pub running_over : (last : S) → before ≡ most_lines → Comes {T = Unit {0}} engine state first left last a b (Err TooLong)
   running_over last all =
       let short = running_short left [] (consumes_nothing left, omega arith) in

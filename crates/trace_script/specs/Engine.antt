@@ -1,5 +1,5 @@
--- What engines of scripts have in common: where reading stands, lines that are read and written, and why a script isn't
--- followed to its end.
+-- What engines of scripts have in common: the state of reading, lines that are read and written, and why a script isn't followed to
+-- its end.
 use Rattle.mediation.specs.History.{History}
 use Rattle.names.specs.Errors.{no_memory_text}
 use Rattle.std.specs.Prelude.{◌≡◌, ◌≢◌, ℕ, ◌<◌, ◌≤◌, List, [], ◌∷◌, ◌++◌, ◌^◌, ◌-◌, length, All, codes, decimal, Option, Some, None, Result, Ok, Err, Vec, IfSome}
@@ -25,7 +25,7 @@ abbrev pub section_value : SectionHere → Section
 section_value Outside = outside
 section_value (Within start text) = within start text.items
 
--- how it is told that a script isn't followed to its end
+-- the message that says why a script isn't followed to its end
 abbrev pub stop_text : Stop → List ℕ
 stop_text (NoCommand number) = codes "line " ++ decimal number ++ codes ": not a command"
 stop_text Input = codes "refused: input"
@@ -40,7 +40,7 @@ stop_status TooLong = InputFailed
 stop_status Memory = NoMemory
 stop_status Output = OutputFailed
 
--- what an error of a reader stops with
+-- how a reader's error stops a script
 abbrev pub IsStopOfReading : Error → Stop → Type 0
 IsStopOfReading error Input = error_kind error ≢ OutOfMemory
 IsStopOfReading error Memory = error_kind error ≡ OutOfMemory
@@ -68,7 +68,7 @@ most_lines = 2 ^ 60 - 1
 abbrev pub IsTooLong : Option (List ℕ) → Option (List ℕ) → Type 0
 IsTooLong left left_after = (read : List ℕ) × Consumes left left_after read × (length (lines_of read) ≡ most_lines)
 
--- the number of the line that a policy began at, of which there is no end
+-- the line at which a policy without an end began
 abbrev pub is_open_at : Section → Option ℕ
 is_open_at outside = None
 is_open_at (within start text) = Some start
@@ -85,12 +85,12 @@ IsPut before after bytes (Ok done) = Appends before after bytes
 IsPut before after bytes (Err Output) = AppendsFront before after bytes
 IsPut before after bytes (Err _) = ⊥
 
--- a printed line, composed, and what was done then; or memory was refused
+-- a printed line, composed, and what was done then; or memory ran out
 abbrev pub IsComposed : Printed → History → Result (Vec ℕ Global) Stop → Type 0
 IsComposed p history (Ok text) = (text.items ≡ line p.text) × (history ≡ p.history)
 IsComposed p history (Err stop) = stop ≡ Memory
 
--- a text as a line, or memory was refused
+-- a text as a line, or memory ran out
 abbrev pub IsText : List ℕ → Result (Vec ℕ Global) Stop → Type 0
 IsText text (Ok bytes) = bytes.items ≡ line text
 IsText text (Err stop) = stop ≡ Memory

@@ -19,14 +19,14 @@ pub record Engine (C S : Type 0) : Type 0 where
   pub grammar : Grammar C
   pub does : S → C → Step S
 
--- what a command prints was written, or a front part of it; or nothing was printed, for want of memory
+-- what a command prints was written, or a prefix of it; or nothing was printed, because memory ran out
 abbrev pub IsDone : {S T : Type 0} → Step S → S → Option (List ℕ) → Option (List ℕ) → Result T Stop → Type 0
 IsDone step state before after (Ok done) = (state ≡ step.state) × Appends before after (text_of_lines step.lines)
 IsDone step state before after (Err Memory) = Keeps before after
 IsDone step state before after (Err Output) = AppendsFront before after (text_of_lines step.lines)
 IsDone step state before after (Err _) = ⊥
 
--- where reading stands after a line, the state then, and the lines that are printed for it
+-- after a line: the state of reading, the engine's state, and the lines that are printed for it
 pub record Followed (S : Type 0) : Type 0 where
   pub section : Section
   pub state : S
@@ -50,7 +50,7 @@ IsLineFollowed {S = S} wanted state before after (Err Output) =
     (f : Followed S) × (wanted ≡ Ok f) × AppendsFront before after (text_of_lines f.lines)
 
 module _ {C S : Type 0} (engine : Engine C S) where
-  -- what the line of this number comes to, or the number of the line that is no command
+  -- the outcome of the line with this number, or the number if the line is no command
   abbrev pub followed : S → Section → ℕ → List ℕ → Result (Followed S) ℕ
   followed state outside number line = elim (engine.grammar.kind number line) [
     | ignored ↦ Ok (silent_line state outside)
@@ -75,12 +75,12 @@ module _ {C S : Type 0} (engine : Engine C S) where
   state_by state [] = state
   state_by state (c ∷ cs) = state_by (engine.does state c).state cs
 
-  -- Of what was taken from the reader, where that is known, all commands are done but for the last one at most, if so many are.
+  -- Of what was taken from the reader, if that is known, all commands are done except perhaps the last, if `count` of them are.
   abbrev pub CommandsRead : Option (List ℕ) → Option (List ℕ) → ℕ → Type 0
   CommandsRead left_before left_after count =
       (read : List ℕ) × Consumes left_before left_after read × (length (script read).commands ≤ count + 1)
 
-  -- what the first commands print was printed, those of all commands that were read but the last
+  -- what the first commands print was printed, those of all commands that were read except perhaps the last
   abbrev pub IsShort : S → Option (List ℕ) → Option (List ℕ) → List ℕ → Option (List ℕ) → Option (List ℕ) → Type 0
   IsShort state left left_after text before after =
       (count : ℕ) × CommandsRead left left_after count × Appends before after (text_of_lines (lines_by state (take count (script text).commands)))

@@ -1,4 +1,4 @@
--- What worked rows are made of.
+-- What the worked examples are made of.
 use Rattle.std.specs.Prelude.{ℕ, false, List, map, unwrap_or}
 use Rattle.names.specs.Permissions.{perms_of, set_of}
 use Rattle.names.specs.declared.permissions.Perms.{Perms}

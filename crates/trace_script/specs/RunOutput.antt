@@ -1,5 +1,5 @@
--- What `run` writes, memory and failures of the streams aside: a line for each command of the script. Which profiles have
--- too many states is told by a test, `limit`: there is one, and any two answer alike.
+-- What `run` writes, apart from running out of memory and failures of the streams: a line for each command of the script. A test,
+-- `limit`, decides which profiles have too many states: there is one, and any two agree.
 use Rattle.names.specs.Errors.{no_memory_text}
 use Rattle.std.specs.Prelude.{ℕ, Bool, ◌+◌, ◌≤◌, Option, List, [], ◌∷◌, ◌++◌, map, take, length, codes, decimal, Some, None, Result, Ok, Err, if◌then◌else◌}
 use Rattle.std.specs.List.{concat}
@@ -61,7 +61,7 @@ profile_printed history profile is_over =
       history = with_deed history (published_rules profile);
     }
 
--- what is printed of a profile, or `policy refused: read N at OFFSET`; a refusal changes nothing
+-- what is printed for a profile, or `policy refused: read N at OFFSET`; a refusal changes nothing
 abbrev pub policy_printed : StateLimit → History → Result ProfileValue ReadFault → Printed
 policy_printed limit history (Ok profile) = profile_printed history profile (limit.is_over profile.rules)
 policy_printed limit history (Err fault) = record { text = codes "policy " ++ refusal fault; history = history }
@@ -120,20 +120,21 @@ run_output limit capacity text = script_output limit (new_history capacity) (scr
 abbrev pub run_lines : StateLimit → ℕ → List ℕ → List (List ℕ)
 run_lines limit capacity text = printed_lines limit (new_history capacity) (script_of text).commands
 
--- Of what was taken from the reader, where that is known, all commands are answered but for the last one at most, if so
--- many answers stand.
+-- Of what was taken from the reader, if that is known, all commands are answered except perhaps the last, if there are `count`
+-- answers.
 abbrev pub AnswersRead : Option (List ℕ) → Option (List ℕ) → ℕ → Type 0
 AnswersRead left_before left_after count =
     (read : List ℕ) × Consumes left_before left_after read × (length (script_of read).commands ≤ count + 1)
 
--- the first lines stand whole, those of all commands that were read but the last, and why there are no more is told
+-- the first lines were written whole, those of all commands that were read except perhaps the last, and it is reported why there
+-- are no more
 pub record IsBrokenOff (streams : Streams) (left_before left_after : Option (List ℕ)) (lines : List (List ℕ)) (told : List ℕ) : Type 0 where
   pub count : ℕ
   pub read : AnswersRead left_before left_after count
   pub answers : Appends streams.answers_before streams.answers_after (text_of_lines (take count lines))
   pub faults : Appends streams.faults_before streams.faults_after (line told)
 
--- a line that couldn't be written whole: a front part of the answers stands
+-- a line couldn't be written whole: a prefix of the answers was written
 pub record IsCut (streams : Streams) (output : Output) : Type 0 where
   pub answers : AppendsFront streams.answers_before streams.answers_after output.answers
   pub faults : Appends streams.faults_before streams.faults_after (line (codes "refused: output"))
@@ -152,12 +153,12 @@ ScriptEnds limit streams left_before left_after history text OutputFailed = IsCu
 ScriptEnds limit streams left_before left_after history text FaultsFailed =
     AppendsFront streams.answers_before streams.answers_after (script_output limit history (script_of text)).answers
 
--- The same of a text that these bytes of the reader may be, by each test for too many states.
+-- The same for some text that the reader's bytes may be, for each test for too many states.
 pub record ScriptEndsOver (streams : Streams) (left_before left_after : Option (List ℕ)) (history : History)
     (status : Status) : Type 0 where
   pub ended : (limit : StateLimit) → (text : List ℕ) × IsTextOf left_before text
       × ScriptEnds limit streams left_before left_after history text status
 
--- How `run` ends. Bad arguments are found before.
+-- How `run` ends. Bad arguments are found earlier.
 abbrev pub RunEnds : StateLimit → Streams → Option (List ℕ) → Option (List ℕ) → ℕ → List ℕ → Status → Type 0
 RunEnds limit streams left_before left_after capacity text status = ScriptEnds limit streams left_before left_after (new_history capacity) text status

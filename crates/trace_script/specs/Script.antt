@@ -7,7 +7,7 @@ use Rattle.names.specs.Permissions.{perms_of}
 abbrev pub line_feed : ℕ
 line_feed = 10
 
--- a byte more at the front of the first line
+-- adds a byte at the front of the first line
 abbrev pub onto_first_line : ℕ → List (List ℕ) → List (List ℕ)
 onto_first_line b [] = (b ∷ []) ∷ []
 onto_first_line b (line ∷ lines) = (b ∷ line) ∷ lines
@@ -17,7 +17,7 @@ abbrev pub lines_of : List ℕ → List (List ℕ)
 lines_of [] = []
 lines_of (b ∷ text) = if b == line_feed then [] ∷ lines_of text else onto_first_line b (lines_of text)
 
--- space and tab part words
+-- spaces and tabs separate words
 abbrev pub is_blank : ℕ → Bool
 is_blank b = (b == 32) || (b == 9)
 
@@ -37,16 +37,16 @@ pub data ChangeWords : Type 0 where
 pub data Command : Type 0 where
   -- the text of a profile, which is published under the profile's name
   publish : List ℕ → Command
-  -- the name of a profile that goes
+  -- the name of a profile to remove
   remove : List ℕ → Command
   -- a change of the tree
   alter : ChangeWords → Command
   -- a profile, the path that is opened, and what is asked
   judge_open : List ℕ → List ℕ → Perms → Command
-  -- a profile, the path of a file, and that of one more entry of it
+  -- a profile, the path of a file, and the path of a new entry for it
   judge_link : List ℕ → List ℕ → List ℕ → Command
 
--- what a line is, by itself, whatever a command is
+-- what a line is, taken by itself, for any type of commands
 pub data LineOf (C : Type 0) : Type 0 where
   -- an empty line, or a comment
   ignored : LineOf C
@@ -102,8 +102,8 @@ abbrev pub line_kind : List (List ℕ) → LineKind
 line_kind [] = ignored
 line_kind (word ∷ words) = if is_comment word then ignored else kind_of_words (word ∷ words)
 
--- The commands of a script, up to its end or to a line that is no command, whose number then stands there. Lines are
--- counted from 1.
+-- The commands of a script, up to its end or to a line that is no command, whose number is then in `stopped`. Lines are counted
+-- from 1.
 pub record ScriptOf (C : Type 0) : Type 0 where
   pub commands : List C
   pub stopped : Option ℕ
@@ -117,21 +117,21 @@ stops_at number = record { commands = []; stopped = Some number }
 abbrev pub first_command : {C : Type 0} → C → ScriptOf C → ScriptOf C
 first_command c script = record { commands = c ∷ script.commands; stopped = script.stopped }
 
--- Where reading stands between two lines: outside a policy, or within one that began at a line, with its text so far.
+-- The state of reading between two lines: outside a policy, or within one that began at a line, with its text so far.
 pub data Section : Type 0 where
   outside : Section
   within : ℕ → List ℕ → Section
 
--- a policy's text ends before a line of a dot alone
+-- a policy's text ends before a line that is a single dot
 abbrev pub is_end : List ℕ → Bool
 is_end line = bytes_eq line (codes ".")
 
--- what the line of a number says, and the command that the text of a policy is
+-- what the line with a number says, and the command that the text of a policy is
 pub record Grammar (C : Type 0) : Type 0 where
   pub kind : ℕ → List ℕ → LineOf C
   pub policy : List ℕ → C
 
--- a script's lines from a place on, the lines before being so many
+-- a script's lines after the first `before` ones
 abbrev pub script_by : {C : Type 0} → Grammar C → Section → ℕ → List (List ℕ) → ScriptOf C
 script_by grammar outside before [] = whole
 script_by grammar (within start text) before [] = stops_at start

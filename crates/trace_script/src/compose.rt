@@ -1,4 +1,4 @@
-//! The lines that answer commands, each composed whole before it is written.
+//! The lines that answer commands, each composed as a whole before it is written.
 ghost use Rattle.std.specs.Prelude.{◌+◌, ◌≡◌, ◌<◌, ◌≤◌, ◌^◌, ◌++◌, IfOk, OnOk, Ok, codes, decimal};
 ghost use Rattle.mediation.specs.Answers.{answered};
 ghost use Rattle.trace_script.specs.AnswerText.{answered_text, versions_text};
@@ -36,7 +36,7 @@ pub fn policy_line<B: Bench>(alloc: Global, bench: &mut B, text: &[u8]) -> Resul
     }
 }
 
-/// Publishes a profile, if it can be compiled. Its line is begun before, so that want of memory for that publishes nothing.
+/// Publishes a profile, if it can be compiled. Its line is begun first, so that running out of memory there publishes nothing.
 fn profile_line<B: Bench>(alloc: Global, bench: &mut B, profile: Profile) -> Result<Vec<u8>, Stop>
     requires { MayChangePolicy (B.history bench.old).deeds }
     ensures line { (limit : StateLimit) → IsComposed (policy_printed limit (B.history bench.old) (Ok (profile_value profile))) (B.history bench.new) result }
@@ -58,7 +58,7 @@ pub fn refusal_line(alloc: Global, fault: Fault) -> Result<Vec<u8>, Stop>
     Ok(line.into_bytes())
 }
 
-/// Takes the profile of a name away.
+/// Removes the profile of this name.
 pub(crate) fn drop_line<B: Bench>(
     alloc: Global,
     bench: &mut B,
@@ -116,7 +116,7 @@ pub(crate) fn open_line<B: Bench>(
     answer_line(alloc, &answer, bench.name())
 }
 
-/// What an open is answered, as a line. The name is the one that was judged.
+/// The answer to an open, as a line. `name` is the name that was judged.
 pub fn answer_line(alloc: Global, answer: &Answer, name: &[u8]) -> Result<Vec<u8>, Stop>
     ensures { IsText (answered_text (answered name.now answer.now)) result }
 {
@@ -138,7 +138,7 @@ pub fn answer_line(alloc: Global, answer: &Answer, name: &[u8]) -> Result<Vec<u8
     }
 }
 
-/// Makes one more entry of a file, if a profile allows it.
+/// Adds one more entry for a file, if a profile allows it.
 pub(crate) fn link_line<B: Bench>(
     alloc: Global,
     bench: &mut B,
@@ -262,7 +262,7 @@ pub fn errno_line(alloc: Global, errno: Errno) -> Result<Vec<u8>, Stop>
     Ok(line.into_bytes())
 }
 
-/// A line that ends with a number, behind what it begins with.
+/// A line that begins with `start` and ends with a number.
 pub fn numbered_line(alloc: Global, start: Vec<u8>, number: u64) -> Result<Vec<u8>, Stop>
     ensures { IsText (start.items ++ decimal number) result }
 {

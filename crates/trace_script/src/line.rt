@@ -7,33 +7,33 @@ ghost use Rattle.trace_script.specs.LineValues.{kind_value};
 use crate::words::Words;
 use names::Perms;
 
-/// What a line is, by itself, whatever a command is.
+/// What a line is, taken by itself, for any type of commands.
 #[derive(Clone, Copy)]
 pub enum LineKind<C> {
     /// An empty line, or a comment.
     Ignored,
     /// The lines from the next one on are a profile's text.
     OpensPolicy,
-    /// A command that stands on one line.
+    /// A command of one line.
     Command(C),
-    /// Nothing that a script may say.
+    /// Not a command.
     NoCommand,
 }
 
-/// A command that stands on one line.
+/// A command of one line.
 #[derive(Clone, Copy)]
 pub enum Command<'a> {
-    /// The profile of this name goes.
+    /// Removes the profile of this name.
     Remove(&'a [u8]),
     /// A change of the tree.
     Alter(ChangeWords<'a>),
-    /// A path is opened, and what is asked is judged by a profile.
+    /// Opens a path, and judges what is asked by a profile.
     JudgeOpen {
         profile: &'a [u8],
         path: &'a [u8],
         ask: Perms,
     },
-    /// One more entry of a file, if a profile allows it.
+    /// Adds one more entry for a file, if a profile allows it.
     JudgeLink {
         profile: &'a [u8],
         old: &'a [u8],
@@ -53,7 +53,7 @@ pub enum ChangeWords<'a> {
     Rename(&'a [u8], &'a [u8]),
 }
 
-/// What a line says. No memory is taken.
+/// What a line says. Allocates nothing.
 pub fn parse_line(line: &[u8]) -> LineKind<Command<'_>>
     ensures { kind_value result ≡ line_kind (words_of line.now) }
 {
@@ -79,7 +79,7 @@ pub fn parse_line(line: &[u8]) -> LineKind<Command<'_>>
     kind_of_four(word, first, second, third)
 }
 
-/// What the words of a line say, if there are any, and it is no comment.
+/// What the words of a line say, if there are any and the line is no comment.
 pub fn kind_of_words<'a>(words: &[&'a [u8]]) -> LineKind<Command<'a>>
     ensures { kind_value result ≡ kind_of_words (map (λ word. word.now) words.now) }
 {
@@ -177,7 +177,7 @@ fn kind_of_four<'a>(
     LineKind::NoCommand
 }
 
-/// What an open says, whose permissions are given by letters.
+/// What an open says whose permissions are given by letters.
 fn kind_of_open<'a>(profile: &'a [u8], path: &'a [u8], letters: &[u8]) -> LineKind<Command<'a>>
     ensures { kind_value result ≡ kind_of_open profile.now path.now (perms_of letters.now) }
 {

@@ -4,7 +4,7 @@ ghost use Rattle.trace_script.specs.Engine.{IsLineRead};
 use crate::stop::Stop;
 use std::io::BufRead;
 
-/// A line that was read, by what closed it.
+/// A line that was read, by what ended it.
 #[derive(Clone, Copy)]
 pub enum LineRead {
     /// A line feed.
@@ -15,7 +15,7 @@ pub enum LineRead {
     End,
 }
 
-/// Reads the next line, in place of what `line` holds, and without its line feed.
+/// Reads the next line, without its line feed, replacing the contents of `line`.
 pub fn read_line<R: BufRead>(input: &mut R, line: &mut Vec<u8>) -> Result<LineRead, Stop>
     ensures { IsLineRead (R.remaining input.old) (R.remaining input.new) line.new.items result }
 {

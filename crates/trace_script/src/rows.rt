@@ -1,5 +1,4 @@
-//! Worked rows: what the definitions of `specs/` make of short scripts. The functions do nothing: each stands for its
-//! contract.
+//! Worked examples: what the definitions of `specs/` make of short scripts. The functions do nothing: each stands for its contract.
 ghost use Rattle.std.specs.Prelude.{◌≡◌, ◌+◌, List, [], ◌∷◌, ◌++◌, codes, decimal, false, Some, None, Ok, IsTrue};
 ghost use Rattle.glob_automaton.specs.Automata.{StateLimit};
 ghost use Rattle.names.specs.declared.errors.Errno.TheVariants.{ENOENT, EEXIST, ENOTDIR, EINVAL, ENOSPC};
@@ -80,7 +79,7 @@ pub fn scripts_stop()
     ensures empty { (script_of []).stopped ≡ None }
 {}
 
-/// Policies, whose lines are taken as they stand.
+/// Policies, whose lines are taken unchanged.
 pub fn policies_are_gathered()
     ensures gathered { (script_of (codes "policy\nprofile p {\n#x\n . \n}\n.\ndrop p")).commands
         ≡ publish (codes "profile p {\n#x\n . \n}\n") ∷ remove (codes "p") ∷ [] }

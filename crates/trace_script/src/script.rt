@@ -15,8 +15,8 @@ use std::alloc::Global;
 use std::io::{BufRead, Write};
 use trace_report::{Status, fail};
 
-/// The most lines that are read. No script is so long: to read them would take centuries. The bound keeps every
-/// version that is counted far below 2^64.
+/// The most lines that are read. No script is that long: reading it would take centuries. The bound keeps every version that is
+/// counted far below 2^64.
 pub const MOST_LINES: u64 = (1 << 60) - 1;
 
 /// Answers a script line by line, up to its end or to a line that is no command.

@@ -1,4 +1,4 @@
-//! Where reading stands between two lines, and what the next line does.
+//! The state of reading between two lines, and what the next line does.
 ghost use Rattle.std.specs.Prelude.{◌+◌, ◌≡◌, ◌<◌, ◌≤◌, ◌^◌, ◌++◌, ◌∷◌, [], IfOk, OnOk};
 ghost use Rattle.glob_automaton.specs.Automata.{StateLimit};
 ghost use Rattle.trace_script.specs.Engine.{section_value, IsClosed};
@@ -14,7 +14,7 @@ use mediation::Bench;
 use std::alloc::{AllocError, Global};
 use std::io::Write;
 
-/// Where reading stands between two lines.
+/// The state of reading between two lines.
 #[derive(Drop)]
 pub enum Section {
     /// The next line is a command, if it says anything.
@@ -23,7 +23,7 @@ pub enum Section {
     Within { start: u64, text: Vec<u8> },
 }
 
-/// Does what a line asks for and answers it, and tells where reading stands then.
+/// Does what a line asks for and answers it, and returns the state of reading after it.
 pub(crate) fn follow_line<B: Bench, A: Write>(
     alloc: Global,
     bench: &mut B,
@@ -77,7 +77,7 @@ fn follow_command<B: Bench, A: Write>(
     }
 }
 
-/// The text with one line more.
+/// The text with one more line.
 pub fn with_line(text: Vec<u8>, line: &[u8]) -> Result<Vec<u8>, AllocError>
     ensures { IfOk result (λ longer. longer.items ≡ text.items ++ line.now ++ line_feed ∷ []) }
 {

@@ -10,13 +10,13 @@ use trace_report::Status;
 /// Why a script isn't followed to its end.
 #[derive(Clone, Copy)]
 pub enum Stop {
-    /// The line of this number is no command, or a policy without its end begins there.
+    /// The line with this number is no command, or a policy that has no end begins there.
     NoCommand(u64),
     /// Reading failed.
     Input,
     /// There are more lines than are read.
     TooLong,
-    /// Memory was refused.
+    /// Out of memory.
     Memory,
     /// An answer couldn't be written, or not all of it.
     Output,
@@ -39,7 +39,7 @@ impl Stop {
 impl From<io::Error> for Stop {
     ghost from_gives = { IsStopOfReading };
 
-    // Growing the buffer for what is read may want memory.
+    // Growing the buffer for what is read may run out of memory.
     fn from(error: io::Error) -> Stop {
         if error.kind() == ErrorKind::OutOfMemory {
             Stop::Memory

@@ -7,7 +7,7 @@ ghost use Rattle.trace_script.specs.Script.{is_blank, words_of};
 use std::iter::FusedIterator;
 use std::marker::Model;
 
-/// What stands between the blanks of a line, seen as the list of the words that are left.
+/// The words between the blanks of a line, modelled as the list of the words that are left.
 #[derive(Drop)]
 pub struct Words<'a> {
     left: &'a [u8],
@@ -23,14 +23,14 @@ impl<'a> Model for Words<'a> {
 }
 
 impl<'a> Words<'a> {
-    /// The words of a line. No memory is taken.
+    /// The words of a line. Allocates nothing.
     pub fn of(line: &'a [u8]) -> Words<'a>
         ensures { result ≡ words_of line.now }
     {
         Words { left: line }
     }
 
-    /// The rest of the line, whose words are those that are left.
+    /// The rest of the line, whose words are the ones that are left.
     pub fn rest(&self) -> &'a [u8]
         ensures { words_of result.now ≡ self.now }
     {
@@ -57,14 +57,14 @@ impl<'a> Iterator for Words<'a> {
 
 impl<'a> FusedIterator for Words<'a> {}
 
-/// Whether a byte parts words.
+/// Whether a byte separates words.
 pub fn is_blank(byte: u8) -> bool
     ensures { result ≡ is_blank byte }
 {
     byte == b' ' || byte == b'\t'
 }
 
-/// The bytes from the first that is no blank on.
+/// The bytes from the first non-blank on.
 pub fn skip_blanks(bytes: &[u8]) -> &[u8]
     ensures { result.now ≡ drop (prefix_len is_blank bytes.now) bytes.now }
 {

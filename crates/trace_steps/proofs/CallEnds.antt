@@ -1,4 +1,4 @@
--- What single events and calls of sessions come to, in the words of script lines.
+-- The outcomes of single events and calls of sessions, in terms of script lines.
 use Rattle.std.proofs.Common.{◌≡◌, ℕ, ◌<◌, ◌≤◌, List, [], ◌∷◌, ◌++◌, Option, Some, None, Ok, codes, decimal, refl, ap, ◌∙◌, subst, inl, inr, append_assoc, append-nil, arith}
 use Rattle.std.proofs.lemmas.Bool.Decides.{nat_tests}
 use Rattle.justification.specs.declared.answer.Answer.{Answer}
@@ -33,14 +33,14 @@ begins_silently : (m n : Machine) (s : ℕ) (call : Call) (told : Option Answer)
 begins_silently m n s call None takes = takes
 begins_silently m n s call (Some told) (own, is, answers) = cc
 
--- a session that has begun a call doesn't rest
+-- a session that has begun a call isn't at rest
 has_begun : (m n : Machine) (s : ℕ) (call : Call) (told : Option Answer) → Takes m (begin s call) told n → stage_of s n ≡ resting → ⊥
 has_begun m n s call (Some told) (own, is, answers) ended = cc
 has_begun m n s call None (rests, is) ended =
     let began : stage_of s n ≡ begun call = ap (stage_of s) is ∙ stage_moved m s (begun call) in
     cc
 
--- each of these leads the call on, if it is its turn, and nothing is left but the answer
+-- each of these leads the call on, if it is its turn, and only the answer is left
 pub has_come_on : (s : ℕ) (old policy count cells check : Machine) → IsTurnTaken old (read_policy s) policy → IsTurnTaken policy (read_count s) count → IsLedOn s count cells → ¬ (HasTurn cells (read_cell s))
     → IsTurnTaken cells (check_count s) check → HasCome s 5 old check
 has_come_on s old policy count cells check policed counted led all checked =
@@ -50,7 +50,7 @@ pub answered_so : (s : ℕ) (old mid new : Machine) (told : Option Answer) → H
 answered_so s old mid new (Some told) come takes = is_told s old mid new told come takes
 answered_so s old mid new None come takes = absurd takes
 
--- what was answered, by what stands for it
+-- what was answered, given an equal answer
 answered_as : (s : ℕ) (old new : Machine) (result wanted : Option Answer) → result ≡ wanted → IsAnswered s old new (Ok result) → IsAnswered s old new (Ok wanted)
 answered_as s old new result wanted is answered = subst (λ (r : Option Answer). IsAnswered s old new (Ok r)) is answered
 
@@ -83,6 +83,6 @@ opens_not old new call other same = inr (other, (refl, same))
 
 -- ---- lines
 
--- a line behind what it begins with
+-- a line after its beginning
 pub line_behind : (start text : List ℕ) → start ++ line text ++ [] ≡ line (start ++ text)
 line_behind start text = simp (append_assoc, append-nil)

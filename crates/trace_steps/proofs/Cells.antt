@@ -58,11 +58,11 @@ may_close m opened none = by m.keeper.pending refl opened
     by None is some = cc
     by (Some pending) is some = left pending pending.left is refl
 
--- a change that was tested may be opened, and is open then
+-- a change that was tested may be opened, and is then open
 pub may_open : (m : Machine) (change : Change) (count : ℕ) → IsTested m change (Ok count) → IsLawful m (open_change change)
 may_open m change count (lawful, long) = lawful
 
--- no answer comes of it
+-- it gives no answer
 pub opens_silently : (old mid new : Machine) (change : Change) (told : Option Answer) → mid ≡ old → Takes mid (open_change change) told new → Takes old (open_change change) None new
 opens_silently old mid new change None same takes = subst (λ (m : Machine). Takes m (open_change change) None new) same takes
 opens_silently old mid new change (Some answer) same (s, which, answers) = absurd (cc which)

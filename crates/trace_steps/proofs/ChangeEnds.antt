@@ -1,4 +1,4 @@
--- What changes of the tree come to, in the words of script lines.
+-- The outcomes of changes of the tree, in terms of script lines.
 use Rattle.std.proofs.Common.{◌≡◌, ℕ, [], ◌∷◌, ◌++◌, true, false, Option, Some, None, Result, Ok, Err, is_some, length, codes, decimal, refl, ap, subst, inl, inr}
 use Rattle.directory_tree.specs.declared.change.Change.{Change}
 use Rattle.names.specs.declared.errors.Errno.{Errno}
@@ -25,7 +25,7 @@ none_open (Some pending) none = cc
 pub tested_so : (old mid : Machine) (change : Change) (result : Result ℕ Errno) (count : ℕ) → mid ≡ old → result ≡ Ok count → IsTested old change result → IsLawful mid (open_change change)
 tested_so old mid change result count same is tested = rw same (may_open old change count (subst (λ (r : Result ℕ Errno). IsTested old change r) is tested))
 
--- what came of opening it
+-- the outcome of opening it
 module _ {T : Type 0} (old new : Machine) (change : Change) (result : Result T Errno) where
   pub was_opened : (done : T) → result ≡ Ok done → IsTriedOut old change new result → Takes old (open_change change) None new
   was_opened done is tried = subst (λ (r : Result T Errno). IsTriedOut old change new r) is tried
@@ -43,7 +43,7 @@ module _ (old new : Machine) (words : ChangeWords) (Happens : Change → Lines �
   pub other_open : is_some old.keeper.pending ≡ true → new ≡ old → TriesNow old words Happens (not_now ∷ []) new
   other_open opened same = inl (opened, (refl, same))
 
-  -- the words tell this
+  -- the words say this
   pub tried : (told : Result Change Errno) (lines : Lines) → is_some old.keeper.pending ≡ false → told ≡ change_of words → Tries old told Happens lines new → TriesNow old words Happens lines new
   tried told lines none is tries = inr (none_open old.keeper.pending none, subst (λ (r : Result Change Errno). Tries old r Happens lines new) is tries)
 

@@ -44,7 +44,7 @@ printed Prints bytes text before after (Err Memory) e prints put = absurd put
 pub nothing_printed : {T : Type 0} (Prints : Lines → Type 0) (known : Option (List ℕ)) (done : T) → Prints [] → IsPrinted Prints known known (Ok done)
 nothing_printed Prints known done prints = ([], prints, appends_nothing known)
 
--- want of memory, and nothing else
+-- out of memory, and nothing else
 pub not_printed : (T : Type 0) (Prints : Lines → Type 0) (known : Option (List ℕ)) (stop : Stop) → stop ≡ Memory → IsPrinted {T = T} Prints known known (Err stop)
 not_printed T Prints known stop e = rw e (keeps known)
 
@@ -77,7 +77,7 @@ did_more limit old mid new (c ∷ done) more lines later (here, rest, between, d
   ap (λ (ls : Lines). ls ++ later) is ∙ append_assoc here rest later,
 )
 
--- what comes of one line more, whatever lines are left
+-- the outcome of one more line, whatever lines are left
 pub record IsNext (limit : StateLimit) (old new : Machine) (whole rest : List (List ℕ) → ScriptOf StepCommand) (lines : Lines) : Type 0 where
   pub more : List StepCommand
   pub does : DoesAll limit old more lines new
@@ -123,6 +123,6 @@ module _ (limit : StateLimit) (old new : Machine) (before : ℕ) (line : List �
       by true (to, does) = one _ (publish_text text) to does (λ left. refl)
       by false (to, none, same) = nothing _ (within start (text ++ line ++ line_feed ∷ [])) to none same (λ left. refl)
 
-  -- no command stands on the line
+  -- no command is on the line
   pub no_line : step_kind (words_of line) ≡ no_command → (left : List (List ℕ)) → from_line outside before (line ∷ left) ≡ stops_at (before + 1)
   no_line e left = ap (script_kind step_grammar before left) e

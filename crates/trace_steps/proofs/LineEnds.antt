@@ -1,4 +1,4 @@
--- What came of a line of a script of events, by what it says and by where reading stands.
+-- The outcome of a line of a script of events, by what it says and by the section that it is in.
 use Rattle.std.proofs.Common.{◌≡◌, ℕ, Bool, true, false, List, [], ◌∷◌, ◌++◌, Option, Some, None, Result, Ok, Err, Vec, Global, MatchBool, refl, sym, ap, ◌∙◌, subst}
 use Rattle.glob_automaton.specs.Automata.{StateLimit}
 use Rattle.event_core.specs.Machine.{Machine}
@@ -17,7 +17,7 @@ use Rattle.trace_steps.proofs.Commands.{printed, nothing_printed, line_stopped}
 
 -- ---- lines of commands
 
--- a command's line was composed and handed on, as it is printed or not
+-- a command's line was composed and passed on, whether or not it is printed
 pub line_put : {T : Type 0} (Prints : Lines → Type 0) (bytes : Vec ℕ Global) (seen : List ℕ) (before after : Option (List ℕ)) (result : Result T Stop)
     → seen ≡ bytes.items → HasLine Prints (Ok bytes) → IsPut before after seen result → IsPrinted Prints before after result
 line_put Prints bytes seen before after result same (text, is, prints) put = printed Prints seen text before after result (same ∙ is) prints put
@@ -28,7 +28,7 @@ done_put Prints outcome bytes seen before after result is same did put =
     let P : Option (Vec ℕ Global) → Type 0 = λ outcome. IsDone Prints (Ok outcome) in
     line_put Prints bytes seen before after result same (subst P is did) put
 
--- it has none
+-- the command has no line
 pub done_silently : {T : Type 0} (Prints : Lines → Type 0) (outcome : Option (Vec ℕ Global)) (known : Option (List ℕ)) (over : T) → outcome ≡ None → IsDone Prints (Ok outcome) → IsPrinted Prints known known (Ok over)
 done_silently Prints outcome known over is did =
     let P : Option (Vec ℕ Global) → Type 0 = λ outcome. IsDone Prints (Ok outcome) in

@@ -7,7 +7,7 @@ use Rattle.std.specs.Str.Parse.{digits_value_after}
 use Rattle.std.proofs.lemmas.Bool.{lt-ltb, le-ltb, ltb-true, ltb-false}
 use Rattle.trace_steps.specs.inner.Numbers.{with_digits}
 
--- more digits make no smaller number
+-- more digits don't make a number smaller
 grows : (n : ℕ) (word : List ℕ) → n ≤ digits_value_after 10 n word
 grows n [] = omega arith
 grows n (b ∷ word) = let more = grows (n * 10 + digit_value b) word in omega arith

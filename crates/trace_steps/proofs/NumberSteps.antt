@@ -1,4 +1,4 @@
--- What a word has come to, digit by digit.
+-- The value of a word, digit by digit.
 use Rattle.std.proofs.Common.{◌≡◌, ℕ, ◌+◌, ◌<◌, ◌≤◌, List, ◌∷◌, length, get_or, drop, Option, Some, None, refl, sym, ap, ◌∙◌, ◌==◌, Bool, false, add-one, drop-cons, arith, ne_eqb}
 use Rattle.std.specs.Prelude.{◌^◌, ◌&&◌, not, nat_lt, option_and_then, if◌then◌else◌}
 use Rattle.std.specs.Char.{is_ascii_digit}
@@ -14,7 +14,7 @@ abbrev read_where : Bool → List ℕ → Option ℕ
 read_where empty word =
     if not empty && (list_all is_ascii_digit word && nat_lt (digits_value 10 word) (2 ^ 64)) then Some (digits_value 10 word) else None
 
--- the number of a word is what its digits come to
+-- the number of a word is the value of its digits
 number_is : (word : List ℕ) → false ≡ (length word == 0) → with_digits 0 word ≡ number_of word
 number_is word some = digits_read 0 word (omega arith) ∙ ap (λ (empty : Bool). read_where empty word) some
 

@@ -1,4 +1,4 @@
--- What publications come to, in the words of script lines.
+-- The outcomes of publications, in terms of script lines.
 use Rattle.std.proofs.Common.{◌≡◌, ◌⊎◌, ℕ, List, [], ◌∷◌, ◌++◌, Bool, true, false, length, MatchBool, Option, Some, None, Result, Ok, Err, Vec, Global, codes, decimal, refl, sym, ap, subst, inl, inr}
 use Rattle.glob_automaton.specs.Automata.{StateLimit, most_sets}
 use Rattle.glob_automaton.specs.Sets.{AreMoreThan}
@@ -27,7 +27,7 @@ published_so old new deed start (Some told) version (own, event, answers) is = c
 pub published_not : (old new : Machine) (deed : Deed) (start : List ℕ) → ¬ (IsLawful old (publish (deed ∷ []))) → new ≡ old → Publishes old deed start (not_now ∷ []) new
 published_not old new deed start other same = inr (other, (refl, same))
 
--- a line of a publication, by another word for what is published and for what the line begins with
+-- a line of a publication, with equal terms for what is published and for what the line begins with
 pub published_line : (old new : Machine) (deed wanted : Deed) (start begins : List ℕ) (result : Result (Vec ℕ Global) Stop) → deed ≡ wanted → start ≡ begins
     → HasLine (λ lines. Publishes old deed start lines new) result → HasLine (λ lines. Publishes old wanted begins lines new) result
 published_line old new deed wanted start begins result same is h =
@@ -36,7 +36,7 @@ published_line old new deed wanted start begins result same is h =
 -- ---- profiles
 
 module _ (limit : StateLimit) (old new : Machine) where
-  -- a text, by what reading it comes to
+  -- a text, by the outcome of reading it
   pub read_so : (outcome told : Result ProfileValue ReadFault) (lines : Lines) → outcome ≡ told → PublishesText limit old told lines new → PublishesText limit old outcome lines new
   read_so outcome told lines is h = subst (λ (r : Result ProfileValue ReadFault). PublishesText limit old r lines new) (sym is) h
 

@@ -129,7 +129,7 @@ module _ (s : ℕ) (old mid new : Machine) where
   same_stage least next same higher (inl (rests, nothing)) = inl (rests, same ∙ nothing)
   same_stage least next same higher (inr (led, low)) = rw same (inr (led, higher low))
 
-  -- an event was taken, which no session takes that has begun no call
+  -- an event was taken that no session takes without having begun a call
   moved : (event : Event) (told : Option Answer) (least next : ℕ) → LeadsOn s event → (stage_of s mid ≡ resting → ⊥) → next ≤ rank (stage_of s new)
       → HasCome s least old mid → Takes mid event told new → HasCome s next old new
   moved event told least next leads busy high (inl (rests, nothing)) takes = absurd (busy (ap (stage_of s) nothing ∙ rests))

@@ -1,4 +1,4 @@
--- How a script of events ends, by why it was followed no further.
+-- How a script of events ends, by why following it stopped.
 use Rattle.std.proofs.Common.{◌≡◌, ℕ, List, [], Option, Some, None, Err, refl, sym, inl, inr, subst}
 use Rattle.std.proofs.lemmas.List.{append-nil}
 use Rattle.std.specs.Io.KnownBytes.{Appends}
@@ -19,7 +19,7 @@ use Rattle.trace_steps.specs.StepsOutput.{StepsEnd, IsWhole, IsFront}
 use Rattle.trace_steps.specs.inner.Following.{IsFollowed, IsShort}
 use Rattle.trace_steps.proofs.StepRuns.{all_first}
 
--- all lines stand, which is a front part of them
+-- all lines are written, which is a front part of them
 all_stand : (a b : Option (List ℕ)) (lines : Lines) → Appends a b (text_of_lines lines) → AppendsFront a b (text_of_lines lines)
 all_stand a b lines h = (text_of_lines lines, [], sym (append-nil (text_of_lines lines)), h)
 

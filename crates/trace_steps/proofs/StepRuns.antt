@@ -25,7 +25,7 @@ use Rattle.trace_steps.specs.StepsOutput.{PrintsFirst}
 use Rattle.trace_steps.specs.inner.Following.{IsLineFollowed, IsShort, IsFollowed}
 use Rattle.trace_steps.proofs.Commands.{IsNext, from_line, next_line, no_line, did_more}
 
--- these lines stand, and a front part of the next ones
+-- these lines are written, and a front part of the next ones
 front_more : (a b c : Option (List ℕ)) (lines more : Lines) → Appends a b (text_of_lines lines) → AppendsFront b c (text_of_lines more) → AppendsFront a c (text_of_lines (lines ++ more))
 front_more a b c lines more h (front, back, split, appended) = (
   text_of_lines lines ++ front,
@@ -39,7 +39,7 @@ pub record IsAhead (text : List ℕ) (section : Section) (before : ℕ) (done : 
   pub commands : (step_script text).commands ≡ done ++ (from_line section before left).commands
   pub stopped : (step_script text).stopped ≡ (from_line section before left).stopped
 
--- The lines that were read so far, and what came of them.
+-- The lines that were read so far, and their outcome.
 pub record IsRunning (limit : StateLimit) (old : Machine) (left_first left answers_first answers : Option (List ℕ)) (now : Machine) (section : Section) (before : ℕ) : Type 0 where
   pub read : List ℕ
   pub done : List StepCommand
@@ -66,7 +66,7 @@ running_start limit old left answers = record {
   counted = λ rest. sym (zero-add (length (lines_of rest)));
 }
 
--- one line more
+-- one more line
 ahead_next : (limit : StateLimit) (now new : Machine) (text : List ℕ) (section : Section) (before : ℕ) (done : List StepCommand) (line : List ℕ) (left : List (List ℕ)) (next : Section) (lines : Lines)
     → IsAhead text section before done (line ∷ left) → (n : IsNext limit now new (λ ls. from_line section before (line ∷ ls)) (from_line next (before + 1)) lines)
     → IsAhead text next (before + 1) (done ++ n.more) left
@@ -75,7 +75,7 @@ ahead_next limit now new text section before done line left next lines ahead n =
   stopped = ahead.stopped ∙ n.stopped left;
 }
 
--- of a text all commands are done but those of the lines that are left
+-- all commands of a text are done except those of the lines that are left
 still_few : (text : List ℕ) (section : Section) (before : ℕ) (done : List StepCommand) (left : List (List ℕ)) → IsAhead text section before done left → length left ≤ 1
     → length (step_script text).commands ≤ length done + 1
 still_few text section before done left ahead one =
@@ -125,7 +125,7 @@ closed limit old first after text now section before done lines a b result ahead
     by (Err Output) ends = absurd ends
 
 module _ (limit : StateLimit) (old : Machine) (first left a b : Option (List ℕ)) (now : Machine) (section : Section) (before : ℕ) (running : IsRunning limit old first left a b now section before) where
-  -- with a line that was read whole, a text that begins so
+  -- a text that begins with what was read and a whole line
   with_line : (line rest : List ℕ) → All (λ b. b ≢ line_feed) line → IsAhead (running.read ++ ((line ++ line_feed ∷ []) ++ rest)) section before running.done (line ∷ lines_of rest)
   with_line line rest free = rw (whole_line line rest free) at (running.ahead ((line ++ line_feed ∷ []) ++ rest))
 
@@ -150,7 +150,7 @@ module _ (limit : StateLimit) (old : Machine) (first left a b : Option (List ℕ
             ∙ count;
       }
 
-  -- the commands so far are done, and of the next one nothing is written
+  -- the commands so far are done, and nothing of the next one is written
   short : (after_line : Option (List ℕ)) (taken rest : List ℕ) (line_left : List (List ℕ)) (c : Option (List ℕ)) → Consumes first after_line taken → IsAhead taken section before running.done line_left → length line_left ≤ 1
       → (more : List StepCommand) → (step_script rest).commands ≡ running.done ++ more → Keeps b c → IsShort limit old first after_line rest a c
   short after_line taken rest line_left c consumed here one more commands kept = (
@@ -179,7 +179,7 @@ module _ (limit : StateLimit) (old : Machine) (first left a b : Option (List ℕ
   running_unread after_line line Memory h = running_short after_line line h
   running_unread after_line line Output h = absurd h
 
-  -- so many lines were read as are read of a script
+  -- as many lines were read as may be read of a script
   pub running_over : before ≡ most_lines → Comes {T = Unit {0}} limit old first left now a b (Err TooLong)
   running_over all =
       let short = running_short left [] (consumes_nothing left, omega arith) in

@@ -1,4 +1,4 @@
--- Walks end: each cell that a walk reads is one that it had not read, but for the first, of which nothing is known.
+-- Walks end: each cell that a walk reads is one that it had not read before, except the first, of which nothing is known.
 use Rattle.std.proofs.Common.{◌≡◌, ◌≢◌, ℕ, zero, suc, ◌+◌, ◌<◌, ◌≤◌, ◌==◌, ◌||◌, Bool, true, false, List, [], ◌∷◌, Option, Some, None, refl, sym, ap, ◌∙◌, subst, arith, ne_eqb, eqb-true}
 use Rattle.std.specs.Prelude.{if◌then◌else◌}
 use Rattle.std.specs.List.{All, list_any}
@@ -85,14 +85,14 @@ after_reading s m n None (p, w, place, word, next, stands, holds, may, is) =
         let P : Policed → WalkerView → Option ℕ → Type 0 = λ q v next. MayDo m.capacity q.call v next in
         subst (λ (q : Policed). P q w (Some place)) calls (subst (λ (v : WalkerView). P q v (Some place)) views (subst (P q v) places may))
 
--- each cell that is read from there on is one less
+-- each cell that is read from there on leaves one less
 reads_fall : (s count : ℕ) (m n : Machine) (answers : List (ℕ × Answer)) → IsAbout s m → Runs m (cell_reads s count) answers n → cells_unread n s + count ≤ cells_unread m s
 reads_fall s zero m n answers about (none, same) = rw same (omega arith)
 reads_fall s (suc count) m n answers about (told, between, later, takes, runs, is) =
     let (next, few, fewer) = after_reading s m between told takes in
     omega (arith, reads_fall s count between n later next runs, fewer about)
 
--- two readings at least leave fewer cells
+-- at least two readings leave fewer cells
 pub walks_fall : (s count : ℕ) (m n : Machine) (answers : List (ℕ × Answer)) → 2 ≤ count → Runs m (cell_reads s count) answers n → cells_unread n s < cells_unread m s
 walks_fall s zero m n answers two runs = absurd (omega arith)
 walks_fall s (suc count) m n answers two (told, between, later, takes, runs, is) =

@@ -48,8 +48,8 @@ abbrev pub TakesOne : Machine → Event → Lines → Machine → Type 0
 TakesOne old event lines new =
     ((told : Option Answer) × Takes old event told new × (lines ≡ [])) ⊎ (¬ (IsLawful old event) × OnlyPrints not_now old lines new)
 
--- Up to so many events of one kind are taken, one after the other, fewer where the next one isn't lawful. Where some may be taken
--- and not even the first is lawful, that is printed.
+-- At most `most` events of one kind are taken, one after the other, fewer if the next one isn't lawful. If some may be taken and
+-- not even the first is lawful, that is printed.
 abbrev pub none_taken : ℕ → ℕ → Lines
 none_taken most count = if nat_lt 0 most && (count == 0) then not_now ∷ [] else []
 
@@ -72,13 +72,14 @@ PublishesText limit old (Ok profile) lines new = MatchBool (limit.is_over profil
 
 -- ---- changes of the tree
 
--- A change is refused, and its number is printed: a path is at fault, or the tree doesn't take it. Or it isn't, and this happens.
+-- A change is refused, and its number is printed: a path is at fault, or the tree doesn't accept it. Or it isn't refused, and this
+-- happens.
 abbrev pub Tries : Machine → Result Change Errno → (Change → Lines → Machine → Type 0) → Lines → Machine → Type 0
 Tries old (Err errno) Happens lines new = OnlyPrints (errno_text errno) old lines new
 Tries old (Ok change) Happens lines new =
     ((errno : Errno) × IsTested old change (Err errno) × OnlyPrints (errno_text errno) old lines new) ⊎ Happens change lines new
 
--- while a change is open there is no other, whatever its paths
+-- while a change is open no other is tried, whatever its paths
 abbrev pub TriesNow : Machine → ChangeWords → (Change → Lines → Machine → Type 0) → Lines → Machine → Type 0
 TriesNow old words Happens lines new =
     ((is_some old.keeper.pending ≡ true) × OnlyPrints not_now old lines new)
@@ -88,7 +89,7 @@ TriesNow old words Happens lines new =
 abbrev pub ClosesOpen : Machine → Lines → Machine → Type 0
 ClosesOpen old lines new = (count : ℕ) × Runs old (replicate count set_cell ++ close_change ∷ []) [] new × (lines ≡ ok_text new ∷ [])
 
--- so it goes, if a change is open
+-- the same, if a change is open
 abbrev pub Closes : Machine → Lines → Machine → Type 0
 Closes old lines new = ClosesOpen old lines new ⊎ ((old.keeper.pending ≡ None) × OnlyPrints not_now old lines new)
 
@@ -108,10 +109,10 @@ told_text name (Judged verdict node tree policy) = answered_text (judged (record
 told_text name (Failed errno tree) = answered_text (failed errno tree)
 told_text name (NoProfile policy) = answered_text (no_profile policy)
 told_text name (Busy began ended) = codes "busy " ++ decimal began ++ codes " " ++ decimal ended
--- no machine tells this
+-- no machine gives this answer
 told_text name NoEntry = no_memory_text
 
--- the session that opens what is opened whole: no script can name it
+-- the session for whole opens: no script can name it
 abbrev pub fresh : ℕ
 fresh = 10
 
@@ -128,7 +129,7 @@ LeadsOn s set_cell = ⊥
 LeadsOn s close_change = ⊥
 LeadsOn s (publish deeds) = ⊥
 
--- what is left of a session's call happens, up to its answer, which is printed behind this
+-- the rest of a session's call happens, up to its answer, which is printed after this
 abbrev pub Finishes : Machine → ℕ → List ℕ → Lines → Machine → Type 0
 Finishes old s start lines new = (events : List Event) × (told : Answer) × All (LeadsOn s) events
     × Runs old (events ++ answer s ∷ []) ((s, told) ∷ []) new × (lines ≡ (start ++ told_text (new.sessions s).name told) ∷ [])

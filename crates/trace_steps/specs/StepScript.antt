@@ -1,5 +1,5 @@
--- What a script of events says: the lines of a script of commands, but for judged links, and lines for single events. The grammar
--- is our own.
+-- What a script of events says: the lines of a script of commands, except judged links, and lines for single events. The grammar is
+-- our own.
 use Rattle.std.specs.Prelude.{ℕ, ◌-◌, ◌^◌, ◌==◌, ◌&&◌, not, nat_lt, List, [], ◌∷◌, length, Option, Some, None, codes, bytes_eq, if◌then◌else◌}
 use Rattle.std.specs.Char.{is_ascii_digit}
 use Rattle.std.specs.List.{list_all}
@@ -13,7 +13,7 @@ use Rattle.trace_script.specs.Script.{ChangeWords, Command, publish, remove, alt
 pub data StepCommand : Type 0 where
   -- the text of a profile, which is published under the profile's name
   publish_text : List ℕ → StepCommand
-  -- the name of a profile that goes
+  -- the name of a profile that is removed
   remove_profile : List ℕ → StepCommand
   -- a change of the tree, done whole
   alter_whole : ChangeWords → StepCommand
@@ -21,18 +21,18 @@ pub data StepCommand : Type 0 where
   open_whole : Call → StepCommand
   -- one event of a session
   single : Event → StepCommand
-  -- a session reads up to so many cells
+  -- a session reads at most this many cells
   cells_read : ℕ → ℕ → StepCommand
-  -- what is left of a session's call
+  -- the rest of a session's call
   finish : ℕ → StepCommand
   -- a change of the tree is opened
   keep : ChangeWords → StepCommand
-  -- the keeper sets up to so many cells
+  -- the keeper sets at most this many cells
   cells_set : ℕ → StepCommand
-  -- what is left of the change that is open
+  -- the rest of the open change
   close : StepCommand
 
--- a line of a script of commands; a judged link is none here
+-- a line of a script of commands; a judged link isn't one here
 abbrev pub whole_kind : Command → LineOf StepCommand
 whole_kind (publish text) = command (publish_text text)
 whole_kind (remove name) = command (remove_profile name)
@@ -40,12 +40,12 @@ whole_kind (alter words) = command (alter_whole words)
 whole_kind (judge_open profile path ask) = command (open_whole (record { profile = profile; path = path; ask = ask }))
 whole_kind (judge_link profile old new) = no_command
 
--- a session, by one digit of 1 to 9
+-- a session, as one digit from 1 to 9
 abbrev pub session_of : List ℕ → Option ℕ
 session_of (digit ∷ []) = if nat_lt 48 digit && nat_lt digit 58 then Some (digit - 48) else None
 session_of _ = None
 
--- a number, by decimal digits alone, that fits 64 bits
+-- a number, in decimal digits alone, that fits 64 bits
 abbrev pub number_of : List ℕ → Option ℕ
 number_of word =
     if not (length word == 0) && (list_all is_ascii_digit word && nat_lt (digits_value 10 word) (2 ^ 64)) then Some (digits_value 10 word) else None
@@ -101,7 +101,7 @@ own_kind_of_words (a ∷ b ∷ c ∷ []) = own_kind_of_three a b c
 own_kind_of_words (a ∷ b ∷ c ∷ d ∷ e ∷ []) = own_kind_of_five a b c d e
 own_kind_of_words _ = no_command
 
--- a line that is none of a script of commands
+-- a line that isn't one of a script of commands
 abbrev pub own_kind : List (List ℕ) → LineOf StepCommand
 own_kind [] = no_command
 own_kind (word ∷ words) = if bytes_eq (codes "keep") word then kind_of_keep (line_kind words) else own_kind_of_words (word ∷ words)

@@ -1,5 +1,5 @@
--- What `steps` writes, and how the machine then stands. Which profiles have too many states is told by a test, `limit`: there is
--- one, and any two answer alike.
+-- What `steps` writes, and the machine's state afterwards. Which profiles have too many states is decided by a test, `limit`: there
+-- is one, and any two agree.
 use Rattle.names.specs.Errors.{no_memory_text}
 use Rattle.std.specs.Prelude.{ℕ, ◌+◌, ◌≤◌, List, take, length, Option, codes}
 use Rattle.std.specs.Io.KnownBytes.{Appends, Consumes}
@@ -13,13 +13,14 @@ use Rattle.trace_script.specs.RunOutput.{ended_output, text_of_lines}
 use Rattle.trace_steps.specs.StepScript.{step_script}
 use Rattle.trace_steps.specs.StepLines.{Lines, DoesAll}
 
--- all commands of the script are done, and what they print is written; the script runs to its end or to a line that is no command
+-- all commands of the script are done, and what they print is written; the script runs to its end or to a line that isn't a command
 pub record IsWhole (limit : StateLimit) (streams : Streams) (text : List ℕ) (old new : Machine) (status : Status) : Type 0 where
   pub lines : Lines
   pub done : DoesAll limit old (step_script text).commands lines new
   pub written : IsWritten streams (ended_output lines (step_script text).stopped) status
 
--- Of what was taken from the reader, where that is known, all commands are done but for the last one at most, if so many are.
+-- If `count` commands are done, these are all commands of what was taken from the reader, where that is known, except at most the
+-- last.
 abbrev pub CommandsRead : Option (List ℕ) → Option (List ℕ) → ℕ → Type 0
 CommandsRead left_before left_after count =
     (read : List ℕ) × Consumes left_before left_after read × (length (step_script read).commands ≤ count + 1)
@@ -29,7 +30,7 @@ pub record PrintsFirst (limit : StateLimit) (text : List ℕ) (old : Machine) (c
   pub new : Machine
   pub done : DoesAll limit old (take count (step_script text).commands) lines new
 
--- all commands that were read but the last are done and what they print is written, and why there are no more is told
+-- all commands that were read except the last are done and what they print is written, and why there are no more is reported
 pub record IsBrokenOff (limit : StateLimit) (streams : Streams) (left_before left_after : Option (List ℕ)) (text : List ℕ) (old : Machine) (told : List ℕ) : Type 0 where
   pub count : ℕ
   pub read : CommandsRead left_before left_after count
@@ -45,7 +46,7 @@ pub record IsFront (limit : StateLimit) (streams : Streams) (text : List ℕ) (o
   pub prints : PrintsFirst limit text old count lines
   pub answers : AppendsFront streams.answers_before streams.answers_after (text_of_lines lines)
 
--- How `steps` ends, for a machine that stands so before and after. `left_before` and `left_after` are the reader's bytes.
+-- How `steps` ends, for a machine in these states before and after. `left_before` and `left_after` are the reader's bytes.
 abbrev pub StepsEnd : StateLimit → Streams → Option (List ℕ) → Option (List ℕ) → Machine → Machine → List ℕ → Status → Type 0
 StepsEnd limit streams left_before left_after old new text Done = IsWhole limit streams text old new Done
 StepsEnd limit streams left_before left_after old new text Unmet = ⊥

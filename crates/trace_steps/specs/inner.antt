@@ -1,4 +1,4 @@
--- Words of private contracts and proofs alone.
+-- Definitions that only private contracts and proofs use.
 pub mod StepValues
 pub mod Numbers
 pub mod Doing

@@ -14,10 +14,10 @@ use names::Perms;
 use std::alloc::Global;
 use trace_script::{Stop, answer_line, joined};
 
-/// The session that opens what is opened whole: no script can name it.
+/// The session for whole opens: no script can name it.
 const FRESH_SESSION: u32 = 10;
 
-/// That an event isn't lawful, as a line.
+/// The line that says that an event isn't lawful.
 pub(crate) fn not_now_line(alloc: Global) -> Result<Vec<u8>, Stop>
     ensures { IsText not_now result }
 {
@@ -40,7 +40,7 @@ pub(crate) fn take_one<M: EventMachine>(
     }
 }
 
-/// Reads up to so many cells for a session.
+/// Reads at most `most` cells for a session.
 pub(crate) fn read_cells<M: EventMachine>(
     alloc: Global,
     machine: &mut M,
@@ -55,7 +55,7 @@ pub(crate) fn read_cells<M: EventMachine>(
     }
 }
 
-/// What is printed where so many events of those that may be taken were.
+/// What is printed if `count` of at most `most` events were taken.
 pub(crate) fn none_taken_line(
     alloc: Global,
     most: usize,
@@ -70,7 +70,7 @@ pub(crate) fn none_taken_line(
     }
 }
 
-/// Does what is left of a session's call, and tells its answer.
+/// Does the rest of a session's call, and composes the line of its answer.
 pub(crate) fn go_line<M: EventMachine>(
     alloc: Global,
     machine: &mut M,
@@ -87,7 +87,7 @@ pub(crate) fn go_line<M: EventMachine>(
     }
 }
 
-/// Opens a path by a session of its own, and tells the answer.
+/// Opens a path with a session of its own, and composes the line of the answer.
 pub(crate) fn open_line<M: EventMachine>(
     alloc: Global,
     machine: &mut M,
@@ -115,7 +115,7 @@ pub(crate) fn open_line<M: EventMachine>(
     }
 }
 
-/// Does what is left of a session's call, and answers its answer; or nothing, where the session has begun none.
+/// Does the rest of a session's call and returns its answer, or nothing if the session has begun none.
 fn finish<M: EventMachine>(machine: &mut M, session: u32) -> Result<Option<Answer>, Stop>
     ensures { IsAnswered session (M.machine machine.old) (M.machine machine.new) result }
 {
@@ -156,7 +156,7 @@ fn read_all_cells<M: EventMachine>(machine: &mut M, session: u32) -> Result<(), 
     }
 }
 
-/// An answer, with the name that was judged, behind what its line begins with.
+/// An answer, with the name that was judged, after the beginning of its line.
 fn told_line(alloc: Global, start: &str, told: &Answer, name: &[u8]) -> Result<Vec<u8>, Stop>
     ensures { IsText (start.now ++ told_text name.now told.now) result }
 {
@@ -205,7 +205,7 @@ fn answered_line(alloc: Global, told: &Answer, name: &[u8]) -> Result<Vec<u8>, S
             let line = format!(in alloc; "busy {began} {ended}\n")?;
             Ok(line.into_bytes())
         }
-        // No machine tells this.
+        // No machine gives this answer.
         Answer::NoEntry => Err(Stop::Memory),
     }
 }

@@ -15,7 +15,7 @@ use names::Errno;
 use std::alloc::Global;
 use trace_script::{ChangeWords, Stop, change_of, errno_line, version_line};
 
-/// Makes a change, with all its cells, and tells the version that it makes.
+/// Makes a change, with all its cells, and reports the version that it makes.
 pub(crate) fn change_line<M: EventMachine>(
     alloc: Global,
     machine: &mut M,
@@ -79,7 +79,7 @@ fn keep_checked<M: EventMachine>(
     }
 }
 
-/// Opens a change, or tells by which number it is refused, while no other is open.
+/// Opens a change while no other is open, or returns the number by which it is refused.
 fn open_change<M: EventMachine>(
     machine: &mut M,
     change: &Change<'_>,
@@ -103,7 +103,7 @@ fn open_change<M: EventMachine>(
     }
 }
 
-/// Sets up to so many cells of the change that is open.
+/// Sets at most `most` cells of the open change.
 pub(crate) fn set_cells<M: EventMachine>(
     alloc: Global,
     machine: &mut M,
@@ -115,7 +115,7 @@ pub(crate) fn set_cells<M: EventMachine>(
     none_taken_line(alloc, most, count)
 }
 
-/// Sets up to so many cells, and answers how many there were.
+/// Sets at most `most` cells, and returns how many were set.
 fn set_up_to<M: EventMachine>(machine: &mut M, most: usize) -> Result<usize, Stop>
     ensures few { IfOk result (λ count. count ≤ most) }
     ensures runs { IfOk result (λ count. Runs (M.machine machine.old) (replicate count set_cell) [] (M.machine machine.new)) }
@@ -132,7 +132,7 @@ fn set_up_to<M: EventMachine>(machine: &mut M, most: usize) -> Result<usize, Sto
     Ok(most)
 }
 
-/// Does what is left of the change that is open, and tells the version that it makes.
+/// Does the rest of the open change, and reports the version that it makes.
 pub(crate) fn close_line<M: EventMachine>(alloc: Global, machine: &mut M) -> Result<Vec<u8>, Stop>
     ensures { HasLine (λ lines. Closes (M.machine machine.old) lines (M.machine machine.new)) result }
 {
@@ -143,7 +143,7 @@ pub(crate) fn close_line<M: EventMachine>(alloc: Global, machine: &mut M) -> Res
     }
 }
 
-/// Sets the cells that are left of the change that is open, closes it, and tells the version that it makes.
+/// Sets the remaining cells of the open change, closes it, and reports the version that it makes.
 fn close_open_change<M: EventMachine>(alloc: Global, machine: &mut M) -> Result<Vec<u8>, Stop>
     requires { is_some (M.machine machine.old).keeper.pending ≡ true }
     ensures { HasLine (λ lines. ClosesOpen (M.machine machine.old) lines (M.machine machine.new)) result }
@@ -157,7 +157,7 @@ fn close_open_change<M: EventMachine>(alloc: Global, machine: &mut M) -> Result<
     }
 }
 
-/// Sets the cells that are left of the change that is open, if one is.
+/// Sets the remaining cells of the open change, if there is one.
 fn set_all_cells<M: EventMachine>(machine: &mut M) -> Result<(), Stop>
     ensures runs { OnOk result (AreSet (M.machine machine.old) (M.machine machine.new)) }
     ensures all { OnOk result (¬ (IsLawful (M.machine machine.new) set_cell)) }

@@ -14,7 +14,7 @@ use trace_script::{ChangeWords, Command, LineKind, Words, is_word, parse_line};
 /// A command of a script of events.
 #[derive(Clone, Copy)]
 pub(crate) enum StepCommand<'a> {
-    /// The profile of this name goes.
+    /// The profile of this name is removed.
     Remove(&'a [u8]),
     /// A change of the tree, done whole.
     Alter(ChangeWords<'a>),
@@ -26,18 +26,18 @@ pub(crate) enum StepCommand<'a> {
     },
     /// One event of a session.
     Single(Event<'a>),
-    /// A session reads up to so many cells.
+    /// A session reads at most this many cells.
     ReadCells {
         session: u32,
         most: usize,
     },
-    /// What is left of a session's call.
+    /// The rest of a session's call.
     Finish(u32),
     /// A change of the tree is opened.
     Keep(ChangeWords<'a>),
-    /// The keeper sets up to so many cells.
+    /// The keeper sets at most this many cells.
     SetCells(usize),
-    /// What is left of the change that is open.
+    /// The rest of the open change.
     Close,
 }
 
@@ -70,7 +70,7 @@ fn whole_kind(command: Command<'_>) -> StepKind<'_>
     }
 }
 
-/// What a line says that is none of a script of commands.
+/// What a line says that isn't one of a script of commands.
 fn parse_own_line(line: &[u8]) -> StepKind<'_>
     ensures { step_kind_value result ≡ own_kind (words_of line.now) }
 {
@@ -84,7 +84,7 @@ fn parse_own_line(line: &[u8]) -> StepKind<'_>
     kind_of_words(word, words.rest())
 }
 
-/// What `keep` and the line behind it say.
+/// What `keep` and the line after it say.
 fn kind_of_keep(line: LineKind<Command<'_>>) -> StepKind<'_>
     ensures { step_kind_value result ≡ kind_of_keep (kind_value line.entry) }
 {

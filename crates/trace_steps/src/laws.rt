@@ -1,4 +1,4 @@
-//! Laws of how scripts of events end. The functions do nothing: each stands for its contract.
+//! Laws of how scripts of events end. The functions do nothing: each exists only for its contract.
 ghost use Rattle.std.specs.Prelude.{◌≡◌, ℕ, List, Option, Some, None};
 ghost use Rattle.event_core.specs.Machine.{Machine};
 ghost use Rattle.glob_automaton.specs.Automata.{StateLimit};
@@ -7,7 +7,7 @@ ghost use Rattle.trace_report.specs.declared.status.Status.TheVariants.{Done, Un
 ghost use Rattle.trace_steps.specs.StepScript.{step_script};
 ghost use Rattle.trace_steps.specs.StepsOutput.{StepsEnd};
 
-/// A script that goes to its end isn't refused, and one that stops at a line is not done; bad arguments are found before, and
+/// A script that runs to its end isn't refused, and one that stops at a line is not done; bad arguments are found earlier, and
 /// there is nothing to expect.
 pub fn step_scripts_end_as_they_stop()
     ensures whole_as_refused { (limit : StateLimit) (streams : Streams) (left left_after : Option (List ℕ)) (old new : Machine)

@@ -1,4 +1,4 @@
-//! What each line of a script of events does, by where reading stands.
+//! What each line of a script of events does, by the section that it is in.
 ghost use Rattle.glob_automaton.specs.Automata.{StateLimit};
 ghost use Rattle.trace_script.specs.Engine.{section_value};
 ghost use Rattle.trace_script.specs.Script.{outside};
@@ -15,7 +15,7 @@ use std::alloc::Global;
 use std::io::Write;
 use trace_script::{LineKind, Section, Stop, print_line, with_line};
 
-/// Does what a line asks for and prints its line, if it prints one, and tells where reading stands then.
+/// Does what a line asks for, prints its line, if it prints one, and returns the section after it.
 pub(crate) fn follow_line<M: EventMachine, A: Write>(
     alloc: Global,
     machine: &mut M,

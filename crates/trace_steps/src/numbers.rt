@@ -27,7 +27,7 @@ pub(crate) fn number_of(word: &[u8]) -> Option<usize>
     Some(number)
 }
 
-/// A number with one digit more behind it, if the byte is one and the number then fits.
+/// A number with one more digit appended, if the byte is one and the number then fits.
 fn with_digit(number: usize, byte: u8) -> Option<usize>
     ensures { result ≡ with_digit number byte }
 {

@@ -52,7 +52,7 @@ fn profile_line<M: EventMachine>(
     }
 }
 
-/// Takes the profile of a name away.
+/// Removes the profile of a name.
 pub(crate) fn drop_line<M: EventMachine>(
     alloc: Global,
     machine: &mut M,
@@ -65,7 +65,7 @@ pub(crate) fn drop_line<M: EventMachine>(
     publish(alloc, machine, change, start)
 }
 
-/// Publishes a change of the policy, and tells the version that it makes, behind what its line begins with.
+/// Publishes a change of the policy, and reports the version that it makes, after the beginning of its line.
 fn publish<M: EventMachine>(
     alloc: Global,
     machine: &mut M,

@@ -12,7 +12,7 @@ use std::io::{BufRead, Write};
 use trace_report::{Status, fail};
 use trace_script::{LineRead, MOST_LINES, Section, Stop, read_line};
 
-/// Takes the events of a script line by line and writes what the lines print, up to the script's end or to a line that is no
+/// Takes the events of a script line by line and writes what the lines print, up to the script's end or to a line that isn't a
 /// command.
 pub fn run_steps<M: EventMachine, R: BufRead, A: Write, F: Write>(
     alloc: Global,

@@ -114,7 +114,7 @@ module _ (limit : StateLimit) (history : History) (left after : Option (List ℕ
   short_test : IsShort (test_engine limit) (first_testing history) left after text a b → IsShortTest limit history left after text a b
   short_test (count, read, appended) = (count, read, rw (test_lines_are limit history (take count commands)) at appended)
 
-  -- what is told of the expectations is a front part of what is written
+  -- what is reported of the expectations is a front part of what is written
   failures_first : (stopped : Option ℕ) → AppendsFront a b (text_of_lines (failure_lines told)) → AppendsFront a b (tested_output told stopped).answers
   failures_first (Some number) h = h
   failures_first None (front, back, split, appended) =
@@ -171,7 +171,7 @@ module _ (limit : StateLimit) (history : History) (left after : Option (List ℕ
     cut_test c bytes Memory e put = absurd put
     cut_test c bytes Output e put = cut_last c (rw (e ∙ ap line count_is) at put)
 
--- ---- what is told at last
+-- ---- what is reported at the end
 
 module _ (limit : StateLimit) (history : History) (text : List ℕ) (left after a b : Option (List ℕ)) where
   abbrev expected : List Expectation
@@ -196,7 +196,7 @@ module _ (limit : StateLimit) (history : History) (text : List ℕ) (left after 
     abbrev streams : Streams
     streams = record { answers_before = a; answers_after = b; faults_before = f; faults_after = t }
 
-    -- what stands is a front part of what is to be written
+    -- what was written is a front part of what is to be written
     first_stands : (count : ℕ) → Appends a b (text_of_lines (failure_lines (expectations limit history (take count (test_script text).commands))))
         → AppendsFront a b (test_output limit history (test_script text)).answers
     first_stands count h =

@@ -26,7 +26,7 @@ first_is_none : (line : List ℕ) → 0 < length line → HasNoQuote line → ge
 first_is_none [] some free = absurd (omega arith)
 first_is_none (b ∷ line) some free = free 0 0 (omega arith)
 
--- without quotes, words are words: the first one and those behind it
+-- without quotes, words are words: the first one and those after it
 module _ (line : List ℕ) (free : HasNoQuote line) where
   abbrev rest : List ℕ
   rest = from_word line
@@ -70,7 +70,7 @@ plain_words (suc most) line short free = by (plain_words most) (cases_lt 0 (leng
         let none = none_of line free h in
         none.0 ∙ ap Some (sym none.1)
 
--- what a line without quotes is that expects nothing
+-- what a line is that has no quotes and expects nothing
 plain_kind : (number : ℕ) (line : List ℕ) → IsPlainLine line → test_kind number line ≡ ask_kind (line_kind (words_of line))
 plain_kind number line plain = by (cases_lt 0 (length (from_word line)))
   where
@@ -139,7 +139,7 @@ plain_script (within start text) before (line ∷ lines) plain =
 pub plain_test : (text : List ℕ) → IsPlain text → IsSame (test_script text) (script_of text)
 plain_test text plain = plain_script outside 0 (lines_of text) plain
 
--- who expects nothing is told of nothing
+-- without expectations nothing is compared
 nothing_told : (last : Option (List ℕ)) (lines : List (List ℕ)) (commands : List Command) → compared last lines (map ask commands) ≡ []
 nothing_told last lines [] = refl
 nothing_told last [] (c ∷ commands) = nothing_told last [] commands

@@ -9,7 +9,7 @@ use Rattle.trace_test.specs.inner.Testing.{is_parted}
 abbrev Words : Type 0
 Words = Option (List (List ℕ))
 
--- what a byte between words comes to, if it is a blank or not
+-- what a byte between words leads to, by whether it is a blank
 abbrev between_by : ℕ → List ℕ → Bool → Words
 between_by b line blank = cond blank (words_from between line) (cond (b == quote) (words_from (quoted []) line) (words_from (bare (b ∷ [])) line))
 
@@ -84,7 +84,7 @@ quoted_open word (b ∷ line) none = by (quoted_open (word ++ b ∷ []) line) (i
     by rest true e none = absurd (omega arith)
     by rest false e none = ap (quoted_by word b line) e ∙ rest (omega arith)
 
--- behind a closing quote
+-- after a closing quote
 pub closed_parted : (line : List ℕ) → is_parted line ≡ true → words_from closed line ≡ quoted_words line
 closed_parted [] e = refl
 closed_parted (b ∷ line) e = ap (closed_by line) e ∙ sym (ap (between_by b line) e)
@@ -115,7 +115,7 @@ first_bare (b ∷ line) some at differs =
     ∙ ap (λ k. with_word (take k (b ∷ line)) (quoted_words (drop k (b ∷ line)))) next
     ∙ ap (λ blank. with_word (take (cond (not blank) (1 + n) 0) (b ∷ line)) (quoted_words (drop (cond (not blank) (1 + n) 0) (b ∷ line)))) (sym word)
 
--- something stands before the next blank
+-- there is something before the next blank
 pub word_is_some : (line : List ℕ) → 0 < length line → prefix_len is_blank line ≡ 0 → 0 < position_or_len is_blank line
 word_is_some [] some at = absurd (omega arith)
 word_is_some (b ∷ line) some at =
@@ -136,7 +136,7 @@ pub no_words_before : (more : Words) → with_words [] more ≡ more
 no_words_before None = refl
 no_words_before (Some later) = refl
 
--- nothing but a word stands at the front
+-- no blank is left in front of the word
 pub at_word : (line : List ℕ) → prefix_len is_blank (from_word line) ≡ 0
 at_word [] = refl
 at_word (b ∷ line) = by (at_word line) (is_blank b) refl

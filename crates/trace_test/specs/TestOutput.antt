@@ -1,4 +1,4 @@
--- What `test` writes: what the expectations of a script come to, by what `run` prints for its commands.
+-- What `test` writes: the outcome of a script's expectations, by what `run` prints for its commands.
 use Rattle.names.specs.Errors.{no_memory_text}
 use Rattle.std.specs.Prelude.{ℕ, ◌+◌, ◌≤◌, Bool, false, not, List, [], ◌∷◌, ◌++◌, map, filter, count_by, take, length, codes, decimal, Option, Some, None, unwrap_or, bytes_eq, if◌then◌else◌}
 use Rattle.std.specs.Char.{is_ascii_control}
@@ -82,12 +82,13 @@ tested_output es (Some number) = ended_output (failure_lines es) (Some number)
 abbrev pub test_output : StateLimit → History → ScriptOf TestCommand → Output
 test_output limit history script = tested_output (expectations limit history script.commands) script.stopped
 
--- Of what was taken from the reader, where that is known, all commands are done but for the last one at most, if so many are.
+-- What was taken from the reader, where that is known, has at most one command more than the `count` that are done.
 abbrev pub TestRead : Option (List ℕ) → Option (List ℕ) → ℕ → Type 0
 TestRead left_before left_after count =
     (read : List ℕ) × Consumes left_before left_after read × (length (test_script read).commands ≤ count + 1)
 
--- the lines of the first expectations stand, those of all commands that were read but the last, and why there are no more is told
+-- the lines of the first expectations were written, those of all commands that were read except perhaps the last, and why there
+-- are no more is reported
 pub record IsBrokenOff (limit : StateLimit) (streams : Streams) (left_before left_after : Option (List ℕ)) (history : History) (text told : List ℕ) : Type 0 where
   pub count : ℕ
   pub read : TestRead left_before left_after count
@@ -108,6 +109,6 @@ TestEnds limit streams left_before left_after history text OutputFailed = IsCut 
 TestEnds limit streams left_before left_after history text FaultsFailed =
     AppendsFront streams.answers_before streams.answers_after (test_output limit history (test_script text)).answers
 
--- How `test` ends on a tree that begins as the root alone, with room for so many entries.
+-- How `test` ends on a tree that begins as the root alone, with room for `capacity` entries.
 abbrev pub TestEndsFrom : StateLimit → Streams → Option (List ℕ) → Option (List ℕ) → ℕ → List ℕ → Status → Type 0
 TestEndsFrom limit streams left_before left_after capacity text status = TestEnds limit streams left_before left_after (new_history capacity) text status

@@ -1,5 +1,5 @@
--- What a test says: the lines of a script of `run`, in which words may stand in quotes, and lines that expect an answer. The
--- grammar is our own.
+-- What a test says: the lines of a script of `run`, in which words may be in quotes, and lines that expect an answer. The grammar
+-- is our own.
 use Rattle.std.specs.Prelude.{ℕ, ◌-◌, ◌==◌, ◌||◌, Bool, List, [], ◌∷◌, ◌++◌, length, take, drop, codes, Option, Some, None, option_map, bytes_eq, if◌then◌else◌}
 use Rattle.std.specs.List.{before_first, position_or_len, prefix_len, suffix_len}
 use Rattle.trace_script.specs.Script.{Command, publish, LineKind, LineOf, ignored, opens_policy, command, no_command, is_blank, is_comment, kind_of_words, Grammar, ScriptOf, outside, script_by, lines_of}
@@ -9,20 +9,20 @@ use Rattle.trace_script.specs.Script.{Command, publish, LineKind, LineOf, ignore
 abbrev pub quote : ℕ
 quote = 34
 
--- where reading stands in a line
+-- where in a line reading is
 pub data Place : Type 0 where
   between : Place
   -- in a word without quotes, whose bytes so far are these
   bare : List ℕ → Place
-  -- behind the quote that a word began with
+  -- after the quote that a word began with
   quoted : List ℕ → Place
-  -- directly behind a closing quote
+  -- directly after a closing quote
   closed : Place
 
 abbrev pub with_word : List ℕ → Option (List (List ℕ)) → Option (List (List ℕ))
 with_word word words = option_map (λ more. word ∷ more) words
 
--- The words of a line, if it has no open quote, and nothing directly behind a closing one. A word that begins with a quote goes
+-- The words of a line, if it has no open quote, and nothing directly after a closing one. A word that begins with a quote goes
 -- to the next one; a quote within any other word is a byte of it.
 abbrev pub words_from : Place → List ℕ → Option (List (List ℕ))
 words_from between [] = Some []
@@ -43,15 +43,15 @@ quoted_words line = words_from between line
 
 -- ---- lines
 
--- from the first byte on that is no blank
+-- from the first byte on that isn't a blank
 abbrev pub from_word : List ℕ → List ℕ
 from_word line = drop (prefix_len is_blank line) line
 
--- up to the last byte that is no blank
+-- up to the last byte that isn't a blank
 abbrev pub without_end : List ℕ → List ℕ
 without_end line = take (length line - suffix_len is_blank line) line
 
--- the first word as it is written, and the text behind it, without the blanks at its ends
+-- the first word as it is written, and the text after it, without the blanks at its ends
 abbrev pub first_word : List ℕ → List ℕ
 first_word line = before_first is_blank (from_word line)
 
@@ -64,7 +64,7 @@ pub data TestCommand : Type 0 where
   -- the number of the line, and the answer that it expects
   expect : ℕ → List ℕ → TestCommand
 
--- an expectation has a text
+-- an expectation of a text, which must not be empty
 abbrev pub expect_kind : ℕ → List ℕ → LineOf TestCommand
 expect_kind number [] = no_command
 expect_kind number (b ∷ text) = command (expect number (b ∷ text))

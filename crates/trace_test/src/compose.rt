@@ -6,7 +6,7 @@ ghost use Rattle.trace_test.specs.TestOutput.{count_text, shown, shown_byte};
 use std::alloc::{AllocError, Global};
 use trace_script::Stop;
 
-/// What an expectation that doesn't hold is told by, as a line.
+/// The line that reports an expectation that doesn't hold.
 pub(crate) fn failure_line(
     alloc: Global,
     number: u64,
@@ -23,7 +23,7 @@ pub(crate) fn failure_line(
     Ok(line)
 }
 
-/// How many of the expectations hold, as a line.
+/// The line that says how many of the expectations hold.
 pub(crate) fn count_line(alloc: Global, held: u64, total: u64) -> Result<Vec<u8>, Stop>
     ensures { IsText (count_text held total) result }
 {

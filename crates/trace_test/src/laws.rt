@@ -14,8 +14,8 @@ mod endings;
 
 pub use endings::{expectations_hold_by_their_answer, tests_end_as_their_expectations_hold};
 
-/// A script without quotes and without lines that expect anything says the same as a test as it does to `run`; where it has an end,
-/// it has no expectation.
+/// A script without quotes and without lines that expect anything means the same to `test` as to `run`; where it isn't stopped at a
+/// line, it has no expectation.
 pub fn scripts_are_tests()
     ensures commands { (text : List ℕ) → IsPlain text → (test_script text).commands ≡ map ask (script_of text).commands }
     ensures stopped { (text : List ℕ) → IsPlain text → (test_script text).stopped ≡ (script_of text).stopped }

@@ -15,7 +15,7 @@ use trace_script::{
 pub(crate) enum TestCommand<'a> {
     /// A command of `run`, which is answered.
     Ask(Command<'a>),
-    /// The answer of the command before is this, says the line of this number.
+    /// The answer that the line of this number expects from the command before it.
     Expect { number: u64, text: &'a [u8] },
 }
 
@@ -43,7 +43,7 @@ pub(crate) fn parse_test_line(
     }
 }
 
-/// The bytes up to the last that is no blank.
+/// The bytes up to the last one that isn't a blank.
 fn without_end(bytes: &[u8]) -> &[u8]
     ensures { result.now ≡ without_end bytes.now }
 {
@@ -53,7 +53,7 @@ fn without_end(bytes: &[u8]) -> &[u8]
     }
 }
 
-/// An expectation has a text.
+/// An expectation of this text, which must not be empty.
 fn expect_kind(number: u64, text: &[u8]) -> TestKind<'_>
     ensures { test_kind_value result ≡ expect_kind number text.now }
 {

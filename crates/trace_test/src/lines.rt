@@ -1,4 +1,4 @@
-//! What each line of a test does, by where reading stands.
+//! What each line of a test does, by the section that it is in.
 ghost use Rattle.std.specs.Prelude.{◌≡◌, ◌+◌, ◌<◌, ◌≤◌, ◌^◌, OnOk};
 ghost use Rattle.glob_automaton.specs.Automata.{StateLimit};
 ghost use Rattle.mediation.specs.History.{History, MayChangePolicy, policy_version};
@@ -20,7 +20,7 @@ use trace_script::{
     Command, LineKind, Section, Stop, command_line, policy_line, print_line, with_line,
 };
 
-/// Does what a line asks for, and tells where reading stands then.
+/// Does what a line asks for, and returns the section after it.
 pub(crate) fn follow_line<B: Bench, A: Write>(
     alloc: Global,
     bench: &mut B,
@@ -143,7 +143,7 @@ fn ask_policy<B: Bench>(
     Ok(())
 }
 
-/// Compares the last answer with what the line of this number expects, and writes a line where that is another.
+/// Compares the last answer with what the line of this number expects, and writes a line where they differ.
 fn expect<A: Write>(
     alloc: Global,
     progress: &mut Progress,

@@ -28,7 +28,7 @@ impl Progress {
     ghost use Rattle.trace_test.specs.TestOutput.{count_text, is_answer};
     ghost use Rattle.trace_test.specs.inner.Testing.{first_testing, items_of, testing, with_answer, with_one};
 
-    /// No line was read yet.
+    /// The progress before the first line.
     pub(crate) fn new() -> Progress
         ensures { (history : History) → testing history result ≡ first_testing history }
     {
@@ -39,7 +39,7 @@ impl Progress {
         }
     }
 
-    /// A command was answered by this line.
+    /// Records the line that answered a command.
     pub(crate) fn answer(&mut self, answer: Vec<u8>)
         ensures state { (history : History) (p : Printed) → answer.items ≡ line p.text
             → testing p.history self.new ≡ with_answer (testing history self.old) p }
@@ -50,7 +50,7 @@ impl Progress {
         self.last = Some(last);
     }
 
-    /// Counts one more expectation, and tells whether it holds.
+    /// Counts one more expectation, and returns whether it holds.
     pub(crate) fn compare(&mut self, expected: &[u8]) -> bool
         requires { self.old.total < 2 ^ 60 }
         ensures holds { result ≡ is_answer expected.now (items_of self.old.last) }
@@ -68,7 +68,7 @@ impl Progress {
         holds
     }
 
-    /// The last answer, as it is told.
+    /// The last answer, as reported.
     pub(crate) fn last(&self) -> &[u8]
         ensures { result.now ≡ unwrap_or (items_of self.now.last) (codes "nothing") }
     {
@@ -78,14 +78,14 @@ impl Progress {
         }
     }
 
-    /// How many expectations hold, as a line.
+    /// The line that says how many expectations hold.
     pub(crate) fn count_line(&self, alloc: Global) -> Result<Vec<u8>, Stop>
         ensures { IsText (count_text self.now.held self.now.total) result }
     {
         count_line(alloc, self.held, self.total)
     }
 
-    /// How a test ends that has come to its end.
+    /// The status of a test that has reached its end.
     pub(crate) fn status(&self) -> Status
         ensures { result ≡ (if self.now.held == self.now.total then Done else Unmet) }
     {

@@ -1,4 +1,4 @@
-//! Words that may stand in quotes.
+//! Words that may be in quotes.
 ghost use Rattle.std.specs.Prelude.{◌≡◌, ◌<◌, IfOk, IfSome, MatchOption, None, [], length, map, option_map};
 ghost use Rattle.std.specs.List.{prefix_len};
 ghost use Rattle.trace_script.specs.Script.{is_blank};
@@ -8,7 +8,7 @@ ghost use Rattle.trace_test.specs.inner.Testing.{is_parted};
 use std::alloc::{AllocError, Global};
 use trace_script::{is_blank, skip_blanks, split_at_blank};
 
-/// The words of a line, unless a quote is open, or something stands directly behind a closing one.
+/// The words of a line, unless a quote is left open, or something directly follows a closing one.
 pub(crate) fn quoted_words<'a>(
     alloc: Global,
     line: &'a [u8],
@@ -27,7 +27,7 @@ pub(crate) fn quoted_words<'a>(
     Ok(Some(words))
 }
 
-/// The word that a line begins with, and what stands behind it.
+/// The word that a line begins with, and what follows it.
 fn next_word(line: &[u8]) -> Option<(&[u8], &[u8])>
     requires some { 0 < length line.now }
     requires at_word { prefix_len is_blank line.now ≡ 0 }
@@ -42,7 +42,7 @@ fn next_word(line: &[u8]) -> Option<(&[u8], &[u8])>
     }
 }
 
-/// The word up to the closing quote, and what stands behind that.
+/// The word up to the closing quote, and what follows the quote.
 fn quoted_word(bytes: &[u8]) -> Option<(&[u8], &[u8])>
     ensures word { MatchOption result (words_from (quoted []) bytes.now ≡ None)
         (λ pair. words_from (quoted []) bytes.now ≡ with_word pair.0.now (quoted_words pair.1.now)) }

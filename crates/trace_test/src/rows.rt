@@ -33,7 +33,7 @@ pub fn lines_are_read()
     ensures open { test_kind 3 (codes "drop \"a b") ≡ no_command }
 {}
 
-/// What expectations are told by that don't hold: one without a command before it, and two behind the same command.
+/// The lines of expectations that don't hold: one without a command before it, and two after the same command.
 pub fn expectations_are_told()
     ensures { (limit : StateLimit) → map failure_text (expectations limit (new_history 9) (test_script (codes "expect ok 1\n# a directory\nmkdir /a\n\nexpect no\t1\nexpect 2\n")).commands)
         ≡ (decimal 1 ++ codes ": expected ok 1, got nothing")

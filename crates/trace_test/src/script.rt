@@ -16,7 +16,7 @@ use trace_report::{Status, fail};
 use trace_script::{LineRead, MOST_LINES, Section, Stop, print_line, read_line};
 
 /// Does the commands of a script line by line, up to its end or to a line that is no command. Each expectation that doesn't hold
-/// is told on `answers`, and at the script's end how many of them hold.
+/// is reported on `answers`, and at the script's end the number of expectations that hold.
 pub fn run_test<B: Bench, R: BufRead, A: Write, F: Write>(
     alloc: Global,
     bench: &mut B,
@@ -40,7 +40,7 @@ pub fn run_test<B: Bench, R: BufRead, A: Write, F: Write>(
     }
 }
 
-/// Does the lines of a script, and writes what its expectations come to.
+/// Does the lines of a script, and writes the outcome of its expectations.
 fn test<B: Bench, R: BufRead, A: Write>(
     alloc: Global,
     bench: &mut B,

@@ -1,4 +1,4 @@
--- As many entries as used slots: an entry is free just where a slot is.
+-- There are as many entries as used slots: an entry is free iff a slot is.
 use Rattle.std.proofs.Common.{◌≡◌, ℕ, zero, suc, ◌+◌, ◌<◌, ◌≤◌, ◌≢◌, ◌||◌, Bool, true, false, List, [], ◌∷◌, length, Some, None, sym, refl, ap, ◌∙◌, subst, arith, eqb-true, eq-eqb, ne_eqb}
 use Rattle.std.specs.Prelude.{nat_eq, if◌then◌else◌}
 use Rattle.std.specs.Cmp.{nat_eq_equiv}
@@ -17,7 +17,7 @@ use Rattle.tree_row.specs.Rows.{EncodesSlots}
 true_is_false : true ≡ false → ⊥
 true_is_false e = absurd (cc e)
 
--- what a rest of the entries has, the whole has too
+-- what a tail of the entries has, the whole has too
 later : (y : Entry) (es : List Entry) (d : ℕ) (c : List ℕ) (e : Entry) → find es y.of y.component ≡ None → find es d c ≡ Some e → find (y ∷ es) d c ≡ Some e
 later y es d c e none is = elim (is_at d c y) as (λ (b : Bool). is_at d c y ≡ b → (if b then Some y else find es d c) ≡ Some e) [
   | true ↦ λ q. let k = at_once d c y.of y.component q in absurd (none_is_some e (sym none ∙ (λ i. find es (k.0 i) (k.1 i)) ∙ is))
@@ -129,7 +129,7 @@ module _ (n : ℕ) (f : ℕ → Slot) (t : Tree) (enc : EncodesSlots n f t) wher
         distinct_slots es apart.1 (rest_within e es apart h),
       )
 
-  -- where a slot is free, an entry is
+  -- if a slot is free, an entry is
   pub room_free : (capacity s : ℕ) → n ≡ capacity + 1 → Distinct t.entries → IsFree n f s → length t.entries < capacity
   unfolding IsDistinct
   room_free capacity s is apart free =
@@ -156,7 +156,7 @@ module _ (n : ℕ) (f : ℕ → Slot) (t : Tree) (enc : EncodesSlots n f t) wher
       let c = length-down capacity in
       omega arith
 
-  -- where none is, none is
+  -- if no slot is free, no entry is
   pub room_full : (capacity : ℕ) → n ≡ capacity + 1 → Distinct t.entries → ((s : ℕ) → ¬ (IsFree n f s)) → capacity ≤ length t.entries
   room_full capacity is apart full =
       let qs = slots_for t.entries apart (λ d c e h. h) in

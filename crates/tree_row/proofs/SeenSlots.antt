@@ -1,4 +1,4 @@
--- What words that were read tell of the worlds that are seen.
+-- What the words that were read say about the worlds that are seen.
 use Rattle.std.proofs.Common.{◌≡◌, ℕ, zero, suc, ◌+◌, ◌*◌, ◌/◌, ◌%◌, ◌<◌, ◌≤◌, ◌≢◌, List, [], length, Some, None, sym, ap, ◌∙◌, subst, arith}
 use Rattle.std.specs.Prelude.{slice_index}
 use Rattle.directory_tree.specs.declared.node.NodeKind.TheVariants.{Link}

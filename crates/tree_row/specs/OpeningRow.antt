@@ -1,4 +1,4 @@
--- The row that every row begins as.
+-- The initial row.
 use Rattle.std.specs.Prelude.{ℕ, List, slice_set, replicate}
 use Rattle.tree_row.specs.Rows.{row_length}
 

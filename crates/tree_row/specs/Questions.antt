@@ -1,4 +1,4 @@
--- What the answers to questions about single slots tell, in each row that may be the one that is read.
+-- What the answers to questions about single slots mean, in each row that may be the one that is read.
 use Rattle.std.specs.Prelude.{◌≡◌, ℕ, ◌+◌, ◌≤◌, Bool, true, false, List, Option, Some, None}
 use Rattle.path_lookup.specs.World.{World}
 use Rattle.tree_row.specs.Slots.{Slot, slot_at, IsUsed, IsFree, IsChildSlot}
@@ -9,7 +9,7 @@ abbrev pub Tells : Bool → Type 0 → Type 0
 Tells true P = P
 Tells false P = ¬ P
 
--- a slot in use whose entry stands in the directory of another slot
+-- a slot in use whose entry is in the directory of another slot
 pub record IsEntryOf (n : ℕ) (f : ℕ → Slot) (directory s : ℕ) : Type 0 where
   pub used : IsUsed n f s
   pub under : (f s).parent ≡ directory

@@ -4,20 +4,20 @@ use Rattle.std.specs.Prelude.{◌≡◌, ℕ, ◌+◌, List, length}
 use Rattle.directory_tree.specs.Tree.{Tree, Entry, Has}
 use Rattle.tree_row.specs.Slots.{Slot, slots_length, slot_at, entry_at, IsUsed, IsDirectorySlot, IsInRange, IsRootSlot}
 
--- for any way to tell a slot by its number
+-- for any mapping from numbers to slots
 pub record EncodesSlots (n : ℕ) (f : ℕ → Slot) (t : Tree) : Type 0 where
   -- the first slot is the root's
   pub root : IsRootSlot n (f 0)
-  -- each entry stands in a directory
+  -- each entry is in a directory
   pub in_directory : (s : ℕ) → IsUsed n f s → IsDirectorySlot n f (f s).parent
   pub in_range : (s : ℕ) → IsUsed n f s → IsInRange (f s)
   -- each slot in use holds an entry of the tree
   pub there : (s : ℕ) → IsUsed n f s → Has t (entry_at f s).of (entry_at f s).component (entry_at f s)
-  -- each entry of the tree stands in a slot, and in no other
+  -- each entry of the tree is in exactly one slot
   pub held : (d : ℕ) (c : List ℕ) (e : Entry) → Has t d c e → (s : ℕ) × IsUsed n f s × (entry_at f s ≡ e)
   pub once : (s r : ℕ) → IsUsed n f s → IsUsed n f r → entry_at f s ≡ entry_at f r → s ≡ r
 
--- how many cells a row has that has room for so many entries besides the root
+-- the number of cells of a row with room for `capacity` entries besides the root
 abbrev pub row_length : ℕ → ℕ
 row_length capacity = slots_length (capacity + 1)
 

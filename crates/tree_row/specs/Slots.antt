@@ -15,11 +15,11 @@ use Rattle.directory_tree.specs.declared.node.NodeKind.TheVariants.{Directory, F
 use Rattle.directory_tree.specs.Tree.{Entry}
 use Rattle.directory_tree.specs.Apply.{entry, max_text}
 
--- the cells of so many slots
+-- the number of cells of `n` slots
 abbrev pub slots_length : ℕ → ℕ
 slots_length n = 164 * n
 
--- so many bytes from a cell on
+-- the first `n` bytes from a cell on
 abbrev pub text_at : List ℕ → ℕ → ℕ → List ℕ
 text_at row base zero = []
 text_at row base (suc n) = text_at row base n ++ byte_at (n % 8) (slice_index row (base + n / 8)) ∷ []
@@ -41,7 +41,7 @@ slot_at row s = record {
   text = text_at row (164 * s + 36) (slice_index row (164 * s + 3) / 65536);
 }
 
--- the kind that a slot in use tells by its number
+-- the kind of a slot in use, by its number
 abbrev pub kind_from : ℕ → List ℕ → NodeKind
 kind_from zero text = File
 kind_from (suc zero) text = Directory
@@ -56,7 +56,7 @@ entry_in own above = entry above.node own.component own.node (kind_from own.kind
 abbrev pub entry_at : (ℕ → Slot) → ℕ → Entry
 entry_at f s = entry_in (f s) (f (f s).parent)
 
--- of so many slots, one past the root's that isn't free
+-- of `n` slots, one past the root's that isn't free
 pub record IsUsed (n : ℕ) (f : ℕ → Slot) (s : ℕ) : Type 0 where
   pub past_root : 0 < s
   pub within : s < n

@@ -1,4 +1,4 @@
--- The worlds that agree with what was read of a row: a tree that one of the rows encodes, with its slots' numbers for names.
+-- The worlds that agree with what was read of a row: a tree that one of the rows encodes, with its slots' numbers as names.
 use Rattle.std.specs.Prelude.{◌≡◌, ◌≢◌, ℕ, zero, suc, ◌+◌, ◌<◌, List}
 use Rattle.directory_tree.specs.Walk.{Spot}
 use Rattle.directory_tree.specs.Walk.Spot.{Root, Held}
@@ -25,10 +25,10 @@ pub record Knows (capacity : ℕ) (may : List ℕ → Type 0) (s : ℕ) : Type 0
   pub within : s < capacity + 1
   pub filled : (row : List ℕ) (w : World) → may row → EncodesWorld capacity row w → (slot_at row s).kind ≢ 0
 
--- reading tells more, and so fewer rows may be the one that is read
+-- after reading, at most the same rows may be the one that is read
 abbrev pub Fewer : (List ℕ → Type 0) → (List ℕ → Type 0) → Type 0
 Fewer before after = (row : List ℕ) → after row → before row
 
--- this word stands there in every row that may be read
+-- the word has this value in every row that may be read
 abbrev pub Reads : (List ℕ → Type 0) → (List ℕ → ℕ) → ℕ → Type 0
 Reads may word n = (row : List ℕ) → may row → word row ≡ n

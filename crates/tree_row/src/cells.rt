@@ -1,19 +1,19 @@
-//! Cells by their places.
+//! Cells by place.
 ghost use Rattle.std.specs.Prelude.{◌≡◌, ◌<◌, ◌≤◌, ℕ, List, IfSome, IfNone, slice_index};
 ghost use Rattle.tree_row.specs.Rows.{row_length};
 ghost use Rattle.tree_row.specs.Worlds.{Fewer, Reads};
 
-/// The most entries, besides the root, that a row may have room for.
+/// The maximum number of entries, besides the root, that a row may have room for.
 pub const MOST_ENTRIES: usize = 16384;
 
-/// The cells of a row, each read by its place, or not known. Place 0 is that of the first cell of the root's slot.
+/// The cells of a row, each read by its place, or unknown. Place 0 is that of the first cell of the root's slot.
 pub trait Cells {
-    // What no reading changes.
+    // The part that reading doesn't change.
     ghost Kept: { Type 0 };
 
     ghost kept: { Self → Kept };
 
-    // The most entries besides the root.
+    // The maximum number of entries besides the root.
     ghost capacity_of: { Kept → ℕ };
 
     // The rows that may be the one that is read.
@@ -22,15 +22,15 @@ pub trait Cells {
     // Every word is known, and this is the row.
     ghost whole: { Kept → List ℕ → Type 0 };
 
-    // A word that was asked for isn't known.
+    // A requested word isn't known.
     ghost unknown: { Self → Type 0 };
 
-    /// The most entries besides the root.
+    /// Returns the maximum number of entries besides the root.
     fn capacity(&self) -> usize
         ensures capacity { result ≡ capacity_of (kept self.now) }
         ensures small { result ≤ MOST_ENTRIES };
 
-    /// The word at a place, if it is known.
+    /// Returns the word at a place, if it is known.
     fn word(&mut self, place: usize) -> Option<u64>
         requires { place < row_length (capacity_of (kept self.old)) }
         ensures kept { kept self.new ≡ kept self.old }

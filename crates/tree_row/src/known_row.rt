@@ -10,7 +10,7 @@ use std::marker::Model;
 
 /// A row all of whose words are known.
 ///
-/// It is seen as the pair of its capacity and its cells.
+/// Contracts see it as the pair of its capacity and its cells.
 #[derive(Drop)]
 pub struct KnownRow {
     capacity: usize,
@@ -29,7 +29,7 @@ impl Model for KnownRow {
 }
 
 impl KnownRow {
-    /// The row of the root alone, with room for so many entries.
+    /// Returns the row of the root alone, with room for `capacity` entries.
     pub fn new(alloc: Global, capacity: usize) -> Result<KnownRow, AllocError>
         requires { capacity ≤ MOST_ENTRIES }
         ensures { IfOk result (λ row. row ≡ (capacity, opening_row capacity)) }
@@ -40,7 +40,7 @@ impl KnownRow {
         Ok(KnownRow { capacity, cells })
     }
 
-    /// The most entries, besides the root.
+    /// Returns the maximum number of entries, besides the root.
     pub fn capacity(&self) -> usize
         ensures capacity { result ≡ self.now.0 }
         ensures small { result ≤ MOST_ENTRIES }
@@ -48,14 +48,14 @@ impl KnownRow {
         self.capacity
     }
 
-    /// How many cells it has.
+    /// Returns the number of cells.
     pub fn length(&self) -> usize
         ensures { result ≡ row_length self.now.0 }
     {
         self.cells.len()
     }
 
-    /// The word at a place.
+    /// Returns the word at a place.
     pub fn cell(&self, place: usize) -> u64
         requires { place < row_length self.now.0 }
         ensures word { result ≡ slice_index self.now.1 place }

@@ -1,4 +1,4 @@
-//! Laws of rows: functions that do nothing, and stand for their contracts.
+//! Laws of rows: functions that do nothing, and exist for their contracts.
 ghost use Rattle.std.specs.Prelude.{◌≡◌, ◌≢◌, ◌≤◌, ◌<◌, ◌+◌, ℕ, List, Bool, true, false, Some, None, length};
 ghost use Rattle.directory_tree.specs.Tree.{Tree, WellFormed, root_alone, find};
 ghost use Rattle.directory_tree.specs.Apply.{has_room};
@@ -11,19 +11,19 @@ ghost use Rattle.tree_row.specs.Worlds.{EncodesWorld, Reads};
 
 use crate::cells::Cells;
 
-/// A slot is free just where the tree has room for one more entry, and no tree has more entries than the row has slots for.
+/// A slot is free iff the tree has room for one more entry, and no tree has more entries than the row has slots for.
 pub fn slots_are_counted()
     ensures free { (capacity s : ℕ) (row : List ℕ) (t : Tree) → WellFormed t → Encodes capacity row t → IsFree (capacity + 1) (slot_at row) s → has_room capacity t ≡ true }
     ensures full { (capacity : ℕ) (row : List ℕ) (t : Tree) → WellFormed t → Encodes capacity row t → ((s : ℕ) → ¬ (IsFree (capacity + 1) (slot_at row) s)) → has_room capacity t ≡ false }
     ensures most { (capacity : ℕ) (row : List ℕ) (t : Tree) → WellFormed t → Encodes capacity row t → length t.entries ≤ capacity }
 {}
 
-/// The row that every row begins as encodes the root alone.
+/// The initial row encodes the root alone.
 pub fn opening_row_encodes_root()
     ensures { (capacity : ℕ) → Encodes capacity (opening_row capacity) root_alone }
 {}
 
-/// A row encodes the entries of one tree at most: two trees that it encodes have the same entries at each place.
+/// A row encodes the entries of at most one tree: two trees that it encodes have the same entries at each place.
 pub fn one_row_one_tree()
     ensures { (capacity : ℕ) (row : List ℕ) (t u : Tree) → Encodes capacity row t → Encodes capacity row u → (d : ℕ) (c : List ℕ) → find t.entries d c ≡ find u.entries d c }
 {}
@@ -43,8 +43,8 @@ pub fn questions_have_one_answer<C: Cells>()
         TellsFree capacity (C.may cells) (Some s) → TellsFree capacity (C.may cells) None → ⊥ }
 {}
 
-/// What no row answers: an entry in a free slot, an entry of another component or in another directory, the root's slot or one
-/// in use as a free one, a free slot though another stands before it, and none though one is free.
+/// Answers that no row gives: an entry in a free slot, an entry of another component or in another directory, the root's slot
+/// or a used one as a free one, a free slot though another precedes it, and none though one is free.
 pub fn wrong_answers_are_refused<C: Cells>()
     ensures entry_in_a_free_slot { (cells : C) (row : List ℕ) (capacity directory s : ℕ) → C.may cells row →
         (slot_at row s).kind ≡ 0 → TellsEntryOf capacity (C.may cells) directory s true → ⊥ }

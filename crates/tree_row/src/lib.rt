@@ -1,5 +1,4 @@
-//! A directory tree as a row of 64-bit words: what a row's cells encode, cells that are read by their places, and what
-//! single slots tell.
+//! A directory tree as a row of 64-bit words: what a row's cells encode, cells read by place, and questions about single slots.
 //!
 //! The definitions to believe are those in `specs/`.
 #![tactic(auto)]

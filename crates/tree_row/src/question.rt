@@ -9,7 +9,7 @@ use crate::text::has_text;
 use names::LONGEST_COMPONENT;
 use path_lookup::Torn;
 
-/// Whether a slot past the root's holds an entry of the directory of a slot. Of a free slot one word is read, else two.
+/// Whether a slot past the root's holds an entry of the directory of a slot. Reads one word of a free slot, two of any other.
 pub fn is_entry_of<C: Cells>(cells: &mut C, directory: usize, slot: usize) -> Result<bool, Torn>
     requires past { 0 < slot }
     requires slot { slot < C.capacity_of (C.kept cells.old) + 1 }
@@ -25,8 +25,8 @@ pub fn is_entry_of<C: Cells>(cells: &mut C, directory: usize, slot: usize) -> Re
     Ok(slot_word(cells, slot, PARENT)? == directory as u64)
 }
 
-/// Whether a slot past the root's holds the entry of a component in the directory of a slot. Its component is read only
-/// where its directory and its length are these.
+/// Whether a slot past the root's holds the entry of a component in the directory of a slot. Its component is read only if its
+/// directory and its length match.
 #[tactic(auto, using(crate::proofs::SeenSlots::length_differs, crate::proofs::SeenSlots::too_long))]
 pub fn is_child<C: Cells>(
     cells: &mut C,
@@ -56,7 +56,7 @@ pub fn is_child<C: Cells>(
     has_text(cells, base, component)
 }
 
-/// The first free slot, if one is free. Of each slot before it one word is read.
+/// Returns the first free slot, if one is free. Reads one word of each slot before it.
 pub fn free_slot<C: Cells>(cells: &mut C) -> Result<Option<usize>, Torn>
     ensures kept { C.kept cells.new ≡ C.kept cells.old }
     ensures fewer { Fewer (C.may cells.old) (C.may cells.new) }

@@ -6,7 +6,7 @@ ghost use Rattle.tree_row.specs.Worlds.{Fewer, Reads};
 use crate::cells::Cells;
 use path_lookup::Torn;
 
-/// How many cells a slot has.
+/// The number of cells of a slot.
 pub const SLOT_LENGTH: usize = 164;
 
 /// The cell of a slot with its kind: [`FREE`], [`DIRECTORY`], [`FILE`] or [`LINK`].
@@ -21,10 +21,10 @@ pub const PARENT: usize = 2;
 /// The cell of a slot with the length of its component, and [`TEXT_FACTOR`] times that of its link's text.
 pub const LENGTHS: usize = 3;
 
-/// The first cell of a slot's component, which has eight bytes a cell.
+/// The first cell of a slot's component, which has eight bytes per cell.
 pub const COMPONENT: usize = 4;
 
-/// The first cell of the text of a slot's link, which has eight bytes a cell.
+/// The first cell of the text of a slot's link, which has eight bytes per cell.
 pub const TEXT: usize = 36;
 
 /// The kind of a slot that holds no entry.
@@ -39,7 +39,7 @@ pub const FILE: u64 = 2;
 /// The kind of a symbolic link's slot.
 pub const LINK: u64 = 3;
 
-/// What the length of a link's text is multiplied by in the cell of the lengths.
+/// The factor of the length of a link's text in the cell of the lengths.
 pub const TEXT_FACTOR: u64 = 65536;
 
 /// The place of a cell of a slot.

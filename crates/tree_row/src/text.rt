@@ -1,4 +1,4 @@
-//! Texts in a row, eight bytes a cell.
+//! Texts in a row, eight bytes per cell.
 ghost use Rattle.std.specs.Prelude.{◌≡◌, ◌<◌, ◌≤◌, ◌+◌, ◌^◌, ◌/◌, ◌%◌, ℕ, List, OnOk, IfOk, IfErr, length, take};
 ghost use Rattle.std.specs.Int.{byte_at};
 ghost use Rattle.tree_row.specs.Slots.{text_at};
@@ -10,7 +10,7 @@ use crate::cells::Cells;
 use crate::slot::word_at;
 use path_lookup::Torn;
 
-// One byte of a word, the lowest being byte 0.
+// Returns one byte of a word; the lowest is byte 0.
 #[tactic(auto, using(crate::proofs::Bytes::byte_is))]
 fn byte_of(word: u64, i: usize) -> u8
     requires { i < 8 }
@@ -44,7 +44,7 @@ pub fn read_text<C: Cells>(
     Ok(())
 }
 
-/// Whether the text that begins at the cell at `base`, and is as long as `text`, is `text`. Each word is read once, and none
+/// Whether the text that begins at the cell at `base`, and is as long as `text`, equals `text`. Each word is read once, and none
 /// past the first byte that differs.
 #[tactic(auto, using(crate::proofs::Bytes::text_differs))]
 pub(crate) fn has_text<C: Cells>(cells: &mut C, base: usize, text: &[u8]) -> Result<bool, Torn>

@@ -1,4 +1,4 @@
--- Records that a comparison finds equal are one record.
+-- Records that a comparison finds equal are the same.
 use Rattle.std.proofs.Common.{◌≡◌, ◌<◌, ℕ, true, refl, ap, get_or, rules}
 use Rattle.std.proofs.lemmas.Slice.Eq.{slice_eq-Decides}
 use Rattle.std.specs.Bool.{Decides}

@@ -16,7 +16,7 @@ least-same S T n to back least = ⊎_elim
     (λ h. inr (to n h.0, λ m t. h.1 m (back m t)))
     least
 
--- n is the deny number of something that is asked and stands before i
+-- n is the deny number of something that is asked and precedes i
 abbrev pub DeniedBefore : Record → Perms → ℕ → ℕ → Type 0
 DeniedBefore r ask i n = (n ≢ 0) × ((p : Permission) × (index p < i) × IsTrue (has ask p) × ((hits_of r p).deny ≡ n))
 
@@ -51,7 +51,7 @@ module _ (below : (p : Permission) → index p < permission_count) (there : (p d
   same_place : (p q : Permission) → index p ≡ index q → p ≡ q
   same_place p q e = sym (there p p) ∙ ap (λ i. get_or all_permissions i p) e ∙ there q p
 
-  -- what stands at the index is asked: its deny number comes in
+  -- the permission at the index is asked: its deny number is added
   pub least-asked : (r : Record) (ask : Perms) (i n k l : ℕ) (p : Permission) (h : LeastHits) → index p ≡ i → h ≡ hits_of r p → l ≡ k →
       has ask p ≡ true → IsLeastOrNone (DeniedBefore r ask i) n → IsLeastOrNone (λ m. (m ≢ 0) × ((m ≡ n) ⊎ (m ≡ h.deny))) k →
       IsLeastOrNone (DeniedBefore r ask (i + 1)) l
@@ -67,7 +67,7 @@ module _ (below : (p : Permission) → index p < permission_count) (there : (p d
       (λ m t. t.0)
       least lesser)
 
-  -- what stands at the index isn't asked
+  -- the permission at the index isn't asked
   pub least-skip : (r : Record) (ask : Perms) (i n l : ℕ) (p : Permission) → index p ≡ i → l ≡ n → has ask p ≡ false →
       IsLeastOrNone (DeniedBefore r ask i) n → IsLeastOrNone (DeniedBefore r ask (i + 1)) l
   least-skip r ask i n l p at same not_asked least = subst (IsLeastOrNone (DeniedBefore r ask (i + 1))) (sym same)
@@ -80,7 +80,7 @@ module _ (below : (p : Permission) → index p < permission_count) (there : (p d
       (cases_lt (index t.1.0) i))
       least)
 
-  -- all stand before the end of the list
+  -- all precede the end of the list
   pub least-all : (r : Record) (ask : Perms) (i n : ℕ) → permission_count ≤ i → IsLeastOrNone (DeniedBefore r ask i) n → IsLeastOrNone (ToldDenied r ask) n
   least-all r ask i n le least = least-same (DeniedBefore r ask i) (ToldDenied r ask) n
       (λ m s. (s.0, (s.1.0, s.1.2, s.1.3)))

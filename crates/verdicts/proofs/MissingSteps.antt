@@ -15,7 +15,7 @@ module _ (r : Record) (ask : Perms) where
   is_missing p = has ask p && ((hits_of r p).allow == 0)
 
   module _ (there : (p other : Permission) → slice_index_or all_permissions (index p) other ≡ p) where
-    -- what stands at the index is asked
+    -- the permission at the index is asked
     pub missing-asked : (i : ℕ) (q : Permission) (h : LeastHits) (s t u : Perms) → index q ≡ i → h ≡ hits_of r q → has ask q ≡ true →
         u ≡ t → t ≡ (if h.allow == 0 then with_permission s q else s) → IsPassedBefore is_missing i s → IsPassedBefore is_missing (i + 1) u
     missing-asked i q h s t u at is asked same made before =
@@ -28,7 +28,7 @@ module _ (r : Record) (ask : Perms) where
         (passed-same is_missing there i q s at (told ∙ some) before))
         (cases_Bool (h.allow == 0))
 
-    -- what stands at the index isn't asked
+    -- the permission at the index isn't asked
     pub missing-skip : (i : ℕ) (q : Permission) (s u : Perms) → index q ≡ i → has ask q ≡ false → u ≡ s → IsPassedBefore is_missing i s →
         IsPassedBefore is_missing (i + 1) u
     missing-skip i q s u at not_asked same before = subst (IsPassedBefore is_missing (i + 1)) (sym same)

@@ -1,4 +1,4 @@
--- Records by what they have for each permission.
+-- Records by their hits for each permission.
 use Rattle.std.proofs.Common.{◌≡◌, ℕ, ◌<◌, length, get_or, sym, ap, ◌∙◌, arith}
 use Rattle.std.proofs.lemmas.List.{ext_get_or, get_or-map}
 use Rattle.std.proofs.Math.Nat.{ℕ_set}

@@ -1,4 +1,4 @@
--- The verdict on what a record tells (apparmor.d(5), "Rule Qualifiers"): a denial goes before what is missing.
+-- The verdict on the grounds of a record (apparmor.d(5), "Rule Qualifiers"): a denial takes precedence over what is missing.
 use Rattle.std.specs.Prelude.{◌≡◌, ◌≢◌, false}
 use Rattle.names.specs.declared.permissions.Permission.{Permission}
 use Rattle.names.specs.declared.permissions.Perms.{Perms}

@@ -1,4 +1,4 @@
--- The least hits, one rule that matches after another, in the order of their numbers.
+-- The least hits, one matching rule after another, in the order of their numbers.
 use Rattle.std.specs.Prelude.{ℕ, ◌==◌, if◌then◌else◌}
 use Rattle.names.specs.declared.permissions.Permission.{Permission}
 use Rattle.names.specs.declared.permissions.Perms.{Perms}
@@ -13,7 +13,7 @@ use Rattle.verdicts.specs.Least.{hits_of, no_hit, record_of}
 abbrev pub first_number : ℕ → ℕ → ℕ
 first_number old n = if old == 0 then n else old
 
--- one hit more of this kind
+-- one more hit of this kind
 abbrev pub hits_with : LeastHits → RuleKind → ℕ → LeastHits
 hits_with h Allow n = record { allow = first_number h.allow n; deny = h.deny }
 hits_with h Deny n = record { allow = h.allow; deny = first_number h.deny n }

@@ -9,7 +9,7 @@ use Rattle.verdicts.specs.declared.record.LeastHits.{LeastHits}
 abbrev pub no_hit : LeastHits
 no_hit = record { allow = 0; deny = 0 }
 
--- the hits of a permission: they stand in the order of all permissions
+-- the hits of a permission: they are in the order of all permissions
 abbrev pub hits_of : Record → Permission → LeastHits
 hits_of r p = slice_index_or r.hits (index p) no_hit
 

@@ -1,4 +1,4 @@
--- The verdict that a record tells: the least deny number over what is asked; else what has no allow number; else allowed.
+-- The verdict of a record: the least deny number over what is asked; else what has no allow number; else allowed.
 use Rattle.std.specs.Prelude.{◌≡◌, ◌≢◌, ◌↔◌, ℕ, IsTrue}
 use Rattle.names.specs.declared.permissions.Permission.{Permission}
 use Rattle.names.specs.declared.permissions.Perms.{Perms}

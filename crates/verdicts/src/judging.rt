@@ -1,4 +1,4 @@
-//! The verdict that a record tells.
+//! The verdict of a record.
 ghost use Rattle.std.specs.Prelude.{◌≡◌, ◌≢◌, ◌⊎◌, ◌&&◌, ◌==◌, if◌then◌else◌};
 ghost use Rattle.names.specs.Permissions.{has, set_of, with_permission};
 ghost use Rattle.verdicts.specs.Grounds.{IsVerdictOn};
@@ -10,19 +10,19 @@ use crate::record::Record;
 use crate::verdict::Verdict;
 use names::{Permission, Perms, permissions_are_numbered};
 
-/// What a verdict is told from. Whoever puts verdicts into numbers can do so without a branch on what the rules say, which a
-/// processor foretells badly.
+/// What a verdict is derived from. Code that encodes verdicts as numbers can use this without a branch on what the rules say,
+/// which a processor predicts badly.
 #[derive(Clone, Copy, Debug, PartialEq, Eq)]
 pub struct Grounds {
     /// The least number of a rule that denies something that is asked; 0 where none does.
     pub rule: u16,
-    /// What is asked and no rule allows.
+    /// The permissions that are asked for and that no rule allows.
     pub missing: Perms,
 }
 
 impl Grounds {
-    /// The verdict on these grounds (apparmor.d(5), "Rule Qualifiers"): denied by the rule, if there is one; else what no rule
-    /// allows; else allowed.
+    /// Returns the verdict on these grounds (apparmor.d(5), "Rule Qualifiers"): denied by the rule, if there is one; else what no
+    /// rule allows; else allowed.
     pub fn verdict(self) -> Verdict
         ensures { IsVerdictOn self result }
     {
@@ -38,8 +38,8 @@ impl Grounds {
     }
 }
 
-/// The grounds of what a record tells of what is asked. No memory is taken.
-// One loop finds both, and asks each permission's test once: most names need few instructions then.
+/// Returns the grounds of a record's verdict on what is asked. Allocates no memory.
+// One loop finds both, and tests each permission once, so that most names need few instructions.
 pub fn grounds_of(record: &Record, ask: Perms) -> Grounds
     ensures rule { IsLeastOrNone (ToldDenied «record».now ask) result.rule }
     ensures missing { result.missing ≡ set_of (λ p. has ask p && ((hits_of «record».now p).allow == 0)) }
@@ -58,7 +58,7 @@ pub fn grounds_of(record: &Record, ask: Perms) -> Grounds
     Grounds { rule, missing }
 }
 
-// What is missing, and a permission that is asked and allowed by a rule of this number, or by none.
+// Returns what is missing, after one more permission that is asked for and allowed by a rule of this number, or by none.
 fn with_missing(missing: Perms, permission: Permission, allow: u16) -> Perms
     ensures { result ≡ if allow == 0 then with_permission missing permission else missing }
 {
@@ -69,7 +69,7 @@ fn with_missing(missing: Perms, permission: Permission, allow: u16) -> Perms
     }
 }
 
-// The lesser of two numbers of rules, of which 0 is none.
+// Returns the lesser of two rule numbers, where 0 means no rule.
 fn lesser(one: u16, other: u16) -> u16
     ensures { IsLeastOrNone (λ n. (n ≢ 0) × ((n ≡ one) ⊎ (n ≡ other))) result }
 {

@@ -1,4 +1,4 @@
-//! Laws of records and of what they tell.
+//! Laws of records and of their verdicts.
 ghost use Rattle.std.specs.Prelude.{◌≡◌, true};
 ghost use Rattle.names.specs.declared.permissions.Permission.{Permission};
 ghost use Rattle.names.specs.declared.permissions.Perms.{Perms};
@@ -13,7 +13,7 @@ ghost use Rattle.verdicts.specs.declared.verdict.Verdict.{Verdict};
 
 use names::permissions_are_numbered;
 
-/// A record is what it has for each permission, and there is one for whatever each permission is to have.
+/// A record is determined by its hits for each permission, and there is a record for any choice of hits.
 pub fn records_are_their_hits()
     ensures same { (r s : Record) → ((p : Permission) → hits_of r p ≡ hits_of s p) → r ≡ s }
     ensures made { (hits : Permission → LeastHits) (p : Permission) → hits_of (record_of hits) p ≡ hits p }
@@ -21,19 +21,19 @@ pub fn records_are_their_hits()
     permissions_are_numbered();
 }
 
-/// Records that `==` finds equal are one record.
+/// Records that `==` finds equal are the same.
 pub fn equal_records_are_one()
     ensures { (r s : Record) → record_impl.eq-value.it r s ≡ true → r ≡ s }
 {
     permissions_are_numbered();
 }
 
-/// A record tells at most one verdict.
+/// A record gives at most one verdict.
 pub fn records_tell_one_verdict()
     ensures { (r : Record) (ask : Perms) (first second : Verdict) → IsTold r ask first → IsTold r ask second → first ≡ second }
 {}
 
-/// On grounds there is at most one verdict ([`Grounds::verdict`](crate::Grounds::verdict) tells it).
+/// There is at most one verdict on given grounds ([`Grounds::verdict`](crate::Grounds::verdict) returns it).
 pub fn grounds_have_one_verdict()
     ensures { (grounds : Grounds) (first second : Verdict) → IsVerdictOn grounds first → IsVerdictOn grounds second → first ≡ second }
 {}

@@ -1,6 +1,6 @@
-//! Verdicts, and the records that tell them: the least numbers of the rules that allow and that deny each permission.
+//! Verdicts, and the records that determine them: the least numbers of the rules that allow and that deny each permission.
 //!
-//! Nothing here takes memory.
+//! Nothing here allocates memory.
 //!
 //! The definitions to believe are those in `specs/`.
 #![tactic(auto)]

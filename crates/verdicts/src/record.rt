@@ -20,7 +20,7 @@ impl LeastHits {
     /// No rule hits.
     pub const NONE: LeastHits = LeastHits { allow: 0, deny: 0 };
 
-    // With one hit more, of a rule whose number is not below those of the hits before.
+    // Returns these hits with one more, of a rule whose number is not below those of the hits before.
     fn with(self, kind: RuleKind, number: u16) -> LeastHits
         ensures { result ≡ hits_with self kind number }
     {
@@ -61,21 +61,21 @@ impl Record {
         }
     }
 
-    /// The record of these hits, which are in the order of [`Permission::ALL`].
+    /// Returns the record of these hits, which are in the order of [`Permission::ALL`].
     pub fn from_hits(hits: [LeastHits; Permission::COUNT]) -> Record
         ensures { result ≡ record_of (λ p. slice_index_or hits (index p) no_hit) }
     {
         Record { hits }
     }
 
-    /// The least hits of a permission.
+    /// Returns the least hits of a permission.
     pub fn of(&self, permission: Permission) -> LeastHits
         ensures { result ≡ hits_of self.now permission }
     {
         self.hits[permission.index()]
     }
 
-    /// With these hits of a permission in place of those that it has.
+    /// Returns the record with the hits of a permission replaced by these.
     pub fn with_hits(self, permission: Permission, hits: LeastHits) -> Record
         ensures { result ≡ with_hits self permission hits }
     {
@@ -84,7 +84,7 @@ impl Record {
         record
     }
 
-    // The least hits of a permission, with one rule more that matches.
+    // Returns the least hits of a permission, with one more rule that matches.
     fn hits_after(
         &self,
         permission: Permission,
@@ -101,7 +101,7 @@ impl Record {
         }
     }
 
-    /// With one rule more that matches, whose number is not below those of the rules before.
+    /// Returns the record with one more rule that matches, whose number is not below those of the rules before.
     pub fn with_rule(&self, kind: RuleKind, perms: Perms, number: u16) -> Record
         ensures { result ≡ record_with self.now kind perms number }
     {

@@ -4,7 +4,7 @@ ghost use Rattle.verdicts.specs.VerdictText.{verdict_text};
 use names::Perms;
 use std::fmt;
 
-/// What the rules of a profile say of a name and of the permissions that are asked for it.
+/// What the rules of a profile say about a name and the permissions that are asked for.
 /// It is printed as `allowed`, `denied by rule K` or `no rule for X`.
 #[derive(Clone, Copy, Debug, PartialEq, Eq)]
 pub enum Verdict {
@@ -12,7 +12,7 @@ pub enum Verdict {
     Allowed,
     /// Some asked permission is denied; `rule` is the least number of a rule that denies one.
     Denied { rule: u16 },
-    /// Nothing that is asked is denied, and no rule allows the missing permissions.
+    /// No asked permission is denied, and no rule allows the missing ones.
     NoRule { missing: Perms },
 }
 

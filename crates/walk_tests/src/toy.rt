@@ -1,4 +1,4 @@
-//! A look at one small tree, and a look that comes to an end.
+//! A look at one small tree, and a look that ends.
 ghost use Rattle.std.specs.Prelude.{◌≡◌, IfErr};
 ghost use Rattle.path_lookup.specs.World.{World};
 ghost use Rattle.walk_tests.specs.SmallTree.{HasSmall};
@@ -146,7 +146,7 @@ impl Look for SmallTree {
     }
 }
 
-/// A look that reads so often, and no more.
+/// A look that stops after this many reads.
 #[derive(Drop)]
 pub struct EndsAfter<L: Look> {
     pub look: L,

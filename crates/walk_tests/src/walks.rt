@@ -1,4 +1,4 @@
-//! Walks and names in the small tree, by looks that come to an end.
+//! Walks and names in the small tree, by looks that end.
 use crate::toy::{EndsAfter, Place, SmallTree};
 use names::{Errno, Path};
 use path_walk::{Last, Scratch, WalkFault, name_of, resolve};
@@ -9,7 +9,7 @@ fn path(bytes: &[u8]) -> Result<Path<'_>, Fail> {
     Ok(Path::check(bytes).ok().ok_or("a path")?)
 }
 
-// A path, whether a link at its end is followed, how often that is read in all, and where it leads.
+// A path, whether a link at its end is followed, the total number of reads, and where it leads.
 type Walk<'a> = (&'a [u8], Last, u64, Result<Place, WalkFault>);
 
 fn expect_walks(rt: &impl Abort, rows: &[Walk]) -> Result<(), Fail> {
@@ -19,7 +19,7 @@ fn expect_walks(rt: &impl Abort, rows: &[Walk]) -> Result<(), Fail> {
     Ok(())
 }
 
-// Whether so many reads are enough and fewer are not, and the answer is this.
+// Whether this many reads are enough and fewer are not, and the answer is this.
 fn leads_there((at, last, reads, want): &Walk<'_>) -> Result<bool, Fail> {
     let path = path(at)?;
     for reads_left in 0..*reads {
@@ -30,7 +30,7 @@ fn leads_there((at, last, reads, want): &Walk<'_>) -> Result<bool, Fail> {
     Ok(walk(&path, *last, *reads) == *want)
 }
 
-// Where a walk of so many reads leads.
+// Where a walk of `reads_left` reads leads.
 fn walk(path: &Path<'_>, last: Last, reads_left: u64) -> Result<Place, WalkFault> {
     let mut look = EndsAfter {
         look: SmallTree::new(),
@@ -62,13 +62,13 @@ fn walks(rt: HostRuntime) -> Result<(), Fail> {
             (b"/d", Last::Stay, 2, Ok(Place::D)),
             (b"/d/", Last::Stay, 5, Ok(Place::A)),
             (b"/d/f", Last::Follow, 7, Ok(Place::F)),
-            // Each of the 41 times that the ring is met it is looked up, and 40 times its text is read.
+            // Each of the 41 times that the ring is met it is looked up, and 40 of these times its text is read.
             (b"/a/r", Last::Follow, 124, ring),
         ],
     )
 }
 
-// The name of a place by a look of so many reads, put into the room.
+// The name of a place by a look of `reads_left` reads, put into the room.
 fn name_by(place: Place, reads_left: u64, room: &mut [u8; 4096]) -> Result<usize, WalkFault> {
     let mut look = EndsAfter {
         look: SmallTree::new(),
@@ -77,7 +77,7 @@ fn name_by(place: Place, reads_left: u64, room: &mut [u8; 4096]) -> Result<usize
     name_of(&mut look, place, room)
 }
 
-// Whether so many reads are enough and fewer are not, and this is the name.
+// Whether this many reads are enough and fewer are not, and this is the name.
 fn is_named(place: Place, name: &[u8], reads: u64) -> bool {
     for reads_left in 0..reads {
         if name_by(place, reads_left, &mut [0; 4096]) != Err(WalkFault::Torn) {

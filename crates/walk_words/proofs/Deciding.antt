@@ -1,4 +1,4 @@
--- What a walk tells of the worlds that are seen, told of rows and trees.
+-- What a walk says about the worlds that are seen, restated for rows and trees.
 use Rattle.std.proofs.Common.{◌≡◌, ℕ, ◌+◌, ◌-◌, ◌≤◌, Bool, true, List, length, drop, Some, None, Option, refl, sym, ap, ◌∙◌, subst, arith}
 use Rattle.std.specs.Prelude.{Result, Ok, Err, IsSome, IfOk, IfErr, if◌then◌else◌}
 use Rattle.std.proofs.lemmas.List.{length-drop}
@@ -46,7 +46,7 @@ lacking capacity old reads most read (Err fault.Torn) (Some (lack.Wants place)) 
 lacking capacity old reads most read (Err fault.Torn) (Some (lack.NoMemory place)) counted honest = let h = honest.refused place refl in (h.0, let few = h.1 in omega (arith, counted))
 lacking capacity old reads most read (Err fault.Torn) None counted honest = tt
 
--- where the walk's cells were given back with what came of it
+-- after the walk's cells were returned with its outcome
 pub decided_after : (capacity : ℕ) (words result : Seen) (room : List ℕ) (answer : Tree → Result Reached Errno) (end : Result reached_code.Reached WalkFault) (lacks : Option Lack) (came : Result Outcome Lack)
     → words.0 ≡ capacity → result ≡ words → came ≡ end_by end lacks → IfOk end (λ file. file.name_length ≤ 4095) → IfOk end (λ file. (w : World) → Sees words.0 words.1 w → answer w.tree ≡ Ok (reached_of room file))
     → IfErr end (IsFault (IsSome lacks) (Sees words.0 words.1) (λ w. answer w.tree)) → IfOk came (Decides capacity result.1 room answer)
@@ -68,7 +68,7 @@ lacking_after capacity old words result most given read end lacks came one same 
 path_is : (text : List ℕ) → path_fault text ≡ None → path_of text ≡ Ok text
 path_is text none = ap (λ (o : Option Errno). let r : Result (List ℕ) Errno = elim o [ None ↦ Ok text | Some errno ↦ Err errno ] in r) none
 
--- an open that isn't at fault by itself reaches what its path leads to
+-- an open whose arguments are valid reaches what its path leads to
 pub reached_is : (text path : List ℕ) (ask : Perms) → can_be_asked ask ≡ true → path ≡ text → path_fault path ≡ None → (t : Tree) → reached_by_path t path ≡ reached t text ask
 reached_is text path ask asked is none t =
     sym (ap (λ (b : Bool). if b then and_then (path_of text) (reached_by_path t) else Err EINVAL) asked ∙ ap (λ (r : Result (List ℕ) Errno). and_then r (reached_by_path t)) (path_is text (ap path_fault (sym is) ∙ none)) ∙ ap (reached_by_path t) (sym is))

@@ -12,7 +12,7 @@ use Rattle.walk_words.specs.Outcomes.{IsLeft}
 use Rattle.walk_words.specs.inner.Reading.{IsHonest}
 use Rattle.walk_words.proofs.WordsRead.{unread}
 
--- of a capacity and the words that were read
+-- a capacity, and the words that were read
 abbrev pub Seen : Type 0
 Seen = ℕ × List Cell
 

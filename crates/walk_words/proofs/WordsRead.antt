@@ -39,7 +39,7 @@ pub known_stands : (reads : List Cell) (place : ℕ) (known : Option ℕ) → kn
 known_stands reads place None is = tt
 known_stands reads place (Some word) is = λ row agrees. stands reads row place word (sym is) agrees
 
--- the order of numbers and their equality tell alike whether two are one
+-- the order of numbers and their equality agree on whether two numbers are equal
 same_place : (p q : ℕ) → is_eq (nat_cmp p q) ≡ (p == q)
 same_place p q = elim (eqb_tells p q) [
   | inl same ↦ ap (λ (b : Bool). is_eq (cond b Less (cond (p == q) Equal Greater))) (le-ltb p q (let e = same.1 in omega (arith, e))) ∙ ap (λ (b : Bool). is_eq (cond b Equal Greater)) same.0 ∙ sym same.0

@@ -25,7 +25,7 @@ Decides capacity reads room answer outcome.Torn = InEach capacity (Agrees reads)
 abbrev pub IsLeft : ℕ → List Cell → ℕ → Type 0
 IsLeft capacity reads place = (place < row_length capacity) × IsUnread reads place
 
--- A word is wanted once as many were read after the old ones as may be, and memory is refused before.
+-- A word is wanted once `most` words were read after the old ones; memory is refused before that.
 abbrev pub IsLack : ℕ → List Cell → List Cell → ℕ → Lack → Type 0
 IsLack capacity old reads most (lack.Wants place) = IsLeft capacity reads place × (length reads ≡ length old + most)
 IsLack capacity old reads most (lack.NoMemory place) = IsLeft capacity reads place × (length reads < length old + most)

@@ -12,7 +12,7 @@ word_in (read ∷ reads) place = if place == read.place then Some read.word else
 abbrev pub IsUnread : List Cell → ℕ → Type 0
 IsUnread reads place = All (λ (read : Cell). read.place ≢ place) reads
 
--- Of the row more words were read after the old ones: each stands at its place, where none had been read by then.
+-- After the old words, more were read from the row: each is the row's word at its place, where none had been read before it.
 abbrev pub ReadsOn : List ℕ → List Cell → List Cell → Type 0
 ReadsOn row [] old = Unit {0}
 ReadsOn row (read ∷ more) old = (slice_get row read.place ≡ Some read.word) × IsUnread (more ++ old) read.place × ReadsOn row more old

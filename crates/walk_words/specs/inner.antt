@@ -1,3 +1,3 @@
--- Words of private contracts and proofs alone.
+-- Definitions that only private contracts and proofs use.
 pub mod Keeping
 pub mod Reading

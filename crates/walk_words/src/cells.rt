@@ -10,7 +10,7 @@ use path_lookup::WalkFault;
 use row_rule::Cell;
 use tree_row::{Cells, KnownRow};
 
-/// The cells of a row at hand: each word is told as it was read before, else it is read, if it may be.
+/// The cells of a row at hand: a word that was read before is returned again, any other is read, if it may be.
 #[derive(Drop)]
 pub(crate) struct RowCells<'a> {
     words: WalkWords,
@@ -18,7 +18,7 @@ pub(crate) struct RowCells<'a> {
     // The most words that may be read, and how many were.
     most: usize,
     read: usize,
-    // The first word that was asked for and not told. From then on none is read.
+    // The first word that was requested and couldn't be returned. From then on none is read.
     lack: Option<Lack>,
     ghost one_capacity: { row.now.0 ≡ words.0 },
     ghost few: { read ≤ most },
@@ -77,7 +77,7 @@ impl<'a> Cells for RowCells<'a> {
 }
 
 impl<'a> RowCells<'a> {
-    /// Nothing but what was read before.
+    /// No word is read yet beyond those in `words`.
     pub(crate) fn new(words: WalkWords, row: &'a KnownRow, most: usize) -> RowCells<'a>
         requires { row.now.0 ≡ words.0 }
         ensures words { result.words ≡ words }
@@ -94,7 +94,7 @@ impl<'a> RowCells<'a> {
         }
     }
 
-    /// What came of a walk that ended so.
+    /// The outcome of a walk with this end.
     pub(crate) fn ended(self, end: Result<Reached, WalkFault>) -> Reach
         ensures words { result.words ≡ self.entry.words }
         ensures end { result.end ≡ end_by end self.entry.lack }

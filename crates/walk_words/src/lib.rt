@@ -1,5 +1,5 @@
-//! The words that the walk of one open has read of a row, and the walk that goes on from them: it reads what it needs of a
-//! row at hand, until the words decide what the open reaches, or it has read as many as it may.
+//! The words that the walk of one open has read from a row, and the walk that continues from them: it reads what it needs from
+//! a row at hand, until the words decide what the open reaches, or it has read as many as it may.
 //!
 //! The definitions to believe are those in `specs/`.
 #![tactic(auto)]

@@ -1,4 +1,4 @@
-//! What comes of a walk.
+//! Outcomes of a walk.
 use crate::words::WalkWords;
 use mediation::Reached;
 use names::Errno;
@@ -23,7 +23,7 @@ pub enum Lack {
     NoMemory(usize),
 }
 
-/// What came of a walk.
+/// The outcome of a walk.
 #[derive(Drop)]
 pub struct Reach {
     /// The words that were read, in this walk and before it.

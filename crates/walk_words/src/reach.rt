@@ -1,4 +1,4 @@
-//! The walk of an open over words that were read, and those that it reads.
+//! The walk of an open over words that were already read, and words that it reads itself.
 ghost use Rattle.std.specs.Prelude.{◌≡◌, ◌++◌, ◌≤◌, true, List, None, Ok, length, IfOk, IfErr, OnErr};
 ghost use Rattle.mediation.specs.Opening.{can_be_asked, reached, reached_by_path};
 ghost use Rattle.names.specs.Paths.{path_fault};
@@ -16,9 +16,9 @@ use path_lookup::{NAME_ROOM, Scratch};
 use row_look::RowLook;
 use tree_row::KnownRow;
 
-/// What an open reaches (open(2), path_resolution(7)), as far as the words that were read and at most `most` further words of
-/// `row` decide it. Only words that the walk needs are read, none of them twice. The name of the file goes to the front of
-/// `room`. Where what is asked or the path is at fault by itself, no word is needed; where no word is read, no memory is taken.
+/// Finds what an open reaches (open(2), path_resolution(7)), as far as the words already read and at most `most` further words
+/// of `row` decide it. Reads only words that the walk needs, none of them twice. Writes the name of the file to the front of
+/// `room`. If the request or the path is invalid by itself, no word is needed; if no word is read, no memory is taken.
 pub fn reach_on(
     words: WalkWords,
     row: &KnownRow,
@@ -44,7 +44,7 @@ pub fn reach_on(
     }
 }
 
-/// Refused by what the open itself says.
+/// The refusal of an open whose own arguments are invalid.
 fn refused(words: WalkWords, errno: Errno) -> Reach
     ensures words { result.words ≡ words }
     ensures end { result.end ≡ Ok (outcome.Refused errno) }
@@ -55,7 +55,7 @@ fn refused(words: WalkWords, errno: Errno) -> Reach
     }
 }
 
-/// What a path leads to, a last link followed.
+/// Finds what a path leads to; a link at its end is followed.
 fn walk_on(
     words: WalkWords,
     row: &KnownRow,

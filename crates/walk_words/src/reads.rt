@@ -1,4 +1,4 @@
-//! What was read, for contracts alone.
+//! The words that were read, only for contracts.
 ghost use Rattle.std.specs.Prelude.{◌≡◌, List, [], ◌∷◌};
 ghost use Rattle.std.specs.Borrow.{ftrue};
 ghost use Rattle.row_rule.specs.declared.cell.Cell.{Cell};
@@ -6,7 +6,7 @@ ghost use Rattle.row_rule.specs.declared.cell.Cell.{Cell};
 use row_rule::Cell;
 use std::marker::{Model, PhantomData};
 
-/// The words that were read, the newest first. It takes no memory: only contracts read it.
+/// The words that were read, newest first. Takes no memory: only contracts read it.
 #[derive(Drop)]
 pub(crate) struct Reads {
     marker: PhantomData<u8>,
@@ -26,7 +26,7 @@ impl Reads {
         }
     }
 
-    /// With one word more.
+    /// These words and one more.
     pub(crate) fn and(&self, cell: &Cell) -> Reads
         ensures { result.list ≡ cell.now ∷ self.now.list }
     {

@@ -11,7 +11,7 @@ use tree_row::MOST_ENTRIES;
 
 /// The words that a walk has read of a row, none of them twice.
 ///
-/// It is seen as the pair of the row's capacity and of the words with their places, the newest first.
+/// Its view is the pair of the row's capacity and the words with their places, newest first.
 #[derive(Drop)]
 pub struct WalkWords {
     capacity: usize,
@@ -33,7 +33,7 @@ impl Model for WalkWords {
 }
 
 impl WalkWords {
-    /// Of a row with room for so many entries nothing was read.
+    /// No words yet, of a row with room for `capacity` entries.
     pub fn new(alloc: Global, capacity: usize) -> WalkWords
         requires { capacity ≤ MOST_ENTRIES }
         ensures { result ≡ (capacity, []) }
@@ -67,7 +67,7 @@ impl WalkWords {
         self.words.get(&place).copied()
     }
 
-    /// One word more was read, at a place where none was. Where memory is refused, nothing changes.
+    /// Adds a word that was read at a place where none was read before. If memory is refused, nothing changes.
     pub fn read(&mut self, cell: Cell) -> Result<(), AllocError>
         requires { IsUnread self.old.1 cell.place }
         ensures ok { OnOk result (self.new ≡ (self.old.0, cell ∷ self.old.1)) }

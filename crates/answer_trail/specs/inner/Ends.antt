@@ -1,4 +1,4 @@
--- What an open was found to come to in the tree of a version.
+-- The outcome that was found for an open in the tree of a version.
 use Rattle.std.specs.Prelude.{◌≡◌, ◌<◌, ◌≤◌, ℕ, List, length, Ok, Err}
 use Rattle.std.proofs.Common.{get_or}
 use Rattle.names.specs.declared.errors.Errno.{Errno}
@@ -22,7 +22,7 @@ abbrev pub IsEnd : List Change → ℕ → List ℕ → Perms → End → Type 0
 IsEnd changes version path ask (Failed errno) = (t : Tree) × IsTreeAt changes version t × (reached t path ask ≡ Err errno)
 IsEnd changes version path ask (File file) = (t : Tree) × IsTreeAt changes version t × (reached t path ask ≡ Ok (file_of file))
 
--- they are of the versions 0, 1 and so on; of no later version there is a tree
+-- the ends are those of the versions 0, 1 and so on; no later version has a tree
 pub record AreEnds (changes : List Change) (path : List ℕ) (ask : Perms) (ends : List End) : Type 0 where
   pub each : (version : ℕ) (default : End) → version < length ends → IsEnd changes version path ask (get_or ends version default)
   pub no_more : (version : ℕ) (t : Tree) → length ends ≤ version → ¬ (IsTreeAt changes version t)

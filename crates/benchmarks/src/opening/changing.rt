@@ -8,7 +8,7 @@ use std::sync::Wait;
 use std::sync::atomic::{AtomicBool, Ordering};
 use std::time::Duration;
 
-/// Renames a directory to and fro, and returns the number of renames; none where one is refused.
+/// Renames a directory back and forth, and returns the number of renames; none if one is refused.
 pub(crate) fn rename_until<R: Clock>(
     rt: &R,
     keeper: &mut Keeper,
@@ -31,7 +31,7 @@ pub(crate) fn rename_until<R: Clock>(
     None
 }
 
-/// Publishes profiles, and returns how many; none where one is refused.
+/// Publishes profiles, and returns how many; none if one is refused.
 pub(crate) fn publish_until<R: Clock + Wait>(
     rt: &R,
     policy: &mut Policy,

@@ -69,7 +69,7 @@ struct Opened {
     tally: Tally,
 }
 
-/// The rate of the sessions; none where a change is refused.
+/// The rate of the sessions; none if a change is refused.
 pub(crate) fn measure<R: Clock + Threads + Wait + Sync>(
     rt: &R,
     alloc: Global,

@@ -11,8 +11,8 @@ use std::rt::Clock;
 use std::sync::Wait;
 use std::thread::Threads;
 
-/// Does all that the plan asks for, and prints the times where it asks for them. Returns whether each change was made, and each
-/// open was answered by what is there.
+/// Does all that the plan asks for, and prints the times if it asks for them. Returns whether each change was made, and each open
+/// was answered by what is there.
 pub(crate) fn run_all<R: Clock + Print + Threads + Wait + Sync>(
     rt: &R,
     alloc: Global,

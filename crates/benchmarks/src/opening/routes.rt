@@ -1,13 +1,13 @@
 //! The files that are opened.
 
-/// A file, and the directory that it stands in.
+/// A file, and the directory that it is in.
 #[derive(Clone, Copy)]
 pub(crate) struct Route {
     pub name: &'static str,
     pub file: &'static [u8],
     /// The directory's name.
     pub directory: &'static [u8],
-    /// Its other name, which it has now and then where it is renamed.
+    /// Its other name, which it has now and then if it is renamed.
     pub renamed: &'static [u8],
 }
 

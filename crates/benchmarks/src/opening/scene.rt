@@ -31,8 +31,8 @@ pub(crate) struct Policy {
 }
 
 impl Scene {
-    /// The tree, with room for `capacity` entries, and the published profile of this text; none where memory is refused, or
-    /// the text is no profile's.
+    /// The tree, with room for `capacity` entries, and the published profile of this text; none if memory runs out, or the text is
+    /// no profile's.
     pub(crate) fn new<R: Wait>(rt: &R, alloc: Global, capacity: usize, text: &[u8]) -> Option<Scene>
         requires { capacity ≤ MOST_ENTRIES }
     {
@@ -73,7 +73,7 @@ impl Scene {
 }
 
 impl Policy {
-    /// Publishes the first profile after an even number of others, and else the second.
+    /// Publishes the first profile after an even number of others, and otherwise the second.
     pub(crate) fn publish<R: Wait>(&mut self, rt: &R, others: u64) -> Result<u64, NoMemory> {
         if others % 2 == 0 {
             stage(&mut self.publisher, PROFILE, &self.first)?;

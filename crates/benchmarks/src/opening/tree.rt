@@ -22,7 +22,7 @@ pub(crate) const ASIDE: &[u8] = b"/aside";
 pub(crate) const AWAY: &[u8] = b"/away";
 
 /// The keeper of a tree of 117 entries, with room for `capacity`: four symbolic links, a directory aside, and 16 directories, each
-/// in the one before, each with six files; none where memory is refused.
+/// in the one before, each with six files; none if memory runs out.
 pub(crate) fn grown(alloc: Global, capacity: usize) -> Option<Keeper>
     requires { capacity ≤ MOST_ENTRIES }
 {

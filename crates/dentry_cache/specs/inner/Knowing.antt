@@ -1,4 +1,4 @@
--- What is true of the parts of a keeper and of a walker.
+-- What holds of the parts of a keeper and of a walker.
 use Rattle.std.specs.Prelude.{◌≡◌, ℕ, ◌+◌, ◌<◌, ◌≤◌, List, [], ◌∷◌, ◌++◌, length, None, Ok}
 use Rattle.atomic_table.specs.Seated.{TableId}
 use Rattle.atomic_table.specs.declared.shared.Seat.{Seat}
@@ -33,7 +33,7 @@ pub record IsRowTable (table : TableId) (key capacity : ℕ) : Type 0 where
   pub key_is : key ≡ capacity
   pub small : capacity ≤ 16384
 
--- the cells encode the tree after the history, and the next node's number is beside them
+-- the cells encode the tree after the history, and `next` is the next node's number
 pub record IsKept (h : Held) (next version : ℕ) : Type 0 where
   pub tree : Tree
   pub made : tree_after h.capacity h.history ≡ Ok tree

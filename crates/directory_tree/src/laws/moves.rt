@@ -8,9 +8,9 @@ ghost use Rattle.directory_tree.specs.Place.{place_name};
 ghost use Rattle.directory_tree.specs.Moves.{IsWithin, IsMove, StandsAt};
 ghost use Rattle.directory_tree.specs.Apply.{rename, place_one};
 
-/// A rename moves the name of the entry and every name below it, and no other name: of a moved name the front that was
-/// the old place's is the new place's, and the rest stays. What stood at the new place is gone; onto an entry of the same
-/// node a rename does nothing.
+/// A rename moves the name of the entry and every name below it, and no other name: in a moved name the front that was the old
+/// place's becomes the new place's, and the rest stays. What was at the new place is gone; onto an entry of the same node a
+/// rename does nothing.
 pub fn renames_move_names()
     ensures within { (t u : Tree) (d : ℕ) (c : List ℕ) (into : ℕ) (name : List ℕ) (n : ℕ) (old e : Entry) →
         WellFormed t → leads t.entries n into ≡ true → IsComponent name →

@@ -1,12 +1,12 @@
-//! When a node stands, and when it is gone.
+//! When a node exists, and when it is gone.
 ghost use Rattle.std.specs.Prelude.{◌≡◌, ◌≢◌, ◌↔◌, ◌⊎◌, ◌+◌, ◌≤◌, Bool, List, ℕ, Some, None, Ok, true, false};
 ghost use Rattle.directory_tree.specs.declared.node.NodeKind.{NodeKind};
 ghost use Rattle.directory_tree.specs.declared.change.Change.{Change};
 ghost use Rattle.directory_tree.specs.Tree.{Tree, Entry, Has, WellFormed, root, kind_of, is_directory, is_below};
 ghost use Rattle.directory_tree.specs.Apply.{apply};
 
-/// A node is gone exactly with its last entry. A change leaves each node what it was, or takes it away; one that it makes
-/// has the tree's next number, which is then one more, and which no change makes less.
+/// A node is gone exactly when its last entry is. A change leaves each node what it was, or removes it; one that it makes has
+/// the tree's next number, which is then one more, and which no change makes less.
 pub fn nodes_live_by_their_entries()
     ensures gone { (t : Tree) (n : ℕ) → WellFormed t →
         (kind_of t n ≡ None) ↔ ((n ≢ root) × ((d : ℕ) (c : List ℕ) (e : Entry) → Has t d c e → e.node ≢ n)) }

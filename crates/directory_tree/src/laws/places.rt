@@ -9,8 +9,8 @@ ghost use Rattle.directory_tree.specs.Name.{judged_name};
 ghost use Rattle.directory_tree.specs.Place.{named_place};
 ghost use Rattle.directory_tree.specs.Apply.{apply};
 
-/// Where a hard link is made, the old path led to an entry, and the new path then leads to one of the same node, whose name
-/// is that of the place that the new path named before.
+/// If a hard link is made, the old path led to an entry, and the new path then leads to one of the same node, whose name is
+/// that of the place that the new path named before.
 pub fn links_are_found()
     ensures { (t u : Tree) (room : Bool) (old new : List ℕ) → WellFormed t → apply t room (Link old new) ≡ Ok u →
         (from to : Entry) × (walk t Stay old ≡ Ok (Held from)) × (walk u Stay new ≡ Ok (Held to)) × (to.node ≡ from.node)

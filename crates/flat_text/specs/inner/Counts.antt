@@ -1,4 +1,4 @@
--- What counts may come to.
+-- How great counts can be.
 use Rattle.std.specs.Prelude.{ℕ}
 
 -- the largest usize

@@ -14,7 +14,7 @@ pub data IsIn : List Entry → ℕ → ℕ → Type 0 where
   one_side : (entries : List Entry) (e one other q : ℕ) → slice_get entries e ≡ Some (entry.Either one other) → IsIn entries one q → IsIn entries e q
   other_side : (entries : List Entry) (e one other q : ℕ) → slice_get entries e ≡ Some (entry.Either one other) → IsIn entries other q → IsIn entries e q
 
--- an entry refers to entries before it alone
+-- an entry refers only to entries before it
 abbrev pub refers_below : ℕ → Entry → Type 0
 refers_below e entry.Nothing = Unit {0}
 refers_below e (entry.Place q) = Unit {0}

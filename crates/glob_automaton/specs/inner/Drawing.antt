@@ -23,7 +23,7 @@ TakesSet chart takes set = (b : ℕ) → b < 256 → takes_byte chart.classes.it
 abbrev pub Grows : {X : Type 0} → List X → List X → Type 0
 Grows {X} old new = (more : List X) × (new ≡ old ++ more)
 
--- a class that a place takes stands in the chart
+-- a class that a place takes is in the chart
 abbrev pub IsKnown : Chart → Label → Type 0
 IsKnown chart (label.Class n) = n < length chart.classes.items
 IsKnown chart (label.Byte b) = Unit {0}
@@ -31,8 +31,8 @@ IsKnown chart label.InComponent = Unit {0}
 IsKnown chart label.Any = Unit {0}
 IsKnown chart label.Nothing = Unit {0}
 
--- A pattern was drawn before the entry `behind`: its places are the next numbers, the entry `start` is live where the
--- pattern begins, and each place takes its bytes and goes on to what is live then. What stood before stands.
+-- A pattern was drawn before the entry `behind`: its places are the next numbers, the entry `start` is live where the pattern
+-- begins, and each place takes its bytes and goes on to what is live then. What was there before stays.
 pub record IsDrawn (old new : Chart) (g : Glob) (behind start : ℕ) : Type 0 where
   pub places_stay : Grows old.places.items new.places.items
   pub entries_stay : Grows old.entries.items new.entries.items
@@ -48,7 +48,7 @@ pub record IsDrawn (old new : Chart) (g : Glob) (behind start : ℕ) : Type 0 wh
   pub there : (p : ℕ) (place : ChartPlace) → length old.places.items ≤ p → slice_get new.places.items p ≡ Some place →
       (place.behind < length new.entries.items) × IsKnown new place.takes
 
--- a rule stands in the chart, its end at this place and its places behind it
+-- a rule is in the chart, its end at this place and its places after it
 pub record HasRule (chart : Chart) (rule : RuleValue) (drawn : ChartRule) : Type 0 where
   pub kind : drawn.kind ≡ rule.kind
   pub perms : drawn.perms ≡ rule.perms
@@ -60,7 +60,7 @@ pub record HasRule (chart : Chart) (rule : RuleValue) (drawn : ChartRule) : Type
   pub goes : (p q : ℕ) (place : ChartPlace) → drawn.end < p → p ≤ drawn.end + places (pattern rule) → slice_get chart.places.items p ≡ Some place →
       IsIn chart.entries.items place.behind q ↔ Goes (pattern rule) (drawn.end + 1) (λ r. r ≡ drawn.end) p q
 
--- each rule stands behind the one before it, and nothing else stands in the chart
+-- each rule comes after the one before it, and nothing else is in the chart
 abbrev pub HasRules : Chart → ℕ → List RuleValue → List ChartRule → Type 0
 HasRules chart at [] [] = length chart.places.items ≡ at
 HasRules chart at [] (d ∷ ds) = ⊥

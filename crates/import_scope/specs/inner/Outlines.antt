@@ -12,7 +12,7 @@ use Rattle.import_scope.specs.ItemWords.{bytes_before}
 use Rattle.import_scope.specs.Scopes.{ScopeState, Fault, innermost, first_number, behind, head_fault}
 use Rattle.import_scope.specs.Told.{fault_value}
 
--- a path that is asked, in the profile of that number
+-- a path that is asked, in the profile with this number
 pub record AskedValue : Type 0 where
   pub profile : ℕ
   pub path : List ℕ
@@ -44,13 +44,13 @@ abbrev pub asks : ItemKind → ScopeState → List PartValue → List AskedValue
 asks items.Rule s parts = asked_path s parts
 asks _ s parts = []
 
--- What a step returned, what it changed, and what it should: its fault, or what comes behind it.
+-- What a step returned, what it changed, and what it should have: its fault, or the state after it.
 abbrev pub Steps : {X : Type 0} → Result X ScopeFailure → Option Fault → ScopeState → ScopeState → ScopeState → Type 0
 Steps (Ok x) fault old new next = (fault ≡ None) × (new ≡ next)
 Steps (Err failures.NoMemory) fault old new next = Unit {0}
 Steps (Err (failures.At f)) fault old new next = (fault ≡ Some (fault_value f)) × (new ≡ old)
 
--- the state in which the items end, or in which their first fault stands
+-- the state at the end of the items, or at their first fault
 abbrev pub last_state : ScopeState → List ItemValue → ScopeState
 last_state s [] = s
 last_state s (item ∷ items) = elim (head_fault item.kind s item.parts) [ None ↦ last_state (behind s item) items | Some fault ↦ s ]

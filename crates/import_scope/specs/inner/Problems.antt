@@ -1,11 +1,11 @@
--- The first of questions that has a problem.
+-- The first question that has a problem.
 use Rattle.std.specs.Prelude.{ℕ, List, [], ◌∷◌, Option, Some, None, slice_get}
 use Rattle.profile_variables.specs.Variables.{Variable}
 use Rattle.import_scope.specs.FirstFaults.{Question, variables_within, IsAnswered, IsPathFault}
 use Rattle.import_scope.specs.Scopes.{Head, Fault}
 use Rattle.import_scope.specs.inner.Outlines.{AskedValue}
 
--- the full name of the profile of that number
+-- the full name of the profile with this number
 abbrev pub name_at : List Head → ℕ → List ℕ
 name_at profiles n = elim (slice_get profiles n) [ None ↦ [] | Some head ↦ head.name ]
 

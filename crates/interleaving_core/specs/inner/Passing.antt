@@ -1,4 +1,4 @@
--- What comes of one event of a list.
+-- The outcome of one event of a list.
 use Rattle.std.specs.Prelude.{◌≡◌, ◌⊎◌, ℕ, List, ◌++◌, Option, Result, OnOk, OnErr}
 use Rattle.justification.specs.declared.answer.Answer.{Answer}
 use Rattle.event_core.specs.Machine.{Event, Machine}
@@ -6,13 +6,13 @@ use Rattle.event_core.specs.Takes.{Takes}
 use Rattle.event_core.specs.Lawful.{IsLawful}
 use Rattle.event_core.specs.Runs.{told_by}
 
--- It is taken, and its answer stands behind the others; or it isn't lawful, and nothing changed.
+-- It is taken, and its answer is appended to the others; or it isn't lawful, and nothing changed.
 abbrev pub PassesBy : Machine → Event → List (ℕ × Answer) → Machine → List (ℕ × Answer) → Type 0
 PassesBy old event answers new more =
     ((told : Option Answer) × Takes old event told new × (more ≡ answers ++ told_by event told))
     ⊎ (¬ (IsLawful old event) × (new ≡ old) × (more ≡ answers))
 
--- Where memory is refused, nothing changed, or it was taken.
+-- If memory is refused, nothing changed, or it was taken.
 pub record IsPass {A B : Type 0} (old : Machine) (event : Event) (answers : List (ℕ × Answer)) (result : Result A B) (new : Machine) (more : List (ℕ × Answer)) : Type 0 where
   pub ok : OnOk result (PassesBy old event answers new more)
   pub err : OnErr result ((new ≡ old) ⊎ ((told : Option Answer) × Takes old event told new))

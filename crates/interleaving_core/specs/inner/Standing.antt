@@ -1,4 +1,4 @@
--- How the parts of a machine stand together.
+-- How the parts of a machine are consistent with each other.
 use Rattle.std.specs.Prelude.{◌≡◌, ℕ, List}
 use Rattle.mediation.specs.Deeds.{Deed}
 use Rattle.row_rule.specs.declared.view.KeeperView.{KeeperView}
@@ -6,7 +6,7 @@ use Rattle.event_core.specs.Machine.{Session}
 use Rattle.event_core.specs.Rule.{KeepsRule}
 use Rattle.interleaving_core.specs.Parts.{Parts, machine_of}
 
--- the parts, by what a keeper, a policy and the sessions are worth
+-- the parts, by the views of a keeper, a policy and the sessions
 abbrev pub parts_in : ℕ × KeeperView → List Deed → ℕ × List (ℕ × (ℕ × Session)) → Parts
 parts_in keeper deeds sessions = record { capacity = keeper.0; keeper = keeper.1; deeds = deeds; sessions = sessions }
 

@@ -1,4 +1,4 @@
--- What comes of one event.
+-- The outcome of one event.
 use Rattle.std.specs.Prelude.{◌≡◌, Option, None, Result, Ok, Err, IfOk, IfErr, OnErr}
 use Rattle.justification.specs.declared.answer.Answer.{Answer}
 use Rattle.event_core.specs.declared.event.StepFault.{StepFault}
@@ -7,7 +7,7 @@ use Rattle.event_core.specs.Machine.{Event, Machine}
 use Rattle.event_core.specs.Takes.{Takes}
 use Rattle.event_core.specs.Lawful.{IsLawful, HasTurn}
 
--- It is taken; or nothing changed, and where it is told that it isn't lawful, it is neither that nor a session's turn.
+-- It is taken; or nothing changed, and if the fault is `NotNow`, the event is neither lawful nor a session's turn.
 pub record IsStep (old : Machine) (event : Event) (result : Result (Option Answer) StepFault) (new : Machine) : Type 0 where
   pub ok : IfOk result (λ told. Takes old event told new)
   pub same : OnErr result (new ≡ old)

@@ -1,4 +1,4 @@
--- What an open was found to come to in the tree of a version.
+-- The outcome that was found for an open in the tree of a version.
 use Rattle.std.specs.Prelude.{◌≡◌, ◌≤◌, ℕ, List, Ok, Err}
 use Rattle.names.specs.declared.errors.Errno.{Errno}
 use Rattle.names.specs.declared.permissions.Perms.{Perms}
@@ -10,7 +10,7 @@ use Rattle.justification.specs.Versions.{IsTreeAt}
 use Rattle.justification.specs.declared.reaching.Reach.{Reach}
 use Rattle.justification.specs.declared.reaching.Reach.TheVariants.{NoTree, Failed, File}
 
--- the name stands at the front of the room
+-- the name fits in the room
 abbrev pub Fits : Reach → Type 0
 Fits NoTree = Unit {0}
 Fits (Failed errno) = Unit {0}

@@ -9,7 +9,7 @@ use Rattle.walk_words.specs.declared.outcome.Lack.TheVariants as lack
 use Rattle.open_session.specs.declared.walk.Next.{Next}
 use Rattle.open_session.specs.declared.walk.Next.TheVariants as next
 
--- a word that is lacking is read next
+-- a missing word is read next
 abbrev pub next_after : Result Outcome Lack → Next
 next_after (Ok (outcome.Reached file)) = next.Reached file
 next_after (Ok (outcome.Refused errno)) = next.Refused errno
@@ -17,7 +17,7 @@ next_after (Ok outcome.Torn) = next.Torn
 next_after (Err (lack.Wants place)) = next.Read place
 next_after (Err (lack.NoMemory place)) = next.Read place
 
--- so many words were read, unless memory was refused for one
+-- `count` words were read, unless memory was refused for one
 abbrev pub counted_by : ℕ → Result Outcome Lack → Result ℕ StepFault
 counted_by count (Ok decided) = Ok count
 counted_by count (Err (lack.Wants place)) = Ok count

@@ -1,4 +1,4 @@
--- How a session's data stand for its stage, and what is kept of them.
+-- How a session's data represent its stage, and what is known of them.
 use Rattle.std.specs.Prelude.{◌≡◌, ℕ, ◌%◌, ◌<◌, ◌≤◌, List, Option, Some, None, Ok, Err, IfOk, IfErr, take}
 use Rattle.mediation.specs.PolicyChanges.{judge_shared}
 use Rattle.mediation.specs.Judging.{reached_of}
@@ -48,7 +48,7 @@ stage_of (at.Policed p) = policed (policed_of p)
 stage_of (at.Walking w) = walking (policed_of w.policed) (walker_of w) (next_of w.next)
 stage_of (at.Checked c) = checked (policed_of c.walk.policed) (ending (walker_of c.walk) c.last c.seen.events)
 
--- What a walk has chosen, or come to, is right of the words that it read. Where it reached a file, its name stands at the front of
+-- What a walk has chosen, or how it ended, is right for the words that it read. If it reached a file, the name is at the front of
 -- the room.
 abbrev pub IsRightNext : ℕ → List ℕ → machine.Call → WalkerView → Next → Type 0
 IsRightNext capacity room call w (next.Read place) = MayRead capacity call w place
@@ -63,7 +63,7 @@ pub record IsWalk (capacity : ℕ) (room : List ℕ) (w : Walk) : Type 0 where
   pub of_row : w.words.0 ≡ capacity
   pub right : IsRightNext capacity room (call_of w.policed.call) (walker_of w) w.next
 
--- a walk that has come to its end, and read the count again
+-- a walk that has ended and has read the count again
 pub record IsEnded (capacity : ℕ) (room : List ℕ) (c : Checked) : Type 0 where
   pub walks : IsWalk capacity room c.walk
   pub ended : next_of c.walk.next ≡ None
@@ -77,22 +77,23 @@ IsStanding capacity room (at.Policed p) = Unit {0}
 IsStanding capacity room (at.Walking w) = IsWalk capacity room w
 IsStanding capacity room (at.Checked c) = IsEnded capacity room c
 
--- so many readings of a cell lead from one walk to the other
+-- a walk as a stage of a session
 abbrev pub walking_of : Walk → machine.Stage
 walking_of w = walking (policed_of w.policed) (walker_of w) (next_of w.next)
 
+-- `count` readings of a cell lead from one walk to the other
 abbrev pub WalkReads : ℕ → List ℕ → ℕ → Walk → Walk → Type 0
 WalkReads capacity cells count old new =
     (name : List ℕ) → CellReads capacity cells count record { name = name; stage = walking_of old } record { name = name; stage = walking_of new }
 
--- So many cells were read at most, and fewer only where none is needed or memory was refused.
+-- At most `most` cells were read, and fewer only if none is needed or memory was refused.
 pub record ReadsSome (capacity : ℕ) (cells : List ℕ) (most : ℕ) (room : List ℕ) (old : Walk) (new : Readings) : Type 0 where
   pub stands : IsWalk capacity room new.walk
   pub ok : IfOk new.count (λ count. (count ≤ most) × WalkReads capacity cells count old new.walk)
   pub all : IfOk new.count (λ count. count < most → next_of new.walk.next ≡ None)
   pub err : IfErr new.count (λ fault. (fault ≡ NoMemory) × ((count : ℕ) × (count < most) × WalkReads capacity cells count old new.walk))
 
--- what is answered, with the name at the front of the room
+-- the answer, with the name at the front of the room
 abbrev pub IsTold : ℕ → List ℕ → Checked → Told → Type 0
 IsTold capacity room c told = (told.name_length ≤ 4095)
     × Tells capacity (policed_of c.walk.policed) (ending (walker_of c.walk) c.last c.seen.events) told.answer (take told.name_length room)

@@ -20,11 +20,11 @@ use Rattle.path_lookup.specs.World.{World}
 abbrev pub IsDirectory : Tree → Spot → Type 0
 IsDirectory t spot = spot_of t (node_at spot) ≡ spot
 
--- the answer of a walk that has come to this directory, with so many links and this text left
+-- the answer of a walk that has reached this directory, with this many links and this text left
 abbrev pub onward_from : World → Last → ℕ → Spot → List ℕ → Walked
 onward_from w last links directory left = resolve w.tree last links (node_at directory) (steps_of left)
 
--- the answer where a link was met, with so many links left before it
+-- the answer after a link was met, with this many links left before it
 abbrev pub after_link : Tree → Last → ℕ → ℕ → List Step → Walked
 after_link t last zero d xs = Err ELOOP
 after_link t last (suc links) d xs = resolve t last links d xs
@@ -34,7 +34,7 @@ abbrev pub start_at : List ℕ → Spot → Spot
 start_at text directory = if begins_with_slash text then Root else directory
 
 module _ {E : Type 0} (means : E → World → Spot) (w : World) (last : Last) where
-  -- what a component of this directory led to gives this answer, with so many links left and these steps after it
+  -- what a component of this directory led to gives this answer, with this many links left and these steps after it
   abbrev pub ArrivesAt : ℕ → ℕ → List Step → Walked → Arrival E → Type 0
   ArrivesAt links d xs answer (arrival.Directory e) = (answer ≡ resolve w.tree last links (node_at (means e w)) xs) × IsDirectory w.tree (means e w)
   ArrivesAt links d xs answer (arrival.Link e) = (text : List ℕ) × (kind_at (means e w) ≡ Link text) × (answer ≡ after_link w.tree last links (start_of text d) (steps_of text ++ xs))
@@ -45,7 +45,7 @@ module _ {E : Type 0} (means : E → World → Spot) (w : World) (last : Last) w
   ComesTo left answer (progress.At e links) = (answer ≡ onward_from w last links (means e w) left) × IsDirectory w.tree (means e w)
   ComesTo left answer (progress.Done e) = answer ≡ Ok (means e w)
 
--- the entry that is spoken of
+-- the entry that it leads to
 abbrev pub arrival_entry : {E : Type 0} → Arrival E → E
 arrival_entry (arrival.Directory e) = e
 arrival_entry (arrival.Link e) = e

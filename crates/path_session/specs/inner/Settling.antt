@@ -1,4 +1,4 @@
--- What a judged link makes of the tree, by its verdict.
+-- What a judged link does to the tree, by its verdict.
 use Rattle.directory_tree.specs.declared.change.Change.{Change}
 use Rattle.directory_tree.specs.Plain.{Plain, changed}
 use Rattle.rule_judge.specs.declared.linking.LinkVerdict.{LinkVerdict}

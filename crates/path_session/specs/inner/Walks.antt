@@ -1,4 +1,4 @@
--- What a walk came to.
+-- The outcome of a walk.
 use Rattle.std.specs.Prelude.{◌≡◌, ◌⊎◌, ◌≢◌, ◌+◌, ◌%◌, ℕ, List, [], length, Result, Ok, Err}
 use Rattle.names.specs.declared.errors.Errno.{Errno}
 use Rattle.names.specs.declared.permissions.Perms.{Perms}
@@ -14,7 +14,7 @@ abbrev pub end_of : List ℕ → Result code.Reached Errno → Result Reached Er
 end_of room (Ok file) = Ok (reached_of room file)
 end_of room (Err errno) = Err errno
 
--- in the tree of all changes that were seen, whose version is half the first count, the walk comes to this end
+-- in the tree of all changes that were seen, whose version is half the first count, the walk ends like this
 pub record HasWalked (now : WalkerView) (path : List ℕ) (ask : Perms) (room : List ℕ) (version : ℕ) (file : Result code.Reached Errno) : Type 0 where
   pub version_is : version ≡ length now.seen
   pub half : now.noted ≡ version + version
@@ -22,7 +22,7 @@ pub record HasWalked (now : WalkerView) (path : List ℕ) (ask : Perms) (room : 
   pub is_at : IsTreeAt now.seen version tree
   pub end : reached tree path ask ≡ end_of room file
 
--- a walk beside a change: both its counts, and where the first one is odd it read no cell
+-- a walk during a change: both its counts, and if the first one is odd it read no cell
 abbrev pub WasDisturbed : WalkerView → Busy → Type 0
 WasDisturbed now busy =
     (now.noted ≡ busy.began) × (now.last ≡ busy.ended) × (busy.began % 2 ≡ 1 → now.reads ≡ [])

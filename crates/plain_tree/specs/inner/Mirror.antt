@@ -21,7 +21,7 @@ parent_for e = new_parent e.of e.component
 abbrev pub some_parent : Entry → Option Parent
 some_parent e = Some (parent_for e)
 
--- where a directory of the tree stands
+-- where a directory of the tree is
 abbrev pub stands_at : Tree → ℕ → Option (Option Parent)
 stands_at t d = if d == root then Some None else option_map some_parent (own_entry t.entries d)
 

@@ -34,7 +34,7 @@ stored_directory s d = get nat_cmp s.directories d
 abbrev pub stored_node : Store → ℕ → List ℕ → Option Node
 stored_node s d c = node_of (stored_directory s d) c
 
--- where a directory stands, if there is such a directory; the root stands nowhere
+-- where a directory is, if there is such a directory; the root is nowhere
 abbrev pub stored_parent : Store → ℕ → Option (Option Parent)
 stored_parent s d = option_map (λ x. x.parent) (stored_directory s d)
 
@@ -69,12 +69,12 @@ pub record Enters (old new : Store) (of : ℕ) (c : List ℕ) (n : Node) : Type 
   pub parents : (d : ℕ) → stored_parent new d ≡ (if is_numbered (Some n) d then Some (Some (new_parent of c)) else stored_parent old d)
   pub nodes : (d : ℕ) (q : List ℕ) → stored_node new d q ≡ (if (of == d) && bytes_eq c q then Some n else stored_node old d q)
 
--- where a directory is to stand, if the node is one
+-- where a directory will be, if the node is one
 abbrev pub moved_parent : Option Node → ℕ → List ℕ → Option Parent
 moved_parent None into name = None
 moved_parent (Some n) into name = if is_directory n.kind then Some (new_parent into name) else None
 
--- a directory stands somewhere
+-- a directory is somewhere
 abbrev pub IsOpened : Store → Option Node → Type 0
 IsOpened s None = Unit {0}
 IsOpened s (Some n) = is_directory n.kind ≡ true → IsSome (stored_parent s n.number)
@@ -101,7 +101,7 @@ pub record MovesOver (old new : Store) (of : ℕ) (c : List ℕ) (into : ℕ) (n
   pub nodes : (d : ℕ) (q : List ℕ) → stored_node new d q ≡ shifted old of c into name d q
   pub parents : (d : ℕ) → stored_parent new d ≡ (if is_numbered (stored_node old of c) d then Some (Some (new_parent into name)) else stored_parent old d)
 
--- and what stood there goes, a directory with its entry
+-- and what was there is removed, a directory with its entry
 pub record Shifts (old new : Store) (of : ℕ) (c : List ℕ) (into : ℕ) (name : List ℕ) : Type 0 where
   pub nodes : (d : ℕ) (q : List ℕ) → stored_node new d q ≡ shifted old of c into name d q
   pub parents : (d : ℕ) → stored_parent new d ≡ (if is_numbered (stored_node old of c) d then Some (Some (new_parent into name)) else (if is_numbered (stored_node old into name) d then None else stored_parent old d))

@@ -1,4 +1,4 @@
--- A rule as it is restated, by its shape and its paths; and more rules than a profile may have.
+-- A rule as restated, by its shape and its paths; and more rules than a profile may have.
 use Rattle.std.specs.Prelude.{◌≡◌, ℕ, List, [], map, slice_get, Option, Some, None, option_map, true, if◌then◌else◌}
 use Rattle.rule_profile.specs.Limits.{max_rules}
 use Rattle.profile_variables.specs.Variables.{Variable}
@@ -31,7 +31,7 @@ abbrev pub paths_looked_at : Subject → SubjectRule → List (List Token)
 paths_looked_at chosen rule =
     if is_restated chosen (record (shape_of rule) { is_read = true }) then restated_paths rule.path else []
 
--- where the rule stands that is one too many
+-- the place of the rule that is one too many
 abbrev pub one_too_many : List PlacedValue → Option ℕ
 one_too_many rules = option_map (λ rule. rule.place) (slice_get rules max_rules)
 

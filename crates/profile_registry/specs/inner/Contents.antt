@@ -22,6 +22,6 @@ contents_of store = record { version = store.version; profiles = from_entries (m
 abbrev pub with_profiles : Contents → Profiles → Contents
 with_profiles contents profiles = record { version = contents.version; profiles = profiles }
 
--- with one change more
+-- with one more change
 abbrev pub with_change : Contents → PolicyChange → Contents
 with_change contents change = record { version = contents.version + 1; profiles = profiles_after contents.profiles (deed_of change) }

@@ -1,4 +1,4 @@
--- Pieces as the code has them.
+-- The code's pieces as those of the definitions.
 use Rattle.profile_variables.specs.Pieces as pieces
 use Rattle.profile_variables.specs.declared.pieces.Piece.{Piece}
 use Rattle.profile_variables.specs.declared.pieces.Piece.TheVariants.{Byte, Escaped, Use}

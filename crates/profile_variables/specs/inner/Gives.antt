@@ -1,4 +1,4 @@
--- What a function of the crate answers, beside what a definition gives.
+-- The result of a function of the crate, compared with what a definition gives.
 use Rattle.std.specs.Prelude.{◌≡◌, Option, Some, None, Result, Ok, Err}
 use Rattle.profile_variables.specs.declared.fault.ExpandFault.{ExpandFault}
 use Rattle.profile_variables.specs.declared.fault.ExpandFault.TheVariants as faults

@@ -1,4 +1,4 @@
--- The way from a first variable to the one whose list is being made, while the lists on it wait for one another.
+-- The way from a first variable to the one whose list is being made; each list on it waits for the next.
 use Rattle.std.specs.Prelude.{◌≡◌, ◌≢◌, ◌<◌, ℕ, List, [], ◌∷◌, length, map, take, suc, ◌+◌, ◌⊎◌, IsSome, Option, Some, None, slice_get, unwrap_or, option_and_then, Bool, true, false, ◌==◌, Contains}
 use Rattle.std.specs.List.{list_any}
 use Rattle.std.specs.Option.{option_map_or}
@@ -17,12 +17,12 @@ made_count [] = 0
 made_count (None ∷ lists) = made_count lists
 made_count (Some list ∷ lists) = suc (made_count lists)
 
--- whatever was known is known
+-- whatever was known still is
 abbrev pub KnowsAll : Known → Known → Type 0
 KnowsAll old new = (name : Text) (list : List Text) → old name ≡ Some list → new name ≡ Some list
 
--- What is made is right: each list that is made is that of its variable, which needs no more than so many levels of variables;
--- one whose place isn't marked is so whatever value the first variable has; and places that are marked are noted.
+-- What is made is right: each list that is made is that of its variable, which needs at most `levels` levels of variables;
+-- for one whose place isn't marked this holds whatever value the first variable has; and places that are marked are noted.
 pub record IsSound (variables : List Variable) (made : Made) : Type 0 where
   pub lists : length made.lists.items ≡ length variables
   pub met : length made.met.items ≡ length variables
@@ -50,7 +50,7 @@ needed_at variables place = names_needed (variable_at variables place).values
 abbrev pub IsFree : List Variable → List Bool → ℕ → Type 0
 IsFree variables marks place = (place ≢ 0) × (list_any (is_named_marked variables marks) (needed_at variables place) ≡ false)
 
--- A variable on the way: its own list isn't made, those that its first names need are, and so many variables stand before it.
+-- A variable on the way: its own list isn't made, those of the first names that it needs are, and `before` variables precede it.
 pub record IsStep (variables : List Variable) (lists : Lists) (met : List ℕ) (before : ℕ) (step : Step) : Type 0 where
   pub named : place_of variables (variable_at variables step.variable).name ≡ Some step.variable
   pub unmade : slice_get lists step.variable ≡ Some None
@@ -61,7 +61,7 @@ pub record IsStep (variables : List Variable) (lists : Lists) (met : List ℕ) (
 abbrev pub names_of : List Variable → List Step → List Text
 names_of variables steps = map (λ (step : Step). (variable_at variables step.variable).name) steps
 
--- The steps, the last of them first, lead from the variable of the first name to that name: each waits for the next.
+-- The steps, in reverse order, lead from the variable of the first name to that name: each waits for the next.
 abbrev pub Waits : List Variable → Lists → List ℕ → Text → List Step → Text → Type 0
 Waits variables lists met first [] name = name ≡ first
 Waits variables lists met first (step ∷ before) name =
@@ -69,19 +69,19 @@ Waits variables lists met first (step ∷ before) name =
     × (slice_get (needed_at variables step.variable) step.next ≡ Some name)
     × Waits variables lists met first before (variable_at variables step.variable).name
 
--- The same up to the last step itself. Without steps the first list is made.
+-- The same up to the last step itself. If there are no steps, the first list is made.
 abbrev pub IsWay : List Variable → Lists → List ℕ → Text → List Step → Type 0
 IsWay variables lists met first [] = IsSome (known_in variables lists first)
 IsWay variables lists met first (step ∷ before) =
     IsStep variables lists met (length before) step
     × Waits variables lists met first before (variable_at variables step.variable).name
 
--- The variable at that place stands on the way, whose first step stands first here: it does where it was met last.
+-- Whether the variable at that place is on the way, which is given first step first: it is iff it is where it was last met.
 abbrev pub is_on : List ℕ → List Step → ℕ → Bool
 is_on met way place = option_map_or (λ (step : Step). step.variable == place) (option_and_then (slice_get way) (slice_get met place)) false
 
--- A step nearer to the end: a list more is made and the way is one step shorter than it was with the step taken off; or no
--- list more is made, and the way is one step longer.
+-- A step nearer to the end: one more list is made, and the way, from which a step was taken off, is one step shorter than
+-- with it; or no more lists are made, and the way is one step longer.
 abbrev pub IsNearer : Lists → List Step → Lists → List Step → Type 0
 IsNearer old before new after =
     ((made_count new ≡ made_count old + 1) × (length after ≡ length before))

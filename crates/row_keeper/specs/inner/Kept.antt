@@ -1,4 +1,4 @@
--- What the parts of a keeper are worth, and what they have in common.
+-- The view of a keeper's parts, and the invariant between them.
 use Rattle.std.specs.Prelude.{◌≡◌, ℕ, ◌+◌, ◌<◌, ◌≤◌, List, [], ◌∷◌, ◌++◌, length, drop, Option, Some, None, Ok}
 use Rattle.std.specs.List.{All}
 use Rattle.directory_tree.specs.declared.change.Change.{Change}
@@ -12,7 +12,7 @@ use Rattle.row_rule.specs.Row.{left_of, target_of, write, pending_count}
 use Rattle.tree_row.specs.Rows.{Encodes, row_length}
 use Rattle.row_keeper.specs.declared.open_change.OpenChange.{OpenChange}
 
--- the last change of some; there is one
+-- the last change of a nonempty list
 abbrev pub last_from : Change → List Change → Change
 last_from change [] = change
 last_from change (next ∷ rest) = last_from next rest
@@ -20,7 +20,7 @@ last_from change (next ∷ rest) = last_from next rest
 abbrev pub last_of : List Change → Change
 last_of changes = elim changes [ [] ↦ Mkdir [] | change ∷ rest ↦ last_from change rest ]
 
--- the open change, of which so many cells are set
+-- the open change, of which the first `set` cells are set
 abbrev pub pending_of : Option OpenChange → ℕ → Option Pending
 pending_of None set = None
 pending_of (Some o) set = Some record { change = last_of o.target.events; left = drop set o.plan.items }
@@ -28,8 +28,8 @@ pending_of (Some o) set = Some record { change = last_of o.target.events; left =
 abbrev pub view_with : List ℕ → List Change → Option OpenChange → ℕ → KeeperView
 view_with cells history opened set = record { history = history; cells = cells; pending = pending_of opened set; met = [] }
 
--- The changes that are made once the open one is closed are those of before and one more. No more cells are set than there are,
--- and all are the row's.
+-- Once the open change is closed, the changes are the earlier ones and one more. No more cells are set than the plan has, and all
+-- of them are in the row.
 abbrev pub IsOpenIn : ℕ → List Change → Option OpenChange → ℕ → Type 0
 IsOpenIn size history None set = Unit {0}
 IsOpenIn size history (Some o) set =

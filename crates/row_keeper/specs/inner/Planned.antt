@@ -1,4 +1,4 @@
--- What planning a change comes to.
+-- The outcome of planning a change.
 use Rattle.std.specs.Prelude.{◌≡◌, ℕ, [], ◌∷◌, ◌++◌, None, Vec, Result, Ok, Err}
 use Rattle.std.specs.declared.alloc.Global.{Global}
 use Rattle.names.specs.declared.errors.Errno.{Errno}

@@ -1,4 +1,4 @@
--- Why a word that was asked for wasn't told.
+-- Why a requested word wasn't returned.
 use Rattle.std.specs.Prelude.{◌≡◌, ℕ, List, Option, Some, None}
 use Rattle.path_lookup.specs.declared.fault.WalkFault.{WalkFault}
 use Rattle.path_lookup.specs.declared.fault.WalkFault.TheVariants as fault

@@ -6,11 +6,11 @@ use Rattle.row_look.specs.declared.stop.Stop.{Stop}
 use Rattle.row_look.specs.declared.stop.Stop.TheVariants as stop
 use Rattle.row_look.specs.Known.{IsUnknown}
 
--- the word that was asked for isn't known
+-- the requested word isn't known
 abbrev pub IsHonest : ℕ → List (ℕ × ℕ) → Option ℕ → Type 0
 IsHonest capacity known wanted = (place : ℕ) → wanted ≡ Some place → IsUnknown capacity known place
 
--- why a walk with this fault stops; `wanted`: the last word that was asked for and isn't known
+-- why a walk with this fault stops; `wanted`: the last requested word that isn't known
 abbrev pub stop_from : WalkFault → Option ℕ → Stop
 stop_from (fault.Refused errno) wanted = stop.Refused errno
 stop_from fault.Torn (Some place) = stop.Wants place

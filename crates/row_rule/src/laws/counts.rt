@@ -10,7 +10,7 @@ pub fn counts_have_one_version()
     ensures even_count { (n : ℕ) → IsOdd (n + n) → ⊥ }
 {}
 
-/// A walk by two counts has one outcome: it is still where both are one even count, at one version, and busy elsewhere.
+/// A walk by two counts has one outcome: it is still where both are the same even count, at one version, and busy otherwise.
 pub fn walks_have_one_outcome()
     ensures version { (began ended one other : ℕ) → IsStill began ended one → IsStill began ended other → one ≡ other }
     ensures counts { (began ended : ℕ) (one other : Busy) → IsDisturbed began ended one → IsDisturbed began ended other → one ≡ other }

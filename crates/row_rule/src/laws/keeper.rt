@@ -12,15 +12,15 @@ ghost use Rattle.row_rule.specs.Steps.{opening, setting, closing, IsLater};
 
 use crate::encoding::Encoding;
 
-/// The keeper reads a word, and finds its own.
+/// The keeper reads a word, and finds the one that it knows.
 pub fn keeper_reads_its_row<E: Encoding>()
     ensures { (capacity size : ℕ) (k : KeeperView) (id i : ℕ) (words : List ℕ) (views : List View) →
         Holds (E.encodes capacity) size words views → get_elem? views id ≡ some (Keeps k) →
         slice_index words i ≡ slice_index (count_of k ∷ k.cells) i }
 {}
 
-/// The keeper, at rest, begins a change: it makes the count odd. The cells of its plan are those after which the row encodes
-/// the changes with this one.
+/// The keeper, at rest, begins a change: it makes the count odd. Once the cells of its plan are set, the row encodes the changes
+/// including this one.
 pub fn opening_keeps_rule<E: Encoding>()
     ensures kept { (capacity size : ℕ) (k : KeeperView) (change : Change) (plan : List Cell) (id : ℕ)
         (words : List ℕ) (views : List View) →

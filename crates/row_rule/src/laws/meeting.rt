@@ -1,4 +1,4 @@
-//! A meeting: the keeper lends a walker's seat, takes in the one that the walker had, and is told what that one had seen.
+//! A meeting: the keeper lends a walker's seat, takes in the one that the walker had, and learns what that one had seen.
 ghost use Rattle.std.specs.Prelude.{◌≡◌, ℕ, List, [], ◌∷◌, ◌++◌, slice_set};
 ghost use mathlib.Core.Option.{some};
 ghost use mathlib.Core.List.{IsPrefix};
@@ -28,7 +28,7 @@ pub fn taking_in_keeps_rule<E: Encoding>()
         (slice_set (slice_set views id (Keeps (meeting k w.seen))) other (Walks newcomer)) }
 {}
 
-/// The keeper is told that what it noted is a beginning of its history, and forgets it.
+/// The keeper learns that what it noted is a prefix of its history, and forgets it.
 pub fn telling_keeps_rule<E: Encoding>()
     ensures kept { (capacity size : ℕ) (k : KeeperView) (id : ℕ) (words : List ℕ) (views : List View) →
         Holds (E.encodes capacity) size words views → get_elem? views id ≡ some (Keeps k) →

@@ -31,8 +31,8 @@ pub fn walkers_fit_keeper<E: Encoding>()
         KeptBy (E.encodes capacity) size k words views → get_elem? views id ≡ some (Walks w) → FitsWalker k w }
 {}
 
-/// The count is even exactly where no change is being made, and then the row encodes the changes that were made. Half of it
-/// is how many were.
+/// The count is even exactly when no change is being made, and then the row encodes the changes that were made. Half of it is
+/// their number.
 pub fn parity_tells_changes<E: Encoding>()
     ensures even { (capacity size : ℕ) (k : KeeperView) (words : List ℕ) (views : List View) →
         KeptBy (E.encodes capacity) size k words views → (slice_index words 0 % 2 ≡ 0) ↔ (k.pending ≡ None) }

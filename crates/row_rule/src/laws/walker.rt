@@ -36,8 +36,8 @@ pub fn reading_keeps_rule<E: Encoding>()
         (slice_set views id (Walks (reading w record { place = place; word = slice_index words (place + 1) }))) }
 {}
 
-/// A walker ends its walk: it reads the count again. Where it is the even one that the walk began with, no change was made
-/// in between, and the changes that it has seen are encoded by cells in which all that it read stands.
+/// A walker ends its walk: it reads the count again. If it is even and the one that the walk began with, no change was made in
+/// between, and the cells encode the changes that it has seen and still hold all that it read.
 pub fn ending_keeps_rule<E: Encoding>()
     ensures kept { (capacity size : ℕ) (k : KeeperView) (w : WalkerView) (id : ℕ) (words : List ℕ) (views : List View) →
         KeptBy (E.encodes capacity) size k words views → get_elem? views id ≡ some (Walks w) →

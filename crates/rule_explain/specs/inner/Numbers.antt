@@ -1,4 +1,4 @@
--- The rule that a reason names is one of so many.
+-- The rule that a reason names is one of `count` rules.
 use Rattle.std.specs.Prelude.{ℕ, ◌≤◌}
 use Rattle.rule_explain.specs.declared.reason.Reason.{Reason}
 use Rattle.rule_explain.specs.declared.reason.Reason.TheVariants.{Allowed, Denied, NoRule}

@@ -1,4 +1,4 @@
--- Where the code's pass stands, with the bits.
+-- Where the code's pass is, with the bits.
 use Rattle.std.specs.Prelude.{Bool, List}
 use Rattle.rule_globs.specs.inner.Sweep.{Pass}
 use Rattle.rule_globs.specs.declared.live.Cursor.{Cursor}

@@ -1,15 +1,15 @@
--- The live places move on by one byte, in one pass over the pattern. Only inner contracts speak of passes.
+-- The live places move on by one byte, in one pass over the pattern. Only inner contracts use passes.
 use Rattle.std.specs.Prelude.{ℕ, ◌+◌, Bool, false, ◌&&◌, ◌||◌, List, get_or, set}
 use Rattle.rule_globs.specs.Glob.{Glob, empty, one, run, cat, none, alt, fits}
 
--- A pass stands before `place`, `reached` says whether that is reached after the byte, and `live` has a bit for each
+-- A pass is before `place`, `reached` says whether that is reached after the byte, and `live` has a bit for each
 -- place: those before `place` are of after the byte, the others of before it.
 pub record Pass : Type 0 where
   pub place : ℕ
   pub reached : Bool
   pub live : List Bool
 
--- Over one byte of a set: what is behind is reached where the place was live and the byte is of the set.
+-- Over one byte of a set: what follows is reached where the place was live and the byte is of the set.
 abbrev pub pass_one : Bool → Pass → Pass
 pass_one taken s = record {
   place = s.place + 1;
@@ -17,7 +17,7 @@ pass_one taken s = record {
   live = set s.live s.place s.reached;
 }
 
--- Over a run: the same, or the run is left at once; and its place is live where what is behind is reached.
+-- Over a run: the same, or the run is left at once; and its place is live where what follows is reached.
 abbrev pub pass_run : Bool → Pass → Pass
 pass_run taken s = record {
   place = s.place + 1;
@@ -25,7 +25,7 @@ pass_run taken s = record {
   live = set s.live s.place (s.reached || (get_or s.live s.place false && taken));
 }
 
--- the second alternative begins as the first did, and behind them is what is behind one of them
+-- the second alternative begins as the first did, and the end of both is reached where that of one of them is
 abbrev pub join : Bool → Pass → Pass
 join reached s = record { place = s.place; reached = reached || s.reached; live = s.live }
 

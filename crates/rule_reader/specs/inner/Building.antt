@@ -1,4 +1,4 @@
--- A path and a class that are being read. Only inner contracts speak of them.
+-- A path and a class that are being read. Only inner contracts mention them.
 use Rattle.std.specs.Prelude.{◌≡◌, ◌<◌, ℕ, Bool, true, false, List, [], ◌∷◌, ◌++◌, length, map, Vec, reverse, Option, Some, None}
 use Rattle.std.specs.declared.alloc.Global.{Global}
 use Rattle.std.specs.List.{flat_map}
@@ -11,11 +11,11 @@ use Rattle.rule_reader.specs.declared.reading.path.Lexeme.{Lexeme}
 use Rattle.rule_reader.specs.declared.reading.path.Lexeme.TheVariants as read
 use Rattle.rule_globs.specs.Tokens.{Token, tokens_of, byte, any_byte, bracket, stars, opening, between, closing}
 
--- alternatives that are complete, each with the comma behind it
+-- alternatives that are complete, each with the comma after it
 abbrev pub alternatives_tokens : List (Vec Item Global) → List Token
 alternatives_tokens alternatives = flat_map (λ items. tokens_of items.items ++ between ∷ []) alternatives
 
--- what stands before a group, its brace and its complete alternatives
+-- what is before a group, its brace and its complete alternatives
 abbrev pub group_tokens : OpenGroup → List Token
 group_tokens group = tokens_of group.before.items ++ opening ∷ alternatives_tokens group.alternatives.items
 
@@ -43,7 +43,7 @@ token_value read.Opening = opening
 token_value read.Between = between
 token_value read.Closing = closing
 
--- A token that goes on with a group or ends it stands in one.
+-- A token that continues a group or ends it is in one.
 abbrev pub StandsIn : List ℕ → Token → Type 0
 StandsIn braces between = 0 < length braces
 StandsIn braces closing = 0 < length braces

@@ -13,7 +13,7 @@ use std::mem;
 pub(crate) struct OpenGroup {
     /// How many bytes of the text are left from its brace on.
     pub(crate) left: usize,
-    /// What stands before it.
+    /// What is before it.
     pub(crate) before: Vec<Item>,
     /// The alternatives that are complete.
     pub(crate) alternatives: Vec<Vec<Item>>,
@@ -52,7 +52,7 @@ impl Builder {
         self.groups.len()
     }
 
-    /// One item more.
+    /// Adds an item.
     pub(crate) fn push(&mut self, item: Item) -> Result<(), AllocFailed<Item>>
         requires { IsTrue (is_full item) }
         ensures tokens { IfOk result (λ _. tokens_in self.new ≡ tokens_in self.old ++ tokens item) }
@@ -61,7 +61,7 @@ impl Builder {
         self.items.push(item)
     }
 
-    /// A group opens, with so many bytes left from its brace on.
+    /// Opens a group, with `left` bytes left from its brace on.
     pub(crate) fn open_group(&mut self, alloc: Global, left: usize) -> Result<(), Failure>
         ensures tokens { IfOk result (λ _. tokens_in self.new ≡ tokens_in self.old ++ (opening ∷ [])) }
         ensures braces { IfOk result (λ _. braces_in self.new ≡ left ∷ braces_in self.old) }
@@ -76,7 +76,7 @@ impl Builder {
         Ok(())
     }
 
-    /// The next alternative of the innermost group begins. Nothing is done outside groups.
+    /// Begins the next alternative of the innermost group. Does nothing outside groups.
     pub(crate) fn next_alternative(&mut self, alloc: Global) -> Result<(), Failure>
         ensures tokens { IfOk result (λ _. 0 < length (braces_in self.old) →
             tokens_in self.new ≡ tokens_in self.old ++ (between ∷ [])) }
@@ -91,7 +91,7 @@ impl Builder {
         Ok(())
     }
 
-    /// The innermost group closes. Nothing is done outside groups.
+    /// Closes the innermost group. Does nothing outside groups.
     pub(crate) fn close_group(&mut self) -> Result<(), Failure>
         ensures tokens { IfOk result (λ _. 0 < length (braces_in self.old) →
             tokens_in self.new ≡ tokens_in self.old ++ (closing ∷ [])) }
@@ -107,7 +107,7 @@ impl Builder {
         Ok(())
     }
 
-    /// The path ends before `rest`: its items. A group that is still open is a fault at its brace.
+    /// The items of the path, which ends before `rest`. A group that is still open is a fault at its brace.
     pub(crate) fn finish(mut self, rest: &[u8]) -> Result<Vec<Item>, Failure>
         ensures closed { Gives (λ items. ([], rest.now)) result (all_closed (braces_in self) rest.now) }
         ensures tokens { IfOk result (λ items. tokens_of items.items ≡ tokens_in self) }

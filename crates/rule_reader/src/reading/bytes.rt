@@ -23,7 +23,7 @@ pub(crate) fn is_include(bytes: &[u8]) -> bool
     bytes.starts_with(b"#include") && matches!(bytes.get(8), Some(b' ' | b'\t' | b'<' | b'"'))
 }
 
-/// What stands behind a comma that ends a bare path.
+/// A byte after a comma that ends a bare path.
 pub(crate) fn ends_behind_comma(byte: u8) -> bool
     ensures { result ≡ ends_behind_comma byte }
 {

@@ -20,13 +20,13 @@ pub(crate) enum ClassByte {
     /// The path ends here, and the class doesn't.
     PathEnd,
     Backslash,
-    /// A letter or digit behind a backslash.
+    /// A letter or digit after a backslash.
     Code,
-    /// It may not stand there.
+    /// Not allowed in a class.
     Wrong,
 }
 
-/// What the byte is in a class, in a quoted path or a bare one, and directly behind a backslash or not.
+/// What the byte is in a class, in a quoted path or a bare one, and directly after a backslash or not.
 fn class_byte(quoted: bool, escaped: bool, byte: u8) -> ClassByte
     ensures { result ≡ class_byte quoted escaped byte }
 {
@@ -43,14 +43,14 @@ fn class_byte(quoted: bool, escaped: bool, byte: u8) -> ClassByte
     }
 }
 
-/// What the bytes of a class that were read last may still be a part of.
+/// What the bytes of a class that were read last may still be part of.
 #[derive(Clone, Copy)]
 pub(crate) enum Pending {
     /// Nothing was read.
     Start,
     /// A range is complete.
     AfterRange,
-    /// A dash that stands by itself.
+    /// A dash that stands for itself.
     AfterDash,
     /// A member, which a dash may make the first byte of a range.
     Single(u8),
@@ -69,7 +69,7 @@ impl Pending {
     }
 }
 
-/// A member where a dash can only stand by itself.
+/// A member where a dash can only stand for itself.
 fn alone(
     dash: bool,
     byte: u8,
@@ -84,8 +84,7 @@ fn alone(
     Ok(Pending::AfterDash)
 }
 
-/// One member more: adds the ranges that are complete by it, and answers what is pending then. None where a range is
-/// reversed.
+/// One more member: adds the ranges that it completes, and returns what is pending then. None where a range is reversed.
 fn with_member(
     pending: Pending,
     dash: bool,
@@ -116,7 +115,7 @@ fn with_member(
     }
 }
 
-/// The class ends: adds what is left of its ranges. Whether it has a member at all.
+/// Ends the class: adds the ranges that are left. Returns whether it has a member at all.
 fn add_last(pending: Pending, ranges: &mut Vec<ByteRange>) -> Result<bool, AllocFailed<ByteRange>>
     ensures { IfOk result (λ some. AddsLast ranges.old.items ranges.new.items some (at_end pending)) }
 {
@@ -137,15 +136,14 @@ fn add_last(pending: Pending, ranges: &mut Vec<ByteRange>) -> Result<bool, Alloc
     Ok(true)
 }
 
-/// The fault of a character code, which is not supported. Its backslash stands before `rest`.
+/// The fault of a character code, which is not supported. Its backslash is before `rest`.
 fn code_left_out(rest: &[u8]) -> Failure
     ensures { result ≡ Failure.At (record { kind = FaultKind.LeftOut 2; left = length rest.now + 1; settled = goes_on rest.now }) }
 {
     fault_with_left(FaultKind::LeftOut(2), rest.len() + 1, rest)
 }
 
-/// The members' ranges up to the closing bracket, and what is left after it. From the opening one on, `bracket` bytes are
-/// left.
+/// The members' ranges up to the closing bracket, and what is left after it. From the opening bracket on, `bracket` bytes are left.
 #[tactic(auto, unfolding(crate::specs::ReadClasses::members_at))]
 fn members_of(
     alloc: Global,
@@ -186,8 +184,7 @@ fn members_of(
     Err(fault_with_left(FaultKind::Class, bracket, rest))
 }
 
-/// The class whose opening bracket stands before `bytes`, and what is left after it. From the bracket on, `bracket` bytes are
-/// left.
+/// The class whose opening bracket is before `bytes`, and what is left after it. From the bracket on, `bracket` bytes are left.
 #[tactic(auto, unfolding(crate::specs::ReadClasses::class_at))]
 pub(crate) fn class_of(
     alloc: Global,

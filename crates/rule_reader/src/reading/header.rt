@@ -1,4 +1,4 @@
-//! What stands before a profile's rules.
+//! What comes before a profile's rules.
 ghost use Rattle.std.specs.Prelude.{◌≡◌, ℕ, List};
 ghost use Rattle.rule_reader.specs.inner.Gives.{Gives};
 ghost use Rattle.rule_reader.specs.ReadWords.{after_word};
@@ -26,7 +26,7 @@ fn slash_name_of(room: usize, bytes: &[u8]) -> Result<(&[u8], &[u8]), Failure>
     }
 }
 
-/// The name behind the word `profile`, and what is left after it.
+/// The name after the word `profile`, and what is left after it.
 #[tactic(auto, unfolding(crate::specs::ReadHeader::name_at))]
 fn profile_name_of(bytes: &[u8]) -> Result<(&[u8], &[u8]), Failure>
     ensures { Gives (λ x. (x.0.now, x.1.now)) result (name_at bytes.now) }
@@ -42,7 +42,7 @@ fn profile_name_of(bytes: &[u8]) -> Result<(&[u8], &[u8]), Failure>
     }
 }
 
-/// What is left after an attachment and the gap behind it, if one stands here.
+/// What is left after an attachment and the gap after it, if there is one here.
 #[tactic(auto, unfolding(crate::specs::ReadHeader::attachment_at))]
 fn after_attachment(bytes: &[u8]) -> Result<&[u8], Failure>
     ensures { Gives (λ x. x.now) result (attachment_at bytes.now) }

@@ -18,26 +18,26 @@ pub fn one_outcome()
         → ReadsAs text p → ReadsAs text q → p ≡ q }
     ensures one_fault { (text : List ℕ) (f g : ReadFault)
         → FaultsAs text f → FaultsAs text g → f ≡ g }
-    // The grammar's trees and the functions that read from left to right say the same.
+    // The grammar's trees and the functions that read from left to right agree.
     ensures read_as_outcome { (text : List ℕ) (p : ProfileValue)
         → ReadsAs text p ↔ (outcome_of text ≡ Ok p) }
-    // Want of memory is never a text's own fault.
+    // Running out of memory is never a text's own fault.
     ensures never_memory { (text : List ℕ) → FaultsAs text ReadFault.NoMemory → ⊥ }
 {}
 
-/// Where a text's fault is settled, each text that begins so is refused too, for this fault or another.
+/// If a text's fault is settled, each text that begins with it is refused too, for this fault or another.
 pub fn settled_faults_stay()
     ensures { (text more : List ℕ) → IsSettled text → Refused (text ++ more) }
 {}
 
-/// Which profiles can be read: what a text is read as passes the test, and so does each profile there is.
+/// Which profiles can be read: what a text is read as passes the test, and so does every profile.
 pub fn profiles_can_be_read()
     ensures read { (text : List ℕ) (p : ProfileValue) → ReadsAs text p → IsTrue (is_profile p) }
     ensures kept { (p : Profile) → IsTrue (is_profile (profile_value p)) }
 {}
 
-/// Where a text's rules stand, they are read again: the text from a rule's first byte on is read as that rule, up to its comma.
-/// They stand one behind another, in their order.
+/// The rules of a text are read again at their places: from a rule's first byte on, the text is read as that rule, up to its comma.
+/// The places follow one another in the order of the rules.
 pub fn spans_are_read_again()
     ensures { (text : List ℕ) (p : ProfileValue) → outcome_of text ≡ Ok p → AreReadAgain text 0 p.rules (spans_of text) }
 {}

@@ -5,11 +5,11 @@ ghost use Rattle.rule_reader.specs.declared.reading.local_fault.Failure.TheVaria
 
 use std::alloc::{AllocError, AllocFailed};
 
-/// What is wrong with a text, as [`ReadFault`](crate::fault::ReadFault) tells it.
+/// What is wrong with a text, as [`ReadFault`](crate::fault::ReadFault) reports it.
 #[derive(Clone, Copy)]
 pub(crate) enum FaultKind {
     Syntax,
-    /// So many bytes that are not supported.
+    /// This many bytes that are not supported.
     LeftOut(usize),
     Permission,
     EmptyPermissions,
@@ -33,7 +33,7 @@ pub(crate) struct LocalFault {
 /// Why a part of a text was not read.
 #[derive(Drop)]
 pub(crate) enum Failure {
-    /// Memory was refused.
+    /// Out of memory.
     NoMemory,
     /// The text has a fault.
     At(LocalFault),
@@ -55,7 +55,7 @@ impl<T: Drop> From<AllocFailed<T>> for Failure {
     }
 }
 
-/// A fault with so many bytes left from its place on, told by what stands at `seen`.
+/// A fault with `left` bytes left from its place on, found by looking at `seen`.
 pub(crate) fn fault_with_left(kind: FaultKind, left: usize, seen: &[u8]) -> Failure
     ensures { result ≡ Failure.At (record { kind = kind; left = left; settled = goes_on seen.now }) }
 {
@@ -66,7 +66,7 @@ pub(crate) fn fault_with_left(kind: FaultKind, left: usize, seen: &[u8]) -> Fail
     })
 }
 
-/// The fault at the first byte of what is left, told by that byte.
+/// The fault at the first byte of what is left, found by looking at that byte.
 pub(crate) fn fault_here(kind: FaultKind, rest: &[u8]) -> Failure
     ensures { result ≡ Failure.At (record { kind = kind; left = length rest.now; settled = goes_on rest.now }) }
 {

@@ -13,11 +13,11 @@ pub(crate) enum NameByte {
     OfName,
     /// The name ends before it.
     Ends,
-    /// It may not stand there.
+    /// Not allowed in a name.
     Wrong,
 }
 
-/// What the byte is in a name, in quotes or not, and directly behind a backslash or not.
+/// What the byte is in a name, in quotes or not, and directly after a backslash or not.
 fn name_byte(quoted: bool, escaped: bool, byte: u8) -> NameByte
     ensures { result ≡ name_byte quoted escaped byte }
 {
@@ -32,7 +32,7 @@ fn name_byte(quoted: bool, escaped: bool, byte: u8) -> NameByte
     }
 }
 
-/// How many bytes of a name stand at the front, `room` at most. The fault of one too long is at its first byte.
+/// How many bytes at the front are a name's, `room` at most. The fault of a longer name is at its first byte.
 #[tactic(auto, unfolding(crate::specs::ReadWords::name_bytes))]
 fn name_length(quoted: bool, room: usize, bytes: &[u8]) -> Result<usize, Failure>
     ensures gives { Gives (λ (n : ℕ). (take n bytes.now, drop n bytes.now)) result (name_bytes quoted (length bytes.now) false room bytes.now) }
@@ -71,7 +71,7 @@ pub(crate) fn name_of(quoted: bool, room: usize, bytes: &[u8]) -> Result<(&[u8],
     Ok((name, rest))
 }
 
-/// The same behind an opening quote, and what is left after the closing one.
+/// The same after an opening quote, and what is left after the closing one.
 #[tactic(auto, unfolding(crate::specs::ReadWords::quoted_name))]
 pub(crate) fn quoted_name_of(room: usize, bytes: &[u8]) -> Result<(&[u8], &[u8]), Failure>
     ensures { Gives (λ x. (x.0.now, x.1.now)) result (quoted_name room bytes.now) }

@@ -45,7 +45,7 @@ impl Lexeme {
     }
 }
 
-/// Whether the path ends before these bytes, in quotes or not, so deep in groups.
+/// Whether the path ends before these bytes, in quotes or not, at this depth of groups.
 fn path_ends(quoted: bool, depth: usize, bytes: &[u8]) -> bool
     ensures { result ≡ path_ends quoted depth bytes.now }
 {
@@ -60,7 +60,7 @@ fn path_ends(quoted: bool, depth: usize, bytes: &[u8]) -> bool
     }
 }
 
-/// The byte behind the backslash that `bytes` begin with, and what is left after it.
+/// The byte after the backslash that `bytes` begins with, and what is left after it.
 fn escaped_of(bytes: &[u8]) -> Result<(u8, &[u8]), Failure>
     ensures { Gives (λ x. (x.0, x.1.now)) result (escaped_at (drop 1 bytes.now)) }
 {
@@ -76,7 +76,7 @@ fn escaped_of(bytes: &[u8]) -> Result<(u8, &[u8]), Failure>
     }
 }
 
-/// Whether an item, a brace or a comma begins here, or the path ends. Else it is a fault for itself.
+/// Whether an item, a brace or a comma begins here, or the path ends. Anything else is a fault.
 #[tactic(auto, unfolding(crate::specs::ReadPaths::goes_on_at))]
 fn goes_on(quoted: bool, depth: usize, bytes: &[u8]) -> Result<bool, Failure>
     ensures { Gives (λ x. x) result (goes_on_at quoted depth bytes.now) }
@@ -97,7 +97,7 @@ fn goes_on(quoted: bool, depth: usize, bytes: &[u8]) -> Result<bool, Failure>
     }
 }
 
-/// Whether a plain slash stands here, by itself or behind a backslash, or the path ends.
+/// Whether a plain slash is here, by itself or after a backslash, or the path ends.
 fn slash_or_end(quoted: bool, depth: usize, bytes: &[u8]) -> bool
     ensures { result ≡ slash_or_end quoted depth bytes.now }
 {
@@ -151,7 +151,7 @@ fn lexeme_of(
     }
 }
 
-/// One token more of a path, with so many bytes left from it on.
+/// Adds a token to a path, with `left` bytes left from the token on.
 fn add(builder: &mut Builder, alloc: Global, lexeme: Lexeme, left: usize) -> Result<(), Failure>
     ensures tokens { IfOk result (λ _. StandsIn (braces_in builder.old) (token_value lexeme) →
         tokens_in builder.new ≡ tokens_in builder.old ++ (token_value lexeme ∷ [])) }
@@ -225,8 +225,8 @@ pub(crate) fn path_of(alloc: Global, bytes: &[u8]) -> Result<(RulePath, &[u8]), 
     }
 }
 
-/// Reads a whole text as the items of a path, as it would stand within quotes: white may be in it, and a quote stands behind a
-/// backslash. It need not begin with a slash. None for a text that is refused, or that goes on behind the path.
+/// Reads a whole text as the items of a path, as if within quotes: it may have white in it, and a quote only after a backslash. It
+/// need not begin with a slash. None for a text that is refused, or that goes on after the path.
 pub fn read_path(alloc: Global, text: &[u8]) -> Result<Option<Vec<Item>>, NoMemory>
     ensures tokens { IfOk result (λ o. option_map (λ items. tokens_of items.items) o ≡ text_tokens text.now) }
     ensures full { IfOk result (λ o. IfSome o (λ items. IsTrue (all_full items.items))) }
@@ -243,7 +243,7 @@ pub fn read_path(alloc: Global, text: &[u8]) -> Result<Option<Vec<Item>>, NoMemo
     }
 }
 
-/// The text with a quote behind it, as a path in quotes ends.
+/// The text with a quote after it, as a path in quotes ends.
 fn with_quote(alloc: Global, text: &[u8]) -> Result<Vec<u8>, Failure>
     ensures { IfOk result (λ quoted. quoted.items ≡ text.now ++ codes "\"") }
 {

@@ -20,7 +20,7 @@ use rule_profile::{MAX_RULES, Rule, Span};
 use std::alloc::Global;
 use verdicts::RuleKind;
 
-/// A letter of the access modes that file rules have, those that are not supported among them.
+/// A letter of the access modes that file rules have, including those that are not supported.
 fn is_mode(byte: u8) -> bool
     ensures { result ≡ is_mode byte }
 {
@@ -33,7 +33,7 @@ fn has_only_modes(word: &[u8]) -> bool
     word.iter().all(|byte| is_mode(*byte))
 }
 
-/// The permissions that stand behind a path, and what is left after them.
+/// The permissions after a path, and what is left after them.
 #[tactic(auto, unfolding(crate::specs::Reading::perms_at))]
 fn perms_of(bytes: &[u8]) -> Result<(Perms, &[u8]), Failure>
     ensures { Gives (λ x. (x.0, x.1.now)) result (perms_at bytes.now) }
@@ -52,7 +52,7 @@ fn perms_of(bytes: &[u8]) -> Result<(Perms, &[u8]), Failure>
     }
 }
 
-/// The same with the gap before them, directly behind a path.
+/// The same with the gap before them, directly after a path.
 #[tactic(auto, unfolding(crate::specs::Reading::perms_behind))]
 fn perms_behind(bytes: &[u8]) -> Result<(Perms, &[u8]), Failure>
     ensures { Gives (λ x. (x.0, x.1.now)) result (perms_behind bytes.now) }
@@ -80,7 +80,7 @@ fn qualifier_word(bytes: &[u8]) -> Option<(RuleKind, &[u8])>
     }
 }
 
-/// What a rule does, and what is left after its qualifier and the gap behind that. A rule without qualifier allows.
+/// What a rule does, and what is left after its qualifier and the gap after that. A rule without qualifier allows.
 #[tactic(auto, using(crate::proofs::ReadCodeRules::qualifier_there), unfolding(crate::specs::Reading::qualifier_at))]
 fn qualifier_of(bytes: &[u8]) -> Result<(RuleKind, &[u8]), Failure>
     ensures { Gives (λ x. (x.0, x.1.now)) result (qualifier_at bytes.now) }
@@ -91,7 +91,7 @@ fn qualifier_of(bytes: &[u8]) -> Result<(RuleKind, &[u8]), Failure>
     }
 }
 
-/// What begins behind the qualifier: permissions, and what is left after them; none for a path.
+/// What follows the qualifier: permissions, and what is left after them; none for a path.
 #[tactic(auto, unfolding(crate::specs::Reading::start_at))]
 fn start_of(bytes: &[u8]) -> Result<Option<(Perms, &[u8])>, Failure>
     ensures { Gives (λ o. option_map (λ x. (x.0, x.1.now)) o) result (start_at bytes.now) }
@@ -156,7 +156,7 @@ fn rule_of(alloc: Global, len: usize, bytes: &[u8]) -> Result<(Rule, &[u8]), Fai
     Ok((Rule::new(kind, perms, path).with_span(span), rest))
 }
 
-/// Whether a rule begins here. Else it is a fault for itself.
+/// Checks that a rule begins here. Anything else is a fault.
 #[tactic(auto, unfolding(crate::specs::Reading::rule_begins))]
 fn rule_begins(bytes: &[u8]) -> Result<(), Failure>
     ensures { Gives (λ _. tt) result (rule_begins bytes.now) }
@@ -167,7 +167,7 @@ fn rule_begins(bytes: &[u8]) -> Result<(), Failure>
     Ok(())
 }
 
-/// What is left after a closing brace, if one stands at the front.
+/// What is left after a closing brace, if there is one at the front.
 fn after_closing(bytes: &[u8]) -> Option<&[u8]>
     ensures { option_map (λ x. x.now) result ≡ (if begins is_close_brace bytes.now then Some (drop 1 bytes.now) else None) }
 {

@@ -57,7 +57,7 @@ pub(crate) fn after_literal<'a>(word: &[u8], bytes: &'a [u8]) -> Result<&'a [u8]
     }
 }
 
-/// How many bytes of a word stand at the front.
+/// How many bytes at the front are a word's.
 fn word_length(bytes: &[u8]) -> usize
     ensures { result ≡ length (leading is_word_byte bytes.now) }
 {
@@ -68,7 +68,7 @@ fn word_length(bytes: &[u8]) -> usize
     length
 }
 
-/// The word that stands at the front, which is empty where none does, and what is left after it.
+/// The word at the front, and what is left after it; none if there is no word.
 #[tactic(auto, using(crate::proofs::ReadRuns::leading_cut))]
 pub(crate) fn word_of(bytes: &[u8]) -> Option<(&[u8], &[u8])>
     ensures none { result ≡ None → word bytes.now ≡ [] }
@@ -80,7 +80,7 @@ pub(crate) fn word_of(bytes: &[u8]) -> Option<(&[u8], &[u8])>
     }
 }
 
-/// The fault of a word that is not supported, where `bytes` begin with it and `rest` is left after it.
+/// The fault of a word that is not supported, where `bytes` begins with it and `rest` is left after it.
 pub(crate) fn word_left_out(bytes: &[u8], word: &[u8], rest: &[u8]) -> Failure
     ensures { result ≡ Failure.At (record { kind = FaultKind.LeftOut (length word.now); left = length bytes.now; settled = goes_on rest.now }) }
 {

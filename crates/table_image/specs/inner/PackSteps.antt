@@ -8,7 +8,7 @@ use Rattle.tables.specs.Tables.{Table}
 abbrev pub source : Automaton → ℕ → ℕ
 source a s = min s (length a.rows - 1)
 
--- The list has so many numbers more, which are these.
+-- The list has `count` more numbers, which are these.
 pub record Grows (old new : List ℕ) (count : ℕ) (at : ℕ → ℕ) : Type 0 where
   pub more : List ℕ
   pub is : new ≡ old ++ more

@@ -1,7 +1,7 @@
-//! How faults are numbered and told.
+//! How faults are numbered and reported.
 use super::*;
 
-// A fault with its number, the place that it tells of, and its text.
+// A fault with its number, the place that it refers to, and its text.
 type Row<'a> = (ImageFault, u16, Option<u32>, &'a str);
 
 fn expect_told(rt: &impl Abort, alloc: Global, row: &Row<'_>) -> Result<(), Fail> {

@@ -1,7 +1,7 @@
 //! Images cut, longer, and with another header.
 use super::*;
 
-// The first length to which an image is cut and which is told otherwise than as too short.
+// The first length such that the image cut to it isn't reported as too short.
 fn first_cut_told_otherwise(alloc: Global, image: &[u8]) -> Option<usize> {
     for length in 0..image.len() {
         let want = if length < 20 {
@@ -76,7 +76,7 @@ fn whole_images(rt: HostRuntime) -> Result<(), Fail> {
     )
 }
 
-// Other bytes of a header: the place of the first one, the bytes, and what is told of them.
+// Other bytes of a header: the place of the first one, the bytes, and the fault that is reported for them.
 type Header<'a> = (usize, &'a [u8], ImageFault);
 
 fn expect_header(

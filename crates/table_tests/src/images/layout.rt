@@ -3,7 +3,7 @@ use super::*;
 use names::Permission;
 use verdicts::{LeastHits, Record};
 
-// Whether there are so many states, each with a row of its own, in the order of the states, and no state needs its default.
+// Whether there are `states` states, each with a row of its own, in the order of the states, and no state needs its default.
 fn has_own_rows(table: &RawTable, states: u16) -> bool {
     let states = usize::from(states);
     table.default.len() == states
@@ -22,7 +22,7 @@ fn has_own_rows(table: &RawTable, states: u16) -> bool {
 // A state, a byte, and the state to which the byte leads from there.
 type Move = (u8, u8, u32);
 
-// The cells of so many states, all of which lead to state 0 but for these moves.
+// The cells of `states` states, all of which lead to state 0 except for these moves.
 fn cells(alloc: Global, states: u16, moves: &[Move]) -> Result<Vec<u32>, Fail> {
     let mut next = Vec::from_elem(alloc, 0u32, 256 * usize::from(states))?;
     for (state, byte, target) in moves {

@@ -1,4 +1,4 @@
-//! Where the numbers of an image stand, and in which order of bytes.
+//! Where the numbers of an image are, and in which order of bytes.
 use super::*;
 use names::Permission;
 use verdicts::{LeastHits, Record};

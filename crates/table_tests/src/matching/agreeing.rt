@@ -2,7 +2,7 @@
 use super::*;
 use rule_text::judge_slow;
 
-// The list of this number, where the lists of these six bytes are counted by their lengths.
+// The list with this number, where lists of these six bytes are numbered in order of their lengths.
 fn counted(alloc: Global, alphabet: [u8; 6], number: usize) -> Result<Vec<u8>, Fail> {
     let mut bytes = Vec::new(alloc);
     let mut left = number;
@@ -29,7 +29,7 @@ fn perms_of(number: u8) -> Perms {
     perms
 }
 
-// Whether the plain judge and both tables tell the same of a name, whatever is asked but nothing.
+// Whether the plain judge and both tables give the same verdicts on a name, for every set of permissions but the empty one.
 fn agree(compiled: &CompiledProfile, loaded: &VerifiedTable, name: &[u8]) -> bool {
     for number in 1..32 {
         let ask = perms_of(number);
@@ -41,7 +41,7 @@ fn agree(compiled: &CompiledProfile, loaded: &VerifiedTable, name: &[u8]) -> boo
     true
 }
 
-// Whether they tell the same of each name of at most three bytes.
+// Whether they agree on each name of at most three bytes.
 fn agree_on_short_names(
     alloc: Global,
     compiled: &CompiledProfile,
@@ -58,7 +58,7 @@ fn agree_on_short_names(
     Ok(true)
 }
 
-// Whether a compiled profile, the one loaded from its image and the plain judge tell the same of short names.
+// Whether a compiled profile, the one loaded from its image and the plain judge agree on short names.
 fn agrees_with_loaded(alloc: Global, compiled: &CompiledProfile) -> Result<bool, Fail> {
     let loaded = loaded_of(alloc, compiled)?;
     let alphabet = [b'/', b'a', b'b', b'k', 0, 255];

@@ -13,7 +13,7 @@ enum Kind {
     Next,
 }
 
-// Numbers of one kind: at which byte the first one stands, how many there are, and the least that is out of bounds.
+// Numbers of one kind: at which byte the first one begins, how many there are, and the least that is out of bounds.
 #[derive(Clone, Copy)]
 struct Part {
     kind: Kind,
@@ -23,7 +23,7 @@ struct Part {
 }
 
 impl Part {
-    // What is told of the image with another number at a place of this part.
+    // The fault of the image with another number at a place of this part, if it has one.
     fn fault(self, place: u16, number: u32) -> Option<ImageFault> {
         let place = u32::from(place);
         if number < self.bound {
@@ -49,7 +49,7 @@ impl Part {
         altered(alloc, image, begin, &number.to_le_bytes())
     }
 
-    // The first place at which this number is told otherwise than it should be.
+    // The first place at which this number isn't judged as it should be.
     fn first_misjudged(
         self,
         alloc: Global,
@@ -134,7 +134,7 @@ fn expect_fault(rt: &impl Abort, alloc: Global, image: &[u8], want: ImageFault) 
     assert_eq!(rt; fault, Some(want));
 }
 
-// The image with other bytes from a place on, of which this fault is told.
+// The image with other bytes from a place on, for which this fault is expected.
 fn with_fault(
     rt: &impl Abort,
     alloc: Global,
@@ -148,7 +148,7 @@ fn with_fault(
     Ok(bytes)
 }
 
-// Of two faults the earlier one is told, that of the header first.
+// Of two faults the earlier one is reported, that of the header first.
 #[test]
 fn first_faults(rt: HostRuntime) -> Result<(), Fail> {
     let alloc = rt.alloc();

@@ -3,13 +3,13 @@ use super::*;
 use rule_text::Verdict;
 use std::sync::Arc;
 
-// What the making of a profile of these rules is refused for.
+// Why making a profile of these rules is refused, if it is.
 fn fault_of(alloc: Global, rules: &[u8]) -> Result<Option<MakeFault>, Fail> {
     let profile = profile_of(alloc, rules)?;
     Ok(CompiledProfile::make(alloc, profile).err())
 }
 
-// Whether a profile is called `p`, and has so many states and rules.
+// Whether a profile is called `p`, and has this many states and rules.
 fn has_counts(compiled: &CompiledProfile, states: u32, rules: usize) -> bool {
     let profile = compiled.profile();
     compiled.table().states() == states

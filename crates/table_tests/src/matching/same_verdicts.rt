@@ -1,7 +1,7 @@
 //! Verdicts worked out by hand, and the steps to them.
 use super::*;
 
-// Rules, a name, the letters of what is asked, and what is told.
+// Rules, a name, the letters of what is asked, and the text of the expected verdict.
 type Row<'a> = (&'a [u8], &'a [u8], &'a [u8], &'a str);
 
 fn expect_told(
@@ -27,7 +27,7 @@ fn expect_loaded_told(
     expect_told(rt, alloc, loaded.table(), row)
 }
 
-// Both profiles, the compiled one and that of its image, tell what is wanted.
+// Both profiles, the compiled one and that of its image, give the expected verdict.
 fn expect_verdict(rt: &impl Abort, alloc: Global, row: &Row<'_>) -> Result<(), Fail> {
     let compiled = compiled_of(alloc, row.0)?;
     expect_told(rt, alloc, compiled.table(), row)?;

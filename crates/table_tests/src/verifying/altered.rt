@@ -32,7 +32,7 @@ fn two_rows(alloc: Global) -> Result<RawTable, Fail> {
     Ok(table)
 }
 
-// Whether this is told of the table with another number at a place of a list.
+// Whether the table with another number at a place of a list is judged as wanted: with this fault, or with none.
 fn is_told(
     table: &RawTable,
     list: List,
@@ -44,7 +44,7 @@ fn is_told(
     Ok(fault_of(other) == want)
 }
 
-// The first place of a list at which this number is told otherwise than wanted.
+// The first place of a list at which this number isn't judged as expected.
 fn first_told_otherwise(
     table: &RawTable,
     list: List,
@@ -141,7 +141,7 @@ fn checks_are_free(rt: HostRuntime) -> Result<(), Fail> {
 // The earlier of two faults and its place, the later one and its place.
 type Faults = (List, u32, List, u32);
 
-// The later fault is told where it is alone, and the earlier one where both are.
+// The later fault is reported where it is alone, and the earlier one where both are.
 fn expect_first(rt: &impl Abort, alloc: Global, row: &Faults) -> Result<(), Fail> {
     let (first, first_place, later, later_place) = *row;
     let table = with(smallest(alloc)?, later, later_place, 2);

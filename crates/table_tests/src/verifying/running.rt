@@ -10,7 +10,7 @@ fn shared(alloc: Global) -> Result<RawTable, Fail> {
     put(&mut table.default, 0, 1);
     put(&mut table.accept, 1, 1);
     put_all(&mut table.check, &[(97, 1), (255, 1), (98, 0), (0, 0)]);
-    // The last one is the next of a free cell, which is never gone to from state 1.
+    // The last one is the next of a free cell, which is never followed from state 1.
     put_all(
         &mut table.next,
         &[(97, 1), (255, 1), (98, 1), (0, 0), (99, 1)],

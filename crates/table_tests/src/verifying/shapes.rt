@@ -1,7 +1,7 @@
 //! Tables with other counts and lengths, and what comes back.
 use super::*;
 
-// A list of the smallest table, another length of it, and what is told.
+// A list of the smallest table, another length of it, and the expected fault.
 type Resized = (List, usize, ImageFault);
 
 fn expect_resized(rt: &impl Abort, alloc: Global, row: &Resized) -> Result<(), Fail> {
@@ -63,7 +63,7 @@ fn no_lists(rt: HostRuntime) -> Result<(), Fail> {
     Ok(())
 }
 
-// How many states, cells and records there are, and what is told.
+// How many states, cells and records there are, and the expected fault, if any.
 type Counts = (usize, usize, usize, Option<ImageFault>);
 
 fn expect_counts(rt: &impl Abort, alloc: Global, rows: &[Counts]) -> Result<(), Fail> {
@@ -94,7 +94,7 @@ fn counts(rt: HostRuntime) -> Result<(), Fail> {
     )
 }
 
-// A count goes before a length, and a length before a number.
+// Counts are tested before lengths, and lengths before numbers.
 #[test]
 fn order(rt: HostRuntime) -> Result<(), Fail> {
     let alloc = rt.alloc();
@@ -118,7 +118,7 @@ fn are_equal(one: &RawTable, other: &RawTable) -> bool {
         && one.records == other.records
 }
 
-// What can be seen of an accepted table beside what it does. That it is the one that came, its contract says.
+// What can be seen of an accepted table besides what it does. That it is the table that was passed in is in the contract.
 fn has_counts_of(verified: &VerifiedTable, table: &RawTable) -> bool {
     verified.states() as usize == table.default.len()
         && verified.cells() as usize == table.next.len()
@@ -134,7 +134,7 @@ fn comes_back(table: RawTable) -> Result<bool, Fail> {
     })
 }
 
-// The smallest table comes back with a number put at place 1 of a list, and also with the number behind the list's last.
+// The smallest table comes back with a number put at place 1 of a list, and also with the number appended to the list.
 fn expect_back(rt: &impl Abort, alloc: Global, list: List, number: u32) -> Result<(), Fail> {
     let mut table = smallest(alloc)?;
     put(list_of(&mut table, list), 1, number);

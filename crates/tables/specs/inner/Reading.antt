@@ -1,4 +1,4 @@
--- The table that stands in bytes, whatever they are.
+-- The table that is read from bytes, whatever they are.
 use Rattle.std.specs.Prelude.{ℕ, zero, suc, ◌+◌, ◌*◌, List, [], ◌∷◌, ◌++◌}
 use Rattle.names.specs.Permissions.{index}
 use Rattle.verdicts.specs.Least.{record_of}
@@ -24,7 +24,7 @@ abbrev pub records_at : List ℕ → ℕ → ℕ → List Record
 records_at bytes i zero = []
 records_at bytes i (suc n) = records_at bytes i n ++ record_at bytes (i + 20 * n) ∷ []
 
--- the parts follow the header, each with as many entries as the counts tell
+-- the parts follow the header, each with as many entries as the counts say
 abbrev pub table_at : List ℕ → Table
 table_at bytes =
     let s = word_at bytes 8 in

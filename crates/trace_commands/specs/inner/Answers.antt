@@ -1,4 +1,4 @@
--- What the parts of a command answer, of what is to be written.
+-- What the parts of a command return, compared with what is to be written.
 use Rattle.std.specs.Prelude.{◌≡◌, ◌≢◌, ◌⊎◌, ℕ, List, Option, Result, Ok, Err, Vec, IfSome}
 use Rattle.std.specs.declared.alloc.Global.{Global}
 use Rattle.names.specs.declared.permissions.Perms.{Perms}
@@ -16,7 +16,7 @@ abbrev pub IsJudged : Output → Result Verdict Fault → Type 0
 IsJudged output (Ok verdict) = output ≡ answer (verdict_text verdict)
 IsJudged output (Err f) = IsFaultOf output f
 
--- what is asked, or which of the arguments says nothing
+-- the permissions asked for, or which of the arguments is bad
 abbrev pub IsAsked : Result Perms (List ℕ) → Result Perms Fault → Type 0
 IsAsked wanted (Ok ask) = wanted ≡ Ok ask
 IsAsked wanted (Err f) = (wanted ≡ Err (fault_text f)) × (f ≡ Permissions ⊎ f ≡ Name)
@@ -26,22 +26,22 @@ abbrev pub IsTextRead : Option (List ℕ) → Result (Vec ℕ Global) Fault → 
 IsTextRead left (Ok text) = IfSome left (λ known. text.items ≡ known)
 IsTextRead left (Err f) = f ≡ Input ⊎ f ≡ Memory
 
--- no output that is wanted tells of bad arguments
+-- no wanted output reports bad arguments
 abbrev pub AreGood : (Output → Type 0) → Type 0
 AreGood Wanted = (output : Output) → Wanted output → output.status ≢ BadArguments
 
--- the fault is an output that is wanted, or hides them, the arguments being good
+-- the fault is one of the wanted outputs, or hides them, the arguments being good
 abbrev pub IsFaultOfOne : (Output → Type 0) → Fault → Type 0
 IsFaultOfOne Wanted Input = AreGood Wanted
 IsFaultOfOne Wanted Memory = AreGood Wanted
 IsFaultOfOne Wanted f = Wanted (fault (fault_text f) (fault_status f))
 
--- the bytes of an answer that is wanted, or a fault in its place
+-- the bytes of a wanted answer, or a fault in its place
 abbrev pub IsAnswered : (Output → Type 0) → Result (Vec ℕ Global) Fault → Type 0
 IsAnswered Wanted (Ok bytes) = Wanted (whole_answer bytes.items)
 IsAnswered Wanted (Err f) = IsFaultOfOne Wanted f
 
--- what is asked and the text that was read, or a fault in place of the output
+-- the permissions asked for and the text that was read, or a fault in place of the output
 abbrev pub IsTextAsked : List ℕ → List ℕ → List ℕ → Output → Result (Perms × Vec ℕ Global) Fault → Type 0
 IsTextAsked perms name text output (Ok asked) = (ask_of perms name ≡ Ok asked.0) × (text ≡ asked.1.items)
 IsTextAsked perms name text output (Err f) = IsFaultOf output f

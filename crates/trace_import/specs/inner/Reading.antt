@@ -1,4 +1,4 @@
--- What reading all of a text answers.
+-- What reading all of a text returns.
 use Rattle.std.specs.Prelude.{◌≡◌, ◌⊎◌, ℕ, List, Option, Result, Ok, Err, Vec, IfSome}
 use Rattle.std.specs.declared.alloc.Global.{Global}
 use Rattle.trace_report.specs.declared.fault.Fault.{Fault}

@@ -15,7 +15,7 @@ use Rattle.trace_line.specs.declared.line.LineFault.{LineFault}
 use Rattle.trace_line.specs.declared.line.LineFault.TheVariants.{Usage, NoMemory}
 use Rattle.trace_line.specs.declared.parser.NumberOption as declared
 
--- a fault of memory is one, and any other is one of usage
+-- an out-of-memory error is a fault of memory, and any other is one of usage
 abbrev pub IsLineFaultOf : Error → LineFault → Type 0
 IsLineFaultOf error NoMemory = kind_of error ≡ OutOfMemory
 IsLineFaultOf error (Usage told) = (told ≡ error) × (kind_of error ≡ OutOfMemory → ⊥)
@@ -85,15 +85,15 @@ program_app = fold with_command wanted_app commands
 
 -- ---- what is found
 
--- the number of 32 bits that a text writes
+-- the 32-bit number that a text writes
 abbrev pub small_number : List ℕ → Option ℕ
 small_number text = if is_unsigned_in 0 4294967295 text then Some (digits_value 10 (without_leading_plus text)) else None
 
--- the number that is found of an option
+-- the number that is found for an option
 abbrev pub number_read : List ℕ → List Row → Option ℕ
 number_read name rows = option_and_then small_number (one_of name rows)
 
--- the numbers that are found of the options are these
+-- the numbers that are found for the options are these
 abbrev pub HasNumbers : List NumberOption → List Row → (NumberOption → ℕ) → Type 0
 HasNumbers options rows number = (option : NumberOption) → option_named (map number_form options) option.name ≡ Some (number_form option)
     → number_read option.name rows ≡ Some (number option)
@@ -117,7 +117,7 @@ import_read found =
     (unwrap_or (option_map raw_values (matched_of found (codes "define"))) [])
     (unwrap_or (flag_read (codes "strict") (rows_of found)) false)
 
--- of an option the rows have the texts that are given
+-- for an option, the rows have the texts that are given
 abbrev pub HasTexts : List Row → Given → List ℕ → Wants → Type 0
 HasTexts rows given name (one_number option) = ⊤
 HasTexts rows given name one_text = first_of name rows ≡ text_given given name
@@ -132,7 +132,7 @@ GivesLine (numbers options line) rows value = (number : NumberOption → ℕ) ×
 GivesLine (asks options line) rows value = (given : Given)
     × ((option : OptionForm) → option_named options option.name ≡ Some option → HasTexts rows given option.name option.wants) × (value ≡ line given)
 
--- what the parser finds in words that it takes: the command's name, and matches that give the line, if the words are one
+-- what the parser finds in words that it accepts: the command's name, and matches that give the line, if the words are one
 pub record IsReadAs (words : List (List ℕ)) (matches : ArgMatches) : Type 0 where
   pub command : List ℕ
   pub rows : List Row

@@ -44,8 +44,8 @@ pub fn lines_are_read_one_by_one()
         IsLineRead (Some (byte ∷ left)) after line (Ok End) → ⊥ }
 {}
 
-/// A line has one text, and what it says is done; only memory is wanted for it; and bytes that were not written are not reported
-/// as written.
+/// A line has one text, and what it says is done; composing it fails only when memory runs out; and bytes that were not written are
+/// not reported as written.
 pub fn lines_have_one_text()
     ensures text { (text : List ℕ) (one other : Vec ℕ Global) → IsText text (Ok one) → IsText text (Ok other) → one.items ≡ other.items }
     ensures printed { (p : Printed) (history another : History) (one other : Vec ℕ Global) →

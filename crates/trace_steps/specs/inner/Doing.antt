@@ -1,4 +1,4 @@
--- What functions that do a command promise, and how far a call has come.
+-- What functions that do a command guarantee, and how far a call has come.
 use Rattle.std.specs.Prelude.{◌≡◌, ◌⊎◌, ℕ, zero, suc, ◌+◌, ◌≤◌, ◌==◌, List, [], ◌∷◌, ◌++◌, length, replicate, Option, Some, None, Result, Ok, Err, Vec, if◌then◌else◌}
 use Rattle.std.specs.List.{All, list_any}
 use Rattle.std.specs.declared.alloc.Global.{Global}
@@ -70,11 +70,11 @@ HasCome s least old new =
 
 -- ---- what is left to do
 
--- the cells that the keeper has still to set
+-- how many cells the keeper still has to set
 abbrev pub cells_left : Machine → ℕ
 cells_left m = length (left_of m.keeper.pending)
 
--- the first so many places, but for those that were read
+-- how many of the first places, up to this number, were not read
 abbrev pub unread : ℕ → List Cell → ℕ
 unread zero reads = 0
 unread (suc n) reads = unread n reads + (if list_any (λ (read : Cell). read.place == n) reads then 0 else 1)
@@ -87,6 +87,6 @@ unread_in room (policed p) = 0
 unread_in room (unpublished call version) = 0
 unread_in room (checked p w) = 0
 
--- the cells that a session's walk has not read
+-- how many cells a session's walk has not read
 abbrev pub cells_unread : Machine → ℕ → ℕ
 cells_unread m s = unread_in (row_length m.capacity) (m.sessions s).stage

@@ -1,4 +1,4 @@
--- How a script of events is followed, line by line: what a line comes to, and why following may stop.
+-- How a script of events is followed, line by line: the outcome of a line, and why following may stop.
 use Rattle.std.specs.Prelude.{◌≡◌, ℕ, List, [], ◌∷◌, ◌++◌, Option, Some, None, Result, Ok, Err, MatchBool}
 use Rattle.std.specs.Io.KnownBytes.{Keeps, Appends}
 use Rattle.glob_automaton.specs.Automata.{StateLimit}
@@ -14,7 +14,7 @@ use Rattle.trace_steps.specs.StepScript.{StepCommand, publish_text, step_kind, s
 use Rattle.trace_steps.specs.StepLines.{Lines, Does, DoesAll}
 use Rattle.trace_steps.specs.StepsOutput.{CommandsRead, PrintsFirst}
 
--- the lines of a command were printed, or a front part of them; or nothing was, for want of memory
+-- the lines of a command were printed, or a front part of them; or nothing was, because memory ran out
 abbrev pub IsPrinted : {T : Type 0} → (Lines → Type 0) → Option (List ℕ) → Option (List ℕ) → Result T Stop → Type 0
 IsPrinted Prints before after (Ok done) = (lines : Lines) × Prints lines × Appends before after (text_of_lines lines)
 IsPrinted Prints before after (Err Memory) = Keeps before after
@@ -22,7 +22,7 @@ IsPrinted Prints before after (Err Output) = (lines : Lines) × Prints lines × 
 IsPrinted Prints before after (Err _) = ⊥
 
 module _ (limit : StateLimit) (old : Machine) where
-  -- the line of this number, by what it says: where reading stands then, the lines that it prints, and the machine
+  -- the line of this number, by what it says: the section after it, the lines that it prints, and the machine
   abbrev pub KindDoes : ℕ → LineOf StepCommand → Section → Lines → Machine → Type 0
   KindDoes number ignored next lines new = (next ≡ outside) × (lines ≡ []) × (new ≡ old)
   KindDoes number opens_policy next lines new = (next ≡ within number []) × (lines ≡ []) × (new ≡ old)
@@ -47,12 +47,12 @@ module _ (limit : StateLimit) (old : Machine) where
   IsLineFollowed section number line new before after (Err Input) = ⊥
   IsLineFollowed section number line new before after (Err TooLong) = ⊥
 
-  -- all commands that were read but the last are done
+  -- all commands that were read except the last are done
   abbrev pub IsShort : Option (List ℕ) → Option (List ℕ) → List ℕ → Option (List ℕ) → Option (List ℕ) → Type 0
   IsShort left left_after text before after =
       (count : ℕ) × (lines : Lines) × CommandsRead left left_after count × PrintsFirst limit text old count lines × Appends before after (text_of_lines lines)
 
-  -- the commands of a script are done, or the first ones, and why there are no more
+  -- the commands of a script are done, or the first ones, and there is a reason why there are no more
   abbrev pub IsFollowed : {T : Type 0} → Option (List ℕ) → Option (List ℕ) → List ℕ → Machine → Option (List ℕ) → Option (List ℕ) → Result T Stop → Type 0
   IsFollowed left left_after text new before after (Ok done) =
       ((step_script text).stopped ≡ None) × ((lines : Lines) × DoesAll limit old (step_script text).commands lines new × Appends before after (text_of_lines lines))

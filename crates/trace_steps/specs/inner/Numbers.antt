@@ -2,7 +2,7 @@
 use Rattle.std.specs.Prelude.{ℕ, ◌+◌, ◌*◌, ◌^◌, ◌&&◌, nat_lt, List, [], ◌∷◌, Option, Some, None, option_and_then, if◌then◌else◌}
 use Rattle.std.specs.Char.{digit_value, is_ascii_digit}
 
--- a number with one digit more behind it, if the byte is one and the number then fits
+-- a number with one more digit appended, if the byte is one and the number then fits
 abbrev pub with_digit : ℕ → ℕ → Option ℕ
 with_digit n b = if is_ascii_digit b && nat_lt (n * 10 + digit_value b) (2 ^ 64) then Some (n * 10 + digit_value b) else None
 

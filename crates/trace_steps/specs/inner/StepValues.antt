@@ -1,4 +1,4 @@
--- What commands of the code stand for.
+-- What commands of the code represent.
 use Rattle.trace_script.specs.declared.line.LineKind.{LineKind as LineKindHere}
 use Rattle.trace_script.specs.LineValues.{change_words, kind_by}
 use Rattle.trace_script.specs.Script.{LineOf}

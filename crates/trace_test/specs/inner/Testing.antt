@@ -79,7 +79,7 @@ test_engine limit = record { grammar = test_grammar; does = test_step limit }
 
 -- ---- how a test is done
 
--- the lines of the first expectations stand, those of all commands that were read but the last
+-- the lines of the first expectations were written, those of all commands that were read except perhaps the last
 abbrev pub IsShortTest : StateLimit → History → Option (List ℕ) → Option (List ℕ) → List ℕ → Option (List ℕ) → Option (List ℕ) → Type 0
 IsShortTest limit history left left_after text before after = (count : ℕ) × TestRead left left_after count
     × Appends before after (text_of_lines (failure_lines (expectations limit history (take count (test_script text).commands))))

@@ -33,7 +33,8 @@ pub fn tests_end_as_their_expectations_hold()
         TestEnds limit streams left left_after history text BadArguments → ⊥ }
 {}
 
-/// Where no command was answered before, no expectation holds, and another answer than the expected one is none.
+/// An expectation doesn't hold where no command was answered before it, or where the answer isn't the expected one. No control
+/// byte is shown.
 pub fn expectations_hold_by_their_answer()
     ensures nothing { (expected : List ℕ) → is_answer expected None ≡ true → ⊥ }
     ensures another { (expected got : List ℕ) → got ≢ expected → is_answer expected (Some got) ≡ true → ⊥ }

@@ -1,4 +1,4 @@
--- The map that stands for the words that were read.
+-- The map that represents the words that were read.
 use Rattle.std.specs.Prelude.{◌≡◌, ℕ, ◌≤◌, List, length}
 use Rattle.row_rule.specs.declared.cell.Cell.{Cell}
 use Rattle.row_look.specs.Known.{known_at}

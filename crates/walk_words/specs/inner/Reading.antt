@@ -1,4 +1,4 @@
--- What a walk's cells keep of what they read, and what they lack.
+-- What a walk's cells record of the words that they read, and of the word that they lack.
 use Rattle.std.specs.Prelude.{◌≡◌, ℕ, ◌<◌, List, [], ◌∷◌, ◌++◌, slice_get, Option, Some, None, Result, Ok, Err}
 use Rattle.std.specs.Coded.{codes, Unit-prop}
 use Rattle.mediation.specs.declared.opening.Reached.{Reached}
@@ -12,12 +12,12 @@ use Rattle.walk_words.specs.declared.outcome.Lack.TheVariants as lack
 use Rattle.walk_words.specs.Words.{IsUnread, ReadsOn}
 use Rattle.walk_words.specs.Outcomes.{IsLeft}
 
--- A word that is lacking is none that was read; it is wanted where all that may be read were, and memory is refused before.
+-- A lacking word wasn't read. It is wanted once as many words were read as may be; memory is refused before that.
 pub record IsHonest (capacity : ℕ) (reads : List Cell) (most read : ℕ) (lacks : Option Lack) : Type 0 where
   pub wants : (place : ℕ) → lacks ≡ Some (lack.Wants place) → IsLeft capacity reads place × (read ≡ most)
   pub refused : (place : ℕ) → lacks ≡ Some (lack.NoMemory place) → IsLeft capacity reads place × (read < most)
 
--- what comes of a walk that ended so
+-- the outcome of a walk with this end
 abbrev pub end_by : Result Reached WalkFault → Option Lack → Result Outcome Lack
 end_by (Ok file) lacks = Ok (outcome.Reached file)
 end_by (Err (fault.Refused errno)) lacks = Ok (outcome.Refused errno)
@@ -27,7 +27,7 @@ end_by (Err fault.Torn) None = Ok outcome.Torn
 read_prop : (row : List ℕ) (read : Cell) (before : List Cell) → IsProp ((slice_get row read.place ≡ Some read.word) × IsUnread before read.place)
 read_prop row read before = hlevel codes
 
--- there is one way at most in which more words were read
+-- there is at most one proof that more words were read
 pub ReadsOn-prop : (row : List ℕ) (more old : List Cell) → IsProp (ReadsOn row more old)
 ReadsOn-prop row [] old x y = Unit-prop x y
 ReadsOn-prop row (read ∷ more) old x y = λ i.

@@ -3,7 +3,7 @@ use Rattle.mediation.specs.Deeds.{policy_after}
 use Rattle.mediation.specs.PolicyChanges.{deed_of}
 use Rattle.answer_trail.proofs.publishing.published.Given as goal
 
--- the changes behind say nothing of the name
+-- the changes after the rest aren't about the name
 abbrev pub invariant-loop-change : goal.invariant-loop-change
 invariant-loop-change l = policy_after (map deed_of l.rest) l.name ≡ policy_after (map deed_of l.changes) l.name
 

@@ -1,4 +1,4 @@
--- What is told of the parts before, and of those that are left, is what is told of all.
+-- What is reported about the parts before, and about those that are left, is what is reported about all.
 use Rattle.std.proofs.Common.{◌≡◌, ◌++◌, drop}
 use Rattle.flat_rules.specs.RuleParts.{rule_whats}
 use Rattle.flat_rules.proofs.marks.rule_whats.Given as goal

@@ -1,4 +1,4 @@
--- Neither a path nor permissions stood before.
+-- Neither a path nor permissions came before.
 use Rattle.std.proofs.Common.{◌≡◌, drop}
 use Rattle.flat_rules.specs.RuleWords.{permissions_lead}
 use Rattle.flat_rules.proofs.words.permissions_lead.Given as goal

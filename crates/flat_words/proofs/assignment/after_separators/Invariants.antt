@@ -1,4 +1,4 @@
--- What the loop has passed parts values.
+-- What the loop has passed separates values.
 use Rattle.std.proofs.Common.{◌≡◌, length}
 use Rattle.flat_words.specs.Assignments.{past_separators}
 use Rattle.flat_words.proofs.assignment.after_separators.Given as goal

@@ -1,4 +1,4 @@
--- What the loop has passed stands within the parentheses.
+-- What the loop has passed is within the parentheses.
 use Rattle.std.proofs.Common.{◌≡◌, length, false}
 use Rattle.flat_words.specs.Conditions.{parentheses_at}
 use Rattle.flat_words.proofs.condition.after_inside.Given as goal

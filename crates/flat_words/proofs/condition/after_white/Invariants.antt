@@ -1,4 +1,4 @@
--- What the loop has passed is white.
+-- What the loop has passed is whitespace.
 use Rattle.std.proofs.Common.{◌≡◌, length}
 use Rattle.rule_reader.specs.ReadWords.{after}
 use Rattle.rule_reader.specs.TextBytes.{is_white}

@@ -1,4 +1,4 @@
--- None of the words before was this one.
+-- None of the words before is this one.
 use Rattle.std.proofs.Common.{◌≡◌, drop, map}
 use Rattle.flat_words.specs.Statements.{is_one_of}
 use Rattle.flat_words.proofs.words.is_one_of.Given as goal

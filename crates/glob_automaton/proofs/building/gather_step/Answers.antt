@@ -1,4 +1,4 @@
--- What is live behind each place that takes the byte comes in.
+-- What is live after each place that takes the byte comes in.
 use Rattle.std.proofs.Common.{sym, ◌∙◌, ◌↔◌, ℕ, ◌+◌, arith, subst}
 use Rattle.std.specs.List.{Contains}
 use Rattle.glob_automaton.specs.inner.Gathering.{IsGathering}

@@ -1,4 +1,4 @@
--- What is live behind the places so far that take the byte.
+-- What is live after the places so far that take the byte.
 use Rattle.std.proofs.Common.{ℕ, ◌↔◌}
 use Rattle.std.specs.List.{Contains}
 use Rattle.glob_automaton.specs.inner.Gathering.{IsGathering}

@@ -1,4 +1,4 @@
--- None of those before is told by this word.
+-- None of those before is reported by this word.
 use Rattle.std.proofs.Common.{◌≡◌, drop, find}
 use Rattle.std.specs.Str.{bytes_eq}
 use Rattle.import_account.specs.Whats.{what_word}

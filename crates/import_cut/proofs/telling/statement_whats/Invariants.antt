@@ -1,4 +1,4 @@
--- What is told of the parts before, and of those that are left, is what is told of all.
+-- What is reported of the parts before, and of those that are left, is what is reported of all.
 use Rattle.std.proofs.Common.{◌≡◌, ◌++◌, drop}
 use Rattle.import_cut.specs.PartSpans.{statement_whats}
 use Rattle.import_cut.proofs.telling.statement_whats.Given as goal

@@ -1,4 +1,4 @@
--- The place is that of the byte which is looked at.
+-- The place is that of the current byte.
 use Rattle.std.proofs.Common.{◌≡◌, ◌+◌}
 use Rattle.rule_explain.specs.Places.{place_at}
 use Rattle.import_lines.proofs.places.place_from.Given as goal

@@ -1,4 +1,4 @@
--- Choices and leads are told by tokens.
+-- Choices and leads are determined by tokens.
 use Rattle.import_paths.proofs.GroupLaws.{same_choice, same_leads}
 use Rattle.import_paths.proofs.laws.tokens_tell_the_same.Goals as goal
 

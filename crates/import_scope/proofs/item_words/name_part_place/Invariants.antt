@@ -1,4 +1,4 @@
--- What stands before the parts that are left, and what stands before the word in them.
+-- What comes before the parts that are left, and what comes before the word in them.
 use Rattle.std.proofs.Common.{◌≡◌, ◌+◌, drop}
 use Rattle.import_scope.specs.ItemWords.{is_name_part, bytes_before}
 use Rattle.import_scope.proofs.item_words.name_part_place.Given as goal

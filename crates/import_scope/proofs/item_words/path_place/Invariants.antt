@@ -1,4 +1,4 @@
--- What stands before the parts that are left, and what stands before the word in them.
+-- What comes before the parts that are left, and what comes before the word in them.
 use Rattle.std.proofs.Common.{◌≡◌, ◌+◌, drop}
 use Rattle.flat_rules.specs.RuleWords.{is_path}
 use Rattle.import_scope.specs.ItemWords.{bytes_before}

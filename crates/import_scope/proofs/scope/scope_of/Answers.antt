@@ -23,7 +23,7 @@ passed s all state variables heads asked problem stop is vs hs asks ends h =
     let d : FirstProblem t.declared t.profiles (all_asked s all) problem = subst (λ (x : List AskedValue). FirstProblem t.declared t.profiles x problem) asks b in
     subst (λ (x : Option Fault). FirstFault s all (first_of_two problem x)) (sym ends) (both_passes s all problem d)
 
--- no fault is the stop
+-- if no fault was returned, there is no stop
 no_stop : (s : ScopeState) (all : List ItemValue) (stop : Option ScopeFault) → option_map fault_value stop ≡ head_stop s all → stop ≡ None → head_stop s all ≡ None
 no_stop s all stop e none = sym e ∙ ap (option_map fault_value) none
 

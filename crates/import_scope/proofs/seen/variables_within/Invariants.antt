@@ -1,4 +1,4 @@
--- `profile_name` stands first, and the first variables are copied.
+-- `profile_name` is first, and the first variables are copied.
 use Rattle.std.proofs.Common.{◌≡◌, take}
 use Rattle.import_scope.specs.FirstFaults.{variables_within}
 use Rattle.import_scope.proofs.seen.variables_within.Given as goal

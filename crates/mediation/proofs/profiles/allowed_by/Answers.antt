@@ -1,4 +1,4 @@
--- One permission after the other joins the set, or doesn't.
+-- Each permission in turn is added to the set, or isn't.
 use Rattle.std.proofs.Common.{◌+◌, sym, ◌∙◌, subst}
 use Rattle.mediation.proofs.Telling.{is_allowed_by, told_allowed}
 use Rattle.mediation.specs.Profiles.{judge_of}

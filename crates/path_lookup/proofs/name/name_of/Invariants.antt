@@ -1,4 +1,4 @@
--- What is written is the end of the name: what stands before it is the name down to `below`.
+-- What is written is the end of the name: what comes before it is the name down to `below`.
 use Rattle.std.proofs.Common.{◌≡◌, ◌<◌, ◌≤◌, ◌++◌, drop}
 use Rattle.directory_tree.specs.Name.{name_of}
 use Rattle.path_lookup.specs.World.{World, Narrows}

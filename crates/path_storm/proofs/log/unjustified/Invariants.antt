@@ -5,7 +5,7 @@ use Rattle.path_storm.specs.Counting.{IsCountOfOthers}
 use Rattle.path_storm.specs.declared.laying.TheConstants.{PROFILE}
 use Rattle.path_storm.proofs.log.unjustified.Given as goal
 
--- so many of the answers so far are not justified
+-- the count of the answers so far that are not justified
 abbrev pub invariant-loop-answer : goal.invariant-loop-answer
 invariant-loop-answer l = record {
   few : l.count ≤ l.answer-index;

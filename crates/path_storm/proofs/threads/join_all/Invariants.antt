@@ -1,7 +1,7 @@
 use Rattle.std.proofs.Common.{◌≡◌, ◌+◌, All, vec_len}
 use Rattle.path_storm.proofs.threads.join_all.Given as goal
 
--- each session stands on one side, and all are full
+-- each session is either joined or still to be joined, and all lists of answers are full
 abbrev pub invariant-loop-opening : goal.invariant-loop-opening
 invariant-loop-opening g l = record {
   count : vec_len l.all + vec_len l.openings ≡ vec_len l.fn.openings;

@@ -1,4 +1,4 @@
--- What was gathered of the items before, and what is still to be gathered.
+-- What was gathered from the items before, and what is still to be gathered.
 use Rattle.std.proofs.Common.{◌≡◌, ◌++◌, drop}
 use Rattle.import_cut.specs.CutStates.{at_start}
 use Rattle.import_cut.specs.Cutting.{cut_items}

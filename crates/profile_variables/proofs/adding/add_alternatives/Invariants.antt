@@ -1,4 +1,4 @@
--- The text with those texts that are still to come is the whole.
+-- The text with the texts that are still to come is the whole.
 use Rattle.std.proofs.Common.{◌≡◌, ◌≤◌, ◌∷◌, ◌++◌, drop, length}
 use Rattle.std.specs.List.{flat_map}
 use Rattle.profile_variables.specs.PathTexts.{alternative, alternatives}

@@ -10,7 +10,7 @@ use Rattle.profile_variables.proofs.making.first_missing.Goals as goal
 abbrev Lent : Type 0
 Lent = Bor (List ℕ)
 
--- whatever a found list is, it is found
+-- a list that is found is found, whatever it is
 some_seen : {A B : Type 0} (f : A → B) (o : Option A) → is_some o ≡ true → IsSome (option_map f o)
 some_seen f None h = absurd cc
 some_seen f (Some x) h = refl

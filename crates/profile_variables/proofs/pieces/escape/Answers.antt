@@ -3,7 +3,7 @@ use Rattle.profile_variables.specs.Pieces.{Text, pieces_behind, pieces, written,
 use Rattle.profile_variables.proofs.PieceSteps.{pieces_behind-drop, told}
 use Rattle.profile_variables.proofs.pieces.escape.Goals as goal
 
--- a backslash with a byte behind it is told with this byte
+-- a backslash followed by a byte forms one piece with it
 one_told : (bytes : Text) → 1 ≤ length bytes → pieces_behind (length (written (escape bytes)) - 1) bytes ≡ pieces (drop 1 bytes)
 one_told [] some = absurd (omega arith)
 one_told (b ∷ bytes) some = pieces_behind-drop 1 (b ∷ bytes)

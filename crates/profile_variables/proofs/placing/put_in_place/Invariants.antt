@@ -1,4 +1,4 @@
--- What the rest becomes behind the text is the whole, if there is a whole.
+-- The text followed by what the rest becomes is the whole, if there is a whole.
 use Rattle.std.proofs.Common.{◌≡◌, ◌≤◌, length}
 use Rattle.profile_variables.specs.Pieces.{pieces}
 use Rattle.profile_variables.specs.PathTexts.{text_of, path_text}

@@ -11,7 +11,7 @@ Bytes = Vec ℕ Global
 abbrev items : List Bytes → List Text
 items texts = map (λ (text : Bytes). text.items) texts
 
--- one text more has the bytes at its end
+-- one more text has the bytes appended
 more : (old now : List Bytes) (end : Text) (i : ℕ) (one d : Bytes) → i < length now → length now ≡ length old → one.items ≡ (get_or now i d).items ++ end
     → items now ≡ map (λ (text : Text). text ++ end) (take i (items old)) ++ drop i (items old)
     → items (set now i one) ≡ map (λ (text : Text). text ++ end) (take (i + 1) (items old)) ++ drop (i + 1) (items old)

@@ -1,4 +1,4 @@
--- The first texts have the bytes at their end.
+-- The first texts have the bytes appended.
 use Rattle.std.proofs.Common.{◌≡◌, ◌++◌, map, take, drop}
 use Rattle.profile_variables.proofs.texts.extend_each.Given as goal
 

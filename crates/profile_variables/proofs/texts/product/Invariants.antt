@@ -1,4 +1,4 @@
--- The first of the firsts were taken.
+-- The first ones of the firsts were taken.
 use Rattle.std.proofs.Common.{◌≡◌, map, take}
 use Rattle.profile_variables.specs.Variables.{each_with}
 use Rattle.profile_variables.proofs.texts.product.Given as goal

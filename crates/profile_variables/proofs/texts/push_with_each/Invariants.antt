@@ -1,4 +1,4 @@
--- The first seconds stand behind the first text.
+-- The first seconds are appended to the first text.
 use Rattle.std.proofs.Common.{◌≡◌, ◌++◌, map, take}
 use Rattle.profile_variables.proofs.texts.push_with_each.Given as goal
 

@@ -11,7 +11,7 @@ use Rattle.rule_explain.specs.Explanations.{reason_line}
 use Rattle.rule_explain.proofs.explaining.explain.Goals as goal
 use Rattle.rule_explain.proofs.explaining.explain.Goals.{then-contains+in_ok-put_line, else-contains}
 
--- what one permission more adds
+-- what one more permission adds
 abbrev added : (Permission → List ℕ) → Bool → Permission → List ℕ
 added f b p = flat_map f (cond b (p ∷ []) [])
 

@@ -14,7 +14,7 @@ use Rattle.rule_explain.proofs.explaining.put_rule.Goals as goal
 added : (old middle new first second told : List ℕ) → middle ≡ old ++ first → new ≡ middle ++ second → first ++ second ≡ told → new ≡ old ++ told
 added old middle new first second told e1 e2 e3 = e2 ∙ ap (λ (x : List ℕ). x ++ second) e1 ∙ append_assoc old first second ∙ ap (λ (x : List ℕ). old ++ x) e3
 
--- what stands before a rule's text
+-- what comes before a rule's text
 abbrev front_text : ℕ → ℕ → List ℕ
 front_text n line = codes "rule " ++ (decimal n ++ (codes ", line " ++ (decimal line ++ codes ": ")))
 

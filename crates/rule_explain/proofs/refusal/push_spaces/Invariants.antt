@@ -1,4 +1,4 @@
--- So many spaces were added.
+-- `counter` spaces were added.
 use Rattle.std.proofs.Common.{◌≡◌, ◌++◌, replicate}
 use Rattle.std.specs.Prelude.{string_bytes}
 use Rattle.rule_explain.proofs.refusal.push_spaces.Given as goal

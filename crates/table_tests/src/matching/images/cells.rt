@@ -4,7 +4,7 @@ use crate::verifying::copy_of;
 use table_image::{RawTable, from_bytes};
 use table_verifier::verify;
 
-// Puts a number at a place, if there is such a place, and gives what stood there.
+// Puts a number at a place, if there is such a place, and returns the old one.
 fn swap(numbers: &mut Vec<u32>, place: u32, number: u32) -> Option<u32> {
     let found = numbers.get_mut(place as usize)?;
     let old = *found;
@@ -12,7 +12,7 @@ fn swap(numbers: &mut Vec<u32>, place: u32, number: u32) -> Option<u32> {
     Some(old)
 }
 
-// The first cell whose next can be this number, or of which another fault is told.
+// The first cell whose next can be this number, or for which another fault is reported.
 fn first_next_taken(mut table: RawTable, cells: u32, number: u32) -> Option<u32> {
     for cell in 0..cells {
         let old = swap(&mut table.next, cell, number)?;
@@ -96,7 +96,7 @@ fn first_check_refused(
     Ok(None)
 }
 
-// The check of any of so many cells of an image can be this number: the table runs these names.
+// Expects that the check of any of the first `cells` cells of an image can be this number: the table runs these names.
 fn expect_free_check(
     rt: &impl Abort,
     alloc: Global,

@@ -6,7 +6,7 @@ use Rattle.clap.proofs.LexerLemmas.{name_and_value-at, name_and_value-without}
 use Rattle.trace_line.specs.CommandLine.{define_cut, is_value, is_variable}
 use Rattle.trace_line.proofs.import.define_of.Goals as goal
 
--- the name before `=` is a variable's and the value is one, or not
+-- whether the name before `=` is a variable's and the text after it is a value
 cut_at : (name value : List ℕ) (both : Bool) → is_variable name && is_value value ≡ both → define_cut (name, Some value) ≡ (if both then Some (name, value) else None)
 cut_at name value true is = rw is refl
 cut_at name value false is = rw is refl

@@ -1,4 +1,4 @@
--- the texts that are left, behind those that were read
+-- the texts that are left, after those that were read
 use Rattle.std.proofs.Common.{◌≡◌, ◌++◌, drop, map, option_map}
 use Rattle.trace_line.specs.CommandLine.{define_value, defines_of}
 use Rattle.trace_line.proofs.import.defines_of.Given as goal

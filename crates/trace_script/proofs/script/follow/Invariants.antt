@@ -1,4 +1,4 @@
--- What was read, and what came of it. Each line made one version of the policy at most.
+-- What was read, and its outcome. Each line made one version of the policy at most.
 use Rattle.std.proofs.Common.{◌≤◌}
 use Rattle.glob_automaton.specs.Automata.{StateLimit}
 use Rattle.trace_script.specs.Engine.{section_value}

@@ -1,4 +1,4 @@
--- So many cells were set.
+-- `set` cells were set.
 use Rattle.std.proofs.Common.{[], replicate}
 use Rattle.event_core.specs.Machine.Event.{set_cell}
 use Rattle.event_core.specs.Runs.{Runs}

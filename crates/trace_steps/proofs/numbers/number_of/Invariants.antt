@@ -1,4 +1,4 @@
--- What is left of the word comes to what the whole word does.
+-- The rest of the word leads to the same result as the whole word.
 use Rattle.std.proofs.Common.{◌≡◌, drop}
 use Rattle.trace_steps.specs.inner.Numbers.{with_digits}
 use Rattle.trace_steps.proofs.numbers.number_of.Given as goal

@@ -1,4 +1,4 @@
--- What was read, and what came of it.
+-- What was read, and its outcome.
 use Rattle.glob_automaton.specs.Automata.{StateLimit}
 use Rattle.trace_script.specs.Engine.{section_value}
 use Rattle.trace_steps.proofs.StepRuns.{IsRunning}

@@ -1,4 +1,4 @@
--- Each deny number of what is asked comes in, and each permission that is asked and has no allow number.
+-- Each deny number of what is asked is included, and each permission that is asked and has no allow number.
 use Rattle.std.proofs.Common.{sym, ◌∙◌}
 use Rattle.names.proofs.PermsTests.{passed-all}
 use Rattle.verdicts.proofs.LeastSteps.{least-asked, least-skip, least-all}

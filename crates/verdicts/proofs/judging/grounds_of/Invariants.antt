@@ -1,4 +1,4 @@
--- The least deny number of what is asked and stands before the index, and what of it has no allow number.
+-- The least deny number of what is asked and precedes the index, and what of it has no allow number.
 use Rattle.std.proofs.Common.{◌&&◌, ◌==◌}
 use Rattle.names.specs.Permissions.{has}
 use Rattle.names.proofs.PermsTests.{IsPassedBefore}

@@ -1,4 +1,4 @@
--- The set is found, or it is put behind the others.
+-- The set is found, or it is put after the others.
 use Rattle.std.specs.Cmp.Lexicographic.{pointwise}
 use Rattle.std.proofs.Common.{◌≡◌, ◌∙◌, ◌++◌, ◌∷◌, [], ℕ, false, ap, sym, subst, nat_eq, arith, if◌then◌else◌, IfOk}
 use Rattle.std.specs.List.{list_any}

@@ -1,4 +1,4 @@
--- Each byte is told, and then the place is drawn that takes the told bytes.
+-- Each byte is recorded, and then the place that takes the recorded class is drawn.
 use Rattle.std.proofs.Common.{◌∙◌, refl, arith}
 use Rattle.std.proofs.lemmas.List.{length-set}
 use Rattle.rule_globs.specs.Glob.{fits, class}

@@ -1,4 +1,4 @@
--- The bytes before this one are told.
+-- The bytes before this one are recorded.
 use Rattle.std.proofs.Common.{◌≡◌, ℕ, ◌<◌, length, false, slice_index_or}
 use Rattle.rule_globs.specs.Glob.{fits, class}
 use Rattle.glob_automaton.proofs.chart.Chart.draw_class.Given as goal

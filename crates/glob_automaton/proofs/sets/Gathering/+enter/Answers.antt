@@ -1,4 +1,4 @@
--- What is live at an entry comes to the places before the entry counts as taken in.
+-- What is live at an entry is added to the places before the entry counts as taken in.
 use Rattle.std.proofs.Common.{◌≡◌, ◌<◌, ℕ, List, Some, slice_get, length, slice_index_or, refl, ap, sym, subst, ◌∙◌, arith, inr}
 use Rattle.std.proofs.lemmas.Option.{slice_get_read}
 use Rattle.glob_automaton.specs.declared.chart.Entry.{Entry}
@@ -6,7 +6,7 @@ use Rattle.glob_automaton.proofs.Gathered.{Entered, grown, enters_nothing, enter
 use Rattle.glob_automaton.proofs.sets.Gathering.+enter.Goals as goal
 use Rattle.glob_automaton.proofs.sets.Gathering.+enter.Goals.{in-Nothing, in-Place+in_ok-push-in-Place, in-Run+in_ok-push-in-Run+in_ok-enter-in-Run, in-Either+in_ok-enter-in-Either+in_ok-enter-in-Either-2}
 
--- the entry that was read stands there
+-- the entry that was read is there
 stands : (entries : List Entry) (e : ℕ) (read x : Entry) → e < length entries → read ≡ slice_index_or entries e read → read ≡ x →
     slice_get entries e ≡ Some x
 stands entries e read x within at is = slice_get_read entries _ e read refl within at ∙ ap (λ z. Some z) is
@@ -31,7 +31,7 @@ enter-requires-in-Either-2 t c =
     let before = c.requires.ordered c.args.entry _ (stands c.args.chart.now.entries.items c.args.entry _ _ c.requires.there c.index-2.ensures c.in-Either.is) in
     (omega (arith, before.1, c.decreases), (c.in_ok-enter-in-Either.ensures.gathering, (c.requires.ordered, omega (arith, before.1, c.requires.there))))
 
--- what is live at the entry has come, whichever it is
+-- what is live at the entry was added, whichever it is
 came : (t : ℕ) (c : goal.After-self-1 t) → Entered c.args.chart.now c.args.self.now c.match-index.self c.args.entry
 came t c = elim c.match-index.branch [
   | in-Nothing w ↦

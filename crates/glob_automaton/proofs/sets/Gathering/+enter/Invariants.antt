@@ -1,4 +1,4 @@
--- An entry refers to entries before it alone.
+-- An entry refers only to entries before it.
 use Rattle.glob_automaton.proofs.sets.Gathering.+enter.Given as goal
 
 abbrev pub decreases-enter : goal.decreases-enter

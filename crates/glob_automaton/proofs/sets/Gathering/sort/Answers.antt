@@ -1,4 +1,4 @@
--- The same places stand in order, each once.
+-- The same places are in order, each once.
 use Rattle.glob_automaton.proofs.Gathered.{sorted_ascends, sorted_places}
 use Rattle.glob_automaton.proofs.sets.Gathering.sort.Goals as goal
 

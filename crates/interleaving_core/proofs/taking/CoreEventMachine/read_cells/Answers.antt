@@ -18,7 +18,7 @@ read_cells-requires-clause-long c =
     let i = c.self.inside in
     c.rule_gives_what_steps_require.ensures.long (Made i.keeper i.policy i.sessions) c.self.invariant.keeps ∙ ap row_length c.self.invariant.one_capacity
 
--- so many cells were read
+-- as many cells were read as the result says
 ran : (c : After-read_cells)
     → IfOk c.read_cells.result
     (λ count. (count ≤ c.args.most) × Runs (Made c.self.inside.keeper c.self.inside.policy c.self.inside.sessions) (cell_reads c.args.session count) [] (Made c.self.inside.keeper c.self.inside.policy c.read_cells.new.self))

@@ -5,7 +5,7 @@ use Rattle.path_storm.specs.Counting.{answers_of, IsCountOfOthers}
 use Rattle.path_storm.specs.declared.laying.TheConstants.{FILE, PROFILE}
 use Rattle.path_storm.proofs.log.StormLog.report.Given as goal
 
--- the report is right of the sessions so far
+-- the report is right for the sessions so far
 abbrev pub invariant-loop-own : goal.invariant-loop-own
 invariant-loop-own l = record {
   answers : l.report.answers ≡ length (answers_of (take l.own-index l.self.answers.items));

@@ -12,7 +12,7 @@ use Rattle.profile_variables.specs.inner.Way.{Lists, KnowsAll, AreKnown, variabl
 use Rattle.profile_variables.proofs.WayMade.{count_made, known_stays, step_off, too_long_first}
 use Rattle.profile_variables.proofs.making.Made.advance.Goals as goal
 
--- what a refusal tells
+-- what a refusal says
 told : {A : Type 0} (IsProblem : Problem → Type 0) (refusal : Refusal) (o : Option A) → (o ≡ None → IsProblem too_long) → Refuses refusal o → Tells IsProblem (fault_of refusal)
 told IsProblem Nothing o f h = f h
 told IsProblem NoMemory o f h = tt

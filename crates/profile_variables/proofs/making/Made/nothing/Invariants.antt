@@ -1,4 +1,4 @@
--- There is room for so many variables, and nothing is made.
+-- There is a place for each variable so far, and nothing is made.
 use Rattle.std.proofs.Common.{◌≡◌, ℕ, false, length, None}
 use Rattle.profile_variables.specs.inner.Known.{list_made, is_marked}
 use Rattle.profile_variables.proofs.making.Made.nothing.Given as goal

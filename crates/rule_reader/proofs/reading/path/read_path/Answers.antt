@@ -1,4 +1,4 @@
--- What is read may stand where it does.
+-- What is read is valid where it is.
 use Rattle.rule_globs.specs.Tokens.{tokens_of}
 use Rattle.rule_reader.proofs.ReadStands.{read_stands}
 use Rattle.rule_reader.proofs.reading.path.read_path.Goals as goal

@@ -1,4 +1,4 @@
--- One permission more.
+-- One more permission.
 use Rattle.verdicts.specs.Hits.{hits_after}
 use Rattle.verdicts.proofs.FilledRecords.{filled_all, filled_more}
 use Rattle.verdicts.proofs.record.Record.with_rule.Goals as goal
