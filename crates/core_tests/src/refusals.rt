@@ -1,4 +1,4 @@
-//! Events that aren't lawful.
+//! Events that aren't legal.
 use crate::scene::{begin, make, path, rename, scene, set_all, take};
 use directory_tree::Change;
 use interleaving_core::{Core, Event, EventMachine, StepFault};

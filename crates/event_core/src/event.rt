@@ -35,7 +35,7 @@ pub enum Event<'a> {
 /// Why an event isn't taken. The machine is unchanged.
 #[derive(Clone, Copy, Debug, PartialEq, Eq)]
 pub enum StepFault {
-    /// The event isn't lawful in the machine's present state.
+    /// The event isn't legal in the machine's present state.
     NotNow,
     /// Out of memory.
     NoMemory,

@@ -17,15 +17,15 @@ pub trait EventMachine {
     // Its state.
     ghost machine: { Self → Machine };
 
-    /// Takes an event if it is lawful, and returns its answer: that of the session, or nothing. If the event isn't lawful, or
-    /// memory runs out, nothing changes. An event of a session is lawful if it is its turn.
+    /// Takes an event if it is legal, and returns its answer: that of the session, or nothing. If the event isn't legal, or
+    /// memory runs out, nothing changes. An event of a session is legal if it is its turn.
     fn step(&mut self, event: &Event<'_>) -> Result<Option<Answer>, StepFault>
         ensures ok { IfOk result (λ told. Takes (machine self.old) (event_of event.now) told (machine self.new)) }
         ensures same { OnErr result (machine self.new ≡ machine self.old) }
         ensures not_now { IfErr result (λ fault. fault ≡ StepFault.NotNow → ¬ (IsLawful (machine self.old) (event_of event.now))) }
         ensures turn { IfErr result (λ fault. fault ≡ StepFault.NotNow → ¬ (HasTurn (machine self.old) (event_of event.now))) };
 
-    /// Takes events [`Event::CellRead`] of a session, as many as are lawful one after the other, but at most `most`. Returns their
+    /// Takes events [`Event::CellRead`] of a session, as many as are legal one after the other, but at most `most`. Returns their
     /// number. If memory runs out, those before that were taken.
     fn read_cells(&mut self, session: u32, most: usize) -> Result<usize, StepFault>
         ensures ok { IfOk result (λ count. (count ≤ most) × Runs (machine self.old) (cell_reads session count) [] (machine self.new)) }

@@ -1,4 +1,4 @@
--- Events that aren't lawful, because the part of the machine that takes them may not.
+-- Events that aren't legal, because the part of the machine that takes them may not.
 use Rattle.std.proofs.Common.{◌≡◌, ◌≢◌, ℕ, length, Some, None, Option, refl, sym, subst}
 use Rattle.directory_tree.specs.declared.change.Change.{Change}
 use Rattle.mediation.specs.Deeds.{policy_after}

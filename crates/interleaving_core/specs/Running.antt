@@ -8,7 +8,7 @@ use Rattle.event_core.specs.Lawful.{IsLawful}
 use Rattle.event_core.specs.Runs.{told_by, Runs, Legal}
 use Rattle.event_core.specs.Right.{IsRight}
 
--- The events come one after the other. Each is taken, by a legal step, or it isn't lawful and is passed over. The taken events are
+-- The events come one after the other. Each is taken, by a legal step, or it isn't legal and is passed over. The taken events are
 -- listed in order, and so are the answers, each with its session.
 abbrev pub Passes : Machine → List Event → List Event → List (ℕ × Answer) → Machine → Type 0
 Passes from [] taken answers to = (taken ≡ []) × (answers ≡ []) × (to ≡ from)

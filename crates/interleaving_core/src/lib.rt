@@ -1,5 +1,5 @@
 //! The machine over events in code: opens by any number of sessions, concurrently with one keeper of the tree and publications
-//! of policy, one event at a time. It takes an event exactly if that is lawful.
+//! of policy, one event at a time. It takes an event exactly if that is legal.
 //!
 //! The answers of [`run`] are right in every order of the events: that is its contract, and with it the promise on names,
 //! versions and rules holds for every interleaving of these steps.

@@ -11,7 +11,7 @@ use event_core::{Event, EventMachine, StepFault, answers_are_right, steps_go_on_
 use justification::Answer;
 use names::NoMemory;
 
-/// Takes the events that are lawful, in order, and passes over the others. The answers come with their sessions.
+/// Takes the events that are legal, in order, and passes over the others. The answers come with their sessions.
 ///
 /// **Each answer is right**, whatever the events are: the event that gave it is one of those that were taken, and there it is
 /// justified by the changes of the tree and of the policy made until then, at versions that were current at events of its own
@@ -31,7 +31,7 @@ pub fn run(core: &mut Core, events: &[Event<'_>]) -> Result<Vec<(u32, Answer)>, 
     Ok(answers)
 }
 
-/// Takes an event if it is lawful, and notes its answer.
+/// Takes an event if it is legal, and notes its answer.
 fn pass(
     core: &mut Core,
     event: &Event<'_>,

@@ -1,4 +1,4 @@
--- Where no step of a kind is lawful.
+-- Where no step of a kind is legal.
 use Rattle.std.proofs.Common.{◌≡◌, ℕ, List, Option, Some, None}
 use Rattle.row_rule.specs.declared.view.WalkerView.{WalkerView}
 use Rattle.event_core.specs.Machine.{Policed}

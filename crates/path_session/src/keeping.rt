@@ -38,9 +38,8 @@ impl Session {
         ensures published { IsByPublished (policy_after self.new.reading.seen self.old.profile) result }
         ensures refused { CountsRefusals self.old self.new result }
     {
-        self.name_length = 0;
         self.meet(keeper);
-        let Ok((published, policy_version)) = self.reader.get(&self.profile) else {
+        let Ok((published, policy_version)) = self.read_policy() else {
             return Answer::NoEntry;
         };
         let Some(profile) = published else {

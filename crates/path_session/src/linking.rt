@@ -51,8 +51,7 @@ impl Session {
         ensures err { IfErr result (λ why. (keeper.new ≡ keeper.old) × (self.new.judged ≡ [])
             × IsNoLink self.old self.new (link_answer (history_of keeper.old self.new.reading.seen) self.old.profile old.now new.now) why) }
     {
-        self.name_length = 0;
-        let Ok((published, policy_version)) = self.reader.get(&self.profile) else {
+        let Ok((published, policy_version)) = self.read_policy() else {
             return Err(Unanswered::NoEntry);
         };
         let Some(profile) = published else {

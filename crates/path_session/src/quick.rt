@@ -40,8 +40,7 @@ impl Session {
         ensures published { IsByPublished (policy_after self.new.reading.seen self.old.profile) result }
         ensures refused { CountsRefusals self.old self.new result }
     {
-        self.name_length = 0;
-        let Ok((published, policy_version)) = self.reader.get(&self.profile) else {
+        let Ok((published, policy_version)) = self.read_policy() else {
             return Answer::NoEntry;
         };
         let Some(profile) = published else {
@@ -52,6 +51,8 @@ impl Session {
         };
         let (walker, walked) = walk_beside(walker, path, ask, &mut self.scratch, &mut self.name);
         self.walker = Some(walker);
+        // The walk has written to the room for names.
+        self.name_length = 0;
         match walked {
             Err(Busy { began, ended }) => Answer::Busy { began, ended },
             Ok(

@@ -1,12 +1,18 @@
 //! A session, and what it keeps from call to call.
-ghost use Rattle.std.specs.Prelude.{◌≡◌, ◌≤◌, [], IfOk, OnOk, OnErr, IfErr};
+ghost use Rattle.std.specs.Prelude.{◌≡◌, ◌≤◌, ◌+◌, [], IfOk, OnOk, OnErr, IfErr, length, option_map};
+ghost use mathlib.Core.List.{IsPrefix};
+ghost use Rattle.mediation.specs.Deeds.{policy_after};
+ghost use Rattle.mediation.specs.PolicyChanges.{judge_shared};
+ghost use Rattle.profile_registry.specs.Views.{IsUnanswered};
 
 use dentry_cache::Walker;
+use matcher::AnyProfile;
 use names::NoMemory;
 use path_lookup::{NAME_ROOM, Scratch};
-use profile_registry::PolicyReader;
+use profile_registry::{NoEntry, PolicyReader};
 use std::alloc::Global;
 use std::marker::Model;
+use std::sync::Arc;
 
 /// Opens files by one published profile, over the row that threads share. It has the buffers that its calls need, and may move
 /// to another thread.
@@ -79,6 +85,22 @@ impl Session {
         };
         self.profile = profile;
         Ok(())
+    }
+
+    /// Reads the policy: the profile that is published under the session's name for it, if there is one, and the version. The
+    /// name that was judged last is forgotten.
+    pub(crate) fn read_policy(&mut self) -> Result<(Option<Arc<AnyProfile>>, u64), NoEntry>
+        ensures others { self.new ≡ record self.old { reading = self.new.reading; judged = [] } }
+        ensures seen { IsPrefix self.old.reading.seen self.new.reading.seen }
+        ensures profile { IfOk result (λ found. option_map judge_shared found.0 ≡ policy_after self.new.reading.seen self.old.profile) }
+        ensures version { IfOk result (λ found. found.1 ≡ length self.new.reading.seen) }
+        ensures ok { OnOk result ((self.new.reading.entries ≡ self.old.reading.entries + 1)
+            × (self.new.reading.refused ≡ self.old.reading.refused)) }
+        ensures err { OnErr result (IsUnanswered self.old.reading self.new.reading self.old.profile
+            × (self.new.reading.refused ≡ self.old.reading.refused + 1)) }
+    {
+        self.name_length = 0;
+        self.reader.get(&self.profile)
     }
 
     /// The name of the profile that it opens by.

@@ -1,6 +1,6 @@
 use event_core::StepFault;
 
-/// The step isn't lawful in the keeper's current state; nothing was changed.
+/// The step isn't legal in the keeper's current state; nothing was changed.
 #[derive(Clone, Copy, Debug, PartialEq, Eq)]
 pub struct NotNow;
 

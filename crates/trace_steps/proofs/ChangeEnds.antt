@@ -21,7 +21,7 @@ none_open (Some pending) none = cc
 
 -- ---- changes that are opened
 
--- what a test found lawful is
+-- what a test found legal is
 pub tested_so : (old mid : Machine) (change : Change) (result : Result ℕ Errno) (count : ℕ) → mid ≡ old → result ≡ Ok count → IsTested old change result → IsLawful mid (open_change change)
 tested_so old mid change result count same is tested = rw same (may_open old change count (subst (λ (r : Result ℕ Errno). IsTested old change r) is tested))
 

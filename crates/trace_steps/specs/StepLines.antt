@@ -1,4 +1,4 @@
--- What each line of a script of events does to a machine, and what it prints. A line whose event isn't lawful there prints
+-- What each line of a script of events does to a machine, and what it prints. A line whose event isn't legal there prints
 -- `not now`, and does nothing.
 use Rattle.names.specs.Errors.{no_memory_text, errno_text}
 use Rattle.std.specs.Prelude.{◌≡◌, ◌⊎◌, ℕ, ◌<◌, ◌≤◌, ◌==◌, ◌&&◌, true, nat_lt, List, [], ◌∷◌, ◌++◌, length, replicate, Option, None, Result, Ok, Err, is_some, codes, decimal, if◌then◌else◌, MatchBool}
@@ -43,13 +43,13 @@ ok_text m = codes "ok " ++ decimal (length m.keeper.history)
 
 -- ---- events and publications
 
--- an event is taken, and nothing is printed; or it isn't lawful
+-- an event is taken, and nothing is printed; or it isn't legal
 abbrev pub TakesOne : Machine → Event → Lines → Machine → Type 0
 TakesOne old event lines new =
     ((told : Option Answer) × Takes old event told new × (lines ≡ [])) ⊎ (¬ (IsLawful old event) × OnlyPrints not_now old lines new)
 
--- At most `most` events of one kind are taken, one after the other, fewer if the next one isn't lawful. If some may be taken and
--- not even the first is lawful, that is printed.
+-- At most `most` events of one kind are taken, one after the other, fewer if the next one isn't legal. If some may be taken and
+-- not even the first is legal, that is printed.
 abbrev pub none_taken : ℕ → ℕ → Lines
 none_taken most count = if nat_lt 0 most && (count == 0) then not_now ∷ [] else []
 
@@ -57,7 +57,7 @@ abbrev pub TakesUpTo : Machine → ℕ → Event → Lines → Machine → Type 
 TakesUpTo old most event lines new = (count : ℕ) × (count ≤ most) × Runs old (replicate count event) [] new
     × (count < most → ¬ (IsLawful new event)) × (lines ≡ none_taken most count)
 
--- one change of the policy is published, and its line ends with the policy's new version; or that isn't lawful
+-- one change of the policy is published, and its line ends with the policy's new version; or that isn't legal
 abbrev pub Publishes : Machine → Deed → List ℕ → Lines → Machine → Type 0
 Publishes old deed start lines new =
     (Takes old (publish (deed ∷ [])) None new × (lines ≡ (start ++ decimal (length new.deeds)) ∷ []))

@@ -17,7 +17,7 @@ use trace_script::{Stop, answer_line, joined};
 /// The session for whole opens: no script can name it.
 const FRESH_SESSION: u32 = 10;
 
-/// The line that says that an event isn't lawful.
+/// The line that says that an event isn't legal.
 pub(crate) fn not_now_line(alloc: Global) -> Result<Vec<u8>, Stop>
     ensures { IsText not_now result }
 {

@@ -97,7 +97,7 @@ fn open_change<M: EventMachine>(
     }
     match machine.step(&Event::Open(change)) {
         Ok(_) => Ok(Ok(())),
-        // The test found it lawful.
+        // The test found it legal.
         Err(StepFault::NotNow) => unreachable!(),
         Err(StepFault::NoMemory) => Err(Stop::Memory),
     }

@@ -6,7 +6,7 @@ use Rattle.event_core.specs.Takes.{Takes}
 use Rattle.event_core.specs.Lawful.{IsLawful}
 use Rattle.event_core.specs.Runs.{told_by}
 
--- It is taken, and its answer is appended to the others; or it isn't lawful, and nothing changed.
+-- It is taken, and its answer is appended to the others; or it isn't legal, and nothing changed.
 abbrev pub PassesBy : Machine → Event → List (ℕ × Answer) → Machine → List (ℕ × Answer) → Type 0
 PassesBy old event answers new more =
     ((told : Option Answer) × Takes old event told new × (more ≡ answers ++ told_by event told))

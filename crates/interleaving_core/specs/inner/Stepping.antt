@@ -7,7 +7,7 @@ use Rattle.event_core.specs.Machine.{Event, Machine}
 use Rattle.event_core.specs.Takes.{Takes}
 use Rattle.event_core.specs.Lawful.{IsLawful, HasTurn}
 
--- It is taken; or nothing changed, and if the fault is `NotNow`, the event is neither lawful nor a session's turn.
+-- It is taken; or nothing changed, and if the fault is `NotNow`, the event is neither legal nor a session's turn.
 pub record IsStep (old : Machine) (event : Event) (result : Result (Option Answer) StepFault) (new : Machine) : Type 0 where
   pub ok : IfOk result (λ told. Takes old event told new)
   pub same : OnErr result (new ≡ old)
