@@ -1,23 +1,23 @@
 # make run        builds the program without a proof, in about two minutes, and runs it on the six cases of examples/demo
 # make            proves the program and builds it, as ./aa-trace
 # make test       the gate: every proof from nothing, must-fail edits, tests, programs
-# make bench      times on large inputs, each with the ratio to half the size or to another input, of compiled profiles, of
-#                 the loop that runs names through a table, beside the same loop in C, of names judged from C, of plans and
-#                 walks over a row, of changes and walks over the one that threads share, and of reads of what is published and
-#                 of opens in threads, both beside a lock
+# make bench      prints times: large inputs, each with the ratio to half the size or to another input; compiling profiles;
+#                 the loop that runs names through a table, next to the same loop in C; names judged from C; plans and walks
+#                 over a row, and changes and walks over the row that threads share; reads of published profiles, and opens in
+#                 threads, both next to a lock
 # make tour       runs every command of README.md and docs/TOUR.md, and compares what it prints
 # make calls      calls the library for C, and compares its answers with those of ./aa-trace
-# make embed      builds the examples for those who embed the library, ./embed in C and ./embed_rs in Rust, and runs them
+# make embed      builds the examples for embedders, ./embed in C and ./embed_rs in Rust, and runs them
 # make refusals   refuses each allocation of the program in turn, and of scripts on the row that threads share
-# make storm      opens a file 1,600,000 times in 16 threads beside renames and new profiles, then random paths a million times
-#                 beside random changes, and tests each answer
-# make serve      has a server of four threads answer requests while its profile's file is replaced, and counts the answers
-# make drawn      makes 100,000 drawn changes in a row and in plain memory, which have to answer alike
+# make storm      opens a file 1,600,000 times in 16 threads during renames and new profiles, then random paths a million times
+#                 during random changes, and checks each answer
+# make serve      runs a server whose four threads answer requests while its profile's file is replaced, and counts the answers
+# make drawn      makes 100,000 random changes in a row and in plain memory, which must give the same answers
 # make install    installs the program, the static library for C with its header, the manual page and completion for bash
-#                 below PREFIX, which is /usr/local if not given; DESTDIR is put before it. Builds what isn't built
-# make uninstall  takes away what make install with the same PREFIX and DESTDIR installed
+#                 below PREFIX, by default /usr/local, with DESTDIR put before it; builds what isn't built
+# make uninstall  removes what make install with the same PREFIX and DESTDIR installed
 # make edits      tries the wrong bodies that the gate leaves out: the prover must refuse each
-# make reproduce  prints the checksums of ./aa-trace and of libcoqetwal.a, which come out the same wherever they are built
+# make reproduce  prints the checksums of ./aa-trace and of libcoqetwal.a, which are the same wherever they are built
 # make help       shows this
 
 PREFIX ?= /usr/local

@@ -1,10 +1,10 @@
 #!/bin/sh
-# Times the row that threads share, in a tree that is half full, with room for so many entries: what one change takes, what one
-# attempt to follow a path takes, and what it takes a walker to meet its keeper; then how many attempts a second each of one and
-# of four walkers makes, alone and beside a keeper that renames all the time, and the share of them that were busy. All walkers
-# go to the same file, one of those in the root. There is no index yet: a child is found by reading slots one after another, so
-# that times grow with the room. Each number is the middle one of RUNS runs, of CHANGES changes and as many attempts as read
-# some CELLS cells. On a busy machine UNDER='chrt -f 20', as root, lets the runs go first.
+# Times the row that threads share, in a half-full tree with room for N entries: one change, one attempt to follow a path, and a
+# walker that meets its keeper; then how many attempts a second each of one and of four walkers makes, alone and while a keeper
+# renames all the time, and the share of them that were busy. All walkers go to the same file, one of those in the root. There
+# is no index yet: a child is found by reading slots one after another, so times grow with the room. Each number is the median
+# of RUNS runs, of CHANGES changes and as many attempts as read some CELLS cells. On a busy machine UNDER='chrt -f 20', as root,
+# gives the runs priority.
 set -eu
 cd "$(dirname "$0")/.."
 RUNS=${RUNS:-7}
@@ -28,7 +28,7 @@ for capacity in 1024 16384; do
     ! grep -q 'was refused' "$work/$capacity" || { tail -1 "$work/$capacity"; exit 1; }
 done
 
-# middle: the middle one of the numbers that are read
+# middle: the median of the numbers on standard input
 middle() {
     sort -n | awk '{ number[NR] = $1 } END { print number[int((NR + 1) / 2)] }'
 }

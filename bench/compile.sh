@@ -1,9 +1,9 @@
 #!/bin/sh
-# Times the compilation of profiles, and prints a row for each: the rules, the states, the time and the most memory that
-# was held, and beside them what apparmor_parser takes for the same text where that program is installed.
-# Each time is the least of RUNS runs of the whole program, less that of a run on the smallest profile, in milliseconds.
-# The memory is what GNU time tells of one run. What can't be measured is printed as -.
-# COMPILE is the command of another program to be timed in place of the one that is built here.
+# Times the compilation of profiles, and prints a row for each: the rules, the states, the time and the peak memory, and next
+# to them what apparmor_parser takes for the same text, if it is installed.
+# Each time is the least of RUNS runs of the whole program, minus that of a run on the smallest profile, in milliseconds.
+# The memory is what GNU time reports for one run. What can't be measured is printed as -.
+# COMPILE is the command of another program to time instead of the one that is built here.
 set -eu
 cd "$(dirname "$0")/.."
 RUNS=${RUNS:-15}
@@ -40,12 +40,12 @@ least() {
     echo "$best"
 }
 
-# milliseconds TIME START: a time less that of the start
+# milliseconds TIME START: a time minus that of the start
 milliseconds() {
     awk -v took="$1" -v start="$2" 'BEGIN { if (took < start) took = start; printf "%.1f ms", (took - start) / 1000 }'
 }
 
-# memory FILE COMMAND..: the most memory of a run with the file as standard input
+# memory FILE COMMAND..: the peak memory of a run with the file as standard input
 memory() {
     file=$1
     shift

@@ -1,11 +1,11 @@
-/* Times a name judged through a handle of include/coqetwal.h, beside the loop alone: the same image, run by the same loop in
- * a call for each name, which reads no record and tells no verdict.
+/* Times a name judged through a handle of include/coqetwal.h, next to the loop alone: the same image, run by the same loop in
+ * a call for each name, which reads no record and gives no verdict.
  *
  *     judge PROFILE IMAGE NAMES PLACES
  *
- * NAMES has a name in each line. Once each name is repeated REPEATS times by itself, and the mean over the names is told; once
- * DRAWN names are taken in an order that is drawn, one after another, and in one batch. Each time is the least of ROUNDS runs
- * at each of PLACES places of the tables in memory. Each answer must be what the record of the loop's last state tells.
+ * NAMES has a name in each line. Once each name is repeated REPEATS times by itself, and the mean over the names is printed;
+ * once DRAWN names are taken in random order, one after another, and in one batch. Each time is the least of ROUNDS runs at
+ * each of PLACES places of the tables in memory. Each answer must be what the record of the loop's last state says.
  * With `-` as IMAGE the heads of the columns are printed. */
 #include "coqetwal.h"
 
@@ -44,14 +44,14 @@ static struct text read_file(const char *path) {
 
 /* --- the loop alone --- */
 
-/* What crates/loop_bench exports: the state that a name leads to, by the loop by which coqetwal_judge judges. */
+/* What crates/loop_bench exports: the state that a name leads to, by the loop that coqetwal_judge uses. */
 uint32_t loop_bench_image(const uint8_t *image, size_t image_length, const uint8_t *name, size_t name_length);
 
 static uint32_t word_at(const uint8_t *bytes) {
     return bytes[0] | (uint32_t)bytes[1] << 8 | (uint32_t)bytes[2] << 16 | (uint32_t)bytes[3] << 24;
 }
 
-/* Whether an answer on reading is what the record of the name's last state tells. */
+/* Whether an answer on reading is what the record of the name's last state says. */
 static int is_told(const coqetwal_table *table, uint32_t state, size_t length, struct coqetwal_answer answer) {
     const uint8_t *image = coqetwal_image(table);
     size_t states = word_at(image + 8), cells = word_at(image + 12);
@@ -172,7 +172,7 @@ static void time_order(const coqetwal_table *table, const struct names *names, s
     keep_least(&times->batch, (end - again) / DRAWN);
 }
 
-/* The times at one place in memory: a block of a drawn size is in use meanwhile, so that the table comes to other pages than
+/* The times at one place in memory: a block of a random size is allocated meanwhile, so that the table gets other pages than
  * before. How the pages of a table share the caches is luck. */
 static void time_place(struct text image, const struct names *names, const struct names *order, struct times *single,
                        struct times *all) {

@@ -1,8 +1,8 @@
 #!/bin/sh
-# Times names judged through a handle (bench/judge.c), beside the same loop alone, and prints a row for each profile of
+# Times names judged through a handle (bench/judge.c), next to the same loop alone, and prints a row for each profile of
 # examples/profiles: the states, and the mean nanoseconds of a name of bench/names, asked for reading: in the loop, judged, and
-# how much more that is; with each name by itself, with all in a drawn order, and with these in one batch. The C is compiled by
-# gcc -O2. Each time is the least of 20 runs at each of PLACES places in memory.
+# the difference; with each name by itself, with all in random order, and with these in one batch. The C is compiled by gcc -O2.
+# Each time is the least of 20 runs at each of PLACES places in memory.
 set -eu
 cd "$(dirname "$0")/.."
 [ -x ./aa-trace ] || { echo "./aa-trace is missing: run make" >&2; exit 1; }

@@ -3,10 +3,10 @@
  *
  *     match IMAGE PATHS PAIRS
  *
- * PATHS has a path in each line. The names are made of its paths, one after another in an order that is drawn, so that a
- * name leads through many states. Each loop runs all names of one length so often that about STEPS bytes are looked up, and
- * then not at all: the difference is the time of the loop, without that of loading the image. Of PAIRS such pairs of runs
- * the least times count. Both loops must lead to the same states. */
+ * PATHS has a path in each line. The names are made of these paths in random order, so that a name leads through many states.
+ * Each loop runs all names of one length so often that about STEPS bytes are looked up, and then not at all: the difference is
+ * the time of the loop, without that of loading the image. Of PAIRS such pairs of runs the least times count. Both loops must
+ * lead to the same states. */
 #include <malloc.h>
 #include <stddef.h>
 #include <stdint.h>
@@ -15,7 +15,7 @@
 #include <string.h>
 #include <time.h>
 
-/* How many bytes of names stand in one list, and how many look-ups are timed at once. */
+/* How many bytes of names are in one list, and how many look-ups are timed at once. */
 enum { LIST = 1 << 16, STEPS = 1 << 22 };
 
 struct text {
@@ -92,9 +92,9 @@ __attribute__((noinline)) static uint32_t run(const struct table *table, const u
     return state;
 }
 
-/* What crates/loop_bench exports: as many names as there is room for states, of names_length / states_length bytes each, run
- * through the table of an image, which is loaded once; and all of them again, so many rounds. `kind` is 0 where they were
- * run; then each state is the one that its name leads to, but with no round they stay as they are. */
+/* What crates/loop_bench exports: as many names as there is room for states, of names_length / states_length bytes each, are
+ * run `rounds` times through the table of an image, which is loaded once. `kind` is 0 if they were run; then each state is the
+ * one that its name leads to, but with no round they stay as they are. */
 struct walk {
     uint16_t kind, number;
     uint64_t steps;
@@ -129,7 +129,7 @@ static uint32_t drawn(uint32_t below) {
     return (uint32_t)(seed >> 33) % below;
 }
 
-/* The lines of a text, each with its end put off. */
+/* The lines of a text, each without its end. */
 static size_t lines_of(struct text text, struct text **lines) {
     size_t count = 0;
     for (size_t i = 0; i < text.length; i++) count += text.bytes[i] == '\n';
@@ -143,7 +143,7 @@ static size_t lines_of(struct text text, struct text **lines) {
     return count;
 }
 
-/* As many names of one length as make up LIST bytes. Each is `/x` and then of whole paths, but for the last, which is cut. */
+/* As many names of one length as make up LIST bytes. Each is `/x` and then whole paths, except for the last, which is cut. */
 static struct text names_of(struct text paths, size_t length) {
     struct text *lines;
     size_t count = lines_of(paths, &lines);
@@ -166,7 +166,7 @@ static struct text names_of(struct text paths, size_t length) {
 
 typedef struct walk loop(struct text, struct text, uint32_t, uint32_t *, size_t);
 
-/* The nanoseconds of a call, which must look up as many bytes as are told. */
+/* The nanoseconds of a call, which must look up each byte of the names in each round. */
 static double time_of(loop *run, struct text image, struct text names, uint32_t rounds, uint32_t *states, size_t count) {
     struct timespec begin, end;
     clock_gettime(CLOCK_MONOTONIC, &begin);
@@ -199,7 +199,7 @@ static size_t visited(struct text image, struct text names, size_t length) {
     return count;
 }
 
-/* A block of a drawn size, in use while a pair of runs is timed, so that the tables come to other pages of memory than before.
+/* A block of a random size, allocated while a pair of runs is timed, so that the tables get other pages of memory than before.
  * How the pages of a table share the caches is luck, and can make a run half as long again. */
 static uint8_t *other_pages(void) {
     size_t size = drawn(1 << 24);

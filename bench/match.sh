@@ -1,7 +1,7 @@
 #!/bin/sh
-# Times the loop that runs names through a compiled profile's table, beside the same loop in C (bench/match.c), and prints a
+# Times the loop that runs names through a compiled profile's table, next to the same loop in C (bench/match.c), and prints a
 # row for each length of names: the states that the names lead through, the nanoseconds that a name takes in each loop, and
-# the ratio. The C is compiled by gcc -O2 and, where it is installed, by clang -O2. Each time is the least of PAIRS runs.
+# the ratio. The C is compiled by gcc -O2 and, if it is installed, by clang -O2. Each time is the least of PAIRS runs.
 # COMPILE names another program that compiles a profile on standard input to an image.
 set -eu
 cd "$(dirname "$0")/.."
@@ -16,8 +16,7 @@ python3 tools/build.py loop_bench >"$work/log" 2>&1 || { cat "$work/log"; exit 1
 # The calls of malloc and free that the library makes.
 heap=$(dirname "$(rt doc)")/c/liblibc_c.a
 
-# RULES different paths, one a line. Their parts are made of syllables that a generator of pseudo-random numbers draws,
-# always the same ones.
+# RULES different paths, one per line. Their parts are made of pseudo-random syllables, always the same ones.
 awk -v count="$RULES" '
     function drawn(below) {
         seed = seed * 16807 % 2147483647
@@ -38,7 +37,7 @@ awk -v count="$RULES" '
         }
     }' >"$work/paths"
 
-# Each rule takes what ends with its path. So a name of such paths goes on from one rule into the next.
+# Each rule matches what ends with its path. So a name made of such paths goes from one rule into the next.
 {
     echo 'profile p {'
     awk '{ print "  /**" $0 " r," }' "$work/paths"

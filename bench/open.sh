@@ -1,16 +1,17 @@
 #!/bin/sh
-# Opens of one file by sessions (Session::try_open), in one thread and in four, each by a session of its own: a file so many
-# directories down, and one four down by one symbolic link and by four. First nothing is changed; then a keeper renames a
-# directory that the file isn't below, or the file's own directory, or a publisher replaces the profile, each all the time, and
-# then with a rest of REST microseconds after each change. Beside it the same opens of the same tree behind std's RwLock in Rust
-# (bench/rwlock_tree.rs, by rustc -O). There is no index yet: a session finds a child by reading slots one after another.
+# Times opens of one file by sessions (Session::try_open), in one thread and in four, each with a session of its own: a file N
+# directories down, and one four down through one symbolic link and through four. First nothing is changed; then a keeper
+# renames a directory that the file isn't below, or the file's own directory, or a publisher replaces the profile, each all the
+# time, and then with a rest of REST microseconds after each change. Next to it are the same opens of the same tree behind std's
+# RwLock in Rust (bench/rwlock_tree.rs, by rustc -O). There is no index yet: a session finds a child by reading slots one after
+# another.
 #
-# A rate is of opens that were answered, in all threads, without those that were Busy, whose share of all opens stands beside it;
-# then come the changes that were made meanwhile, and the ratio of both rates. Each number is the middle one of RUNS runs, both
-# programs by turns, of OPENS opens in each thread, in a tree with room for CAPACITY entries. Threads that have no processors of
-# their own meanwhile show little of either. UNDER is put before each run; by 'chrt -f 20' runs go first, but a thread that never
-# waits then keeps its processor, and four of them leave none of four for changes. COMPILE names another program that compiles a
-# profile on standard input to an image. Where rustc is missing, the rates of sessions stand alone.
+# A rate counts the opens that were answered, in all threads, without those that were Busy; their share of all opens is next to
+# it. Then come the changes made meanwhile, and the ratio of both rates. Each number is the median of RUNS runs, both programs by
+# turns, of OPENS opens in each thread, in a tree with room for CAPACITY entries. Threads that don't have a processor each show
+# little of either. UNDER is put before each run; with 'chrt -f 20' runs have priority, but a thread that never waits then keeps
+# its processor, and four of them leave none of four for changes. COMPILE names another program that compiles a profile on
+# standard input to an image. Without rustc only the rates of sessions are printed.
 set -eu
 cd "$(dirname "$0")/.."
 RUNS=${RUNS:-7}
@@ -43,7 +44,7 @@ while [ "$run" -lt "$RUNS" ]; do
 done
 ! grep -h wasn "$work"/session-* || exit 1
 
-# middle: the middle one of the numbers that are read
+# middle: the median of the numbers on standard input
 middle() {
     sort -n | awk '{ number[NR] = $1 } END { print number[int((NR + 1) / 2)] }'
 }

@@ -1,10 +1,10 @@
 #!/bin/sh
-# Reads of published profiles: first each of READERS readers beside a publisher that makes CHANGES changes, where each pair
-# that is read must have been published; then how many reads a second one thread and four make, of READS reads in each, beside
-# the same reads of a map behind std's RwLock in Rust (bench/rwlock.rs, by rustc -O), and the ratio of both. Of the four threads
-# each reads all 64 names, or 16 of its own. Each rate is the middle one of RUNS runs; the most of them would be, for the lock on
-# a busy machine, one in which the threads ran one after another. On such a machine UNDER='chrt -f 20', as root, lets the runs go
-# first. Where rustc is missing, the rates stand alone.
+# Times reads of published profiles: first READERS readers run concurrently with a publisher that makes CHANGES changes, and each
+# pair that is read must have been published; then come the reads a second of one thread and of four, of READS reads in each,
+# next to the same reads of a map behind std's RwLock in Rust (bench/rwlock.rs, by rustc -O), and the ratio of both. Each of the
+# four threads reads all 64 names, or 16 of its own. Each rate is the median of RUNS runs; the highest would be, for the lock on
+# a busy machine, one in which the threads ran one after another. On such a machine UNDER='chrt -f 20', as root, gives the runs
+# priority. Without rustc the lock's rates are left out.
 set -eu
 cd "$(dirname "$0")/.."
 READERS=${READERS:-8}
@@ -32,7 +32,7 @@ while [ "$run" -lt "$RUNS" ]; do
     run=$((run + 1))
 done
 
-# middle NAME FILE: the middle one of the rates that stand after this name, in millions
+# middle NAME FILE: the median of the rates after this name, in millions
 middle() {
     sed -n "s/^$1: \([0-9]*\) .*/\1/p" "$2" | sort -n | awk '{ rate[NR] = $1 } END { printf "%.2f", rate[int((NR + 1) / 2)] / 1000000 }'
 }

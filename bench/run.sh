@@ -1,7 +1,7 @@
 #!/bin/sh
 # Times ./aa-trace on large inputs, and prints for each the ratio to an input of half the size (in the last row, to a
 # directory with nothing below it).
-# Each time is the least of RUNS runs of the whole program, less that of a run on the smallest input, in milliseconds.
+# Each time is the least of RUNS runs of the whole program, minus that of a run on the smallest input, in milliseconds.
 set -eu
 cd "$(dirname "$0")/.."
 RUNS=${RUNS:-15}
@@ -13,7 +13,7 @@ repeat() {
     awk -v text="$1" -v count="$2" 'BEGIN { for (i = 0; i < count; i++) printf "%s", text }'
 }
 
-# profile_of RULES PATH: a profile of so many rules `PATH r,`
+# profile_of RULES PATH: a profile of RULES rules `PATH r,`
 profile_of() {
     awk -v count="$1" -v path="$2" 'BEGIN { print "profile p {"; for (i = 0; i < count; i++) print "  " path " r,"; print "}" }'
 }
@@ -53,14 +53,14 @@ profile_of 10 "/$(repeat '**a' 250)" >"$work/stars-half"
 row 'judge: 10 rules of 500 times **a, name of 4,095 bytes; half the items' "$(least "$work/stars-half" judge r "$name")" "$(least "$work/stars" judge r "$name")"
 row 'judge: the same; half the name' "$(least "$work/stars" judge r "/$(repeat a 2046)")" "$(least "$work/stars" judge r "$name")"
 
-# Nothing is matched here, since no rule holds w: the time is that of reading.
+# Nothing is matched here, since no rule has w: the time is that of reading.
 profile_of 1024 "/$(repeat a 1023)" >"$work/text"
 profile_of 512 "/$(repeat a 1023)" >"$work/text-half"
 profile_of 1024 "/$(repeat a 511)" >"$work/items-half"
 row 'read: 1,024 rules of 1,024 items; half the rules' "$(least "$work/text-half" judge w /x)" "$(least "$work/text" judge w /x)"
 row 'read: the same; half the items of each rule' "$(least "$work/items-half" judge w /x)" "$(least "$work/text" judge w /x)"
 
-# Groups within groups, to the depth of 50 again and again: 1,001 items.
+# Nested groups, repeatedly to the depth of 50: 1,001 items.
 groups=$(repeat '{' 50)$(repeat '}' 50)
 profile_of 1024 "/$(repeat "$groups" 10)" >"$work/groups"
 profile_of 512 "/$(repeat "$groups" 10)" >"$work/groups-half"
@@ -83,8 +83,8 @@ done
 { printf 'profile p { /['; repeat a-c 166666; } >"$work/class-half"
 row 'read: a path whose class of 1 MB has no end; half' "$(least "$work/class-half" judge w /x)" "$(least "$work/class" judge w /x)"
 
-# script_of LINES ENTRIES: a script of so many lines: a policy, directories of up to 128 files each until so many entries
-# stand, and then by turns an open and a rename to and fro.
+# script_of LINES ENTRIES: a script of LINES lines: a policy, directories of up to 128 files each until there are ENTRIES
+# entries, and then by turns an open and a rename back and forth.
 script_of() {
     awk -v lines="$1" -v entries="$2" 'BEGIN {
         print "policy\nprofile p {\n  /d*/f* r,\n  deny /d*/g* w,\n}\n."
@@ -111,13 +111,13 @@ script_of 100000 16384 >"$work/script"
 script_of 50000 8192 >"$work/script-half"
 row 'run: 100,000 lines, 16,384 entries; half of both' "$(least "$work/script-half" run --capacity 16384)" "$(least "$work/script" run --capacity 16384)"
 
-# The scripts below that open paths publish one profile that allows it. Where a script first lays out a tree that is no part
-# of what is timed, a run that only does that is taken off.
+# The scripts below that open paths publish one profile that allows it. If a script first builds a tree that isn't part of what
+# is timed, the time of a run that only does that is subtracted.
 publish() {
     printf 'policy\nprofile p {\n  /** r,\n}\n.\n'
 }
 
-# lines COUNT LINE: the line again and again
+# lines COUNT LINE: the line, COUNT times
 lines() {
     awk -v count="$1" -v line="$2" 'BEGIN { for (i = 0; i < count; i++) print line }'
 }
@@ -133,7 +133,7 @@ links_of 5000 >"$work/links"
 links_of 2500 >"$work/links-half"
 row 'run: 5,000 opens through 40 links; half the opens' "$(least "$work/links-half" run)" "$(least "$work/links" run)"
 
-# Directories one in the other, laid out from the lowest up.
+# Nested directories, built from the lowest up.
 chain_of() {
     awk -v depth="$1" 'BEGIN { print "mkdir /a"; for (i = 1; i < depth; i++) print "mkdir /b\nrename /a /b/a\nrename /b /a" }'
 }
@@ -161,7 +161,7 @@ wide_of 16000 >"$work/wide"
 wide_of 8000 >"$work/wide-half"
 row 'run: 16,000 creates in one directory and opens of them; half of both' "$(least "$work/wide-half" run --capacity 16384)" "$(least "$work/wide" run --capacity 16384)"
 
-# What lies below a directory doesn't slow its rename: here 14,000 files and 2,000 directories one in the other.
+# What is below a directory doesn't slow its rename: here 14,000 files and 2,000 nested directories.
 below() {
     files_of 14000
     chain_of 2000

@@ -1,6 +1,6 @@
-//! What `benchmarks registry` times, over a lock: a map of shared profiles with its version, behind std's RwLock. It takes
-//! READS, and prints how many reads a second one thread and four make, so many in each: where each of the four reads all names,
-//! and where it has names of its own.
+//! What `benchmarks registry` times, with a lock: a map of shared profiles with its version, behind std's RwLock. It takes
+//! READS, and prints how many reads a second one thread and four make, with READS reads in each thread: once where each of the
+//! four reads all names, and once where it has names of its own.
 use std::collections::HashMap;
 use std::env;
 use std::sync::{Arc, RwLock};

@@ -1,13 +1,13 @@
-//! What `benchmarks open` times, over a lock: a plain tree in memory and a map of shared profiles, both behind one RwLock of
+//! What `benchmarks open` times, with a lock: a plain tree in memory and a map of shared profiles, both behind one RwLock of
 //! std. It takes IMAGE, OPENS and REST, and prints lines like those of that program.
 //!
 //! The tree is the same: four symbolic links, a directory aside, and 16 directories, each in the one before, each with six files.
-//! A directory has a BTreeMap of its children by their names, which takes less time than a HashMap where there are seven; a node
-//! knows its own name, and which directory it is in. An open takes the lock to read, once: it finds the profile, walks (`.`,
-//! `..`, symbolic links, 40 of them at most), writes the file's name from its end to its front into the thread's own room, and
-//! runs the name through the profile's table, a row of 256 states for each state, as IMAGE tells it, which `aa-trace compile`
-//! made of the same text; the record that this leads to tells the verdict. An open takes no memory. Who renames or replaces takes
-//! the lock to write, and does all of the work under it.
+//! A directory has a BTreeMap of its children by their names, which is faster than a HashMap for seven; a node knows its own
+//! name, and which directory it is in. An open takes the read lock once: it finds the profile, walks (`.`, `..`, symbolic links,
+//! 40 of them at most), writes the file's name from its end to its front into the thread's own buffer, and runs the name through
+//! the profile's table, a row of 256 states for each state, from IMAGE, which `aa-trace compile` made of the same text; the
+//! record that this leads to gives the verdict. An open allocates no memory. A thread that renames or replaces takes the write
+//! lock, and does all of the work under it.
 use std::collections::{BTreeMap, HashMap};
 use std::sync::atomic::{AtomicBool, Ordering};
 use std::sync::{Arc, RwLock};
@@ -81,7 +81,7 @@ impl Tree {
         self.resolve(directory, text, links)
     }
 
-    /// Writes the name of a node to the end of the room, and tells where it begins.
+    /// Writes the name of a node to the end of the room, and returns where it begins.
     fn name(&self, node: usize, room: &mut [u8; LONGEST_PATH]) -> Result<usize, Errno> {
         let mut start = LONGEST_PATH;
         let mut below = node;
@@ -163,7 +163,7 @@ struct Table {
     records: Vec<[u16; 10]>,
 }
 
-/// The little-endian numbers that stand one after another from `start`.
+/// The little-endian numbers from `start` on, one after another.
 fn numbers(image: &[u8], start: usize, count: usize) -> Vec<u32> {
     let bytes = &image[start..start + 4 * count];
     bytes.chunks_exact(4).map(|word| u32::from_le_bytes(word.try_into().unwrap())).collect()
@@ -217,7 +217,7 @@ enum Verdict {
     NoRule(#[allow(dead_code)] u8),
 }
 
-/// What stands behind the lock, with the versions of both.
+/// What is behind the lock, with the versions of both.
 struct World {
     tree: Tree,
     tree_version: u64,
@@ -296,7 +296,7 @@ enum Beside {
     Profile,
 }
 
-/// Opens of one file in so many threads.
+/// Opens of one file, in each of `threads` threads.
 struct Side<'a> {
     path: &'a [u8],
     /// The names that its directory has by turns.
@@ -307,7 +307,7 @@ struct Side<'a> {
     rest: Duration,
 }
 
-/// Opens a file so often to read it, and tells how many of the opens were refused since no entry had the name.
+/// Opens a file for reading `opens` times, and returns how many of the opens were refused since no entry had the name.
 fn open_often(world: &RwLock<World>, side: &Side) -> u64 {
     let mut room = [0; LONGEST_PATH];
     let mut missing = 0;
@@ -322,7 +322,7 @@ fn open_often(world: &RwLock<World>, side: &Side) -> u64 {
     missing
 }
 
-/// Changes what is to be changed until the opens are done, and tells how often; the names stand at the end as they did.
+/// Changes what is to be changed until the opens are done, and returns how often; at the end the names are as before.
 fn change_until(world: &RwLock<World>, side: &Side, profiles: &[Arc<Table>; 2], done: &AtomicBool) -> u64 {
     let mut changes = 0;
     let [name, other]: [&[u8]; 2] = if side.beside == Beside::OtherName { [b"/aside", b"/away"] } else { side.names };

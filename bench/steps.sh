@@ -1,14 +1,14 @@
 #!/bin/sh
 # Times ./aa-trace on scripts of events, and prints for each the ratio to one of half the size. There is no index yet: a walk and
-# a change find a child by reading slots one after another, so that times grow with the number of entries, too.
-# Each time is the least of RUNS runs of the whole program, less that of a run on an empty script, in milliseconds.
+# a change find a child by reading slots one after another, so times also grow with the number of entries.
+# Each time is the least of RUNS runs of the whole program, minus that of a run on an empty script, in milliseconds.
 set -eu
 cd "$(dirname "$0")/.."
 RUNS=${RUNS:-3}
 work=$(mktemp -d)
 trap 'rm -rf "$work"' EXIT
 
-# least FILE: the least time of `./aa-trace steps < FILE`, whose lines all have to be commands, in microseconds
+# least FILE: the least time of `./aa-trace steps < FILE`, whose lines must all be commands, in microseconds
 least() {
     best=
     run=0
@@ -29,7 +29,7 @@ row() {
         'BEGIN { printf "%-64s %9.1f ms %9.1f ms   ratio %.2f\n", label, half / 1000, full / 1000, full / half }'
 }
 
-# tree_of ENTRIES: a policy, and directories of 127 files each until so many entries stand
+# tree_of ENTRIES: a policy, and directories of 127 files each until there are ENTRIES entries
 tree_of() {
     awk -v entries="$1" 'BEGIN {
         print "policy\nprofile p {\n  /d*/f* r,\n  deny /d*/g* w,\n}\n."
@@ -38,7 +38,7 @@ tree_of() {
     }'
 }
 
-# script_of LINES ENTRIES: a script of so many lines: a tree, and then by turns a call step by step, a change during which a file
+# script_of LINES ENTRIES: a script of LINES lines: a tree, and then by turns a call step by step, a change during which a file
 # is opened, a call by another session, and the change back
 script_of() {
     tree_of "$2"
@@ -67,7 +67,7 @@ script_of() {
     }'
 }
 
-# cells_of COUNT: a call that reads up to so many cells, one a line. The last file takes more of them.
+# cells_of COUNT: a call that reads up to COUNT cells, one per line. The last file takes more of them.
 cells_of() {
     tree_of 1024
     awk -v count="$1" 'BEGIN {
@@ -88,7 +88,7 @@ script_of 100000 512 >"$work/script-entries"
 row 'steps: 100,000 lines, 1,024 entries; half the lines' "$(least "$work/script-lines")" "$(least "$work/script")"
 row 'steps: the same; half the entries' "$(least "$work/script-entries")" "$(least "$work/script")"
 
-# The tree's making is taken off. Each reading walks anew over the cells that were read before.
+# The time to build the tree is subtracted. Each reading walks again over the cells that were read before.
 tree_of 1024 >"$work/tree"
 laid_out=$(least "$work/tree")
 cells_of 2000 >"$work/cells"

@@ -1,5 +1,5 @@
 //! Judges names by the image of a profile, and prints the verdicts as ./aa-trace does: a safe wrapper of the library, and its
-//! use. What C has as a table is here a list of bytes that was accepted, and that nobody can change any more.
+//! use. C's table is here a list of bytes that was accepted, and that nobody can change any more.
 //!
 //!     embed_rs IMAGE LETTERS NAME...
 use std::{env, fs, process::exit};
@@ -49,7 +49,7 @@ pub struct Table {
 
 impl Table {
     pub fn load(image: Vec<u8>) -> Result<Table, Fault> {
-        // SAFETY: a vector's pointer isn't null, and goes to as many bytes as its length says.
+        // SAFETY: a vector's pointer isn't null, and points to as many bytes as its length says.
         match unsafe { coqetwal_image_verify(image.as_ptr(), image.len()) } {
             Fault { number: 0, .. } => Ok(Table { image }),
             fault => Err(fault),
@@ -81,7 +81,7 @@ fn main() {
     if words.len() < 3 {
         exit(2);
     }
-    // A text that is no permissions' has the sum 0, which has no answer.
+    // A text that isn't permissions has the sum 0, which has no answer.
     let asked = words[2].to_str().and_then(Permissions::read).unwrap_or(Permissions(0));
     let table = Table::load(fs::read(&words[1]).unwrap_or_default()).unwrap_or_else(|fault| {
         eprintln!("refused: image {} at {}", fault.number, fault.place);

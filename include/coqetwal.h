@@ -1,20 +1,20 @@
-/* Names judged by the image of a compiled profile: AppArmor's file rules, without the rules' text.
+/* Judges names by the image of a compiled profile: AppArmor's file rules, without the rules' text.
  *
  *     coqetwal_table *table;
  *     struct coqetwal_fault fault;
  *     struct coqetwal_answer answer;
- *     if (coqetwal_load(image, length, &table, &fault)) ...    refused: fault.number, fault.place; or no memory, 11
+ *     if (coqetwal_load(image, length, &table, &fault)) ...    refused: fault.number, fault.place; or out of memory, 11
  *     coqetwal_judge(table, "/etc/passwd", 11, COQETWAL_READ | COQETWAL_WRITE, &answer);
  *     if (answer.verdict == COQETWAL_ALLOWED) ...
  *     coqetwal_free(table);
  *
- * Link with -lcoqetwal, which is built for processors of the level x86-64-v2; docs/EMBEDDING.md has the lines for C, C++ and
- * Rust.
+ * Link with -lcoqetwal, which is built for processors of the level x86-64-v2; docs/EMBEDDING.md has the commands for C, C++
+ * and Rust.
  *
- * The first part of this file has the functions of the library. Each is proved to meet the contract that stands in its source
- * (crates/coqetwal); nothing compares these declarations with that source, and nobody but the caller can see to it that a
- * pointer goes to as much as the length behind it tells. They take no memory, and change nothing but what they are given to
- * write. The second part, small functions in C over them, isn't proved: they copy an image to memory of their own, and take
+ * The first part of this file declares the functions of the library. Each is proved to meet the contract in its source
+ * (crates/coqetwal). Nothing compares these declarations with that source, and only the caller can make sure that a pointer
+ * points to as much as the length after it says. They allocate no memory, and change nothing but what they are given to
+ * write. The second part, small C functions over them, isn't proved: they copy an image to memory of their own, and accept
  * null pointers. */
 #ifndef COQETWAL_H
 #define COQETWAL_H
@@ -30,7 +30,7 @@
 extern "C" {
 #endif
 
-/* Permissions. Those of a set are asked and told by the sum of their numbers. */
+/* Permissions. A set of them is the sum of their numbers, in questions and in answers. */
 enum coqetwal_permission {
     COQETWAL_READ = 1,
     COQETWAL_WRITE = 2,
@@ -39,9 +39,9 @@ enum coqetwal_permission {
     COQETWAL_MAP = 16
 };
 
-/* Verdicts. Memory that was cleared tells none. */
+/* Verdicts. Cleared memory reads as COQETWAL_NO_ANSWER. */
 enum coqetwal_verdict {
-    /* Nothing was judged: nothing was asked, or something that is no permission, or there is no table. */
+    /* Nothing was judged: nothing was asked, or something that isn't a permission, or there is no table. */
     COQETWAL_NO_ANSWER = 0,
     COQETWAL_ALLOWED = 1,
     /* A deny rule forbids something that was asked. */
@@ -50,15 +50,15 @@ enum coqetwal_verdict {
     COQETWAL_NO_RULE = 3
 };
 
-/* What is told of a name. */
+/* The answer on a name. */
 struct coqetwal_answer {
-    /* How many look-ups there were: as many as the name has bytes, or 0 where nothing was judged. */
+    /* The number of look-ups: as many as the name has bytes, or 0 if nothing was judged. */
     uint64_t steps;
     /* One of enum coqetwal_verdict. */
     uint16_t verdict;
-    /* Where it is denied, the least rule that denies something that was asked, counted from 1; else 0. */
+    /* If it is denied, the first rule that denies something that was asked, counted from 1; else 0. */
     uint16_t rule;
-    /* Where there is no rule, the sum of the permissions that no rule allows; else 0. */
+    /* If there is no rule, the sum of the asked permissions that no rule allows; else 0. */
     uint16_t missing;
 };
 
@@ -69,23 +69,23 @@ enum coqetwal_fault_number {
     COQETWAL_SHORT = 1,
     /* the first four bytes aren't PTAB */
     COQETWAL_MAGIC = 2,
-    /* another version than 1 */
+    /* a version other than 1 */
     COQETWAL_IMAGE_VERSION = 3,
-    /* the two bytes behind the version aren't 0 */
+    /* the two bytes after the version aren't 0 */
     COQETWAL_RESERVED = 4,
     /* a count of states, cells or records is out of its limits */
     COQETWAL_COUNTS = 5,
-    /* another length than the counts tell */
+    /* a length other than the counts say */
     COQETWAL_LENGTH = 6,
-    /* the default of a state is no state; place: the state */
+    /* the default of a state isn't a state; place: the state */
     COQETWAL_DEFAULT = 7,
-    /* the row of a state ends behind the last cell; place: the state */
+    /* the row of a state ends after the last cell; place: the state */
     COQETWAL_BASE = 8,
-    /* the accept of a state is no record; place: the state */
+    /* the accept of a state isn't a record; place: the state */
     COQETWAL_ACCEPT = 9,
-    /* the next of a cell is no state; place: the cell */
+    /* the next of a cell isn't a state; place: the cell */
     COQETWAL_NEXT = 10,
-    /* coqetwal_load had no memory; nothing is said of the image */
+    /* coqetwal_load was out of memory; this says nothing about the image */
     COQETWAL_NO_MEMORY = 11
 };
 
@@ -99,26 +99,26 @@ struct coqetwal_counts {
     uint32_t states, cells, records;
 };
 
-/* ---- The functions of the library: images where they lie.
+/* ---- The functions of the library: images in place.
  *
- * Asked of the caller, for each of them: a pointer isn't null, not even where the length behind it is 0, and goes to as many
+ * Required of the caller, for each of them: a pointer isn't null, not even if the length after it is 0, and points to as many
  * bytes, offsets or answers as that length says; nobody else changes them during the call, and answers don't overlap with what
  * is read. Any number of calls may run at the same time on the same image and names.
  *
- * An `image` behind coqetwal_image_verify is one that this function accepted, in bytes that haven't changed since: what a
- * call does with any other bytes isn't known. Where others can write to the bytes, as to a file that is mapped, use
- * coqetwal_load. An image of length 0 is none: names have no answer, and the counts are 0. */
+ * The `image` of all functions but coqetwal_image_verify must be one that it accepted, in bytes that haven't changed since;
+ * with any other bytes the behaviour is undefined. If others can write to the bytes, as to a mapped file, use coqetwal_load.
+ * An image of length 0 is none: names have no answer, and the counts are 0. */
 
-/* The first fault of an image; 0 of one that is accepted. Whoever made it, no name leads out of its tables then. */
+/* The first fault of an image; 0 if it is accepted. Then no name leads out of its tables, whoever made it. */
 struct coqetwal_fault coqetwal_image_verify(const uint8_t *image, size_t image_length);
 
-/* What an image says of a name. `asked` is a sum of permissions, 1 to 31; any other number has no answer. All of *answer is
- * written, whatever it was. */
+/* What an image says about a name. `asked` is a sum of permissions, 1 to 31; any other number has no answer. All of *answer is
+ * written, whatever it was before. */
 void coqetwal_image_judge(const uint8_t *image, size_t image_length, const uint8_t *name, size_t name_length, uint32_t asked,
                           struct coqetwal_answer *answer);
 
-/* What an image says of many names, which stand in one text: name i from offsets[i] to offsets[i + 1]. Each of the `count`
- * answers is written. Where the offsets don't reach so far, descend or leave the text, the name has no answer. */
+/* What an image says about many names in one text: name i goes from offsets[i] to offsets[i + 1]. Each of the `count` answers
+ * is written. If a name lacks one of its offsets, or these descend or leave the text, it has no answer. */
 void coqetwal_image_judge_all(const uint8_t *image, size_t image_length, const uint8_t *names, size_t names_length,
                               const size_t *offsets, size_t offsets_length, uint32_t asked, struct coqetwal_answer *answers,
                               size_t count);
@@ -131,22 +131,21 @@ struct coqetwal_counts coqetwal_image_counts(const uint8_t *image, size_t image_
  * A table holds a copy of an image that was accepted. It is never written to, so any number of threads may use it at the same
  * time, each with answers of its own.
  *
- * Asked of the caller, for each of them: a table came from coqetwal_load and wasn't given back, or it is null; then names have
- * no answer and the counts are 0. An image, a name or the text of names has as many bytes as the length behind it tells; where
- * that is 0, the pointer may be null. Other pointers aren't null, but where it is said. Nobody changes during a call what it
- * reads. */
+ * Required of the caller, for each of them: a table came from coqetwal_load and wasn't freed, or it is null; then names have
+ * no answer and the counts are 0. An image, a name or the text of names has as many bytes as the length after it says; if that
+ * is 0, the pointer may be null. Other pointers aren't null, unless stated. Nobody changes what a call reads while it runs. */
 
 typedef struct coqetwal_table {
     size_t length;
-    /* Behind it stands the image. */
+    /* The image follows. */
 } coqetwal_table;
 
-/* Where the bytes of a text stand: never null. */
+/* Where the bytes of a text are: never null. */
 static inline const uint8_t *coqetwal_bytes(const void *text) {
     return (const uint8_t *)(text ? text : "");
 }
 
-/* Where a table's image stands. */
+/* Where a table's image is. */
 static inline const uint8_t *coqetwal_image(const coqetwal_table *table) {
     return table ? (const uint8_t *)(table + 1) : coqetwal_bytes(NULL);
 }
@@ -156,8 +155,8 @@ static inline size_t coqetwal_image_length(const coqetwal_table *table) {
 }
 
 /* Copies an image and verifies the copy. The result is 0, and *table is the table; or it is the number of the fault, and *table
- * is null. `fault` may be null; if it isn't, *fault is the fault, of an accepted image 0. It takes memory from malloc: as much
- * as the image has, and a little. */
+ * is null. `fault` may be null; if it isn't, *fault is the fault, 0 for an accepted image. It allocates with malloc: the size
+ * of the image, and a little more. */
 static inline int coqetwal_load(const void *image, size_t length, coqetwal_table **table, struct coqetwal_fault *fault) {
     struct coqetwal_fault found = {COQETWAL_NO_MEMORY, 0};
     coqetwal_table *made = length > SIZE_MAX - sizeof *made ? NULL : (coqetwal_table *)malloc(sizeof *made + length);
@@ -175,13 +174,13 @@ static inline int coqetwal_load(const void *image, size_t length, coqetwal_table
     return found.number;
 }
 
-/* Gives a table's memory back, which no call may use any more. Of a null pointer nothing is done. */
+/* Frees a table, which no call may use any more. With a null pointer it does nothing. */
 static inline void coqetwal_free(coqetwal_table *table) {
     free(table);
 }
 
 /* Judges a name. `asked` is a sum of permissions, 1 to 31; any other number has no answer. All of *answer is written, and its
- * verdict is the result, too. Takes no memory. */
+ * verdict is also the result. Allocates no memory. */
 static inline int coqetwal_judge(const coqetwal_table *table, const void *name, size_t length, uint32_t asked,
                                  struct coqetwal_answer *answer) {
     coqetwal_image_judge(coqetwal_image(table), coqetwal_image_length(table), coqetwal_bytes(name), length, asked, answer);
@@ -189,8 +188,8 @@ static inline int coqetwal_judge(const coqetwal_table *table, const void *name, 
 }
 
 /* Judges `count` names, each from an offset to the next one in one text: `offsets` has count + 1 entries, and `answers` has room
- * for `count`. Both may be null where `count` is 0; nothing is done then. Where offsets descend or leave the text, the name has
- * no answer; `asked` is as above. Each answer is written. Takes no memory. */
+ * for `count`. Both may be null if `count` is 0; then nothing is done. If its offsets descend or leave the text, a name has no
+ * answer; `asked` is as above. Each answer is written. Allocates no memory. */
 static inline void coqetwal_judge_batch(const coqetwal_table *table, const void *names, size_t length, const size_t *offsets,
                                         uint32_t asked, struct coqetwal_answer *answers, size_t count) {
     if (count)

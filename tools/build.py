@@ -2,15 +2,15 @@
 """Proves a program or a static library with each crate below it, several at the same time, and builds it.
 
 A crate is proved from nothing over the statements of the crates below, which are loaded without their proofs, as the gate does.
-What was proved stays in the out/ of the program's crate, with a sum of all that it was proved from, and is proved again where this
-changes. `rt check` can't begin with it; it begins with what `rt check` and `rt all check` keep.
+What was proved stays in the out/ of the program's crate, with a checksum of all that it was proved from, and is proved again if
+this changes. `rt check` can't start from it; it starts from what `rt check` and `rt all check` keep.
 
 The prover is called, and not `rt`, which reads the files of a crate again for each chain of dependencies that leads to it: below
-the program there are tens of thousands, and that takes minutes. What `rt ci` tests of a crate besides its proof, the gate alone tests.
+the program there are tens of thousands, and that takes minutes. What `rt ci` tests of a crate besides its proof, only the gate tests.
 
 How long each proof takes is read from tools/proof-seconds, and is written there.
 
-usage: tools/build.py [NAME]    crates/NAME/out/NAME, or of a static library crates/NAME/out/libNAME.a; without NAME ./aa-trace
+usage: tools/build.py [NAME]    crates/NAME/out/NAME, or for a static library crates/NAME/out/libNAME.a; without NAME ./aa-trace
 """
 import glob
 import hashlib
@@ -26,13 +26,13 @@ from concurrent.futures import FIRST_COMPLETED, ThreadPoolExecutor, wait
 TOP = os.path.dirname(os.path.dirname(os.path.abspath(__file__)))
 CRATES = f"{TOP}/crates"
 PROGRAM = "trace_cli"
-# What was built of each library, NAME.rlib, and for each crate the sum of what it was proved from, NAME.sum. In this folder `rt ci`
-# takes files of code for what was built; of a program, rt itself has nothing there.
+# What was built of each library, NAME.rlib, and for each crate the checksum of what it was proved from, NAME.sum. In this folder
+# `rt ci` takes files of code for what was built; of a program, rt itself has nothing there.
 BUILT = f"{CRATES}/{PROGRAM}/out/rlib"
 # Lines "crate seconds", in the order of crates.txt: the processor seconds of the crate's proof from nothing by one job. A program's
 # include its build.
 SECONDS = f"{TOP}/tools/proof-seconds"
-# What a line of code takes where no crate was measured.
+# What a line of code takes if no crate was measured.
 SECONDS_A_LINE = 0.1
 # What the proof of one crate takes at most, in KiB.
 MEMORY = 4_000_000
@@ -82,15 +82,15 @@ def read_seconds():
 
 
 def is_near(seconds, known):
-    """Whether a figure is so near to another one that it makes no other order."""
+    """Whether a figure is so close to another one that the order stays the same."""
     return known is not None and 2 / 3 < seconds / known < 3 / 2
 
 
 def write_seconds(known, measured, lines):
-    """Writes what proofs from nothing took, where the file has no such figure, or none that is near to it.
+    """Writes what proofs from nothing took, if the file has no such figure, or none that is close to it.
 
     On a machine twice as slow all proofs take twice as long, which is no reason to change the file. So a figure is divided by how
-    much slower this machine was, over all crates that the file has too.
+    much slower this machine was, over all crates that the file also has.
     """
     both = [name for name in measured if name in known]
     slower = sum(measured[it] for it in both) / sum(known[it] for it in both) if both else 1
@@ -126,7 +126,7 @@ def find_kit():
 
 
 def find_sums(lines, version):
-    """For each crate a sum of all that its proof reads."""
+    """For each crate a checksum of all that its proof reads."""
     sums = {}
     for name, libraries in lines.items():
         made_from = hashlib.sha256(repr((version, name, libraries)).encode())
@@ -139,7 +139,7 @@ def find_sums(lines, version):
 
 
 def is_built(name, made_from, product):
-    """Whether this was built of a crate from what there is now."""
+    """Whether this was built of a crate from what it is now."""
     try:
         with open(f"{BUILT}/{name}.sum", encoding="utf-8") as it:
             return it.read() == made_from and os.path.exists(product)
@@ -152,7 +152,7 @@ def library_of(name):
 
 
 def words_of(kit, name, lines, jobs):
-    """The words by which the prover is told of a crate."""
+    """The prover's arguments for a crate."""
     root = "main" if os.path.isfile(f"{CRATES}/{name}/src/main.rt") else "lib"
     words = ["--crate-name", name, f"src/{root}.rt", "-L", f"dependency={kit}/rlibs", "-L", f"dependency={BUILT}"]
     for library in ["std", *lines[name]]:
@@ -162,7 +162,7 @@ def words_of(kit, name, lines, jobs):
 
 
 def run_in(folder, words):
-    """Runs a command, and returns what it printed where it fails, and its processor seconds."""
+    """Runs a command, and returns what it printed if it fails, and its processor seconds."""
     with tempfile.TemporaryFile() as printed:
         ran = subprocess.Popen(words, cwd=folder, stdin=subprocess.DEVNULL, stdout=printed, stderr=subprocess.STDOUT)
         _, status, used = os.wait4(ran.pid, 0)
@@ -173,9 +173,9 @@ def run_in(folder, words):
 
 
 def build(kit, name, lines, made_from, jobs, how, product):
-    """Proves a crate and builds what these further words say, and returns what was printed where that fails, and its processor
+    """Proves a crate and builds what these further arguments say, and returns what was printed if that fails, and its processor
     seconds, if one job took them."""
-    # Until it is built anew, nothing says what the old one was built from.
+    # Until it is built again, nothing says what the old one was built from.
     if os.path.exists(f"{BUILT}/{name}.sum"):
         os.remove(f"{BUILT}/{name}.sum")
     said, seconds = run_in(f"{CRATES}/{name}", [f"{kit}/bin/rattle", "build", *words_of(kit, name, lines, jobs), *how, "-o", product])
@@ -186,10 +186,10 @@ def build(kit, name, lines, made_from, jobs, how, product):
 
 
 def build_libraries(kit, target, lines, sums, lanes, measured):
-    """Builds the libraries below a crate, as many at the same time as there are lanes, and returns what was printed where one fails.
+    """Builds the libraries below a crate, as many at the same time as there are lanes, and returns what was printed if one fails.
 
     The crate with the longest chain goes first. A proof by several jobs takes more processor time in all, so only lanes for which
-    no crate is ready become further jobs, of the first of those that begin.
+    no crate is ready become further jobs, of the first of those that start.
     """
     below = find_below(lines)
     chain = find_chains(lines, below, estimate_seconds(below[target], read_seconds()))
@@ -217,7 +217,7 @@ def build_libraries(kit, target, lines, sums, lanes, measured):
 
 
 def build_target(kit, target, lines, is_static, made_from, measured):
-    """Proves a program or a static library itself and builds it, and returns what was printed where that fails.
+    """Proves a program or a static library itself and builds it, and returns what was printed if that fails.
 
     One job proves it: a program reads all of the crates below it, and each further job would read them again.
     """
@@ -247,7 +247,7 @@ def count_lanes():
 
 
 def build_all(target, lanes):
-    """Builds a program or a static library, and the libraries below it, and returns what was printed where that fails."""
+    """Builds a program or a static library, and the libraries below it, and returns what was printed if that fails."""
     kit, version = find_kit()
     lines, statics = read_lines()
     sums, measured = find_sums(lines, version), {}

@@ -1,6 +1,6 @@
 /* Calls the static library as a program in C would, for tools/calls.py, which compares what it prints with ./aa-trace.
  *
- *     calls check IMAGE...         what is said of each image, as `aa-trace check` says it
+ *     calls check IMAGE...         what `aa-trace check` prints for each image
  *     calls judge IMAGE QUERIES    a line for each query: verdict, rule, missing, steps
  *     calls bad IMAGE              calls that have no answer, on an image that is accepted
  *     calls threads IMAGE QUERIES  eight threads judge by one table what one thread judged
@@ -66,7 +66,7 @@ static struct queries read_queries(const char *path) {
     return queries;
 }
 
-/* Room for as many bytes, with a page behind it that nobody can read: a read behind the last byte ends the program. */
+/* Room for `length` bytes, with a page after it that nobody can read: a read past the last byte ends the program. */
 static uint8_t *guarded(size_t length) {
     size_t room = (length + PAGE - 1) / PAGE * PAGE;
     uint8_t *begin = mmap(NULL, room + PAGE, PROT_READ | PROT_WRITE, MAP_PRIVATE | MAP_ANONYMOUS, -1, 0);
@@ -89,7 +89,7 @@ static coqetwal_table *load(struct text image) {
     return table;
 }
 
-/* An answer that has something else in each field than any call writes. */
+/* An answer that has in each field something that no call writes. */
 static struct coqetwal_answer unwritten(void) {
     return (struct coqetwal_answer){UINT64_MAX, UINT16_MAX, UINT16_MAX, UINT16_MAX};
 }
@@ -125,7 +125,7 @@ static void check(const char *path) {
 
 /* --- judge --- */
 
-/* Each name by itself: from the table, and again from an image and a name that have a guarded page behind them. */
+/* Each name by itself: from the table, and again from an image and a name that have a guarded page after them. */
 static void judge_each(struct text image, const struct queries *queries, struct coqetwal_answer *answers) {
     coqetwal_table *table = load(image);
     struct text lying = read_only(image);
@@ -144,7 +144,7 @@ static void judge_each(struct text image, const struct queries *queries, struct 
     coqetwal_free(table);
 }
 
-/* All names in one call for each set of permissions: where that set was asked, the answer is as by itself. */
+/* All names in one call for each set of permissions: if that set was asked, the answer is as for the name by itself. */
 static void judge_all(struct text image, const struct queries *queries, const struct coqetwal_answer *answers) {
     coqetwal_table *table = load(image);
     struct coqetwal_answer *found = memory(queries->count, sizeof *found);
@@ -233,7 +233,7 @@ static void load_nothing(struct text image) {
                "an image of all memory");
 }
 
-/* In a batch, the names whose offsets are bad have no answer, and the others are judged as ever. */
+/* In a batch, the names whose offsets are bad have no answer, and the others are judged as usual. */
 static void batch_badly(const coqetwal_table *table) {
     static const char names[] = "/etc/passwd/tmp/x";
     static const size_t offsets[] = {0, 11, 5, 17, 18, 17, SIZE_MAX, 0, 17, 17};
@@ -287,7 +287,7 @@ struct work {
     size_t wrong;
 };
 
-/* Another order of the places, which the seed draws. */
+/* Puts the places in a random order, by the seed. */
 static void shuffle(size_t *places, size_t count, uint64_t *seed) {
     for (size_t i = count; i > 1; i--) {
         *seed = *seed * 6364136223846793005u + 1442695040888963407u;

@@ -1,11 +1,11 @@
 #!/usr/bin/env python3
 """Calls the static library from C (tools/calls.c) and compares its answers with those of ./aa-trace.
 
-Names are drawn, always the same ones: from the rules of each profile in examples/ and from common paths, joined, cut and with
-bytes turned. What a script can open is asked of `./aa-trace run`, which compiles the profile by itself; a part of what can
-be an argument is asked of `match`, which counts the steps, too, and of `judge`, which knows no image. All names, those among
-them that ./aa-trace can't be given, and images that no profile has are asked of the few lines below that run an image as
-docs/RULES.md tells ("Tables", "Images").
+Names are drawn at random, always the same ones: from the rules of each profile in examples/ and from common paths, joined, cut
+and with bytes changed. What a script can open is compared with `./aa-trace run`, which compiles the profile by itself; part of
+what can be an argument with `match`, which also counts the steps, and with `judge`, which uses no image. All names, including
+those that ./aa-trace can't be given, and images that no profile has are compared with the few lines below that run an image as
+docs/RULES.md says ("Tables", "Images").
 """
 import glob
 import os
@@ -23,7 +23,7 @@ CPP = ["-std=c++11", "-Wall", "-Wextra", "-Werror", "-pedantic", "-O2", "-Iinclu
 LETTERS = "rwlkm"
 # How many names are drawn for each profile, how often each is asked about, and how many entries a script makes.
 NAMES, ASKED, ENTRIES = 4000, 4, 16000
-# How many single runs of ./aa-trace there are for each profile: of `match` so many as read about these bytes.
+# How many single runs of ./aa-trace there are for each profile: those of `match` read at most about MATCHED_BYTES.
 MATCHES, MATCHED_BYTES, JUDGES = 2500, 3 << 30, 400
 COMMON = b"""/ /etc/passwd /etc/shadow /etc/ld.so.cache /etc/ssl/certs/ca.pem /usr/lib/libc.so.6 /usr/lib/x86_64-linux-gnu/libm.so
 /usr/bin/ /usr/share/zoneinfo/UTC /usr/share/fonts/a.ttf /dev/null /dev/urandom /proc/1/status /proc/self/maps /sys/devices/
@@ -32,7 +32,7 @@ COMMON = b"""/ /etc/passwd /etc/shadow /etc/ld.so.cache /etc/ssl/certs/ca.pem /u
 
 
 def run(*words, given=b""):
-    """What a program writes; it must end well."""
+    """What a program writes; it must succeed."""
     return subprocess.run(words, input=given, stdout=subprocess.PIPE, check=True, cwd=TOP).stdout
 
 
@@ -43,7 +43,7 @@ def trace(*words, given=b""):
 
 
 def trace_file(path, *words):
-    """The same, with a file as standard input: an image of many bytes goes through no pipe."""
+    """The same, with a file as standard input: a large image doesn't go through a pipe."""
     with open(path, "rb") as it:
         return subprocess.run(["./aa-trace", *words], stdin=it, stdout=subprocess.PIPE, cwd=TOP, check=False).stdout
 
@@ -58,7 +58,7 @@ def same(found, wanted, what):
 
 
 def path_of(rule, draw):
-    """A name made by a rule's path: each item by something that it may take."""
+    """A name made from a rule's path: each item becomes something that it may take."""
     some = lambda: bytes(draw.choices(b"abcxyz019._-\xc3\xa4", k=draw.randrange(1, 9)))
     while b"{" in rule:
         rule = re.sub(rb"\{([^{}]*)\}", lambda it: draw.choice(it[1].split(b",")), rule)
@@ -120,7 +120,7 @@ def verdict_of(line):
     return 3, 0, sum(1 << LETTERS.index(letter) for letter in words[3].decode())
 
 
-# ---- Images, as docs/RULES.md tells.
+# ---- Images, as docs/RULES.md says.
 
 
 class Image:
@@ -213,8 +213,8 @@ def is_openable(name):
 
 
 def script_of(names):
-    """The lines that make a tree with these names, as far as they go together, and the names that stand in it. Deep names go
-    first: else a file with a short one would keep out all that stands below a directory of that name."""
+    """The lines that make a tree with these names, as far as they fit together, and the names that are in it. Deep names go
+    first: else a file with a short one would keep out all that is below a directory of that name."""
     made, lines = {b"/"}, []
     for name in sorted(filter(is_openable, names), key=lambda it: -it.count(b"/")):
         parts = name.split(b"/")
@@ -234,7 +234,7 @@ def script_of(names):
 
 
 def compare_run(profile, answers, queries, lines):
-    """Each answer beside that of an open in a script."""
+    """Compares each answer with that of an open in a script."""
     text = b"policy\n" + profile.rstrip(b"\n") + b"\n.\n"
     label = re.match(rb"policy (\S+) version 1\n", trace("run", given=text))[1]
     opened = [(name, asked) for name, asked in queries if 0 < asked < 32 and not asked & 4]
@@ -250,18 +250,18 @@ def compare_run(profile, answers, queries, lines):
 
 
 def compare_match(image, query, answer):
-    """An answer beside that of `match` on the image in a file, with its steps."""
+    """Compares an answer with that of `match` on the image in a file, with its steps."""
     line, steps = trace_file(image, "match", letters_of(query[1]), query[0]).splitlines()
     same((*verdict_of(line), int(steps.split()[1])), answer, query)
 
 
 def compare_judge(profile, query, answer):
-    """An answer beside that of `judge`, which reads the profile's text and has no image."""
+    """Compares an answer with that of `judge`, which reads the profile's text and has no image."""
     same((*verdict_of(trace("judge", letters_of(query[1]), query[0], given=profile)), len(query[0])), answer, query)
 
 
 def compare_profile(room, path, pool):
-    """All answers on one profile; how many were compared with run, match, judge and the tables as this file runs them."""
+    """Compares all answers on one profile; returns how many with run, match, judge and the tables as this file runs them."""
     draw = random.Random(path)
     with open(f"{TOP}/{path}", "rb") as it:
         profile = it.read()
@@ -286,7 +286,7 @@ def compare_profile(room, path, pool):
 
 
 def compare_drawn(room, pool):
-    """Answers on images that no profile has."""
+    """Compares answers on images that no profile has."""
     draw, count = random.Random(1), 0
     for _ in range(60):
         image = drawn_image(draw)
@@ -302,7 +302,7 @@ def compare_drawn(room, pool):
 
 
 def planted(image):
-    """The image with each fault in turn, and what it is to be told as."""
+    """The image with each fault in turn, and how it must be reported."""
     states, cells, _ = memoryview(image[8:20]).cast("I")
     with_part = lambda at, part: image[:at] + part + image[at + len(part) :]
     at = lambda table, place: 20 + 4 * (table * states + place)
@@ -325,7 +325,7 @@ def planted(image):
 
 
 def compare_faults(room, image):
-    """What is said of images that were turned, beside `check`; all ten faults are among them."""
+    """Compares what is said of changed images with `check`; all ten faults are among them."""
     draw, cases = random.Random(2), list(planted(image))
     same({it[1][0] for it in cases}, set(range(1, 11)), "the faults")
     turned_images = [it[0] for it in cases]
@@ -343,7 +343,7 @@ def compare_faults(room, image):
 
 
 def compile_calls(folder):
-    """Compiles tools/calls.c and, where there is a compiler for it, tools/calls.cpp."""
+    """Compiles tools/calls.c and, if there is a compiler for it, tools/calls.cpp."""
     compiler = os.environ.get("CC", "cc")
     run(compiler, *C, "-o", f"{folder}/calls", "tools/calls.c", LIBRARY)
     try:
@@ -360,7 +360,7 @@ def compile_calls(folder):
 
 
 def compare_threads(room, image):
-    """Eight threads on one table; again under the thread sanitizer, where there is one. It sees what C reads and writes, of
+    """Eight threads on one table; again under the thread sanitizer, if there is one. It sees what C reads and writes, and of
     the library only what C gives it."""
     draw = random.Random(3)
     with open(f"{TOP}/examples/home.profile", "rb") as it:

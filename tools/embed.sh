@@ -1,5 +1,5 @@
 #!/bin/sh
-# Builds examples/embed.c as ./embed and, where there is a rustc, examples/embed.rs as ./embed_rs. Both must print the same,
+# Builds examples/embed.c as ./embed and, if there is a rustc, examples/embed.rs as ./embed_rs. Both must print the same,
 # and for each name the verdict of ./aa-trace.
 set -eu
 cd "$(dirname "$0")/.."

@@ -1,7 +1,7 @@
-"""Reads flattened AppArmor text (that of `apparmor_parser -p`) just far enough to count its rules and to draw names from them.
+"""Reads flattened AppArmor text (that of `apparmor_parser -p`) just well enough to count its rules and to draw names from them.
 
-Made for tools/survey.sh and tools/against-apparmor, so that what they say of `aa-trace import` doesn't rest on it. It takes the
-text for granted: apparmor_parser has accepted it.
+Made for tools/survey.sh and tools/against-apparmor, so that what they say about `aa-trace import` doesn't depend on it. It assumes
+that the text is valid: apparmor_parser has accepted it.
 """
 
 import re
@@ -18,7 +18,7 @@ ASSIGNMENT = re.compile(rb"@\{(\w+)\}\s*\+?=")
 
 
 class NotRead(Exception):
-    """The text is none that apparmor_parser accepts, or goes beyond what is read here."""
+    """The text isn't one that apparmor_parser accepts, or goes beyond what is read here."""
 
 
 def without_comments(text):
@@ -48,7 +48,7 @@ def comment_of(body):
 
 
 def begins_comment(before):
-    """A # behind these bytes of a line begins a comment: behind a word that goes on it doesn't, and a brace may be of a group."""
+    """Whether a # after these bytes of a line begins a comment: within a word it doesn't, and a brace may belong to a group."""
     last, earlier = before[-1:], before[:-1]
     return last in (b"", b" ", b"\t", b",") or last in (b"{", b"}") and earlier[-1:] in (b"", b" ", b"\t", b"\"")
 
@@ -62,7 +62,7 @@ class Token:
 
 
 class Statement:
-    """What ends with a comma: a rule of files where `path` is set, or something else. `block` is its profile, or None."""
+    """What ends with a comma: a file rule if `path` is set, or something else. `block` is its profile, or None."""
 
     def __init__(self, tokens, end, block):
         self.tokens, self.end, self.block = tokens, end, block
@@ -91,7 +91,7 @@ class Statement:
         return self.whole or self.path is not None
 
     def letters(self):
-        """The letters of r w l k m that it tells, but for the l of a pair of names."""
+        """The letters of r w l k m that it has, except the l of a pair of names."""
         if self.whole:
             return set("rwlkm")
         if self.perms is None:
@@ -105,7 +105,7 @@ class Statement:
         return letters
 
     def is_pair(self):
-        """It binds the right to link to a target."""
+        """Whether it binds the right to link to a target."""
         if self.arrow is None:
             return False
         return self.first == b"link" or (not self.paths_first and b"l" in [one.lower() for one in cut(self.perms.text)])
@@ -182,7 +182,7 @@ class Flattened:
 
     @staticmethod
     def is_open(tokens):
-        """The tokens end in parentheses, of a rule that isn't of files or of a profile's flags."""
+        """Whether the tokens end in parentheses, of a rule that isn't a file rule or of a profile's flags."""
         text = b"".join(token.text for token in tokens if token.text[:1] != b'"')
         first = next((token.text for token in tokens if token.text not in QUALIFIERS), b"")
         files = first[:1] in (b"/", b"@") or first in BEFORE_PATHS or bool(PERMISSIONS.fullmatch(first))

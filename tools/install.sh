@@ -1,7 +1,7 @@
 #!/bin/sh
-# Installs what was built, or takes it away again. `make install` and `make uninstall` run it.
+# Installs what was built, or removes it again. `make install` and `make uninstall` run it.
 #
-# sh tools/install.sh [uninstall]   PREFIX is the folder that all goes to, /usr/local if not given; a relative one stands in
+# sh tools/install.sh [uninstall]   PREFIX is the folder that everything goes to, /usr/local if not given; a relative one is in
 #                                   the repository. DESTDIR, if given, is put before it, and isn't written into any file.
 set -eu
 cd "$(dirname "$0")/.."
@@ -12,7 +12,7 @@ root=${DESTDIR:-}$prefix
 work=$(mktemp -d)
 trap 'rm -rf "$work"' EXIT
 
-# files: the mode of each file, what it is made of, and where it goes to
+# files: the mode of each file, what it is made from, and where it goes
 files() {
     cat <<FILES
 755 aa-trace bin/aa-trace
@@ -51,7 +51,7 @@ install_all() {
     done
 }
 
-# The folders stay, but for the one that is this project's own.
+# The folders stay, except the one that is this project's own.
 uninstall_all() {
     files | while read -r mode source target; do
         rm -f "$root/$target"

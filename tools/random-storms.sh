@@ -2,7 +2,7 @@
 # random-storms.sh [SEED [SESSIONS [OPENS [CHANGES]]]]
 # Opens random paths, OPENS in each of SESSIONS threads, by profiles that are random, too, concurrently with CHANGES random changes
 # of the tree and as many of the policy; checks each answer against what was really changed, and prints how long all that took.
-# Then the same in small, with one change left out when the answers are checked: of these some must not be justified.
+# Then the same on a smaller scale, with one change left out when the answers are checked: some answers must then not be justified.
 set -eu
 cd "$(dirname "$0")/.."
 RANDOM_STORMS=crates/random_storms/out/random_storms

@@ -1,9 +1,10 @@
 #!/bin/sh
-# Refuses each allocation of one run of ./aa-trace in turn: the first alone, then the second alone, and so on, until a run has no
-# such allocation. Each refused run must write `no memory` (a storm perhaps `no thread`) to standard error and end with status 4,
-# with nothing on standard output or, for a script, a front part of the answers in whole lines; or it did without that
-# allocation, and then answers all as the whole run does. Last come walks over the row that threads share beside its changes,
-# some of which want memory then: no walk may find what isn't there. Wants a C compiler, for the few lines that stand before malloc and realloc.
+# Refuses each allocation of one run of ./aa-trace in turn: only the first, then only the second, and so on, until a run has no
+# such allocation. Each refused run must write `no memory` (a storm may write `no thread`) to standard error and end with status
+# 4, with nothing on standard output or, for a script, the first of the answers in whole lines; or it does without that
+# allocation, and then gives the answers of the whole run. Last come walks over the row that threads share during its changes,
+# some of which then run out of memory: no walk may find what isn't there. Needs a C compiler, for the few lines that wrap malloc
+# and realloc.
 set -eu
 cd "$(dirname "$0")/.."
 [ -x ./aa-trace ] || { echo "./aa-trace is missing: run make" >&2; exit 1; }
@@ -20,7 +21,7 @@ cat >"$work/refuse.c" <<'C'
 #include <stdlib.h>
 #include <unistd.h>
 
-/* Whether this is the allocation that REFUSE names. A file descriptor that REFUSE_TOLD names is told by one byte. */
+/* Whether this is the allocation that REFUSE names. If so, one byte is written to the file descriptor that REFUSE_TOLD names. */
 static int is_refused(void) {
     static long count = 0, wanted = -1;
     if (wanted < 0) wanted = getenv("REFUSE") ? atol(getenv("REFUSE")) : 0;
@@ -43,7 +44,7 @@ void *realloc(void *old, size_t size) {
 C
 ${CC:-cc} -shared -fPIC -O1 -o "$work/refuse.so" "$work/refuse.c" -ldl
 
-# is_front: the answers are a front part, in whole lines, of those of the whole run; where that isn't a script's, nothing
+# is_front: the answers are the first of those of the whole run, in whole lines; if that isn't a script's, nothing
 is_front() {
     size=$(wc -c <"$work/answers")
     [ "$size" -eq 0 ] && return 0
@@ -54,7 +55,7 @@ is_front() {
     [ "$(tail -c 1 "$work/answers" | wc -l)" -eq 1 ] && head -c "$size" "$work/whole-answers" | cmp -s - "$work/answers"
 }
 
-# is_refusal: what was told says that memory is wanting, or of a storm that a thread couldn't be started for want of it
+# is_refusal: the message says that memory ran out or, of a storm, that a thread couldn't be started without it
 is_refusal() {
     case "$(cat "$work/faults")" in
     'no memory') ;;
@@ -111,7 +112,7 @@ refuse_all "$work/image" ./aa-trace check
 refuse_all "$work/image" ./aa-trace match rw /home/me/.gnupg/keys
 refuse_all /dev/null ./aa-trace --help
 
-# Directories, files, moves onto what stands and what doesn't, policies that are replaced and dropped.
+# Directories, files, moves onto what exists and what doesn't, policies that are replaced and dropped.
 cat >"$work/script" <<'SCRIPT'
 policy
 profile p {
@@ -190,7 +191,7 @@ expect policy a b version 2
 SCRIPT
 refuse_all "$work/test" ./aa-trace test --capacity 9
 
-# Calls step by step beside changes that are open, walks that are disturbed, and publications.
+# Calls step by step during open changes, walks that are disturbed, and publications.
 cat >"$work/events" <<'SCRIPT'
 policy
 profile p {
@@ -232,8 +233,8 @@ keep create /b/none/x
 SCRIPT
 refuse_all "$work/events" ./aa-trace steps --capacity 9
 
-# Walks beside changes, a walker in a thread of its own: a change that wants memory isn't made, and the walks find the tree as
-# it was before. What the threads' library takes is refused, too.
+# Walks during changes, with a walker in a thread of its own: a change that runs out of memory isn't made, and the walks find the
+# tree as it was before. What the threads' library allocates is refused, too.
 refused=0
 ended=0
 while :; do

@@ -1,7 +1,7 @@
 #!/bin/sh
-# Has the server of crates/mediating_server at work: four workers, requests through a pipe, and a profile whose file is replaced
+# Runs the server of crates/mediating_server: four workers, requests through a pipe, and a profile whose file is replaced
 # meanwhile. The verdict of an open must change with the file, a refused text must change nothing, and each request must have
-# just one answer.
+# exactly one answer.
 set -eu
 cd "$(dirname "$0")/../crates/mediating_server"
 burst=20000
@@ -13,7 +13,7 @@ finish() {
 }
 trap finish EXIT
 
-# fail WORDS..: tells them, and what the server has told
+# fail WORDS..: prints them, and what the server has reported
 fail() {
     echo "$*" >&2
     cat "$work/told" >&2
@@ -30,13 +30,13 @@ await() {
     done
 }
 
-# profile RULE: puts a profile with this rule in place of the one there
+# profile RULE: replaces the profile with one that has this rule
 profile() {
     printf 'profile served {\n  %s,\n}\n' "$1" >"$work/next"
     mv "$work/next" "$work/profile"
 }
 
-# ask REQUEST ANSWER: one request, which must be answered so
+# ask REQUEST ANSWER: one request, which must get this answer
 requests=0
 ask() {
     requests=$((requests + 1))
@@ -69,7 +69,7 @@ profile '/srv/* q'
 await grep -q '^refused: read 3 at ' "$work/told"
 ask 'open /srv/index r' 'denied by rule 1 /srv/index node 3 tree 2 policy 2'
 
-# Opens beside renames of the directory, as fast as they go.
+# Opens during renames of the directory, as fast as they go.
 yes 'open /srv/index r
 rename /srv /old
 open /old/index r

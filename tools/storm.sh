@@ -1,6 +1,6 @@
 #!/bin/sh
-# Opens a file 1,600,000 times in 16 threads beside 100,000 renames of its directory and as many new profiles, puts each answer to
-# what was really changed, and tells how long all that took. Needs ./aa-trace: make.
+# Opens a file 1,600,000 times in 16 threads during 100,000 renames of its directory and as many new profiles, checks each answer
+# against what was really changed, and prints how long all that took. Needs ./aa-trace: make.
 set -eu
 cd "$(dirname "$0")/.."
 begin=$(date +%s%N)

@@ -1,15 +1,15 @@
 #!/bin/sh
 # Reads the profile texts that Debian's packages ship, and prints for each file the first thing in it that is left out; then how
 # many files have each such thing, and how many have each construct at all. Then it flattens each by `apparmor_parser -p`, imports
-# it, and prints how many are taken, how many lines of the account there are by effect and by reason, and how many rules stay.
+# it, and prints how many are accepted, how many lines of the account there are by effect and by reason, and how many rules stay.
 #
 # sh tools/survey.sh [FOLDER]   FOLDER holds the unpacked packages; without it they are fetched and unpacked (apt-get, dpkg-deb)
 #
-# PACKAGES  the packages that are fetched, if not all that are known to ship profiles (400 megabytes; nothing is installed)
-# IMPORT    the program that imports (flattened text in, canonical text and an account out); without it that part is left out
+# PACKAGES  the packages to fetch, by default all that are known to ship profiles (400 megabytes; nothing is installed)
+# IMPORT    the program that imports (flattened text in, canonical text and an account out); if empty, that part is left out
 #
 # Needs apparmor_parser (the package apparmor) and Python 3 for the import, which is left out without them. The first part is left
-# out where ./aa-trace isn't built. The status is 1 where an import isn't as it should be (tools/survey-import tells what that is).
+# out if ./aa-trace isn't built. The status is 1 if an import isn't as it should be (tools/survey-import says what that is).
 set -eu
 cd "$(dirname "$0")/.."
 work=$(mktemp -d)
@@ -43,12 +43,12 @@ if [ -z "$folder" ]; then
 fi
 profiles=$folder/etc/apparmor.d
 
-# The profile texts: what lies in the folders of profiles, but for abstractions and other parts that are included.
+# The profile texts: what is in the folders of profiles, except abstractions and other parts that are included.
 for part in "$profiles" "$profiles/libvirt" "$folder/usr/share/apparmor/extra-profiles"; do
     if [ -d "$part" ]; then find "$part" -maxdepth 1 -type f ! -name README; fi
 done | sort >"$work/files"
 
-# word_at FILE OFFSET: the word or mark that stands there
+# word_at FILE OFFSET: the word or mark that is there
 word_at() {
     tail -c +"$(($2 + 1))" "$1" | head -c 64 | head -n 1 | grep -oE '^([A-Za-z][A-Za-z0-9_]*=?|#include|@\{|->|\\.|.)' | head -n 1
 }
@@ -72,7 +72,7 @@ if [ -x ./aa-trace ]; then
         echo ": $(first_of "$work/body")" >>"$work/second"
     done <"$work/files"
 
-    # counts FILE: how often each first thing stands there
+    # counts FILE: how often each first thing is there
     counts() {
         sed 's/^.*: fault \([0-9]*\) at byte [0-9]*: /fault \1: /; s/^.*: read$/read/' "$1" | sort | uniq -c | sort -rn
     }
@@ -87,7 +87,7 @@ else
     echo 'the first things left out: not told, since ./aa-trace is not built'
 fi
 
-# having PATTERN LABEL: in how many files a line that is no comment matches
+# having PATTERN LABEL: in how many files a line that isn't a comment matches
 having() {
     count=0
     while read -r file; do
@@ -110,7 +110,7 @@ having '[[:space:]]->[[:space:]]' 'transitions and link rules'
 having '^[[:space:]]*(audit[[:space:]]+|deny[[:space:]]+)?(capability|network|mount|umount|remount|pivot_root|signal|ptrace|dbus|unix|rlimit|change_profile|userns)([[:space:],])' 'rules that are no file rules'
 having '^[[:space:]]+(profile[[:space:]]|\^|hat[[:space:]])' 'child profiles and hats'
 
-# The import. Packages leave a file for local rules to their installation, and include it.
+# The import. Packages include a file for local rules, which only their installation makes.
 echo
 if [ -z "$IMPORT" ]; then
     echo 'the import: left out, since IMPORT names no program'
