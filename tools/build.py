@@ -139,7 +139,7 @@ def find_sums(lines, version):
 
 
 def is_built(name, made_from, product):
-    """Whether this was built of a crate from what it is now."""
+    """Whether this was built from a crate as it is now."""
     try:
         with open(f"{BUILT}/{name}.sum", encoding="utf-8") as it:
             return it.read() == made_from and os.path.exists(product)

@@ -1,8 +1,8 @@
 #!/bin/sh
 # Refuses each allocation of one run of ./aa-trace in turn: only the first, then only the second, and so on, until a run has no
 # such allocation. Each refused run must write `no memory` (a storm may write `no thread`) to standard error and end with status
-# 4, with nothing on standard output or, for a script, the first of the answers in whole lines; or it does without that
-# allocation, and then gives the answers of the whole run. Last come walks over the row that threads share during its changes,
+# 4, with nothing on standard output or, for a script, a prefix of the answers in whole lines; or it does without that
+# allocation, and then gives all answers of the whole run. Last come walks over the row that threads share during its changes,
 # some of which then run out of memory: no walk may find what isn't there. Needs a C compiler, for the few lines that wrap malloc
 # and realloc.
 set -eu
@@ -44,7 +44,7 @@ void *realloc(void *old, size_t size) {
 C
 ${CC:-cc} -shared -fPIC -O1 -o "$work/refuse.so" "$work/refuse.c" -ldl
 
-# is_front: the answers are the first of those of the whole run, in whole lines; if that isn't a script's, nothing
+# is_front: the answers are a prefix, in whole lines, of those of the whole run; if that isn't a script's, nothing
 is_front() {
     size=$(wc -c <"$work/answers")
     [ "$size" -eq 0 ] && return 0
@@ -55,7 +55,7 @@ is_front() {
     [ "$(tail -c 1 "$work/answers" | wc -l)" -eq 1 ] && head -c "$size" "$work/whole-answers" | cmp -s - "$work/answers"
 }
 
-# is_refusal: the message says that memory ran out or, of a storm, that a thread couldn't be started without it
+# is_refusal: the message says that memory ran out or, of a storm, that a thread couldn't be started for lack of it
 is_refusal() {
     case "$(cat "$work/faults")" in
     'no memory') ;;
