@@ -8,7 +8,7 @@
 # PACKAGES  the packages to fetch, by default all that are known to ship profiles (400 megabytes; nothing is installed)
 # IMPORT    the program that imports (flattened text in, canonical text and an account out); if empty, that part is left out
 #
-# Needs apparmor_parser (the package apparmor) and Python 3 for the import, which is left out without them. The first part is left
+# Needs Python 3, and apparmor_parser (the package apparmor) for the import, which is left out without it. The first part is left
 # out if ./aa-trace isn't built. The status is 1 if an import isn't as it should be (tools/survey-import says what that is).
 set -eu
 cd "$(dirname "$0")/.."
