@@ -1,17 +1,22 @@
 -- The states that are built so far: one for each set, in the order of the sets.
-use Rattle.std.proofs.Common.{◌≡◌, ◌⊎◌, inl, inr, ⊎_elim, ℕ, ◌+◌, ◌<◌, ◌≤◌, ◌↔◌, Bool, IsTrue, false, true≢false, List, [], ◌∷◌, ◌++◌, length, slice_index_or, Contains, refl, sym, ap, ◌∙◌, subst, subst₂, arith}
-use Rattle.std.proofs.Math.Seq.{get_or-append_seam}
-use Rattle.std.proofs.lemmas.List.{length-append, get_or_append_left}
+use Rattle.std.proofs.Common.{◌≡◌, ◌⊎◌, inl, inr, ⊎_elim, ℕ, ◌+◌, ◌<◌, ◌≤◌, ◌↔◌, Bool, IsTrue, false, true≢false, List, [], ◌∷◌, ◌++◌, length, drop, slice_index_or, Contains, refl, sym, ap, ◌∙◌, subst, subst₂, arith}
+use Rattle.std.proofs.Math.Seq.{get_or-append_seam, drop-append_seam}
+use Rattle.std.proofs.lemmas.List.{length-append, length-drop, get_or_append_left, drop-append-le}
 use Rattle.std.proofs.lemmas.Bool.{cases_lt}
 use Rattle.glob_automaton.specs.declared.chart.Chart.{Chart}
 use Rattle.verdicts.specs.declared.record.Record.{Record}
 use Rattle.glob_automaton.specs.inner.Building.{IsStartOf, IsStepOf, begins, IsRecordOf, IsBuilt}
 use Rattle.glob_automaton.specs.inner.Gathering.{IsAscending}
-use Rattle.glob_automaton.specs.inner.States.{tables, AreStates, IsNumbered, AreFewSets, Keeps, IsTargetOf, IsRowOf}
+use Rattle.automata.specs.Automata.{IsWhole, target}
+use Rattle.automata.specs.declared.range.TargetRange.{TargetRange}
+use Rattle.automata.specs.Rows.{AreRows, IsRowFrom, rows_of, target_in}
+use Rattle.automata.proofs.RowLaws.{row_stays, row_some, target_stays}
+use Rattle.automata.proofs.RowLists.{row_at, rows_long, target_at, targets_long}
+use Rattle.glob_automaton.specs.inner.States.{tables, AreStates, IsNumbered, AreFewSets, Keeps, IsTargetOf, IsRowOfSet}
 use Rattle.glob_automaton.proofs.EmptySets.{all_empty}
 use Rattle.glob_automaton.proofs.LiveNumbers.{reached_ascends}
 use Rattle.glob_automaton.proofs.RuleNumbers.{neither_less}
-use Rattle.glob_automaton.proofs.SetSteps.{set_there, set_from, numbered_sets, step_empty}
+use Rattle.glob_automaton.proofs.SetSteps.{set_there, set_from, numbered_sets, step_empty, still_target}
 
 -- the empty set alone, which is one set
 pub empty_set_alone : (chart : Chart) (old new : List (List ℕ)) (number : ℕ) → old ≡ [] → IsNumbered old new [] number →
@@ -34,7 +39,7 @@ empty_set_alone chart old new number none is = ⊎_elim
 
 -- no state yet, once the set that is live at first has its number
 pub no_states : (chart : Chart) (old new : List (List ℕ)) (set : List ℕ) (start : ℕ) → AreFewSets chart old → length old ≡ 1 → IsStartOf chart set →
-    IsNumbered old new set start → AreStates chart new [] [] start 0
+    IsNumbered old new set start → AreStates chart new [] [] [] start 0
 no_states chart old new set start are one begun is =
     let w = numbered_sets chart old new set start are (inr ([], begins chart set begun)) is in
     record {
@@ -70,15 +75,19 @@ kept_at old new i kept lt = ap (λ z. slice_index_or z i []) kept.1 ∙ get_or_a
 kept_long : (old new : List (List ℕ)) → Keeps old new → length old ≤ length new
 kept_long old new kept = omega (arith, ap length kept.1, length-append old kept.0)
 
-kept_row : (chart : Chart) (old new : List (List ℕ)) (set row : List ℕ) → Keeps old new → IsRowOf chart old set row → IsRowOf chart new set row
-kept_row chart old new set row kept is = record {
-  long = is.long;
+-- a row stays the same when sets are added, and other rows after it
+kept_row : (chart : Chart) (old new : List (List ℕ)) (set : List ℕ) (row more : List TargetRange) → Keeps old new → IsRowOfSet chart old set row →
+    IsRowOfSet chart new set (row ++ more)
+kept_row chart old new set row more kept is = record {
+  is_row = row_stays row more 0 is.is_row;
   targets = λ b small.
-      let t = is.targets b small in (
-        omega (arith, t.0, kept_long old new kept),
-        subst (λ z. IsStepOf chart set b z) (sym (kept_at old new (slice_index_or row b 0) kept t.0)) t.1,
-      );
+      subst (λ t. IsTargetOf chart new set b t) (sym (target_stays row more 0 b is.is_row small))
+      (still_target chart old new set b (target_in row b) kept (is.targets b small));
 }
+
+-- a row begins within the ranges
+row_begins : (ranges : List TargetRange) (first : ℕ) → IsRowFrom 0 (drop first ranges) → first ≤ length ranges
+row_begins ranges first h = let some = row_some (drop first ranges) 0 h in omega (arith, some, length-drop first ranges)
 
 -- what is in a list with one more element
 module _ {X : Type 0} (xs : List X) (x d : X) where
@@ -89,22 +98,29 @@ module _ {X : Type 0} (xs : List X) (x d : X) where
   newest i at = ap (λ z. slice_index_or (xs ++ x ∷ []) z d) at ∙ get_or-append_seam xs x [] d
 
 -- one state more
-pub one_state_more : (chart : Chart) (sets new rows : List (List ℕ)) (records : List Record) (start state : ℕ) (set row : List ℕ) (r : Record) →
-    AreStates chart sets rows records start state → state < length sets → set ≡ slice_index_or sets state [] → AreFewSets chart new → Keeps sets new →
-    IsRowOf chart new set row → IsRecordOf chart set r → AreStates chart new (rows ++ row ∷ []) (records ++ r ∷ []) start (state + 1)
-one_state_more chart sets new rows records start state set row r are lt is few kept its_row its_record = record {
+pub one_state_more : (chart : Chart) (sets new : List (List ℕ)) (ranges row : List TargetRange) (firsts : List ℕ) (records : List Record) (start state : ℕ)
+    (set : List ℕ) (r : Record) → AreStates chart sets ranges firsts records start state → state < length sets → set ≡ slice_index_or sets state [] →
+    AreFewSets chart new → Keeps sets new → IsRowOfSet chart new set row → IsRecordOf chart set r →
+    AreStates chart new (ranges ++ row) (firsts ++ length ranges ∷ []) (records ++ r ∷ []) start (state + 1)
+one_state_more chart sets new ranges row firsts records start state set r are lt is few kept its_row its_record = record {
   sets_few = few;
   start_there = omega (arith, are.start_there, kept_long sets new kept);
   start_first = are.start_first;
   begun = subst (λ z. IsStartOf chart z) (sym (kept_at sets new start kept are.start_there)) are.begun;
   within = omega (arith, lt, kept_long sets new kept);
-  each_row = omega (arith, are.each_row, length-append rows (row ∷ []));
+  each_row = omega (arith, are.each_row, length-append firsts (length ranges ∷ []));
   each_record = omega (arith, are.each_record, length-append records (r ∷ []));
   row = λ s below. ⊎_elim
-      (λ old. subst₂ (λ x y. IsRowOf chart new x y) (sym (there s old)) (sym (earlier rows row [] s (omega (arith, old, are.each_row))))
-      (kept_row chart sets new (slice_index_or sets s []) (slice_index_or rows s []) kept (are.row s old)))
+      (λ old.
+      let begin : ℕ = slice_index_or firsts s 0 in
+      let its = are.row s old in
+      subst₂ (λ x y. IsRowOfSet chart new x y) (sym (there s old))
+      (sym (ap (λ z. drop z (ranges ++ row)) (earlier firsts (length ranges) 0 s (omega (arith, old, are.each_row)))
+      ∙ drop-append-le begin ranges row (row_begins ranges begin its.is_row)))
+      (kept_row chart sets new (slice_index_or sets s []) (drop begin ranges) row kept its))
       (λ le. let at : s ≡ state = omega (arith, below, le) in
-      subst₂ (λ x y. IsRowOf chart new x y) (its_set s at) (sym (newest rows row [] s (omega (arith, at, are.each_row)))) its_row)
+      subst₂ (λ x y. IsRowOfSet chart new x y) (its_set s at)
+      (sym (ap (λ z. drop z (ranges ++ row)) (newest firsts (length ranges) 0 s (omega (arith, at, are.each_row))) ∙ drop-append_seam ranges row)) its_row)
       (cases_lt s state);
   recorded = λ s none below. ⊎_elim
       (λ old. subst₂ (λ x y. IsRecordOf chart x y) (sym (there s old)) (sym (earlier records r none s (omega (arith, old, are.each_record))))
@@ -121,16 +137,24 @@ one_state_more chart sets new rows records start state set row r are lt is few k
     its_set s at = is ∙ sym (kept_at sets new state kept lt) ∙ ap (λ z. slice_index_or new z []) (sym at)
 
 -- all states, once there is one for each set
-module _ (chart : Chart) (sets rows : List (List ℕ)) (records : List Record) (start state : ℕ) (are : AreStates chart sets rows records start state)
-    (all : length sets ≤ state) where
+module _ (chart : Chart) (sets : List (List ℕ)) (ranges : List TargetRange) (firsts : List ℕ) (records : List Record) (start state : ℕ)
+    (are : AreStates chart sets ranges firsts records start state) (all : length sets ≤ state) where
+  abbrev pub rows : List (List ℕ)
+  rows = rows_of ranges firsts
+
   count : state ≡ length sets
   count = omega (arith, all, are.within)
 
   target_of : (s b : ℕ) → s < length sets → b < 256 → IsTargetOf chart sets (slice_index_or sets s []) b (slice_index_or (slice_index_or rows s []) b 0)
-  target_of s b lt small = (are.row s (omega (arith, lt, count))).targets b small
+  target_of s b lt small =
+      subst (λ t. IsTargetOf chart sets (slice_index_or sets s []) b t) (sym (target_at ranges firsts s b (omega (arith, lt, count, are.each_row)) small))
+      ((are.row s (omega (arith, lt, count))).targets b small)
+
+  pub are_rows : AreRows ranges firsts
+  are_rows s lt = (are.row s (omega (arith, lt, are.each_row))).is_row
 
   each : length rows ≡ length sets
-  each = omega (arith, are.each_row, count)
+  each = omega (arith, rows_long ranges firsts, are.each_row, count)
 
   some : 0 < length sets
   some = are.sets_few.0.some
@@ -168,20 +192,24 @@ module _ (chart : Chart) (sets rows : List (List ℕ)) (records : List Record) (
       (λ le. inl (omega (arith, le, are.start_first)))
       (cases_lt start 1)
 
-  pub built_states : IsBuilt chart (tables rows records start)
+  pub is_whole : IsWhole (tables ranges firsts records start)
+  is_whole = record {
+    rows_long = λ s lt.
+        ap length (row_at ranges firsts s (omega (arith, lt, rows_long ranges firsts))) ∙ targets_long (drop (slice_index_or firsts s 0) ranges) 0 256;
+    targets = λ s b lt small. omega (arith, (target_of s b (omega (arith, lt, each)) small).0, each);
+    each_record = omega (arith, each, count, are.each_record);
+    start_there = omega (arith, are.start_there, each);
+    few = omega (arith, are.sets_few.1, each);
+    stays_dead = stays;
+    begins = start_is;
+  }
+
+  pub built_states : IsBuilt chart (tables ranges firsts records start)
   built_states = record {
     sets = sets;
     are_sets = are.sets_few.0;
     each_row = each;
-    whole = record {
-      rows_long = λ s lt. (are.row s (omega (arith, lt, are.each_row))).long;
-      targets = λ s b lt small. omega (arith, (target_of s b (omega (arith, lt, each)) small).0, each);
-      each_record = omega (arith, are.each_row, are.each_record);
-      start_there = omega (arith, are.start_there, each);
-      few = omega (arith, are.sets_few.1, each);
-      stays_dead = stays;
-      begins = start_is;
-    };
+    whole = is_whole;
     start_first = are.start_first;
     begins = are.begun;
     steps = λ s b lt small. (target_of s b lt small).1;

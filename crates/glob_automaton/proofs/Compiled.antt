@@ -12,10 +12,11 @@ use Rattle.verdicts.specs.declared.kind.RuleKind.{RuleKind}
 use Rattle.verdicts.specs.declared.kind.RuleKind.TheVariants.{Allow, Deny}
 use Rattle.glob_automaton.specs.declared.chart.Chart.{Chart}
 use Rattle.glob_automaton.specs.declared.chart.ChartRule.{ChartRule}
-use Rattle.glob_automaton.specs.declared.fault.CompileFault.{CompileFault}
-use Rattle.glob_automaton.specs.declared.fault.CompileFault.TheVariants.{TooManyStates, NoMemory}
+use Rattle.automata.specs.declared.fault.CompileFault.{CompileFault}
+use Rattle.automata.specs.declared.fault.CompileFault.TheVariants.{TooManyStates, NoMemory}
 use Rattle.verdicts.specs.declared.record.Record.{Record}
-use Rattle.glob_automaton.specs.Automata.{Automaton, target, goes_to, state_after, most_sets, IsAutomatonOf, IsCompileFault}
+use Rattle.automata.specs.Automata.{Automaton, target, goes_to, state_after, most_sets}
+use Rattle.glob_automaton.specs.Automata.{IsAutomatonOf, IsCompileFault}
 use Rattle.glob_automaton.specs.inner.Building.{IsReached, begins, goes_on, EndsIn, IsRecordOf, IsBuilt, IsBuildFault}
 use Rattle.glob_automaton.specs.inner.Drawing.{HasRule, IsChartOf}
 use Rattle.verdicts.specs.Least.{hits_of, IsLeastOrNone}

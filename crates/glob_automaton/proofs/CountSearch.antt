@@ -3,7 +3,8 @@ use Rattle.std.proofs.Common.{◌≢◌, ℕ, ◌+◌, ◌<◌, ◌≤◌, Bool,
 use Rattle.std.proofs.lemmas.Bool.{cases_lt}
 use Rattle.std.proofs.lemmas.List.Elements.{All-nil}
 use Rattle.rule_profile.specs.Profile.{RuleValue}
-use Rattle.glob_automaton.specs.Automata.{StateLimit, most_sets}
+use Rattle.automata.specs.Automata.{most_sets}
+use Rattle.glob_automaton.specs.Automata.{StateLimit}
 use Rattle.glob_automaton.specs.Sets.{SameSet, NoneLive, IsPrefixOfName, AreDifferent, AreMoreThan}
 use Rattle.glob_automaton.proofs.CountedPrefixes.{AreAll, all_counted}
 use Rattle.glob_automaton.proofs.Counting.{few_values}

@@ -1,5 +1,5 @@
--- The row of a set, one byte after another. Bytes that are alike and that no place takes alone have one target.
-use Rattle.std.proofs.Common.{◌≡◌, ◌≢◌, ⊎_elim, ℕ, zero, suc, ◌+◌, ◌<◌, ◌&&◌, Bool, false, true≢false, nat_lt, List, [], length, Option, Some, None, slice_get, slice_index_or, Contains, refl, sym, ap, ◌∙◌, subst, arith}
+-- The targets of a set. Bytes that are alike and that no place takes alone have one target.
+use Rattle.std.proofs.Common.{◌≡◌, ◌≢◌, ⊎_elim, ℕ, zero, suc, ◌+◌, ◌<◌, ◌&&◌, Bool, false, true≢false, nat_lt, List, [], length, Option, Some, None, slice_get, slice_index_or, Contains, Result, Ok, Err, OnOk, refl, sym, ap, ◌∙◌, subst, arith}
 use Rattle.std.proofs.Math.Bool.{and-false}
 use Rattle.std.proofs.Math.ListN.{set, replicate}
 use Rattle.std.proofs.lemmas.Bool.Decides.{eqb_tells}
@@ -14,6 +14,7 @@ use Rattle.glob_automaton.specs.inner.Alike.{least_of, AreAlike, AreNamed, Names
 use Rattle.glob_automaton.specs.inner.Building.{IsStepOf}
 use Rattle.glob_automaton.specs.inner.Chart.{takes_byte}
 use Rattle.glob_automaton.specs.inner.Drawing.{IsKnown, IsPartOfChart}
+use Rattle.glob_automaton.specs.inner.Shared.{AreShared}
 use Rattle.glob_automaton.specs.inner.States.{Keeps, IsTargetOf}
 use Rattle.glob_automaton.proofs.SetSteps.{still_target}
 
@@ -22,6 +23,11 @@ none_at : (n o : ℕ) → slice_index_or (replicate {A = Option ℕ} n None) o N
 none_at zero o = refl
 none_at (suc n) zero = refl
 none_at (suc n) (suc o) = none_at n o
+
+-- what follows from what holds on success
+pub on_ok : {X E : Type 0} {P Q : Type 0} (r : Result X E) → (P → Q) → OnOk r P → OnOk r Q
+on_ok (Ok x) follows h = follows h
+on_ok (Err e) follows h = tt
 
 -- another byte than its own is not taken
 other_byte : (classes : List (List Bool)) (a b : ℕ) → a ≢ b → takes_byte classes (label.Byte a) b ≡ false
@@ -69,56 +75,28 @@ module _ (chart : Chart) (least : List ℕ) (part : IsPartOfChart chart) (alike 
         taken_alike p place there at = unnamed_alike place.takes b c small other same (part.1.there p place at).1
             (not_alone p b place there at small one) (not_alone p c place there at other two)
 
--- The bytes before k have their targets, and each target that is kept for a least byte is that of all bytes alike to it that
--- no place takes alone.
-pub record RowBefore (chart : Chart) (least : List ℕ) (named : List Bool) (sets : List (List ℕ)) (places : List ℕ) (others : List (Option ℕ)) (row : List ℕ) (k : ℕ) : Type 0 where
-  pub long : length row ≡ 256
-  pub wide : length others ≡ 256
-  pub targets : (b : ℕ) → b < k → IsTargetOf chart sets places b (slice_index_or row b 0)
-  pub shared : (o b target : ℕ) → slice_index_or others o None ≡ Some target → b < 256 → least_of least b ≡ o → slice_index_or named b false ≡ false →
-      IsTargetOf chart sets places b target
-
 module _ (chart : Chart) (least : List ℕ) (named : List Bool) (places : List ℕ) where
   -- at first none is there
-  pub row_none : (n m : ℕ) (sets : List (List ℕ)) → n ≡ 256 → m ≡ 256 →
-      RowBefore chart least named sets places (replicate {A = Option ℕ} n None) (replicate {A = ℕ} m 0) 0
-  row_none n m sets wide long = record {
-    long = length-replicate m 0 ∙ long;
+  pub none_shared : (n : ℕ) (sets : List (List ℕ)) → n ≡ 256 → AreShared chart least named sets places (replicate {A = Option ℕ} n None)
+  none_shared n sets wide = record {
     wide = length-replicate n None ∙ wide;
-    targets = λ b lt. absurd (omega (arith, lt));
     shared = λ o b target there small same unmarked. absurd (none-some target (sym (none_at n o) ∙ there));
   }
 
-  module _ (old new : List (List ℕ)) (others : List (Option ℕ)) (row : List ℕ) (k target : ℕ) (kept : Keeps old new) (room : k < 256)
-      (is : RowBefore chart least named old places others row k) (found : IsTargetOf chart new places k target) where
-    -- the row with one target more
-    more_targets : (b : ℕ) → b < k + 1 → IsTargetOf chart new places b (slice_index_or (set row k target) b 0)
-    more_targets b lt = ⊎_elim
-        (λ same. subst (λ z. IsTargetOf chart new places b z) (sym (get_or-set_at row k b target 0 same.1 (omega (arith, room, is.long))))
-        (subst (λ z. IsTargetOf chart new places z target) (sym same.1) found))
-        (λ apart. subst (λ z. IsTargetOf chart new places b z) (sym (get_or-set_other row k b target 0 apart.1))
-        (still_target chart old new places b (slice_index_or row b 0) kept (is.targets b (less apart.1))))
-        (eqb_tells b k)
-      where
-        less : b ≢ k → b < k
-        less apart = omega (arith, lt, apart)
-
-    -- the target of a byte alone
-    pub row_named : RowBefore chart least named new places others (set row k target) (k + 1)
-    row_named = record {
-      long = length-set row k target ∙ is.long;
+  module _ (old new : List (List ℕ)) (others : List (Option ℕ)) (kept : Keeps old new) (is : AreShared chart least named old places others) where
+    -- they stay when sets are added
+    pub shared_stay : AreShared chart least named new places others
+    shared_stay = record {
       wide = is.wide;
-      targets = more_targets;
       shared = λ o b t there small same unmarked. still_target chart old new places b t kept (is.shared o b t there small same unmarked);
     }
 
-    -- the target of all that are alike to the byte
-    pub row_shared : (o : ℕ) → IsPartOfChart chart → AreAlike chart least → AreNamed chart places named → least_of least k ≡ o →
-        slice_index_or named k false ≡ false → RowBefore chart least named new places (set others o (Some target)) (set row k target) (k + 1)
-    row_shared o part alike marks at free = record {
-      long = length-set row k target ∙ is.long;
+    -- the target of one byte is that of all that are alike to it
+    pub one_more_shared : (k o target : ℕ) → k < 256 → IsTargetOf chart new places k target → IsPartOfChart chart → AreAlike chart least →
+        AreNamed chart places named → least_of least k ≡ o → slice_index_or named k false ≡ false →
+        AreShared chart least named new places (set others o (Some target))
+    one_more_shared k o target room found part alike marks at free = record {
       wide = length-set others o (Some target) ∙ is.wide;
-      targets = more_targets;
       shared = λ x b t there small same unmarked. ⊎_elim
           (λ here.
           let one : target ≡ t = same_Some target t (sym (get_or-set_at others o x (Some target) None here.1 fits_in) ∙ there) in

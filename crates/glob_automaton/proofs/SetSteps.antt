@@ -4,8 +4,8 @@ use Rattle.std.proofs.Math.Seq.{get_or-append_seam}
 use Rattle.std.proofs.lemmas.List.{length-append, append-nil, append_assoc, get_or_append_left, get_or_default}
 use Rattle.std.proofs.lemmas.Bool.{cases_lt}
 use Rattle.glob_automaton.specs.declared.chart.Chart.{Chart}
-use Rattle.glob_automaton.specs.declared.fault.CompileFault.{CompileFault}
-use Rattle.glob_automaton.specs.declared.fault.CompileFault.TheVariants.{TooManyStates, NoMemory}
+use Rattle.automata.specs.declared.fault.CompileFault.{CompileFault}
+use Rattle.automata.specs.declared.fault.CompileFault.TheVariants.{TooManyStates, NoMemory}
 use Rattle.glob_automaton.specs.inner.Building.{IsStepOf, IsReached, goes_on, AreSets, IsBuildFault}
 use Rattle.glob_automaton.specs.inner.States.{IsNumbered, IsNumberFault, AreFewSets, Keeps, IsTargetOf}
 use Rattle.glob_automaton.proofs.Ascending.{no_members, contains_none}

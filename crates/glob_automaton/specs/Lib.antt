@@ -1,5 +1,5 @@
 pub mod Least
 pub mod Sets
 pub mod Automata
-pub mod Faults
+pub mod Parts
 pub mod inner

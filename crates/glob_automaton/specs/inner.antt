@@ -4,3 +4,5 @@ pub mod Alike
 pub mod Gathering
 pub mod Building
 pub mod States
+pub mod Shared
+pub mod Leaves

@@ -1,17 +1,18 @@
 //! The subset construction: a state for each set of places that is live after some bytes.
 ghost use Rattle.std.specs.Prelude.{◌≡◌, ◌↔◌, ◌<◌, ◌≤◌, ◌++◌, ◌∷◌, [], IfOk, IfErr, IsTrue, OnOk, Contains, length, map, slice_index_or};
 ghost use Rattle.glob_automaton.specs.inner.Alike.{AreAlike, AreNamed};
-ghost use Rattle.glob_automaton.specs.Automata.{most_sets};
+ghost use Rattle.automata.specs.Automata.{most_sets};
 ghost use Rattle.glob_automaton.specs.inner.Building.{ArePlaces, IsStartOf, IsStepOf, IsRecordOf, IsBuilt, IsBuildFault};
 ghost use Rattle.glob_automaton.specs.inner.Drawing.{IsPartOfChart};
 ghost use Rattle.glob_automaton.specs.inner.Gathering.{IsGathering, IsAscending};
-ghost use Rattle.glob_automaton.specs.inner.States.{lists_of, tables, AreFewSets, AreStates, Keeps, IsNumbered, IsNumberFault, IsTargetOf, IsRowOf};
+ghost use Rattle.glob_automaton.specs.inner.States.{lists_of, tables, AreFewSets, AreStates, Keeps, IsNumbered, IsNumberFault, IsTargetOf};
+ghost use Rattle.glob_automaton.specs.inner.Shared.{AreShared};
+ghost use Rattle.automata.specs.Rows.{AreRows, IsRowAppended};
 
-use crate::automaton::Dfa;
 use crate::bytes::ByteClasses;
 use crate::chart::{Chart, Label};
-use crate::fault::CompileFault;
 use crate::sets::Gathering;
+use automata::{CompileFault, Dfa, TargetRange};
 use indexmap::IndexSet;
 use std::alloc::{AllocError, Global};
 use verdicts::Record;
@@ -29,7 +30,10 @@ struct Sets {
 /// The rows and records of the sets that have been processed, and the number of the set at the start.
 #[derive(Drop)]
 struct States {
-    rows: Vec<[u32; 256]>,
+    // The ranges of all rows, one row after another.
+    ranges: Vec<TargetRange>,
+    // For each state the index of its row's first range.
+    firsts: Vec<usize>,
     records: Vec<Record>,
     start: u32,
 }
@@ -48,16 +52,13 @@ pub(crate) fn build(alloc: Global, chart: &Chart) -> Result<Dfa, CompileFault>
     };
     let start = number_start(chart, &mut gathering, &mut sets)?;
     let mut states = States {
-        rows: Vec::new(alloc),
+        ranges: Vec::new(alloc),
+        firsts: Vec::new(alloc),
         records: Vec::new(alloc),
         start,
     };
     add_states(alloc, chart, &mut gathering, &mut sets, &mut states)?;
-    Ok(Dfa {
-        rows: states.rows,
-        records: states.records,
-        start: states.start,
-    })
+    Ok(Dfa::of(states.ranges, states.firsts, states.records, states.start))
 }
 
 // Numbers the empty set, and then what is live before the first byte.
@@ -70,7 +71,7 @@ fn number_start(
     requires gathering { IsGathering chart.now gathering.old }
     requires none { lists_of sets.old ≡ [] }
     ensures gathering { OnOk result (IsGathering chart.now gathering.new) }
-    ensures start { IfOk result (λ start. AreStates chart.now (lists_of sets.new) [] [] start 0) }
+    ensures start { IfOk result (λ start. AreStates chart.now (lists_of sets.new) [] [] [] start 0) }
     ensures err { IfErr result (IsBuildFault chart.now) }
 {
     sets.number(&[])?;
@@ -89,8 +90,9 @@ fn add_states(
     requires chart { IsPartOfChart chart.now }
     requires few { length chart.now.rules.items ≤ 1024 }
     requires gathering { IsGathering chart.now gathering.old }
-    requires none { AreStates chart.now (lists_of sets.old) states.old.rows.items states.old.records.items states.old.start 0 }
-    ensures ok { OnOk result (IsBuilt chart.now (tables states.new.rows.items states.new.records.items states.new.start)) }
+    requires none { AreStates chart.now (lists_of sets.old) states.old.ranges.items states.old.firsts.items states.old.records.items states.old.start 0 }
+    ensures ok { OnOk result (IsBuilt chart.now (tables states.new.ranges.items states.new.firsts.items states.new.records.items states.new.start)) }
+    ensures rows { OnOk result (AreRows states.new.ranges.items states.new.firsts.items) }
     ensures err { IfErr result (IsBuildFault chart.now) }
 {
     let classes = ByteClasses::of(chart);
@@ -100,8 +102,9 @@ fn add_states(
         if !sets.copy(state, &mut set)? {
             break;
         }
-        let row = row_of(chart, &classes, &set, gathering, sets)?;
-        keep(&mut states.rows, row)?;
+        let first = count(&states.ranges);
+        add_row(chart, &classes, &set, gathering, sets, &mut states.ranges)?;
+        keep(&mut states.firsts, first)?;
         keep(&mut states.records, record_of(chart, &ends, &set))?;
     }
     Ok(())
@@ -142,8 +145,15 @@ impl Sets {
     }
 }
 
-// Appends to a list; with its own contract, so that rows and records are handled in the same way.
-fn keep<T: Drop>(list: &mut Vec<T>, value: T) -> Result<(), AllocError>
+// The number of ranges.
+fn count(ranges: &Vec<TargetRange>) -> usize
+    ensures { result ≡ length ranges.now.items }
+{
+    ranges.len()
+}
+
+/// Appends to a list, whatever its elements are.
+pub(crate) fn keep<T: Drop>(list: &mut Vec<T>, value: T) -> Result<(), AllocError>
     ensures { OnOk result (list.new.items ≡ list.old.items ++ value ∷ []) }
 {
     list.push(value)?;
@@ -210,7 +220,7 @@ fn target_of(
     byte: u8,
     gathering: &mut Gathering,
     sets: &mut Sets,
-) -> Result<u32, CompileFault>
+) -> Result<u16, CompileFault>
     requires chart { IsPartOfChart chart.now }
     requires gathering { IsGathering chart.now gathering.old }
     requires sets { AreFewSets chart.now (lists_of sets.old) }
@@ -222,17 +232,59 @@ fn target_of(
     ensures err { IfErr result (IsBuildFault chart.now) }
 {
     gather_step(chart, set, byte, gathering)?;
-    sets.number(gathering.places())
+    match sets.number(gathering.places()) {
+        Ok(number) => Ok(number as u16),
+        Err(fault) => Err(fault),
+    }
 }
 
-// The targets of a set. Bytes that are alike and that no place of the set takes alone have one target, which is found once.
-fn row_of(
+// The target of a set and a byte. Bytes that are alike and that no place of the set takes alone have one target, which is found
+// once, and kept in `others` for the least of them.
+fn shared_target(
+    chart: &Chart,
+    classes: &ByteClasses,
+    named: &[bool; 256],
+    set: &[usize],
+    byte: u8,
+    others: &mut [Option<u16>; 256],
+    gathering: &mut Gathering,
+    sets: &mut Sets,
+) -> Result<u16, CompileFault>
+    requires chart { IsPartOfChart chart.now }
+    requires alike { AreAlike chart.now classes.now.least }
+    requires named { AreNamed chart.now set.now named.now }
+    requires gathering { IsGathering chart.now gathering.old }
+    requires sets { AreFewSets chart.now (lists_of sets.old) }
+    requires set { Contains (lists_of sets.old) set.now }
+    requires others { AreShared chart.now classes.now.least named.now (lists_of sets.old) set.now others.old }
+    ensures gathering { OnOk result (IsGathering chart.now gathering.new) }
+    ensures sets { OnOk result (AreFewSets chart.now (lists_of sets.new)) }
+    ensures kept { OnOk result (Keeps (lists_of sets.old) (lists_of sets.new)) }
+    ensures others { OnOk result (AreShared chart.now classes.now.least named.now (lists_of sets.new) set.now others.new) }
+    ensures target { IfOk result (IsTargetOf chart.now (lists_of sets.new) set.now byte) }
+    ensures err { IfErr result (IsBuildFault chart.now) }
+{
+    if named[byte as usize] {
+        return target_of(chart, set, byte, gathering, sets);
+    }
+    let least = classes.least[byte as usize] as usize;
+    if let Some(target) = others[least] {
+        return Ok(target);
+    }
+    let target = target_of(chart, set, byte, gathering, sets)?;
+    others[least] = Some(target);
+    Ok(target)
+}
+
+// Adds the row of a set. A range ends where the next byte has another target.
+fn add_row(
     chart: &Chart,
     classes: &ByteClasses,
     set: &[usize],
     gathering: &mut Gathering,
     sets: &mut Sets,
-) -> Result<[u32; 256], CompileFault>
+    ranges: &mut Vec<TargetRange>,
+) -> Result<(), CompileFault>
     requires chart { IsPartOfChart chart.now }
     requires alike { AreAlike chart.now classes.now.least }
     requires gathering { IsGathering chart.now gathering.old }
@@ -241,27 +293,32 @@ fn row_of(
     ensures gathering { OnOk result (IsGathering chart.now gathering.new) }
     ensures sets { OnOk result (AreFewSets chart.now (lists_of sets.new)) }
     ensures kept { OnOk result (Keeps (lists_of sets.old) (lists_of sets.new)) }
-    ensures row { IfOk result (IsRowOf chart.now (lists_of sets.new) set.now) }
+    ensures row { OnOk result (IsRowAppended (IsTargetOf chart.now (lists_of sets.new) set.now) ranges.old.items ranges.new.items) }
     ensures err { IfErr result (IsBuildFault chart.now) }
 {
     let named = named_by(chart, set);
-    // For each least byte the target of those alike to it that no place of the set takes alone.
-    let mut others: [Option<u32>; 256] = [None; 256];
-    let mut row = [0; 256];
-    for byte in 0..256 {
-        let least = classes.least[byte] as usize;
-        if named[byte] {
-            row[byte] = target_of(chart, set, byte as u8, gathering, sets)?;
+    let mut others: [Option<u16>; 256] = [None; 256];
+    let mut target = shared_target(chart, classes, &named, set, 0, &mut others, gathering, sets)?;
+    for byte in 1..256u32 {
+        let next = shared_target(
+            chart,
+            classes,
+            &named,
+            set,
+            byte as u8,
+            &mut others,
+            gathering,
+            sets,
+        )?;
+        if next == target {
             continue;
         }
-        let target = match others[least] {
-            Some(target) => target,
-            None => target_of(chart, set, byte as u8, gathering, sets)?,
-        };
-        others[least] = Some(target);
-        row[byte] = target;
+        let last = (byte - 1) as u8;
+        keep(ranges, TargetRange { last, target })?;
+        target = next;
     }
-    Ok(row)
+    keep(ranges, TargetRange { last: 255, target })?;
+    Ok(())
 }
 
 // The ends of the rules, in order; collected once, so that the places of each set can be looked up in them.

@@ -1,20 +1,21 @@
 //! The places of all rules, and how a match goes from one to the next: a nondeterministic automaton whose empty moves are
 //! entries.
-ghost use Rattle.std.specs.Prelude.{◌≡◌, ◌≤◌, ◌++◌, ◌∷◌, [], IfOk, OnOk, length};
+ghost use Rattle.std.specs.Prelude.{◌≡◌, ◌≤◌, ◌++◌, ◌∷◌, [], IfOk, IsTrue, OnOk, length};
 ghost use Rattle.rule_globs.specs.Glob.{ByteSet, one, run};
 ghost use Rattle.rule_globs.specs.Meaning.{meaning, meaning_of, stars_glob, alternatives_meaning};
 ghost use Rattle.rule_profile.specs.Profile.{profile_value, rule_value};
 ghost use Rattle.glob_automaton.specs.inner.Chart.{takes_byte};
-ghost use Rattle.glob_automaton.specs.inner.Drawing.{IsReady, IsDrawn, IsPartOfChart, HasOneMore, IsChartOf, IsKnown, TakesSet};
+ghost use Rattle.glob_automaton.specs.inner.Leaves.{reading};
+ghost use Rattle.glob_automaton.specs.inner.Drawing.{IsReady, IsDrawn, IsPartOfChart, HasOneMore, IsChartOf, IsKnown, TakesSet, AreSame};
 
-use names::Perms;
+use names::{Permission, Perms};
 use rule_globs::{Class, Item, Stars};
-use rule_profile::{Profile, Rule};
+use rule_profile::Rule;
 use std::alloc::{AllocError, Global};
 use verdicts::RuleKind;
 
 /// Which bytes a place takes. No place takes byte 0.
-#[derive(Clone, Copy)]
+#[derive(Clone, Copy, PartialEq, Eq)]
 pub(crate) enum Label {
     /// That byte.
     Byte(u8),
@@ -29,7 +30,7 @@ pub(crate) enum Label {
 }
 
 /// A point that a match can reach, given by what is live there. An entry refers only to entries before it.
-#[derive(Clone, Copy)]
+#[derive(Clone, Copy, PartialEq, Eq)]
 pub(crate) enum Entry {
     /// Nothing.
     Nothing,
@@ -42,14 +43,14 @@ pub(crate) enum Entry {
 }
 
 /// A place: the bytes that it takes, and the entry after it.
-#[derive(Clone, Copy)]
+#[derive(Clone, Copy, PartialEq, Eq)]
 pub(crate) struct ChartPlace {
     pub takes: Label,
     pub behind: usize,
 }
 
 /// A rule: the place of its end, the entry at its beginning, and what it says.
-#[derive(Clone, Copy)]
+#[derive(Clone, Copy, PartialEq, Eq)]
 pub(crate) struct ChartRule {
     pub end: usize,
     pub start: usize,
@@ -68,27 +69,32 @@ pub(crate) struct Chart {
 }
 
 impl Chart {
-    /// The chart of a profile's rules.
-    pub(crate) fn of(alloc: Global, profile: &Profile) -> Result<Chart, AllocError>
-        ensures chart { IfOk result (IsChartOf (profile_value profile.now).rules) }
-        ensures few { IfOk result (λ chart. length chart.rules.items ≤ 1024) }
+    // The chart of no rules.
+    fn blank(alloc: Global) -> Chart
+        ensures { IsChartOf [] result }
     {
-        let mut chart = Chart {
+        Chart {
             places: Vec::new(alloc),
             entries: Vec::new(alloc),
             classes: Vec::new(alloc),
             rules: Vec::new(alloc),
-        };
-        for rule in profile.rules() {
-            chart.draw_rule(rule)?;
         }
+    }
+
+    /// The chart of the path of a rule, as that of a rule that allows reading.
+    pub(crate) fn of_path(alloc: Global, rule: &Rule) -> Result<Chart, AllocError>
+        ensures chart { IfOk result (IsChartOf (reading (rule_value rule.now) ∷ [])) }
+        ensures few { IfOk result (λ chart. length chart.rules.items ≤ 1024) }
+    {
+        let mut chart = Chart::blank(alloc);
+        chart.draw_path(rule)?;
         Ok(chart)
     }
 
-    // Draws one more rule.
-    fn draw_rule(&mut self, rule: &Rule) -> Result<(), AllocError>
+    // Draws the path of one more rule.
+    fn draw_path(&mut self, rule: &Rule) -> Result<(), AllocError>
         requires { IsPartOfChart self.old }
-        ensures { OnOk result (HasOneMore self.old self.new (rule_value rule.now)) }
+        ensures { OnOk result (HasOneMore self.old self.new (reading (rule_value rule.now))) }
     {
         let end = self.places.len();
         // An end takes nothing, so nothing goes on from it, whatever follows.
@@ -101,8 +107,8 @@ impl Chart {
         self.rules.push(ChartRule {
             end,
             start,
-            kind: rule.kind(),
-            perms: rule.perms(),
+            kind: RuleKind::Allow,
+            perms: Perms::NONE.with(Permission::Read),
         })?;
         Ok(())
     }
@@ -208,6 +214,16 @@ impl Chart {
             behind: entry,
         })?;
         Ok(entry)
+    }
+
+    /// Whether two charts have the same places, entries, classes and rules.
+    pub(crate) fn is_same(&self, other: &Chart) -> bool
+        ensures { IsTrue result → AreSame self.now other.now }
+    {
+        if self.places != other.places || self.entries != other.entries {
+            return false;
+        }
+        self.classes == other.classes && self.rules == other.rules
     }
 
     /// Whether the label takes a byte.

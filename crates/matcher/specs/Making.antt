@@ -2,8 +2,8 @@
 use Rattle.std.specs.Prelude.{ℕ, List}
 use Rattle.glob_automaton.specs.Automata.{most_sets}
 use Rattle.glob_automaton.specs.Sets.{AreMoreThan}
-use Rattle.glob_automaton.specs.declared.fault.CompileFault.{CompileFault}
-use Rattle.glob_automaton.specs.declared.fault.CompileFault.TheVariants as compiling
+use Rattle.automata.specs.declared.fault.CompileFault.{CompileFault}
+use Rattle.automata.specs.declared.fault.CompileFault.TheVariants as compiling
 use Rattle.matcher.specs.declared.fault.MakeFault.{MakeFault}
 use Rattle.matcher.specs.declared.fault.MakeFault.TheVariants.{TooManyStates, NoMemory}
 use Rattle.rule_profile.specs.Profile.{RuleValue}

@@ -7,10 +7,10 @@ use Rattle.verdicts.specs.declared.kind.RuleKind.TheVariants.{Allow, Deny}
 use Rattle.glob_automaton.specs.declared.chart.Chart.{Chart}
 use Rattle.glob_automaton.specs.declared.chart.ChartRule.{ChartRule}
 use Rattle.glob_automaton.specs.declared.chart.ChartPlace.{ChartPlace}
-use Rattle.glob_automaton.specs.declared.fault.CompileFault.{CompileFault}
-use Rattle.glob_automaton.specs.declared.fault.CompileFault.TheVariants.{TooManyStates, NoMemory}
+use Rattle.automata.specs.declared.fault.CompileFault.{CompileFault}
+use Rattle.automata.specs.declared.fault.CompileFault.TheVariants.{TooManyStates, NoMemory}
 use Rattle.verdicts.specs.declared.record.Record.{Record}
-use Rattle.glob_automaton.specs.Automata.{Automaton, target, most_sets, IsWhole}
+use Rattle.automata.specs.Automata.{Automaton, target, most_sets, IsWhole}
 use Rattle.glob_automaton.specs.inner.Chart.{IsIn, takes_byte}
 use Rattle.glob_automaton.specs.inner.Gathering.{IsAscending}
 use Rattle.verdicts.specs.Least.{hits_of, IsLeastOrNone}

@@ -80,3 +80,10 @@ IsPartOfChart chart = (rules : List RuleValue) × IsChartOf rules chart
 -- one rule more is drawn, whichever were before
 abbrev pub HasOneMore : Chart → Chart → RuleValue → Type 0
 HasOneMore old new rule = (rules : List RuleValue) → IsChartOf rules old → IsChartOf (rules ++ rule ∷ []) new
+
+-- two charts with the same lists
+pub record AreSame (one other : Chart) : Type 0 where
+  pub places : one.places.items ≡ other.places.items
+  pub entries : one.entries.items ≡ other.entries.items
+  pub classes : one.classes.items ≡ other.classes.items
+  pub rules : one.rules.items ≡ other.rules.items

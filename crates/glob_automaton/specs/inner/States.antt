@@ -1,11 +1,13 @@
 -- The sets so far, each with its number, and the row of one of them.
-use Rattle.std.specs.Prelude.{◌≡◌, ◌≢◌, ◌⊎◌, ℕ, ◌<◌, ◌≤◌, List, [], ◌∷◌, ◌++◌, length, map, slice_index_or, Contains}
+use Rattle.std.specs.Prelude.{◌≡◌, ◌≢◌, ◌⊎◌, ℕ, ◌<◌, ◌≤◌, List, [], ◌∷◌, ◌++◌, length, map, drop, slice_index_or, Contains}
 use Rattle.glob_automaton.specs.declared.chart.Chart.{Chart}
 use Rattle.glob_automaton.specs.declared.building.Sets.{Sets}
-use Rattle.glob_automaton.specs.declared.fault.CompileFault.{CompileFault}
-use Rattle.glob_automaton.specs.declared.fault.CompileFault.TheVariants.{TooManyStates, NoMemory}
+use Rattle.automata.specs.declared.range.TargetRange.{TargetRange}
+use Rattle.automata.specs.Rows.{IsRowOf, rows_of}
+use Rattle.automata.specs.declared.fault.CompileFault.{CompileFault}
+use Rattle.automata.specs.declared.fault.CompileFault.TheVariants.{TooManyStates, NoMemory}
 use Rattle.verdicts.specs.declared.record.Record.{Record}
-use Rattle.glob_automaton.specs.Automata.{Automaton, most_sets}
+use Rattle.automata.specs.Automata.{Automaton, most_sets}
 use Rattle.glob_automaton.specs.inner.Building.{IsStartOf, IsStepOf, IsRecordOf, AreSets}
 
 -- the sets, in the order of their numbers
@@ -41,22 +43,21 @@ Keeps old new = (more : List (List ℕ)) × (new ≡ old ++ more)
 abbrev pub IsTargetOf : Chart → List (List ℕ) → List ℕ → ℕ → ℕ → Type 0
 IsTargetOf chart sets set b target = (target < length sets) × IsStepOf chart set b (slice_index_or sets target [])
 
--- each byte leads from the set to the set of its target
-pub record IsRowOf (chart : Chart) (sets : List (List ℕ)) (set row : List ℕ) : Type 0 where
-  pub long : length row ≡ 256
-  pub targets : (b : ℕ) → b < 256 → IsTargetOf chart sets set b (slice_index_or row b 0)
+-- a row in which each byte leads from the set to the set of its target
+abbrev pub IsRowOfSet : Chart → List (List ℕ) → List ℕ → List TargetRange → Type 0
+IsRowOfSet chart sets set row = IsRowOf (IsTargetOf chart sets set) row
 
 -- The first states have their rows and records. The sets may be more.
-pub record AreStates (chart : Chart) (sets rows : List (List ℕ)) (records : List Record) (start state : ℕ) : Type 0 where
+pub record AreStates (chart : Chart) (sets : List (List ℕ)) (ranges : List TargetRange) (firsts : List ℕ) (records : List Record) (start state : ℕ) : Type 0 where
   pub sets_few : AreFewSets chart sets
   pub start_there : start < length sets
   pub start_first : start ≤ 1
   pub begun : IsStartOf chart (slice_index_or sets start [])
   pub within : state ≤ length sets
-  pub each_row : length rows ≡ state
+  pub each_row : length firsts ≡ state
   pub each_record : length records ≡ state
-  pub row : (s : ℕ) → s < state → IsRowOf chart sets (slice_index_or sets s []) (slice_index_or rows s [])
+  pub row : (s : ℕ) → s < state → IsRowOfSet chart sets (slice_index_or sets s []) (drop (slice_index_or firsts s 0) ranges)
   pub recorded : (s : ℕ) (none : Record) → s < state → IsRecordOf chart (slice_index_or sets s []) (slice_index_or records s none)
 
-abbrev pub tables : List (List ℕ) → List Record → ℕ → Automaton
-tables rows records start = record { rows = rows; records = records; start = start }
+abbrev pub tables : List TargetRange → List ℕ → List Record → ℕ → Automaton
+tables ranges firsts records start = record { rows = rows_of ranges firsts; records = records; start = start }

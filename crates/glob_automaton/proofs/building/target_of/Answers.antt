@@ -1,33 +1,21 @@
 -- The step is gathered, and it has its number.
-use Rattle.std.proofs.Common.{◌<◌, arith}
+use Rattle.std.proofs.Common.{◌<◌, Ok, Err, arith}
 use Rattle.glob_automaton.specs.inner.States.{lists_of}
 use Rattle.glob_automaton.proofs.SetPlaces.{set_places}
-use Rattle.glob_automaton.proofs.SetSteps.{target_sets, target_kept, target_is, target_fault}
+use Rattle.glob_automaton.proofs.SetSteps.{target_sets, target_fault}
 use Rattle.glob_automaton.proofs.building.target_of.Goals as goal
 
 pub gather_step-requires-clause-set : goal.gather_step-requires-clause-set
 gather_step-requires-clause-set c = set_places c.args.chart.now (lists_of c.args.sets.now) c.args.set.now c.requires.chart c.requires.sets.0 c.requires.set
 
-pub returns-clause-sets : goal.returns-clause-sets
-returns-clause-sets c =
+pub returns-in-Ok-clause-sets : goal.returns-in-Ok-clause-sets
+returns-in-Ok-clause-sets c =
     let small : c.args.byte < 256 = omega arith in
     target_sets c.args.chart.now (lists_of c.args.sets.now) (lists_of c.number.new.self) c.args.set.now c.gather_step.new.gathering.places.items
-    c.places.result.now c.args.byte c.requires.sets c.requires.set small c.in_ok-gather_step.ensures.step c.places.ensures c.number.result c.number.ensures.ok
+    c.places.result.now c.args.byte c.requires.sets c.requires.set small c.in_ok-gather_step.ensures.step c.places.ensures (Ok c.in-Ok.number) c.in-Ok.ensures.ok
 
-pub returns-clause-kept : goal.returns-clause-kept
-returns-clause-kept c =
-    let small : c.args.byte < 256 = omega arith in
-    target_kept c.args.chart.now (lists_of c.args.sets.now) (lists_of c.number.new.self) c.args.set.now c.gather_step.new.gathering.places.items
-    c.places.result.now c.args.byte c.requires.sets c.requires.set small c.in_ok-gather_step.ensures.step c.places.ensures c.number.result c.number.ensures.ok
-
-pub returns-clause-target : goal.returns-clause-target
-returns-clause-target c =
-    let small : c.args.byte < 256 = omega arith in
-    target_is c.args.chart.now (lists_of c.args.sets.now) (lists_of c.number.new.self) c.args.set.now c.gather_step.new.gathering.places.items
-    c.places.result.now c.args.byte c.requires.sets c.requires.set small c.in_ok-gather_step.ensures.step c.places.ensures c.number.result c.number.ensures.ok
-
-pub returns-clause-err : goal.returns-clause-err
-returns-clause-err c =
+pub returns-in-Err-clause-err : goal.returns-in-Err-clause-err
+returns-in-Err-clause-err c =
     let small : c.args.byte < 256 = omega arith in
     target_fault c.args.chart.now (lists_of c.args.sets.now) (lists_of c.number.new.self) c.args.set.now c.gather_step.new.gathering.places.items
-    c.places.result.now c.args.byte c.requires.sets c.requires.set small c.in_ok-gather_step.ensures.step c.places.ensures c.number.result c.number.ensures.err
+    c.places.result.now c.args.byte c.requires.sets c.requires.set small c.in_ok-gather_step.ensures.step c.places.ensures (Err c.in-Err.fault) c.in-Err.ensures.err

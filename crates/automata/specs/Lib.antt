@@ -1,0 +1,3 @@
+pub mod Automata
+pub mod Faults
+pub mod Rows

@@ -1,0 +1,21 @@
+-- Both rows stand at the range of the byte, and the bytes before it have their pairs.
+use Rattle.std.proofs.Common.{◌≡◌, ◌+◌, ◌-◌, ◌<◌, ◌≤◌, ℕ, Some, length, slice_get}
+use Rattle.automata.specs.Automata.{target}
+use Rattle.automata.specs.Rows.{target_in, IsRowFrom}
+use Rattle.automata.proofs.Fronts.{IsSoFar}
+use Rattle.automaton_products.specs.Products.{AreFewPairs, Keeps, next_pair, pairs_of}
+use Rattle.automaton_products.proofs.building.add_row.Given as goal
+
+abbrev pub invariant-loop-target : goal.invariant-loop-target
+invariant-loop-target l = record {
+  pairs : AreFewPairs l.one l.other (pairs_of l.pairs);
+  kept : Keeps (pairs_of l.fn.pairs) (pairs_of l.pairs);
+  first : IsRowFrom l.from l.first;
+  second : IsRowFrom l.from l.second;
+  first_targets : (c : ℕ) → l.from ≤ c → c < 256 → target_in l.first c ≡ target l.one l.fn.pair.one c;
+  second_targets : (c : ℕ) → l.from ≤ c → c < 256 → target_in l.second c ≡ target l.other l.fn.pair.other c;
+  so_far : IsSoFar (λ c t. slice_get (pairs_of l.pairs) t ≡ Some (next_pair l.one l.other l.fn.pair c)) l.fn.ranges.items l.ranges.items l.from;
+}
+
+abbrev pub decreases-loop-target : goal.decreases-loop-target
+decreases-loop-target l = 256 - l.from

@@ -1,0 +1,37 @@
+//! Records of two automata, joined.
+ghost use Rattle.std.specs.Prelude.{◌≡◌};
+ghost use Rattle.automaton_products.specs.Products.{joined, joined_hits};
+ghost use Rattle.verdicts.specs.Hits.{first_number};
+
+use names::{Permission, permissions_are_numbered};
+use verdicts::{LeastHits, Record, records_are_their_hits};
+
+// The first number, or the other one if the first is 0.
+fn first_number(one: u16, other: u16) -> u16
+    ensures { result ≡ first_number one other }
+{
+    if one == 0 { other } else { one }
+}
+
+fn joined_hits(one: LeastHits, other: LeastHits) -> LeastHits
+    ensures { result ≡ joined_hits one other }
+{
+    LeastHits {
+        allow: first_number(one.allow, other.allow),
+        deny: first_number(one.deny, other.deny),
+    }
+}
+
+/// The least hits of both: for each permission that of the first, if there is one.
+pub(crate) fn joined(one: &Record, other: &Record) -> Record
+    ensures { result ≡ joined one.now other.now }
+{
+    permissions_are_numbered();
+    records_are_their_hits();
+    let mut record = *one;
+    for permission in &Permission::ALL {
+        let hits = joined_hits(one.of(*permission), other.of(*permission));
+        record = record.with_hits(*permission, hits);
+    }
+    record
+}

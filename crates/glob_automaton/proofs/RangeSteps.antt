@@ -1,0 +1,67 @@
+-- The row of a set as ranges, one more where the target changes.
+use Rattle.std.proofs.Common.{◌≡◌, ⊎_elim, ℕ, ◌+◌, ◌-◌, ◌<◌, ◌≤◌, ◌++◌, ◌∷◌, [], List, sym, ap, ◌∙◌, subst, subst₂, refl, arith}
+use Rattle.std.proofs.lemmas.Bool.{cases_lt}
+use Rattle.automata.specs.declared.range.TargetRange.{TargetRange}
+use Rattle.automata.specs.Rows.{IsRowAppended, target_in}
+use Rattle.automata.proofs.Fronts.{IsSoFar, one_range_more, last_range}
+use Rattle.glob_automaton.specs.declared.chart.Chart.{Chart}
+use Rattle.glob_automaton.specs.inner.States.{Keeps, IsTargetOf}
+use Rattle.glob_automaton.proofs.SetSteps.{still_target}
+
+module _ (chart : Chart) (set : List ℕ) where
+  -- the bytes before the open range have their targets, and those in it so far have its target
+  abbrev pub IsWritten : List (List ℕ) → List TargetRange → List TargetRange → ℕ → ℕ → Type 0
+  IsWritten sets old ranges t byte =
+      (from : ℕ) × (from < byte) × IsSoFar (IsTargetOf chart sets set) old ranges from × ((c : ℕ) → from ≤ c → c < byte → IsTargetOf chart sets set c t)
+
+  -- the first byte alone
+  pub one_alike : (sets : List (List ℕ)) (t : ℕ) → IsTargetOf chart sets set 0 t → (c : ℕ) → 0 ≤ c → c < 1 → IsTargetOf chart sets set c t
+  one_alike sets t is c low lt = subst (λ z. IsTargetOf chart sets set z t) (omega (arith, lt)) is
+
+  module _ (sets new : List (List ℕ)) (kept : Keeps sets new) where
+    still : (c t : ℕ) → IsTargetOf chart sets set c t → IsTargetOf chart new set c t
+    still c t is = still_target chart sets new set c t kept is
+
+    -- the next byte has the same target
+    pub same_range : (old ranges : List TargetRange) (t next byte : ℕ) → IsWritten sets old ranges t byte → next ≡ t → IsTargetOf chart new set byte next →
+        IsWritten new old ranges t (byte + 1)
+    same_range old ranges t next byte h same is = (
+      h.0,
+      omega (arith, h.1),
+      record {
+        row = h.2.row;
+        is = h.2.is;
+        front = record {
+          begins = h.2.front.begins;
+          before = λ rest c lt. still c (target_in (h.2.row ++ rest) c) (h.2.front.before rest c lt);
+          after = h.2.front.after;
+        };
+      },
+      λ c le lt. ⊎_elim
+          (λ below. still c t (h.3 c le below))
+          (λ ge. subst₂ (λ x y. IsTargetOf chart new set x y) (omega (arith, lt, ge)) same is)
+          (cases_lt c byte),
+    )
+
+    -- the next byte has another target
+    pub one_more : (old ranges more : List TargetRange) (t next byte : ℕ) → byte < 256 → IsWritten sets old ranges t byte →
+        more ≡ ranges ++ record { last = byte - 1; target = t } ∷ [] → IsTargetOf chart new set byte next → IsWritten new old more next (byte + 1)
+    one_more old ranges more t next byte small h e is =
+        let r : TargetRange = record { last = byte - 1; target = t } in
+        let back : byte - 1 + 1 ≡ byte = omega (arith, h.1) in (
+          byte,
+          omega arith,
+          subst (λ (z : List TargetRange). IsSoFar (IsTargetOf chart new set) old z byte) (sym e)
+              (subst (λ z. IsSoFar (IsTargetOf chart new set) old (ranges ++ r ∷ []) z) back
+              (one_range_more (IsTargetOf chart sets set) (IsTargetOf chart new set) still h.0 r (omega (arith, h.1))
+              (λ c le within. still c t (h.3 c le (omega (arith, within, h.1)))) old ranges h.2 (omega (arith, small, h.1)))),
+          λ c le lt. subst (λ z. IsTargetOf chart new set z next) (omega (arith, le, lt)) is,
+        )
+
+  pub whole_row : (sets : List (List ℕ)) (old ranges more : List TargetRange) (t byte : ℕ) → byte ≡ 256 → IsWritten sets old ranges t byte →
+      more ≡ ranges ++ record { last = 255; target = t } ∷ [] → IsRowAppended (IsTargetOf chart sets set) old more
+  whole_row sets old ranges more t byte all h e =
+      let r : TargetRange = record { last = 255; target = t } in
+      subst (IsRowAppended (IsTargetOf chart sets set) old) (sym e)
+      (last_range (IsTargetOf chart sets set) (IsTargetOf chart sets set) (λ c z k. k) h.0 r (omega (arith, h.1, all))
+      (λ c le within. h.3 c le (omega (arith, within, all))) old ranges h.2 refl)

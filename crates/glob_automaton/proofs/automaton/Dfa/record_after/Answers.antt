@@ -1,9 +1,0 @@
-use Rattle.std.proofs.Common.{◌∙◌}
-use Rattle.glob_automaton.proofs.StatesAfter.{state_more}
-use Rattle.glob_automaton.proofs.automaton.Dfa.record_after.Goals as goal
-
-pub loop-byte-preserved : goal.loop-byte-preserved
-loop-byte-preserved c = (
-  c.target-state.ensures.there,
-  c.target-state.ensures.target ∙ state_more c.args.self.now c.args.bytes.now c.loop-byte.byte-index c.loop-byte.state c.loop-byte-test.true c.loop-byte.invariant.1,
-)

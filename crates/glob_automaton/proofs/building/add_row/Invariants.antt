@@ -1,0 +1,15 @@
+-- The bytes before this one have their targets.
+use Rattle.glob_automaton.specs.inner.Gathering.{IsGathering}
+use Rattle.glob_automaton.specs.inner.Shared.{AreShared}
+use Rattle.glob_automaton.specs.inner.States.{lists_of, AreFewSets, Keeps}
+use Rattle.glob_automaton.proofs.RangeSteps.{IsWritten}
+use Rattle.glob_automaton.proofs.building.add_row.Given as goal
+
+abbrev pub invariant-loop-byte : goal.invariant-loop-byte
+invariant-loop-byte l = record {
+  gathering : IsGathering l.chart l.gathering;
+  sets : AreFewSets l.chart (lists_of l.sets);
+  kept : Keeps (lists_of l.fn.sets) (lists_of l.sets);
+  others : AreShared l.chart l.classes.least l.named (lists_of l.sets) l.set l.others;
+  written : IsWritten l.chart l.set (lists_of l.sets) l.fn.ranges.items l.ranges.items l.target l.byte;
+}
