@@ -7,7 +7,7 @@ use Rattle.glob_automaton.specs.declared.chart.Chart.{Chart}
 use Rattle.verdicts.specs.declared.record.Record.{Record}
 use Rattle.glob_automaton.specs.inner.Building.{IsStartOf, IsStepOf, begins, IsRecordOf, IsBuilt}
 use Rattle.glob_automaton.specs.inner.Gathering.{IsAscending}
-use Rattle.automata.specs.Automata.{IsWhole, target}
+use Rattle.automata.specs.Automata.{IsWhole}
 use Rattle.automata.specs.declared.range.TargetRange.{TargetRange}
 use Rattle.automata.specs.Rows.{AreRows, IsRowFrom, rows_of, target_in}
 use Rattle.automata.proofs.RowLaws.{row_stays, row_some, target_stays}

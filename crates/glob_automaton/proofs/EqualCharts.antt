@@ -8,7 +8,6 @@ use Rattle.std.proofs.lemmas.Slice.Eq.{slice_eq-Decides}
 use Rattle.names.specs.declared.permissions.Perms.{Perms}
 use Rattle.names.specs.contracts.permissions.PermsPartialEq.TheImpl as perms_impl
 use Rattle.verdicts.specs.declared.kind.RuleKind.{RuleKind}
-use Rattle.verdicts.specs.declared.kind.RuleKind.TheVariants.{Allow, Deny}
 use Rattle.verdicts.specs.contracts.kind.RuleKindPartialEq.TheImpl as kind_impl
 use Rattle.glob_automaton.specs.declared.chart.ChartPlace.{ChartPlace}
 use Rattle.glob_automaton.specs.declared.chart.ChartRule.{ChartRule}

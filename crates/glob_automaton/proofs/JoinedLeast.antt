@@ -1,8 +1,7 @@
 -- The least hits of rules side by side.
-use Rattle.std.proofs.Common.{◌≡◌, ◌==◌, ◌⊎◌, inl, inr, ⊎_elim, ℕ, ◌<◌, ◌≤◌, Bool, true, false, List, if◌then◌else◌, refl, sym, ap, ◌∙◌, subst, arith}
+use Rattle.std.proofs.Common.{◌≡◌, ◌==◌, ◌⊎◌, inl, inr, ⊎_elim, ℕ, ◌<◌, ◌≤◌, List, if◌then◌else◌, sym, ap, subst, arith}
 use Rattle.std.proofs.lemmas.Bool.{cases_Bool, cases_lt, eqb-true, eqb-false}
 use Rattle.names.specs.declared.permissions.Permission.{Permission}
-use Rattle.rule_globs.specs.Verdict.{Hits}
 use Rattle.rule_profile.specs.Profile.{RuleValue}
 use Rattle.verdicts.specs.declared.kind.RuleKind.{RuleKind}
 use Rattle.verdicts.specs.declared.kind.RuleKind.TheVariants.{Allow, Deny}

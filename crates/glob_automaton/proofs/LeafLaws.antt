@@ -1,6 +1,6 @@
 -- The automaton of a rule's path, with the hits of the rule, is that of the part that is this rule.
-use Rattle.std.proofs.Common.{◌≡◌, ◌≢◌, ◌==◌, Bool, false, true≢false, IsTrue, ◌⊎◌, inl, inr, ⊎_elim, ◌↔◌, ℕ, zero, suc, ◌+◌, ◌-◌, ◌<◌, ◌≤◌, List, [], ◌∷◌, length, Some, slice_get, slice_index_or, if◌then◌else◌, refl, sym, ap, ◌∙◌, subst, subst₂, arith}
-use Rattle.std.proofs.lemmas.Bool.{cases_Bool, cases_lt, eqb-true, eqb-false}
+use Rattle.std.proofs.Common.{◌≡◌, ◌≢◌, ◌==◌, false, true≢false, IsTrue, inl, inr, ⊎_elim, ℕ, ◌+◌, ◌-◌, ◌<◌, ◌≤◌, List, [], ◌∷◌, length, Some, slice_get, slice_index_or, if◌then◌else◌, refl, sym, ap, ◌∙◌, subst, arith}
+use Rattle.std.proofs.lemmas.Bool.{cases_Bool, eqb-true, eqb-false}
 use Rattle.std.proofs.lemmas.List.Elements.{All-head, All-tail}
 use Rattle.std.proofs.lemmas.Option.{same_Some}
 use Rattle.names.specs.Bytes.{are_bytes}
@@ -15,19 +15,17 @@ use Rattle.verdicts.specs.declared.kind.RuleKind.TheVariants.{Allow, Deny}
 use Rattle.verdicts.specs.declared.record.Record.{Record}
 use Rattle.verdicts.specs.declared.record.LeastHits.{LeastHits}
 use Rattle.verdicts.specs.Least.{IsLeastOrNone, hits_of, record_of, no_hit}
-use Rattle.verdicts.specs.Hits.{no_hits, hits_with, hits_after, record_with}
+use Rattle.verdicts.specs.Hits.{no_hits, hits_with, hits_after}
 use Rattle.automata.specs.declared.fault.CompileFault.{CompileFault}
 use Rattle.automata.specs.declared.fault.CompileFault.TheVariants.{TooManyStates, NoMemory}
-use Rattle.automata.specs.Automata.{Automaton, IsWhole, target, goes_to, state_after, most_sets}
+use Rattle.automata.specs.Automata.{Automaton, target, goes_to, state_after, most_sets}
 use Rattle.glob_automaton.specs.Automata.{IsAutomatonOf, IsCompileFault}
 use Rattle.glob_automaton.specs.Least.{IsLeastRecord}
 use Rattle.glob_automaton.specs.Sets.{IsLive, SameSet, NoneLive, AreMoreThan}
 use Rattle.glob_automaton.proofs.ReachedSets.{at_index, has_number}
-use Rattle.automaton_products.proofs.PairLaws.{goes_there}
-use Rattle.glob_automaton.specs.Parts.{SameIn, NoneIn, HitsIn, IsLeastIn, AreMoreThanIn, IsAutomatonOfPart}
+use Rattle.glob_automaton.specs.Parts.{SameIn, NoneIn, HitsIn, IsLeastIn, IsAutomatonOfPart}
 use Rattle.glob_automaton.specs.inner.Leaves.{reading, hits_alone, where_read, IsWithHits}
 use Rattle.glob_automaton.proofs.WholeParts.{no_more_sets}
-use Rattle.glob_automaton.proofs.Prefixes.{prefix_bytes}
 
 module _ (rules : List RuleValue) (rule : RuleValue) (before : ℕ) (stands : slice_get rules before ≡ Some rule) where
   -- the rule alone has number 1

@@ -1,5 +1,5 @@
 -- Bytes after which something is live are a front part of a name.
-use Rattle.std.proofs.Common.{◌≡◌, ◌≢◌, ◌⊎◌, inl, inr, ⊎_elim, ℕ, zero, suc, ◌+◌, ◌-◌, ◌<◌, ◌≤◌, List, [], ◌∷◌, ◌++◌, length, Some, slice_get, slice_index_or, All, append_assoc, append-nil, refl, sym, ap, ◌∙◌, subst, arith}
+use Rattle.std.proofs.Common.{◌≡◌, ◌⊎◌, inl, inr, ⊎_elim, ℕ, zero, suc, ◌+◌, ◌-◌, ◌<◌, ◌≤◌, List, [], ◌∷◌, ◌++◌, length, slice_index_or, All, append_assoc, append-nil, refl, sym, ap, subst, arith}
 use Rattle.std.proofs.lemmas.Bool.{cases_lt}
 use Rattle.std.proofs.lemmas.List.{get_or_default}
 use Rattle.std.proofs.lemmas.Bool.Decides.{eqb_tells}
@@ -7,7 +7,7 @@ use Rattle.std.proofs.lemmas.List.Elements.{All-nil, All-push, All-head, All-tai
 use Rattle.names.specs.Bytes.{are_bytes}
 use Rattle.rule_globs.specs.Glob.{Glob, LiveOrEnd}
 use Rattle.rule_profile.specs.Profile.{RuleValue, pattern}
-use Rattle.glob_automaton.specs.Sets.{IsLive, NoneLive, IsPrefixOfName}
+use Rattle.glob_automaton.specs.Sets.{NoneLive, IsPrefixOfName}
 use Rattle.glob_automaton.proofs.LiveByParts.{LeftFirst}
 use Rattle.glob_automaton.proofs.LiveNumbers.{LiveAfterByte}
 use Rattle.glob_automaton.proofs.PatternPlaces.{live_within, takes_within, first_is_slash}

@@ -1,5 +1,5 @@
 -- The row of a set as ranges, one more where the target changes.
-use Rattle.std.proofs.Common.{◌≡◌, ⊎_elim, ℕ, ◌+◌, ◌-◌, ◌<◌, ◌≤◌, ◌++◌, ◌∷◌, [], List, sym, ap, ◌∙◌, subst, subst₂, refl, arith}
+use Rattle.std.proofs.Common.{◌≡◌, ⊎_elim, ℕ, ◌+◌, ◌-◌, ◌<◌, ◌≤◌, ◌++◌, ◌∷◌, [], List, sym, subst, subst₂, refl, arith}
 use Rattle.std.proofs.lemmas.Bool.{cases_lt}
 use Rattle.automata.specs.declared.range.TargetRange.{TargetRange}
 use Rattle.automata.specs.Rows.{IsRowAppended, target_in}

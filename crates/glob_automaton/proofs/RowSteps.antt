@@ -1,5 +1,5 @@
 -- The targets of a set. Bytes that are alike and that no place takes alone have one target.
-use Rattle.std.proofs.Common.{◌≡◌, ◌≢◌, ⊎_elim, ℕ, zero, suc, ◌+◌, ◌<◌, ◌&&◌, Bool, false, true≢false, nat_lt, List, [], length, Option, Some, None, slice_get, slice_index_or, Contains, Result, Ok, Err, OnOk, refl, sym, ap, ◌∙◌, subst, arith}
+use Rattle.std.proofs.Common.{◌≡◌, ◌≢◌, ⊎_elim, ℕ, zero, suc, ◌<◌, ◌&&◌, Bool, false, true≢false, nat_lt, List, [], length, Option, Some, None, slice_get, slice_index_or, Contains, Result, Ok, Err, OnOk, refl, sym, ap, ◌∙◌, subst, arith}
 use Rattle.std.proofs.Math.Bool.{and-false}
 use Rattle.std.proofs.Math.ListN.{set, replicate}
 use Rattle.std.proofs.lemmas.Bool.Decides.{eqb_tells}

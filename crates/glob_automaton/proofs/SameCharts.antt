@@ -1,8 +1,6 @@
 -- Charts that a comparison finds equal have the same lists, and are charts of the same rules.
-use Rattle.std.proofs.Common.{◌≡◌, ◌↔◌, ◌+◌, ◌<◌, ◌≤◌, ℕ, Bool, true, refl, sym, ap, ◌∙◌, List, [], ◌∷◌, length, Some, slice_get, IsTrue, subst, rules}
-use Rattle.std.specs.Bool.{Decides}
-use Rattle.std.proofs.lemmas.Slice.Eq.{slice_eq-Decides}
-use Rattle.rule_globs.specs.Glob.{Glob, places}
+use Rattle.std.proofs.Common.{◌≡◌, ◌↔◌, ◌+◌, ◌<◌, ℕ, Bool, sym, ap, ◌∙◌, List, [], ◌∷◌, length, Some, slice_get, IsTrue, subst, rules}
+use Rattle.rule_globs.specs.Glob.{places}
 use Rattle.rule_globs.specs.Follow.{Starts, TakesAt, Goes}
 use Rattle.rule_profile.specs.Profile.{RuleValue, pattern}
 use Rattle.glob_automaton.specs.declared.chart.Chart.{Chart}

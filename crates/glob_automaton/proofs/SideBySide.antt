@@ -1,8 +1,8 @@
 -- The product of the automata of rules side by side.
-use Rattle.std.proofs.Common.{◌≡◌, ◌⊎◌, inl, inr, ⊎_elim, ◌↔◌, ℕ, ◌+◌, ◌<◌, ◌≤◌, List, [], ◌∷◌, length, Some, slice_get, slice_index_or, refl, sym, ap, ◌∙◌, subst, subst₂, arith}
+use Rattle.std.proofs.Common.{◌≡◌, ⊎_elim, ◌↔◌, ℕ, ◌<◌, ◌≤◌, List, [], ◌∷◌, Some, slice_get, slice_index_or, sym, ap, ◌∙◌, arith}
 use Rattle.std.proofs.lemmas.Bool.{cases_lt}
 use Rattle.std.proofs.lemmas.List.Elements.{All-head, All-tail}
-use Rattle.std.proofs.lemmas.Option.{same_Some, slice_get_within, slice_get-get_or}
+use Rattle.std.proofs.lemmas.Option.{same_Some, slice_get-get_or}
 use Rattle.names.specs.Bytes.{are_bytes}
 use Rattle.names.specs.declared.permissions.Permission.{Permission}
 use Rattle.rule_profile.specs.Profile.{RuleValue}
@@ -10,10 +10,9 @@ use Rattle.verdicts.specs.declared.record.Record.{Record}
 use Rattle.verdicts.specs.declared.record.LeastHits.{LeastHits}
 use Rattle.verdicts.specs.Least.{hits_of, record_of, no_hit}
 use Rattle.verdicts.specs.Hits.{no_hits, first_number}
-use Rattle.automata.specs.Automata.{Automaton, IsWhole, target, goes_to, state_after}
+use Rattle.automata.specs.Automata.{Automaton, target, goes_to, state_after}
 use Rattle.automaton_products.specs.declared.pairs.Pair.{Pair}
-use Rattle.automaton_products.specs.Products.{pair, dead_pair, start_pair, next_pair, IsProduct, joined}
-use Rattle.automaton_products.proofs.PairNumbers.{get_stays}
+use Rattle.automaton_products.specs.Products.{pair, dead_pair, IsProduct, joined}
 use Rattle.glob_automaton.specs.Parts.{SameIn, NoneIn, IsAutomatonOfPart}
 use Rattle.glob_automaton.proofs.JoinedLeast.{record_joined}
 

@@ -1,28 +1,25 @@
 -- A part's sets are no more than those of all rules, and the part that is the whole has all of them.
-use Rattle.std.proofs.Common.{◌≡◌, ◌≢◌, ◌⊎◌, inl, inr, ⊎_elim, ◌↔◌, ℕ, zero, suc, ◌+◌, ◌-◌, ◌<◌, ◌≤◌, List, [], ◌∷◌, length, Some, slice_get, slice_index_or, refl, sym, ap, ◌∙◌, subst, arith}
-use Rattle.std.proofs.lemmas.Bool.{cases_lt}
-use Rattle.std.proofs.lemmas.Option.{same_Some, slice_get-get_or}
+use Rattle.std.proofs.Common.{◌≡◌, ◌≢◌, inl, inr, ⊎_elim, ◌↔◌, ℕ, zero, suc, ◌+◌, ◌-◌, ◌<◌, ◌≤◌, List, [], length, Some, slice_get, slice_index_or, sym, ap, ◌∙◌, arith}
+use Rattle.std.proofs.lemmas.Option.{slice_get-get_or}
 use Rattle.names.specs.Bytes.{are_bytes}
 use Rattle.names.specs.declared.permissions.Permission.{Permission}
 use Rattle.rule_globs.specs.Verdict.{Hits}
 use Rattle.rule_profile.specs.Profile.{RuleValue}
 use Rattle.verdicts.specs.declared.kind.RuleKind.{RuleKind}
 use Rattle.verdicts.specs.declared.kind.RuleKind.TheVariants.{Allow, Deny}
-use Rattle.verdicts.specs.declared.record.Record.{Record}
 use Rattle.verdicts.specs.Least.{IsLeastOrNone, hits_of}
 use Rattle.automata.specs.declared.fault.CompileFault.{CompileFault}
 use Rattle.automata.specs.declared.fault.CompileFault.TheVariants.{TooManyStates, NoMemory}
-use Rattle.automata.specs.Automata.{Automaton, state_after, most_sets}
+use Rattle.automata.specs.Automata.{Automaton, state_after}
 use Rattle.glob_automaton.specs.Automata.{IsAutomatonOf, IsCompileFault}
-use Rattle.glob_automaton.specs.Least.{IsLeastRecord}
-use Rattle.glob_automaton.specs.Sets.{IsLive, SameSet, NoneLive, AreDifferent, AreMoreThan, IsCount, IsPrefixOfName}
+use Rattle.glob_automaton.specs.Sets.{SameSet, NoneLive, AreDifferent, AreMoreThan, IsPrefixOfName}
 use Rattle.glob_automaton.proofs.Counting.{few_values}
 use Rattle.glob_automaton.proofs.LiveByParts.{LeftFirst}
 use Rattle.glob_automaton.proofs.LiveNumbers.{LiveAfterByte}
 use Rattle.automaton_products.specs.declared.pairs.Pair.{Pair}
 use Rattle.automaton_products.specs.Products.{pair, dead_pair, ArePairs, IsProductFault}
 use Rattle.automaton_products.proofs.PairLaws.{after_there}
-use Rattle.glob_automaton.specs.Parts.{SameIn, NoneIn, HitsIn, IsLeastIn, AreDifferentIn, AreMoreThanIn, IsAutomatonOfPart, BeginWithSlashes}
+use Rattle.glob_automaton.specs.Parts.{SameIn, NoneIn, HitsIn, AreMoreThanIn, IsAutomatonOfPart, BeginWithSlashes}
 use Rattle.glob_automaton.proofs.Prefixes.{collected, all_of, prefix_bytes, prefix_or_none}
 use Rattle.glob_automaton.proofs.SideBySide.{same_first, same_second, none_first, none_second}
 

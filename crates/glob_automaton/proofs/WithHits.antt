@@ -1,5 +1,5 @@
 -- Other records for the same states.
-use Rattle.std.proofs.Common.{◌≡◌, ◌<◌, ◌≤◌, ℕ, List, length, slice_get, Some, refl, ◌∙◌, arith}
+use Rattle.std.proofs.Common.{◌≤◌, ℕ, List, length, refl, arith}
 use Rattle.std.proofs.lemmas.Option.{slice_get_within}
 use Rattle.verdicts.specs.declared.record.Record.{Record}
 use Rattle.automata.specs.Automata.{Automaton, IsWhole}

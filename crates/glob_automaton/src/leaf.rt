@@ -24,11 +24,16 @@ struct PathAutomaton {
     dfa: Dfa,
 }
 
+/// The most states of the automata that are kept, all together. So what is kept takes a few megabytes, whatever the paths are.
+const MOST_KEPT: usize = 65536;
+
 /// The automata of the paths so far. Rules with equal paths share one.
 #[derive(Drop)]
 pub(crate) struct Leaves {
     alloc: Global,
     built: Vec<PathAutomaton>,
+    // How many states they have, all together.
+    states: usize,
 }
 
 impl Leaves {
@@ -39,6 +44,7 @@ impl Leaves {
         Leaves {
             alloc,
             built: Vec::new(alloc),
+            states: 0,
         }
     }
 
@@ -65,8 +71,23 @@ impl Leaves {
             Err(fault) => return Err(fault),
         };
         let leaf = with_hits(self.alloc, &dfa, &hits)?;
+        self.make_room(dfa.states() as usize);
         keep(&mut self.built, PathAutomaton { chart, dfa })?;
         Ok(leaf)
+    }
+
+    // Counts the states of one more automaton, and forgets the others if they would be too many with it.
+    fn make_room(&mut self, states: usize)
+        requires { AreBuilt self.old }
+        ensures { AreBuilt self.new }
+    {
+        let all = self.states.saturating_add(states);
+        if all <= MOST_KEPT {
+            self.states = all;
+        } else {
+            self.built.clear();
+            self.states = states;
+        }
     }
 
     // The automaton that was built from an equal chart, if there is one.

@@ -1,6 +1,6 @@
 //! Cases, and what is said of each.
-use crate::automata::show_records;
 use crate::canonical::{show_canonical, show_rules};
+use crate::compiled::show_records;
 use crate::flattened::show_parts;
 use crate::items::show_items;
 use crate::judging::{show_allowed, show_verdicts};

@@ -1,5 +1,5 @@
 //! Texts of one line.
-use crate::automata::{tell_agreement, tell_states};
+use crate::compiled::{tell_agreement, tell_states};
 use crate::flattened::{tell_fitting, tell_letters, tell_stop};
 use crate::leads::{tell_alike, tell_choices, tell_led, tell_path_text};
 use crate::named::{tell_components, tell_path, tell_profile_name};

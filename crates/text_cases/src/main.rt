@@ -33,9 +33,9 @@
 //! | `effects` | `other`, if not for the owner | of the shape of a rule, what restating it for this subject changes |
 #![tactic(auto)]
 
-mod automata;
 mod canonical;
 mod case;
+mod compiled;
 mod flattened;
 mod items;
 mod judging;

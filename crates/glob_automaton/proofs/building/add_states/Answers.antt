@@ -1,5 +1,5 @@
 -- One state more for each set, until there is one for each.
-use Rattle.std.proofs.Common.{◌≡◌, ◌∙◌, ◌∷◌, [], ◌++◌, ◌+◌, ◌≤◌, ℕ, List, ap, sym, subst, subst₂, map, length, arith}
+use Rattle.std.proofs.Common.{◌≡◌, ◌∙◌, ◌∷◌, [], ◌++◌, ◌+◌, ◌≤◌, ℕ, List, ap, sym, subst, subst₂, length, arith}
 use Rattle.automata.specs.declared.range.TargetRange.{TargetRange}
 use Rattle.verdicts.specs.declared.record.Record.{Record}
 use Rattle.glob_automaton.specs.inner.Building.{IsRecordOf}

@@ -1,6 +1,6 @@
 -- The empty set is the first, and what is live at the start is it or the second.
 use Rattle.std.proofs.lemmas.Result.{IfOk-weaker}
-use Rattle.std.proofs.Common.{ap, sym, subst, map}
+use Rattle.std.proofs.Common.{sym, subst}
 use Rattle.glob_automaton.specs.inner.Building.{IsStartOf}
 use Rattle.glob_automaton.specs.inner.States.{lists_of}
 use Rattle.glob_automaton.proofs.BuiltStates.{empty_set_alone, no_states}

@@ -1,7 +1,6 @@
 -- A target that is there is that of each byte alike; one that is found is kept for them.
-use Rattle.std.proofs.Common.{◌<◌, List, ℕ, arith, refl}
+use Rattle.std.proofs.Common.{◌<◌, arith, refl}
 use Rattle.glob_automaton.specs.inner.Alike.{least_of}
-use Rattle.glob_automaton.specs.inner.Shared.{AreShared}
 use Rattle.glob_automaton.specs.inner.States.{lists_of}
 use Rattle.glob_automaton.proofs.RowSteps.{one_more_shared, shared_stay, on_ok}
 use Rattle.glob_automaton.proofs.building.shared_target.Goals as goal

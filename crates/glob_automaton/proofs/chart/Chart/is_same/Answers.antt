@@ -1,4 +1,4 @@
-use Rattle.std.proofs.Common.{◌≡◌, refl, sym, ◌∙◌}
+use Rattle.std.proofs.Common.{refl}
 use Rattle.std.proofs.lemmas.Slice.Eq.{slice_eq-Decides}
 use Rattle.glob_automaton.proofs.EqualCharts.{class_decided, entry_decided, not_different, place_decided, rule_decided}
 use Rattle.glob_automaton.proofs.chart.Chart.is_same.Goals as goal

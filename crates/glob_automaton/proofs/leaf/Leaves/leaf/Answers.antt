@@ -1,15 +1,9 @@
 -- The path's automaton, found or built, has the hits of the rule.
-use Rattle.std.proofs.Common.{◌≡◌, ◌⊎◌, inl, inr, ⊎_elim, ◌+◌, ◌++◌, ℕ, zero, suc, List, [], ◌∷◌, Some, slice_get, IsTrue, sym, ap, ◌∙◌, subst}
+use Rattle.std.proofs.Common.{◌≡◌, ◌+◌, zero, suc, [], ◌∷◌, IsTrue, subst}
 use Rattle.std.proofs.lemmas.Option.{none-some, same_Some}
-use Rattle.verdicts.specs.declared.record.Record.{Record}
-use Rattle.verdicts.specs.Hits.{record_with}
 use Rattle.rule_profile.specs.Profile.{RuleValue, rule_value}
 use Rattle.rule_profile.specs.Readable.{begins_with_slash}
-use Rattle.automata.specs.Automata.{Automaton}
 use Rattle.glob_automaton.specs.Automata.{IsAutomatonOf}
-use Rattle.glob_automaton.specs.Parts.{IsAutomatonOfPart}
-use Rattle.glob_automaton.specs.declared.leaf.PathAutomaton.{PathAutomaton}
-use Rattle.glob_automaton.specs.inner.Building.{IsBuilt}
 use Rattle.glob_automaton.specs.inner.Drawing.{IsChartOf}
 use Rattle.glob_automaton.specs.inner.Leaves.{hits_alone, reading, IsWithHits}
 use Rattle.glob_automaton.proofs.BuiltPaths.{hits_are, one_more_built}
@@ -19,7 +13,6 @@ use Rattle.glob_automaton.proofs.LeafMet.{each_met}
 use Rattle.glob_automaton.proofs.NamePrefixes.{EachWithSlash}
 use Rattle.glob_automaton.proofs.SameCharts.{same_chart}
 use Rattle.glob_automaton.proofs.leaf.Leaves.leaf.Goals as goal
-
 
 alone : (rule : RuleValue) → IsTrue (begins_with_slash rule.items) → EachWithSlash (rule ∷ [])
 alone rule h zero other e = subst (λ (z : RuleValue). IsTrue (begins_with_slash z.items)) (same_Some rule other e) h
@@ -63,5 +56,5 @@ returns-clause-ok c rules before e at =
     (subst (λ z. IsWithHits z c.in-Ok.dfa c.in_ok-leaf.leaf) hits c.in_ok-leaf.ensures) (each_met (reading rule ∷ []) c.in-Ok.dfa its)
 
 pub returns-clause-built : goal.returns-clause-built
-returns-clause-built c = one_more_built c.args.self.now.built.items c.keep.new.list.items (record { chart = c.in_ok-chart.chart; dfa = c.in-Ok.dfa })
-    c.requires.built c.in-Ok.ensures.ok c.in_ok-keep.ensures
+returns-clause-built c = one_more_built c.make_room.new.self.built.items c.keep.new.list.items (record { chart = c.in_ok-chart.chart; dfa = c.in-Ok.dfa })
+    c.make_room.ensures c.in-Ok.ensures.ok c.in_ok-keep.ensures
