@@ -2,6 +2,8 @@ pub mod LeastSteps
 pub mod ToldLaws
 pub mod HitSteps
 pub mod EndSteps
+pub mod WordBits
+pub mod PlaceLists
 pub mod GatheringSteps
 pub mod StateLists
 pub mod ChartLaws

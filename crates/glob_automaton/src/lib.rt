@@ -13,6 +13,7 @@ mod compiling;
 mod laws;
 mod leaf;
 mod parts;
+mod place_bits;
 mod sets;
 
 pub use automata::{CompileFault, Dfa};
