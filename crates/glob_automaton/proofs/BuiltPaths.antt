@@ -1,6 +1,6 @@
 -- The paths' automata that are kept, and the hits of a rule alone.
-use Rattle.std.proofs.Common.{◌≡◌, ◌+◌, ◌++◌, ◌∷◌, [], ℕ, zero, suc, List, Some, slice_get, sym, ap, ◌∙◌, subst}
-use Rattle.std.proofs.lemmas.Option.{none-some, same_Some}
+use Rattle.std.proofs.Common.{◌≡◌, ◌+◌, ◌++◌, ◌∷◌, [], ℕ, List, Some, slice_get, sym, ap, ◌∙◌, subst}
+use Rattle.glob_automaton.proofs.ClosureSteps.{pushed_each}
 use Rattle.names.specs.declared.permissions.Perms.{Perms}
 use Rattle.rule_profile.specs.Profile.{RuleValue}
 use Rattle.verdicts.specs.declared.kind.RuleKind.{RuleKind}
@@ -13,14 +13,8 @@ use Rattle.glob_automaton.specs.inner.Leaves.{hits_alone}
 abbrev pub EachBuilt : List PathAutomaton → Type 0
 EachBuilt paths = (i : ℕ) (path : PathAutomaton) → slice_get paths i ≡ Some path → IsBuilt path.chart path.dfa
 
-after_others : (old : List PathAutomaton) (one : PathAutomaton) → EachBuilt old → IsBuilt one.chart one.dfa → EachBuilt (old ++ one ∷ [])
-after_others [] one all is zero path at = subst (λ (z : PathAutomaton). IsBuilt z.chart z.dfa) (same_Some one path at) is
-after_others [] one all is (suc i) path at = absurd (none-some path at)
-after_others (first ∷ old) one all is zero path at = all zero path at
-after_others (first ∷ old) one all is (suc i) path at = after_others old one (λ k p there. all (suc k) p there) is i path at
-
 pub one_more_built : (old new : List PathAutomaton) (one : PathAutomaton) → EachBuilt old → IsBuilt one.chart one.dfa → new ≡ old ++ one ∷ [] → EachBuilt new
-one_more_built old new one all is grown = subst EachBuilt (sym grown) (after_others old one all is)
+one_more_built old new one all is grown = subst EachBuilt (sym grown) (pushed_each (λ i path. IsBuilt path.chart path.dfa) old one all is)
 
 pub hits_are : (rule : RuleValue) (none r : Record) (kind : RuleKind) (perms : Perms) (number before : ℕ) → none ≡ no_hits → kind ≡ rule.kind →
     perms ≡ rule.perms → number ≡ before + 1 → r ≡ record_with none kind perms number → r ≡ hits_alone rule (before + 1)

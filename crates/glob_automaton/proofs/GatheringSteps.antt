@@ -34,11 +34,11 @@ member_at set i lt = (i, lt, get_or_default set i (get_or set i 0) 0 lt)
 
 module _ (chart : Chart) where
   -- One rule more is read, and what is live where it begins comes in.
-  pub starts_more : (old new : List ℕ) (i : ℕ) (rules : List ChartRule) (d : ChartRule) → rules ≡ chart.rules.items → i < length rules →
-      ((q : ℕ) → Contains old q ↔ StartsBefore chart i q) →
-      ((q : ℕ) → Contains new q ↔ (Contains old q ⊎ IsIn chart.entries.items (get_or rules i d).start q)) →
-      (q : ℕ) → Contains new q ↔ StartsBefore chart (i + 1) q
-  starts_more old new i rules d same within before more q =
+  pub starts_more : (Old New : ℕ → Type 0) (i : ℕ) (rules : List ChartRule) (d : ChartRule) → rules ≡ chart.rules.items → i < length rules →
+      ((q : ℕ) → Old q ↔ StartsBefore chart i q) →
+      ((q : ℕ) → New q ↔ (Old q ⊎ IsIn chart.entries.items (get_or rules i d).start q)) →
+      (q : ℕ) → New q ↔ StartsBefore chart (i + 1) q
+  starts_more Old New i rules d same within before more q =
       let read : slice_get chart.rules.items i ≡ Some (get_or rules i d) =
       subst (λ z. slice_get z i ≡ Some (get_or rules i d)) same (slice_get-get_or rules i d within) in (
         λ h. ⊎_elim
@@ -60,9 +60,9 @@ module _ (chart : Chart) where
       (subst (λ z. slice_get z i ≡ Some (get_or rules i d)) same (slice_get-get_or rules i d within))
 
   -- All rules are read, and the set is put in order.
-  pub starts_all : (old set : List ℕ) (i : ℕ) → length chart.rules.items ≤ i → ((q : ℕ) → Contains old q ↔ StartsBefore chart i q) →
-      IsAscending set → ((q : ℕ) → Contains set q ↔ Contains old q) → IsStartOf chart set
-  starts_all old set i le all up same = record {
+  pub starts_all : (Old : ℕ → Type 0) (set : List ℕ) (i : ℕ) → length chart.rules.items ≤ i → ((q : ℕ) → Old q ↔ StartsBefore chart i q) →
+      IsAscending set → ((q : ℕ) → Contains set q ↔ Old q) → IsStartOf chart set
+  starts_all Old set i le all up same = record {
     ascending = up;
     live = λ q. (
       λ h. let s = (all q).0 ((same q).0 h) in (s.0, s.1, s.3, s.4),
@@ -82,11 +82,11 @@ module _ (chart : Chart) where
     number_there are i lt = are (get_or set i 0) (member_at set i lt)
 
     -- The place takes the byte, and what is live after it comes in.
-    pub steps_more : (old new : List ℕ) (i : ℕ) (place : ChartPlace) → i < length set → slice_get chart.places.items (get_or set i 0) ≡ Some place →
-        takes_byte chart.classes.items place.takes b ≡ true → ((q : ℕ) → Contains old q ↔ StepsBefore chart set b i q) →
-        ((q : ℕ) → Contains new q ↔ (Contains old q ⊎ IsIn chart.entries.items place.behind q)) →
-        (q : ℕ) → Contains new q ↔ StepsBefore chart set b (i + 1) q
-    steps_more old new i place within read takes before more q = (
+    pub steps_more : (Old New : ℕ → Type 0) (i : ℕ) (place : ChartPlace) → i < length set → slice_get chart.places.items (get_or set i 0) ≡ Some place →
+        takes_byte chart.classes.items place.takes b ≡ true → ((q : ℕ) → Old q ↔ StepsBefore chart set b i q) →
+        ((q : ℕ) → New q ↔ (Old q ⊎ IsIn chart.entries.items place.behind q)) →
+        (q : ℕ) → New q ↔ StepsBefore chart set b (i + 1) q
+    steps_more Old New i place within read takes before more q = (
       λ h. ⊎_elim
           (λ o. let s = (before q).0 o in (s.0, s.1, omega (arith, s.2), s.3, s.4, s.5, s.6))
           (λ e. (i, place, omega arith, within, read, takes, e))
@@ -100,10 +100,10 @@ module _ (chart : Chart) where
     )
 
     -- The place doesn't take the byte.
-    pub steps_skip : (old : List ℕ) (i : ℕ) (place : ChartPlace) → slice_get chart.places.items (get_or set i 0) ≡ Some place →
-        takes_byte chart.classes.items place.takes b ≡ false → ((q : ℕ) → Contains old q ↔ StepsBefore chart set b i q) →
-        (q : ℕ) → Contains old q ↔ StepsBefore chart set b (i + 1) q
-    steps_skip old i place read takes before q = (
+    pub steps_skip : (Old : ℕ → Type 0) (i : ℕ) (place : ChartPlace) → slice_get chart.places.items (get_or set i 0) ≡ Some place →
+        takes_byte chart.classes.items place.takes b ≡ false → ((q : ℕ) → Old q ↔ StepsBefore chart set b i q) →
+        (q : ℕ) → Old q ↔ StepsBefore chart set b (i + 1) q
+    steps_skip Old i place read takes before q = (
       λ h. let s = (before q).0 h in (s.0, s.1, omega (arith, s.2), s.3, s.4, s.5, s.6),
       λ s. (before q).1 (⊎_elim
           (λ lt. (s.0, s.1, lt, s.3, s.4, s.5, s.6))
@@ -114,9 +114,9 @@ module _ (chart : Chart) where
     )
 
     -- All places are read, and the set is put in order.
-    pub steps_all : (old next : List ℕ) (i : ℕ) → length set ≤ i → ((q : ℕ) → Contains old q ↔ StepsBefore chart set b i q) →
-        IsAscending next → ((q : ℕ) → Contains next q ↔ Contains old q) → IsStepOf chart set b next
-    steps_all old next i le all up same = record {
+    pub steps_all : (Old : ℕ → Type 0) (next : List ℕ) (i : ℕ) → length set ≤ i → ((q : ℕ) → Old q ↔ StepsBefore chart set b i q) →
+        IsAscending next → ((q : ℕ) → Contains next q ↔ Old q) → IsStepOf chart set b next
+    steps_all Old next i le all up same = record {
       ascending = up;
       live = λ q. (
         λ h. let s = (all q).0 ((same q).0 h) in (get_or set s.0 0, s.1, member_at set s.0 s.3, s.4, s.5, s.6),

@@ -4,6 +4,7 @@ pub mod HitSteps
 pub mod EndSteps
 pub mod WordBits
 pub mod PlaceLists
+pub mod ClosureSteps
 pub mod GatheringSteps
 pub mod StateLists
 pub mod ChartLaws
@@ -21,7 +22,6 @@ pub mod Counting
 pub mod OneRecord
 pub mod EmptySets
 pub mod Compiled
-pub mod Gathered
 pub mod Splitting
 pub mod AlikeBytes
 pub mod Deciding

@@ -1,5 +1,5 @@
 -- Words of bits as they are written and joined, and the places that are read off them.
-use Rattle.std.proofs.Common.{◌≡◌, ◌≢◌, ◌⊎◌, ◌↔◌, inl, inr, ⊎_elim, ℕ, zero, suc, ◌+◌, ◌-◌, ◌*◌, ◌/◌, ◌%◌, ◌^◌, ◌<◌, ◌≤◌, ◌==◌, ◌||◌, ◌&&◌, Bool, true, false, true≢false, nat_le, List, [], ◌∷◌, ◌++◌, length, slice_index_or, Contains, bit_or, w64, refl, sym, ap, ◌∙◌, subst, arith}
+use Rattle.std.proofs.Common.{◌≡◌, ◌≢◌, ◌⊎◌, inl, inr, ⊎_elim, ℕ, ◌+◌, ◌-◌, ◌*◌, ◌/◌, ◌%◌, ◌^◌, ◌<◌, ◌≤◌, ◌==◌, ◌||◌, ◌&&◌, Bool, true, false, true≢false, nat_le, List, [], ◌∷◌, ◌++◌, length, slice_index_or, Contains, bit_or, w64, refl, sym, ap, ◌∙◌, subst, arith}
 use Rattle.std.proofs.Math.ListN.{set}
 use Rattle.std.specs.Int.Bits.{or_zero_r}
 use Rattle.std.proofs.Math.Bool.{or-false, or-true}
@@ -10,7 +10,7 @@ use Rattle.std.proofs.lemmas.List.{get_or-set_other, get_or_append_left, get_or_
 use Rattle.std.proofs.lemmas.Nat.Bits.{bit_at_set_same, bit_at_set_other}
 use Rattle.std.proofs.Math.Seq.{get_or-append_seam}
 use Rattle.glob_automaton.specs.inner.Gathering.{IsAscending}
-use Rattle.glob_automaton.specs.inner.PlaceBits.{has_from, has_place, is_bit, IsNextBit}
+use Rattle.glob_automaton.specs.inner.PlaceBits.{has_from, has_place, is_bit}
 use Rattle.glob_automaton.proofs.WordBits.{bits_or, bits_zero}
 
 -- the words of one list are those of the other
@@ -56,17 +56,17 @@ module _ (words : List ℕ) (place : ℕ) (room : place / 64 < length words) whe
   unfolding joined_word
   one_added q = ⊎_elim
       (λ same. ⊎_elim
-          (λ here.
-          ap (λ z. is_bit z (q % 64)) (at_set q same.1)
-          ∙ ap (λ z. is_bit (bit_or (slice_index_or words (place / 64) 0) (1 * 2 ^ (place % 64) % 2 ^ 64)) z) here.1
-          ∙ ap (λ z. z == 1) (bit_at_set_same w64 (slice_index_or words (place / 64) 0) (place % 64) (omega arith))
-          ∙ sym (ap (λ z. has_place words q || z) (yes_equal q (omega (arith, same.1, here.1))) ∙ or-true (has_place words q)))
-          (λ apart.
-          ap (λ z. is_bit z (q % 64)) (at_set q same.1)
-          ∙ ap (λ z. z == 1) (bit_at_set_other w64 (slice_index_or words (place / 64) 0) (place % 64) (omega arith) (q % 64) apart.1)
-          ∙ ap (λ z. is_bit (slice_index_or words z 0) (q % 64)) (sym same.1)
-          ∙ sym (ap (λ z. has_place words q || z) (not_equal q (λ e. apart.1 (ap (λ z. z % 64) e))) ∙ or-false (has_place words q)))
-          (eqb_tells (q % 64) (place % 64)))
+      (λ here.
+      ap (λ z. is_bit z (q % 64)) (at_set q same.1)
+      ∙ ap (λ z. is_bit (bit_or (slice_index_or words (place / 64) 0) (1 * 2 ^ (place % 64) % 2 ^ 64)) z) here.1
+      ∙ ap (λ z. z == 1) (bit_at_set_same w64 (slice_index_or words (place / 64) 0) (place % 64) (omega arith))
+      ∙ sym (ap (λ z. has_place words q || z) (yes_equal q (omega (arith, same.1, here.1))) ∙ or-true (has_place words q)))
+      (λ apart.
+      ap (λ z. is_bit z (q % 64)) (at_set q same.1)
+      ∙ ap (λ z. z == 1) (bit_at_set_other w64 (slice_index_or words (place / 64) 0) (place % 64) (omega arith) (q % 64) apart.1)
+      ∙ ap (λ z. is_bit (slice_index_or words z 0) (q % 64)) (sym same.1)
+      ∙ sym (ap (λ z. has_place words q || z) (not_equal q (λ e. apart.1 (ap (λ z. z % 64) e))) ∙ or-false (has_place words q)))
+      (eqb_tells (q % 64) (place % 64)))
       (λ apart.
       ap (λ z. is_bit z (q % 64)) (get_or-set_other words (place / 64) (q / 64) _ 0 apart.1)
       ∙ sym (ap (λ z. has_place words q || z) (not_equal q (λ e. apart.1 (ap (λ z. z / 64) e))) ∙ or-false (has_place words q)))

@@ -1,5 +1,5 @@
 -- Bits of words that are joined and moved.
-use Rattle.std.proofs.Common.{◌≡◌, ℕ, zero, suc, ◌+◌, ◌-◌, ◌*◌, ◌/◌, ◌%◌, ◌^◌, ◌<◌, ◌≤◌, ◌==◌, Bool, true, false, w64, ◌||◌, ⊎_elim, max, bit_or, refl, sym, ap, ◌∙◌, arith}
+use Rattle.std.proofs.Common.{◌≡◌, ℕ, zero, suc, ◌+◌, ◌-◌, ◌*◌, ◌/◌, ◌%◌, ◌^◌, ◌<◌, ◌≤◌, ◌==◌, false, w64, ◌||◌, ⊎_elim, max, bit_or, refl, sym, ap, ◌∙◌, arith}
 use Rattle.std.specs.Int.{bit_at, trailing_zeros}
 use Rattle.std.proofs.Math.Nat.{div-add-mod, div-le_self, mod-lt, mul_comm}
 use Rattle.std.proofs.lemmas.Bool.{cases_lt}

@@ -1,6 +1,7 @@
 pub mod Chart
 pub mod Drawing
 pub mod Alike
+pub mod Ascending
 pub mod PlaceBits
 pub mod Gathering
 pub mod Building

@@ -171,7 +171,7 @@ fn gather_start(chart: &Chart, gathering: &mut Gathering) -> Result<(), AllocErr
     for rule in &chart.rules {
         gathering.enter(chart, rule.start)?;
     }
-    gathering.sort(chart);
+    gathering.read_off(chart)?;
     Ok(())
 }
 
@@ -195,7 +195,7 @@ fn gather_step(
             gathering.enter(chart, place.behind)?;
         }
     }
-    gathering.sort(chart);
+    gathering.read_off(chart)?;
     Ok(())
 }
 

@@ -9,6 +9,7 @@
 mod building;
 mod bytes;
 mod chart;
+mod closures;
 mod compiling;
 mod laws;
 mod leaf;

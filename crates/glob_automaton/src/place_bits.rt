@@ -1,6 +1,6 @@
 //! Places as bits of words.
 ghost use Rattle.std.specs.Prelude.{◌≡◌, ◌↔◌, ◌⊎◌, ◌+◌, ◌*◌, ◌^◌, ◌/◌, ◌%◌, ◌<◌, ◌≤◌, ◌||◌, ◌==◌, ℕ, [], true, false, length, IfOk, IfSome, None, OnOk, Contains, slice_index_or};
-ghost use Rattle.glob_automaton.specs.inner.Gathering.{IsAscending};
+ghost use Rattle.glob_automaton.specs.inner.Ascending.{IsAscending};
 ghost use Rattle.glob_automaton.specs.inner.PlaceBits.{has_from, has_place, is_bit, AreWithin, IsNextBit};
 
 use std::alloc::{AllocError, Global};
@@ -20,6 +20,7 @@ pub(crate) struct PlaceBits {
 pub(crate) struct Closure {
     first: usize,
     words: Vec<u64>,
+    ghost few: { first + length words.items ≤ 2 ^ 58 },
 }
 
 impl PlaceBits {
@@ -87,8 +88,7 @@ impl PlaceBits {
 
     /// Adds the places of a closure.
     pub(crate) fn join(&mut self, closure: &Closure) -> Result<(), AllocError>
-        requires within { AreWithin self.old }
-        requires few { closure.now.first + length closure.now.words.items ≤ 2 ^ 58 }
+        requires { AreWithin self.old }
         ensures within { OnOk result (AreWithin self.new) }
         ensures places { OnOk result ((q : ℕ) → has_place self.new.words.items q
             ≡ (has_place self.old.words.items q || has_from closure.now.first closure.now.words.items q)) }
@@ -106,8 +106,7 @@ impl PlaceBits {
     /// The same places, to be kept.
     pub(crate) fn closure(&self, alloc: Global) -> Result<Closure, AllocError>
         requires { AreWithin self.now }
-        ensures few { IfOk result (λ c. c.first + length c.words.items ≤ 2 ^ 58) }
-        ensures places { IfOk result (λ c. (q : ℕ) → has_from c.first c.words.items q ≡ has_place self.now.words.items q) }
+        ensures { IfOk result (λ c. (q : ℕ) → has_from c.first c.words.items q ≡ has_place self.now.words.items q) }
     {
         if self.begin >= self.end {
             return Ok(Closure {

@@ -1,9 +1,8 @@
 -- What is live after the places so far that take the byte.
 use Rattle.std.proofs.Common.{ℕ, ◌↔◌}
-use Rattle.std.specs.List.{Contains}
-use Rattle.glob_automaton.specs.inner.Gathering.{IsGathering}
+use Rattle.glob_automaton.specs.inner.Gathering.{IsGathering, Holds}
 use Rattle.glob_automaton.proofs.GatheringSteps.{StepsBefore}
 use Rattle.glob_automaton.proofs.building.gather_step.Given as goal
 
 abbrev pub invariant-loop-place : goal.invariant-loop-place
-invariant-loop-place l = IsGathering l.chart l.gathering × ((q : ℕ) → Contains l.gathering.places.items q ↔ StepsBefore l.chart l.set l.byte l.place-index q)
+invariant-loop-place l = IsGathering l.chart l.gathering × ((q : ℕ) → Holds l.gathering q ↔ StepsBefore l.chart l.set l.byte l.place-index q)

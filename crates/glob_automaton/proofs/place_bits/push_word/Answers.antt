@@ -1,5 +1,5 @@
 -- The next bit's place is appended, until there is none.
-use Rattle.std.proofs.Common.{◌≡◌, ◌⊎◌, inl, inr, ⊎_elim, ◌+◌, ◌*◌, ◌/◌, ◌%◌, ◌<◌, ◌≤◌, ℕ, true, true≢false, sym, ap, ◌∙◌, arith}
+use Rattle.std.proofs.Common.{inl, inr, ⊎_elim, ◌%◌, true≢false, sym, ap, ◌∙◌, arith}
 use Rattle.std.proofs.lemmas.Bool.{cases_lt}
 use Rattle.glob_automaton.specs.inner.PlaceBits.{is_bit}
 use Rattle.glob_automaton.proofs.place_bits.push_word.Goals as goal

@@ -1,4 +1,4 @@
-use Rattle.std.proofs.Common.{◌≡◌, ◌∙◌, ◌==◌, ◌/◌, ◌%◌, ◌*◌, ◌^◌, ◌<◌, ◌||◌, bit_or, length, ap, arith}
+use Rattle.std.proofs.Common.{◌∙◌, ◌==◌, ◌/◌, ◌%◌, ◌*◌, ◌^◌, ◌<◌, ◌||◌, bit_or, length, ap, arith}
 use Rattle.std.proofs.Math.ListN.{set}
 use Rattle.std.proofs.lemmas.List.{get_or_default}
 use Rattle.glob_automaton.specs.inner.PlaceBits.{has_place}

@@ -1,4 +1,4 @@
-use Rattle.std.proofs.Common.{◌≡◌, ◌∙◌, ⊎_elim, ◌+◌, ◌/◌, ◌<◌, ◌≤◌, ◌||◌, ℕ, true, length, sym, ap, arith}
+use Rattle.std.proofs.Common.{◌≡◌, ◌∙◌, ⊎_elim, ◌≤◌, ◌||◌, ℕ, length, sym, ap, arith}
 use Rattle.glob_automaton.specs.inner.PlaceBits.{has_from, has_place}
 use Rattle.glob_automaton.proofs.PlaceLists.{all_joined, either_has, from_within, same_places}
 use Rattle.glob_automaton.proofs.place_bits.PlaceBits.join.Goals as goal
