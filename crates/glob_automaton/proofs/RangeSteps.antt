@@ -1,11 +1,14 @@
 -- The row of a set as ranges, one more where the target changes.
-use Rattle.std.proofs.Common.{◌≡◌, ⊎_elim, ℕ, ◌+◌, ◌-◌, ◌<◌, ◌≤◌, ◌++◌, ◌∷◌, [], List, sym, subst, subst₂, refl, arith}
+use Rattle.std.proofs.Common.{◌≡◌, ⊎_elim, Bool, slice_index_or, ℕ, ◌+◌, ◌-◌, ◌<◌, ◌≤◌, ◌++◌, ◌∷◌, [], List, sym, subst, subst₂, refl, arith}
 use Rattle.std.proofs.lemmas.Bool.{cases_lt}
 use Rattle.automata.specs.declared.range.TargetRange.{TargetRange}
 use Rattle.automata.specs.Rows.{IsRowAppended, target_in}
 use Rattle.automata.proofs.Fronts.{IsSoFar, one_range_more, last_range}
 use Rattle.glob_automaton.specs.declared.chart.Chart.{Chart}
+use Rattle.glob_automaton.specs.inner.Alike.{AreAlike, AreLike, AreNamed}
+use Rattle.glob_automaton.specs.inner.Drawing.{IsPartOfChart}
 use Rattle.glob_automaton.specs.inner.States.{Keeps, IsTargetOf}
+use Rattle.glob_automaton.proofs.RowSteps.{same_step}
 use Rattle.glob_automaton.proofs.SetSteps.{still_target}
 
 module _ (chart : Chart) (set : List ℕ) where
@@ -17,6 +20,26 @@ module _ (chart : Chart) (set : List ℕ) where
   -- the first byte alone
   pub one_alike : (sets : List (List ℕ)) (t : ℕ) → IsTargetOf chart sets set 0 t → (c : ℕ) → 0 ≤ c → c < 1 → IsTargetOf chart sets set c t
   one_alike sets t is c low lt = subst (λ z. IsTargetOf chart sets set z t) (omega (arith, lt)) is
+
+  -- the next byte is like the one before it
+  pub like_last : (sets : List (List ℕ)) (least : List ℕ) (named : List Bool) → IsPartOfChart chart → AreAlike chart least → AreNamed chart set named →
+      (old ranges : List TargetRange) (t byte : ℕ) → byte < 256 → AreLike least named (byte - 1) byte → IsWritten sets old ranges t byte →
+      IsWritten sets old ranges t (byte + 1)
+  like_last sets least named part alike marks old ranges t byte small like h = (
+    h.0,
+    omega (arith, h.1),
+    h.2,
+    λ c le lt. ⊎_elim
+        (λ below. h.3 c le below)
+        (λ ge.
+        let its = h.3 (byte - 1) (omega (arith, h.1)) (omega (arith, h.1)) in
+        subst (λ z. IsTargetOf chart sets set z t) (omega (arith, lt, ge)) (
+          its.0,
+          same_step chart least part alike set named marks (byte - 1) byte (slice_index_or sets t []) (omega (arith, small)) small
+              like.alike like.one_unmarked like.other_unmarked its.1,
+        ))
+        (cases_lt c byte),
+  )
 
   module _ (sets new : List (List ℕ)) (kept : Keeps sets new) where
     still : (c t : ℕ) → IsTargetOf chart sets set c t → IsTargetOf chart new set c t

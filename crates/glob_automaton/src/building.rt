@@ -1,6 +1,6 @@
 //! The subset construction: a state for each set of places that is live after some bytes.
-ghost use Rattle.std.specs.Prelude.{◌≡◌, ◌↔◌, ◌<◌, ◌≤◌, ◌++◌, ◌∷◌, [], IfOk, IfErr, IsTrue, OnOk, Contains, length, map, slice_index_or};
-ghost use Rattle.glob_automaton.specs.inner.Alike.{AreAlike, AreNamed};
+ghost use Rattle.std.specs.Prelude.{◌≡◌, ◌↔◌, ◌-◌, ◌<◌, ◌≤◌, ◌++◌, true, ◌∷◌, [], IfOk, IfErr, IsTrue, OnOk, Contains, length, map, slice_index_or};
+ghost use Rattle.glob_automaton.specs.inner.Alike.{AreAlike, AreLike, AreNamed};
 ghost use Rattle.automata.specs.Automata.{most_sets};
 ghost use Rattle.glob_automaton.specs.inner.Building.{ArePlaces, IsStartOf, IsStepOf, IsRecordOf, IsBuilt, IsBuildFault};
 ghost use Rattle.glob_automaton.specs.inner.Drawing.{IsPartOfChart};
@@ -276,6 +276,18 @@ fn shared_target(
     Ok(target)
 }
 
+// Whether a byte and the one before it are alike, and no place of the set takes one of them alone. Then they have one target, which
+// needn't be looked up again: most bytes are of this kind.
+#[inline]
+fn is_like_last(classes: &ByteClasses, named: &[bool; 256], byte: u8) -> bool
+    requires some { 0 < byte }
+    requires long { length classes.now.least ≡ 256 }
+    ensures { result ≡ true → AreLike classes.now.least named.now (byte - 1) byte }
+{
+    let (this, last) = (byte as usize, byte as usize - 1);
+    !named[this] && !named[last] && classes.least[this] == classes.least[last]
+}
+
 // Adds the row of a set. A range ends where the next byte has another target.
 fn add_row(
     chart: &Chart,
@@ -300,6 +312,9 @@ fn add_row(
     let mut others: [Option<u16>; 256] = [None; 256];
     let mut target = shared_target(chart, classes, &named, set, 0, &mut others, gathering, sets)?;
     for byte in 1..256u32 {
+        if is_like_last(classes, &named, byte as u8) {
+            continue;
+        }
         let next = shared_target(
             chart,
             classes,

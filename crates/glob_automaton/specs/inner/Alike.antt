@@ -42,3 +42,9 @@ pub record AreNamed (chart : Chart) (set : List ℕ) (named : List Bool) : Type 
   pub long : length named ≡ 256
   pub each : (p b : ℕ) (place : ChartPlace) → Contains set p → slice_get chart.places.items p ≡ Some place → place.takes ≡ label.Byte b → b < 256 →
       slice_index_or named b false ≡ true
+
+-- two bytes are alike, and neither is marked
+pub record AreLike (least : List ℕ) (named : List Bool) (one other : ℕ) : Type 0 where
+  pub alike : least_of least one ≡ least_of least other
+  pub one_unmarked : slice_index_or named one false ≡ false
+  pub other_unmarked : slice_index_or named other false ≡ false

@@ -2,7 +2,8 @@
 use Rattle.std.proofs.Common.{◌≡◌, ◌<◌, refl, arith}
 use Rattle.automata.proofs.Fronts.{none_yet}
 use Rattle.glob_automaton.specs.inner.States.{lists_of, IsTargetOf}
-use Rattle.glob_automaton.proofs.RangeSteps.{one_alike, same_range, one_more, whole_row}
+use Rattle.glob_automaton.specs.inner.Alike.{AreLike}
+use Rattle.glob_automaton.proofs.RangeSteps.{like_last, one_alike, same_range, one_more, whole_row}
 use Rattle.glob_automaton.proofs.RowSteps.{none_shared}
 use Rattle.glob_automaton.proofs.SetPlaces.{set_places}
 use Rattle.glob_automaton.proofs.SetSteps.{keeps_on}
@@ -31,6 +32,22 @@ loop-byte-init c =
         none_yet (IsTargetOf c.args.chart.now new c.args.set.now) c.args.ranges.now.items,
         one_alike c.args.chart.now c.args.set.now new c.in_ok-target.target c.in_ok-target.ensures.target,
       );
+    }
+
+pub loop-byte-preserved-then-is_like_last : goal.loop-byte-preserved-then-is_like_last
+loop-byte-preserved-then-is_like_last c =
+    let chart = c.args.chart.now in
+    let set = c.args.set.now in
+    let sets = lists_of c.loop-byte.sets in
+    let byte = c.loop-byte.byte in
+    let like : AreLike c.args.classes.now.least c.named_by-named.result (byte - 1) byte = c.is_like_last.ensures c.if-is_like_last.true in
+    record {
+      gathering = c.loop-byte.invariant.gathering;
+      sets = c.loop-byte.invariant.sets;
+      kept = c.loop-byte.invariant.kept;
+      others = c.loop-byte.invariant.others;
+      written = like_last chart set sets c.args.classes.now.least c.named_by-named.result c.requires.chart c.requires.alike c.named_by-named.ensures
+          c.args.ranges.now.items c.loop-byte.ranges.items c.loop-byte.target byte (omega arith) like c.loop-byte.invariant.written;
     }
 
 pub loop-byte-preserved-then-next-target : goal.loop-byte-preserved-then-next-target
