@@ -1,5 +1,5 @@
 -- A byte goes on with the open range, or ends it and opens another.
-use Rattle.std.proofs.Common.{◌≡◌, ◌<◌, refl, arith}
+use Rattle.std.proofs.Common.{◌≡◌, ◌-◌, ◌<◌, refl, arith}
 use Rattle.automata.proofs.Fronts.{none_yet}
 use Rattle.glob_automaton.specs.inner.States.{lists_of, IsTargetOf}
 use Rattle.glob_automaton.specs.inner.Alike.{AreLike}
