@@ -16,10 +16,41 @@ enum Refusal {
     Profile(CompileFault),
 }
 
-/// Prints how many states the automaton of the text's profile has, or why it has none.
-pub(crate) fn print_states<R: Print>(rt: &R, alloc: Global, text: &[u8]) -> io::Result<()> {
-    let line = report(alloc, states(alloc, text))?;
+/// Compiles the text's profile COUNT times, and prints once how many states its automaton has, or why it has none. The word is
+/// `COUNT`; with none it is compiled once, and with 0 nothing is compiled or printed, so that the time of such a run is that of all
+/// else.
+pub(crate) fn print_states<R: Print>(
+    rt: &R,
+    alloc: Global,
+    words: &[String],
+    text: &[u8],
+) -> io::Result<()> {
+    let Some(count) = count_of(words) else {
+        return println!(rt; "usage: compile [COUNT]");
+    };
+    let Some(answer) = last_states(alloc, text, count) else {
+        return Ok(());
+    };
+    let line = report(alloc, answer)?;
     println!(rt; "{line}")
+}
+
+// How often the words say that the profile is compiled.
+fn count_of(words: &[String]) -> Option<u64> {
+    match words {
+        [] => Some(1),
+        [count] => count.as_str().parse().ok(),
+        _ => None,
+    }
+}
+
+// Asks for the states that often, and returns the last answer, if there is one. Each time the text is read and compiled anew.
+fn last_states(alloc: Global, text: &[u8], count: u64) -> Option<Result<u32, Refusal>> {
+    let mut last = None;
+    for _ in 0..count {
+        last = Some(states(alloc, text));
+    }
+    last
 }
 
 /// How many states the automaton of the text's profile has.

@@ -1,6 +1,7 @@
 //! Benchmarks, each with a word of the command line:
 //!
-//! - `compile` compiles the profile on standard input, and prints how many states its automaton has;
+//! - `compile` compiles the profile on standard input, once or as often as its word says, and prints how many states its automaton
+//!   has;
 //! - `row` plans a change, or follows a path, over a tree in a row in memory;
 //! - `cache` changes the tree that threads share, and walks over it, in one thread and in several;
 //! - `registry` reads published profiles in threads, concurrently with a publisher;
@@ -9,7 +10,7 @@
 //! - `check` runs each of them once at its smallest size, `compile` with the profile of a file, and `open` with that of another.
 //!
 //! The words after it say how much is done, and have it timed; with none `row`, `cache`, `registry` and `open` do a little, and
-//! print whether it was right.
+//! print whether it was right. `compile` measures nothing itself: that is done by comparing whole runs.
 //!
 //! The definitions to believe are those in `specs/`.
 #![tactic(auto)]
@@ -35,7 +36,7 @@ fn main(rt: HostRuntime) -> io::Result<()> {
         return usage(&rt);
     };
     match name.as_bytes() {
-        b"compile" => print_states(&rt, rt.alloc(), &input(&rt)?),
+        b"compile" => print_states(&rt, rt.alloc(), words, &input(&rt)?),
         b"row" => time_row(&rt, rt.alloc(), words),
         b"cache" => time_cache(&rt, rt.alloc(), words),
         b"registry" => time_registry(&rt, rt.alloc(), words),
@@ -47,7 +48,7 @@ fn main(rt: HostRuntime) -> io::Result<()> {
 
 fn usage<R: Print>(rt: &R) -> io::Result<()> {
     println!(rt;
-        "usage: benchmarks compile | row | cache | registry | open | check COMPILED OPENED"
+        "usage: benchmarks compile [COUNT] | row | cache | registry | open | check COMPILED OPENED"
     )
 }
 
@@ -66,7 +67,7 @@ fn check<R: Runtime + AllocGlobal + Threads + Wait + Sync>(
     let [compiled, opened] = words else {
         return usage(rt);
     };
-    print_states(rt, rt.alloc(), &fs::read(rt, compiled.as_str())?)?;
+    print_states(rt, rt.alloc(), &[], &fs::read(rt, compiled.as_str())?)?;
     time_row(rt, rt.alloc(), &[])?;
     time_cache(rt, rt.alloc(), &[])?;
     time_registry(rt, rt.alloc(), &[])?;

@@ -35,7 +35,6 @@ pub mod SetPlaces
 pub mod NamedSteps
 pub mod RowSteps
 pub mod RangeSteps
-pub mod RuleCount
 pub mod BuiltStates
 pub mod Prefixes
 pub mod JoinedLeast

@@ -17,26 +17,6 @@ use Rattle.glob_automaton.proofs.WordBits.{bits_or, bits_zero}
 pub same_places : (old new : List ℕ) → ((w : ℕ) → slice_index_or new w 0 ≡ slice_index_or old w 0) → (q : ℕ) → has_place new q ≡ has_place old q
 same_places old new same q = ap (λ z. is_bit z (q % 64)) (same (q / 64))
 
--- once the words in between are 0, no bit is set
-pub all_cleared : (old new : List ℕ) (begin end index : ℕ) → ((q : ℕ) → has_place old q ≡ true → (begin ≤ q / 64) × (q / 64 < end)) → end ≤ index →
-    ((w : ℕ) → begin ≤ w → w < index → slice_index_or new w 0 ≡ 0) → ((w : ℕ) → (w < begin) ⊎ (index ≤ w) → slice_index_or new w 0 ≡ slice_index_or old w 0) →
-    (q : ℕ) → has_place new q ≡ false
-all_cleared old new begin end index within past zeros same q = ⊎_elim
-    (λ below. was (inl below))
-    (λ ge. ⊎_elim
-    (λ lt. ap (λ z. is_bit z (q % 64)) (zeros (q / 64) ge lt) ∙ bits_zero (q % 64))
-    (λ le. was (inr le))
-    (cases_lt (q / 64) index))
-    (cases_lt (q / 64) begin)
-  where
-    outside : (q / 64 < begin) ⊎ (index ≤ q / 64) → has_place old q ≡ true → ⊥
-    outside (inl below) has = omega (arith, below, (within q has).0)
-    outside (inr above) has = omega (arith, above, past, (within q has).1)
-
-    was : (q / 64 < begin) ⊎ (index ≤ q / 64) → has_place new q ≡ false
-    was apart = ap (λ z. is_bit z (q % 64)) (same (q / 64) apart)
-        ∙ ⊎_elim (λ has. absurd (outside apart has)) (λ none. none) (cases_Bool (has_place old q))
-
 -- one bit more
 module _ (words : List ℕ) (place : ℕ) (room : place / 64 < length words) where
   joined_word : ℕ

@@ -130,16 +130,6 @@ module _ (chart : Chart) (old new : List (List ℕ)) (set next places : List ℕ
   target_sets (Ok number) is = (numbered_sets chart old new places number are from_set is).0
   target_sets (Err fault) is = tt
 
-  pub target_kept : (r : Result ℕ CompileFault) → IfOk r (IsNumbered old new places) → OnOk r (Keeps old new)
-  target_kept (Ok number) is = (numbered_sets chart old new places number are from_set is).1
-  target_kept (Err fault) is = tt
-
-  pub target_is : (r : Result ℕ CompileFault) → IfOk r (IsNumbered old new places) → IfOk r (IsTargetOf chart new set b)
-  target_is (Ok number) is =
-      let w = numbered_sets chart old new places number are from_set is in
-      (w.2, subst (λ z. IsStepOf chart set b z) (sym (w.3 ∙ same)) step)
-  target_is (Err fault) is = tt
-
   pub target_fault : (r : Result ℕ CompileFault) → IfErr r (IsNumberFault old places) → IfErr r (IsBuildFault chart)
   target_fault (Ok number) is = tt
   target_fault (Err fault) is = too_many_sets chart old places fault are from_set is

@@ -1,0 +1,138 @@
+# A helper of a daemon that runs virtual machines. For each machine it finds the disks, kernels and devices that the
+# machine needs, wherever they lie, and writes the rules that confine the machine to them.
+profile hypervisor_helper {
+  # Images of disks may lie anywhere that is mounted, so they are known by how their names end, and by the folder
+  # that holds them.
+  /**.{qcow2,raw,img} rk,
+  /**.vmdk rk,
+  /**.[iI][sS][oO] r,
+  /{mnt,media,srv,home}/**vm-images**/disk[0-9]* rwk,
+  /mnt/**/snapshots/** rk,
+  /**.{vdi,vhdx}{,.lock} rk,
+  /{mnt,media,srv}/**.ova r,
+  /media/**-backing.* r,
+  /srv/images/ r,
+  /srv/images/{,**/}*.{base,overlay} rwk,
+  /srv/isos/{,*} r,
+
+  # Where machines are described, and what this helper writes for each of them.
+  /etc/hyperd/{,**} r,
+  /etc/hyperd/machines/{,*.xml,autostart/{,*.xml}} r,
+  /etc/hyperd/networks/{,*.xml} r,
+  /etc/hyperd/storage/{,*.xml} r,
+  /etc/hyperd/secrets/ r,
+  /etc/hyperd/confine.d/machine-[0-9a-f]*.{rules,files} rw,
+  /etc/hyperd/confine.d/template.{machine,container} r,
+  /var/lib/hyperd/ r,
+  /var/lib/hyperd/machines/{,**} rwk,
+  /var/lib/hyperd/nvram/*_{CODE,VARS}.fd rwk,
+  /var/lib/hyperd/save/*.{save,ram} rwk,
+  /var/lib/hyperd/dump/{,*.core} rw,
+  /var/lib/hyperd/tpm/????????-????-????-????-????????????/{,**} rwk,
+  /var/lib/hyperd/console/machine-[0-9]*.sock rw,
+  /var/cache/hyperd/{,capabilities/*.xml} rw,
+  /var/log/hyperd/{,*.log{,.[0-9]}} rw,
+  /{,var/}run/hyperd/{,**} rw,
+  /{,var/}run/hyperd/*.pid rwk,
+
+  # Kernels and initial disks that a machine is started from directly.
+  /boot/ r,
+  /boot/{vmlinu[xz],initrd.img,initramfs}-* r,
+  /boot/efi/EFI/*/*.efi r,
+  /opt/kernels/**vmlinu[xz]** r,
+  /srv/netboot/**initr{d,amfs}** r,
+  /usr/share/{OVMF,AAVMF,seabios,ipxe}/{,**} r,
+  /usr/share/edk2/{aarch64,x64,ia32}/*.fd r,
+
+  # The helper itself, and the programs whose versions it asks for.
+  /usr/libexec/hyperd/{confine-helper,io-helper,parthelper} rm,
+  /usr/bin/qemu-{img,nbd,io} rm,
+  /usr/bin/qemu-system-{aarch64,arm,i386,ppc64,riscv64,s390x,x86_64} rm,
+  /usr/sbin/{dmidecode,lvs,vgs,multipath,kpartx} rm,
+  /usr/bin/{mkisofs,xorrisofs,genisoimage,guestmount} rm,
+
+  # The dynamic linker, libraries and the locale.
+  /etc/ld.so.{cache,conf,preload} r,
+  /etc/ld.so.conf.d/{,*.conf} r,
+  /{usr/,}lib{,32,64}/ld-*.so* rm,
+  /{usr/,}lib/{x86_64,aarch64}-linux-gnu/**.so* rm,
+  /usr/lib/locale/{,**} r,
+  /usr/lib/{x86_64,aarch64}-linux-gnu/gconv/{,*.so,gconv-modules{,.cache,.d/*.conf}} rm,
+  /usr/share/locale/{,**} r,
+  /usr/share/zoneinfo/{,**} r,
+  /etc/locale{,.alias,.conf} r,
+  /etc/{localtime,timezone} r,
+
+  # Users, hosts and the machine's own identity.
+  /etc/{passwd,group,nsswitch.conf} r,
+  /etc/{hosts,hostname,resolv.conf,host.conf} r,
+  /etc/machine-id r,
+  /etc/os-release r,
+  /etc/{protocols,services} r,
+  /{,var/}run/nscd/{socket,passwd,group} rw,
+  /{,var/}run/systemd/{userdb/*,journal/{socket,stdout},notify} rw,
+  /{,var/}run/dbus/system_bus_socket rw,
+  /var/lib/sss/{mc/{passwd,group},pipes/nss} rw,
+  /etc/ssl/openssl.cnf r,
+  /etc/{gnutls/config,crypto-policies/back-ends/*.config} r,
+  /etc/selinux/{config,targeted/contexts/users} r,
+
+  # Storage: logical volumes, multipath, remote pools and what is exported from them.
+  /dev/mapper/{,control,vg*} rk,
+  /dev/{vg,pool}[0-9]*/{,*} rk,
+  /dev/disk/by-{id,path,uuid,label}/{,*} r,
+  /dev/nbd[0-9]*{,p[0-9]} rwk,
+  /dev/loop{-control,[0-9]*} rwk,
+  /etc/lvm/{lvm.conf,profile/*.profile,archive/{,*.vg},backup/{,*}} r,
+  /etc/{multipath.conf,iscsi/{iscsid.conf,initiatorname.iscsi}} r,
+  /etc/ceph/{ceph.conf,*.keyring} r,
+  /etc/{fstab,mtab,exports} r,
+  /{,var/}run/{lvm,lock/lvm,multipathd.sock}{,/**} rw,
+  /var/lib/iscsi/{nodes,send_targets}/{,**} r,
+  /{,var/}run/mount/utab r,
+
+  # Devices that a machine may be given.
+  /dev/{null,zero,full,urandom,random} rw,
+  /dev/kvm r,
+  /dev/net/tun rw,
+  /dev/vfio/{,vfio,[0-9]*} rw,
+  /dev/vhost-{net,vsock,vdpa-[0-9]*} rw,
+  /dev/bus/usb/[0-9][0-9][0-9]/{,[0-9][0-9][0-9]} r,
+  /dev/dri/{,card[0-9],renderD[0-9]*} r,
+  /dev/{sg,sr,tty,ttyS,ttyUSB,ttyACM}[0-9]* r,
+  /dev/{hpet,rtc[0-9],hwrng} r,
+  /dev/sev{,-guest} r,
+  /dev/shm/hyperd-* rwk,
+  /dev/hugepages{,-2M,-1G}/hyperd/{,**} rw,
+
+  # What the kernel says of itself, of buses and of processes.
+  /proc/{cpuinfo,meminfo,modules,filesystems,version,swaps,uptime,partitions,cmdline} r,
+  /proc/[0-9]*/{status,stat,cmdline,maps,mounts,mountinfo,cgroup} r,
+  /proc/[0-9]*/{fd,fdinfo,ns,task}/{,*} r,
+  /proc/[0-9]*/net/{dev,route,psched} r,
+  /proc/sys/kernel/{osrelease,ngroups_max,cap_last_cap} r,
+  /proc/sys/vm/{overcommit_memory,nr_hugepages} r,
+  /sys/bus/{pci,usb,mdev}/devices/{,*} r,
+  /sys/class/{net,block,tpm,iommu}/{,*} r,
+  /sys/devices/pci[0-9a-f]*:[0-9a-f]*/**/{config,vendor,device,class,resource,irq,numa_node} r,
+  /sys/devices/system/{cpu,node}/{,**} r,
+  /sys/devices/virtual/{block,net}/**/{size,type,address} r,
+  /sys/kernel/{iommu_groups,mm/hugepages}/{,**} r,
+  /sys/module/{kvm,kvm_amd,kvm_intel}/parameters/nested r,
+  /sys/fs/cgroup/{,**/cgroup.{controllers,procs}} r,
+  /sys/firmware/devicetree/base/{,**} r,
+
+  # Temporary files.
+  /tmp/hyperd-*/{,**} rwk,
+  /var/tmp/{hyperd,confine}-?????? rwk,
+
+  # Nothing private, and nothing that belongs to the host, whatever an image is called.
+  deny /etc/{shadow,gshadow}{,-} rwlk,
+  deny /{root,home/*}/.{ssh,gnupg,aws}/{,**} rwlk,
+  deny /{root,home/*}/.*_history rwlk,
+  deny /etc/hyperd/secrets/** rwlk,
+  deny /opt/**/keystore**/master.key rwlk,
+  deny /dev/{mem,kmem,port} rwm,
+  deny /proc/{kcore,sysrq-trigger} rw,
+  deny /sys/firmware/efi/efivars/{,**} rw,
+}
