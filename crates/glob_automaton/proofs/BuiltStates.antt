@@ -1,12 +1,11 @@
 -- The states that are built so far: one for each set, in the order of the sets.
-use Rattle.std.proofs.Common.{◌≡◌, ◌⊎◌, inl, inr, ⊎_elim, ℕ, ◌+◌, ◌<◌, ◌≤◌, ◌↔◌, Bool, IsTrue, false, true≢false, List, [], ◌∷◌, ◌++◌, length, drop, slice_index_or, Contains, refl, sym, ap, ◌∙◌, subst, subst₂, arith}
+use Rattle.std.proofs.Common.{◌≡◌, ◌⊎◌, inl, inr, ⊎_elim, ℕ, ◌+◌, ◌<◌, ◌≤◌, ◌↔◌, Bool, IsTrue, false, true≢false, List, [], ◌∷◌, ◌++◌, length, drop, slice_index_or, refl, sym, ap, ◌∙◌, subst, subst₂, arith}
 use Rattle.std.proofs.Math.Seq.{get_or-append_seam, drop-append_seam}
 use Rattle.std.proofs.lemmas.List.{length-append, length-drop, get_or_append_left, drop-append-le}
 use Rattle.std.proofs.lemmas.Bool.{cases_lt}
 use Rattle.glob_automaton.specs.declared.chart.Chart.{Chart}
 use Rattle.verdicts.specs.declared.record.Record.{Record}
 use Rattle.glob_automaton.specs.inner.Building.{IsStartOf, IsStepOf, begins, IsRecordOf, IsBuilt}
-use Rattle.glob_automaton.specs.inner.Gathering.{IsAscending}
 use Rattle.automata.specs.Automata.{IsWhole}
 use Rattle.automata.specs.declared.range.TargetRange.{TargetRange}
 use Rattle.automata.specs.Rows.{AreRows, IsRowFrom, rows_of, target_in}
@@ -14,9 +13,8 @@ use Rattle.automata.proofs.RowLaws.{row_stays, row_some, target_stays}
 use Rattle.automata.proofs.RowLists.{row_at, rows_long, target_at, targets_long}
 use Rattle.glob_automaton.specs.inner.States.{tables, AreStates, IsNumbered, AreFewSets, Keeps, IsTargetOf, IsRowOfSet}
 use Rattle.glob_automaton.proofs.EmptySets.{all_empty}
-use Rattle.glob_automaton.proofs.LiveNumbers.{reached_ascends}
 use Rattle.glob_automaton.proofs.RuleNumbers.{neither_less}
-use Rattle.glob_automaton.proofs.SetSteps.{set_there, set_from, numbered_sets, step_empty, still_target}
+use Rattle.glob_automaton.proofs.SetSteps.{numbered_sets, step_empty, still_target}
 
 -- the empty set alone, which is one set
 pub empty_set_alone : (chart : Chart) (old new : List (List ℕ)) (number : ℕ) → old ≡ [] → IsNumbered old new [] number →
@@ -56,17 +54,6 @@ no_states chart old new set start are one begun is =
       row = λ s lt. absurd (omega (arith, lt));
       recorded = λ s none lt. absurd (omega (arith, lt));
     }
-
--- the set of a state is one of the sets
-pub set_read : (sets : List (List ℕ)) (set : List ℕ) (state : ℕ) → state < length sets → set ≡ slice_index_or sets state [] → Contains sets set
-set_read sets set state lt is = subst (λ z. Contains sets z) (sym is) (set_there sets state lt)
-
--- and it ascends
-pub set_ascends : (chart : Chart) (sets : List (List ℕ)) (set : List ℕ) → AreFewSets chart sets → Contains sets set → IsAscending set
-set_ascends chart sets set are there = ⊎_elim
-    (λ empty. λ i j lt within. absurd (omega (arith, within, ap length empty)))
-    (λ h. reached_ascends chart h.0 set h.1)
-    (set_from chart sets set are.0 there)
 
 -- the sets that were there are what they were
 kept_at : (old new : List (List ℕ)) (i : ℕ) → Keeps old new → i < length old → slice_index_or new i [] ≡ slice_index_or old i []

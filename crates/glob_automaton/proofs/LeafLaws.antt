@@ -1,5 +1,5 @@
 -- The automaton of a rule's path, with the hits of the rule, is that of the part that is this rule.
-use Rattle.std.proofs.Common.{◌≡◌, ◌≢◌, ◌==◌, false, true≢false, IsTrue, inl, inr, ⊎_elim, ℕ, ◌+◌, ◌-◌, ◌<◌, ◌≤◌, List, [], ◌∷◌, length, Some, slice_get, slice_index_or, if◌then◌else◌, refl, sym, ap, ◌∙◌, subst, arith}
+use Rattle.std.proofs.Common.{◌≡◌, ◌≢◌, ◌==◌, IsTrue, inl, inr, ⊎_elim, ℕ, ◌+◌, ◌-◌, ◌<◌, ◌≤◌, List, [], ◌∷◌, length, Some, slice_get, slice_index_or, if◌then◌else◌, refl, sym, ap, ◌∙◌, subst, arith}
 use Rattle.std.proofs.lemmas.Bool.{cases_Bool, eqb-true, eqb-false}
 use Rattle.std.proofs.lemmas.List.Elements.{All-head, All-tail}
 use Rattle.std.proofs.lemmas.Option.{same_Some}
@@ -11,17 +11,18 @@ use Rattle.rule_globs.specs.Glob.{Takes}
 use Rattle.rule_globs.specs.LiveSteps.{IsLeftFirst}
 use Rattle.rule_profile.specs.Profile.{RuleValue, pattern, holds}
 use Rattle.verdicts.specs.declared.kind.RuleKind.{RuleKind}
-use Rattle.verdicts.specs.declared.kind.RuleKind.TheVariants.{Allow, Deny}
+use Rattle.verdicts.specs.declared.kind.RuleKind.TheVariants.{Allow}
 use Rattle.verdicts.specs.declared.record.Record.{Record}
 use Rattle.verdicts.specs.declared.record.LeastHits.{LeastHits}
 use Rattle.verdicts.specs.Least.{IsLeastOrNone, hits_of, record_of, no_hit}
-use Rattle.verdicts.specs.Hits.{no_hits, hits_with, hits_after}
+use Rattle.verdicts.specs.Hits.{no_hits}
 use Rattle.automata.specs.declared.fault.CompileFault.{CompileFault}
 use Rattle.automata.specs.declared.fault.CompileFault.TheVariants.{TooManyStates, NoMemory}
 use Rattle.automata.specs.Automata.{Automaton, target, goes_to, state_after, most_sets}
 use Rattle.glob_automaton.specs.Automata.{IsAutomatonOf, IsCompileFault}
 use Rattle.glob_automaton.specs.Least.{IsLeastRecord}
 use Rattle.glob_automaton.specs.Sets.{IsLive, SameSet, NoneLive, AreMoreThan}
+use Rattle.glob_automaton.proofs.AloneRecords.{nobody_hits, one_hits}
 use Rattle.glob_automaton.proofs.ReachedSets.{at_index, has_number}
 use Rattle.glob_automaton.specs.Parts.{SameIn, NoneIn, HitsIn, IsLeastIn, IsAutomatonOfPart}
 use Rattle.glob_automaton.specs.inner.Leaves.{reading, hits_alone, where_read, IsWithHits}
@@ -121,31 +122,6 @@ module _ (rules : List RuleValue) (rule : RuleValue) (before : ℕ) (stands : sl
   hit_of kind p x n h = subst (λ (z : RuleValue). (z.kind ≡ kind) × IsTrue (holds z p) × Takes (pattern z) x)
       (sym (same_one n h.2.0 h.0 h.1 h.2.1).1) (h.2.2, h.2.3, h.2.4)
 
-  abbrev pub IsLeastAt : RuleKind → Permission → List ℕ → ℕ → Type 0
-  IsLeastAt kind p x n = IsLeastOrNone (HitsIn rules before (before + 1) kind p x) n
-
-  -- the rule is the least of its hits, where it has one
-  least_there : (kind : RuleKind) (p : Permission) (x : List ℕ) → rule.kind ≡ kind → IsTrue (holds rule p) → Takes (pattern rule) x →
-      IsLeastAt kind p x (before + 1)
-  least_there kind p x is has takes = inr (hit_there kind p x is has takes, λ m t. omega (arith, t.0))
-
-  no_other_kind : (kind : RuleKind) (p : Permission) (x : List ℕ) → ¬ (rule.kind ≡ kind) → IsLeastAt kind p x 0
-  no_other_kind kind p x other = inl (refl, λ m t. other (hit_of kind p x m t).0)
-
-  not_held : (kind : RuleKind) (p : Permission) (x : List ℕ) → holds rule p ≡ false → IsLeastAt kind p x 0
-  not_held kind p x lacks = inl (refl, λ m t. true≢false (sym (hit_of kind p x m t).1 ∙ lacks))
-
-  not_taken : (kind : RuleKind) (p : Permission) (x : List ℕ) → ¬ (Takes (pattern rule) x) → IsLeastAt kind p x 0
-  not_taken kind p x none = inl (refl, λ m t. none (hit_of kind p x m t).2)
-
-  abbrev pub AreLeastOf : Permission → List ℕ → LeastHits → Type 0
-  AreLeastOf p x hits = IsLeastAt Allow p x hits.allow × IsLeastAt Deny p x hits.deny
-
-  held : (p : Permission) (x : List ℕ) (kind : RuleKind) → rule.kind ≡ kind → IsTrue (holds rule p) → Takes (pattern rule) x →
-      AreLeastOf p x (hits_with no_hit kind (before + 1))
-  held p x Allow is has takes = (least_there Allow p x is has takes, no_other_kind Deny p x (λ e. absurd (cc (is, e))))
-  held p x Deny is has takes = (no_other_kind Allow p x (λ e. absurd (cc (is, e))), least_there Deny p x is has takes)
-
   module _ (made : (hits : Permission → LeastHits) (p : Permission) → hits_of (record_of hits) p ≡ hits p)
       (same_hits : (r s : Record) → ((p : Permission) → hits_of r p ≡ hits_of s p) → r ≡ s) where
     abbrev pub hits : Record
@@ -156,20 +132,12 @@ module _ (rules : List RuleValue) (rule : RuleValue) (before : ℕ) (stands : sl
 
     -- the hits of the rule alone are its least ones, where its path matches
     least_alone : (x : List ℕ) → Takes (pattern rule) x → IsLeastIn rules before (before + 1) x hits
-    least_alone x takes p =
-        let its : hits_of hits p ≡ hits_after no_hits rule.kind rule.perms (before + 1) p = made (hits_after no_hits rule.kind rule.perms (before + 1)) p in
-        subst (AreLeastOf p x) (sym its) (⊎_elim
-        (λ yes.
-        subst (AreLeastOf p x) (sym (ap (λ b. if b then hits_with (hits_of no_hits p) rule.kind (before + 1) else hits_of no_hits p) yes
-        ∙ ap (λ z. hits_with z rule.kind (before + 1)) (none_of p)))
-        (held p x rule.kind refl yes takes))
-        (λ no.
-        subst (AreLeastOf p x) (sym (ap (λ b. if b then hits_with (hits_of no_hits p) rule.kind (before + 1) else hits_of no_hits p) no ∙ none_of p))
-        (not_held Allow p x no, not_held Deny p x no))
-        (cases_Bool (holds rule p)))
+    least_alone x takes = one_hits made (λ kind p n. HitsIn rules before (before + 1) kind p x n) rule.kind rule.perms (before + 1)
+        (λ kind p n h. let its = hit_of kind p x n h in (its.0, its.1, omega (arith, h.0)))
+        (λ kind p is holds. hit_there kind p x is holds takes)
 
     least_none : (x : List ℕ) → ¬ (Takes (pattern rule) x) → IsLeastIn rules before (before + 1) x no_hits
-    least_none x none p = subst (AreLeastOf p x) (sym (none_of p)) (not_taken Allow p x none, not_taken Deny p x none)
+    least_none x none = nobody_hits made (λ kind p n. HitsIn rules before (before + 1) kind p x n) (λ kind p n h. none (hit_of kind p x n h).2)
 
     -- reading has a hit where the path matches, and there alone
     read_none : (x : List ℕ) (n : ℕ) → n ≡ 0 → IsLeastOrNone (Hits (reading rule ∷ []) Allow Read x) n → ¬ (Takes (pattern rule) x)

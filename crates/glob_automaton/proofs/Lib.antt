@@ -1,7 +1,6 @@
 pub mod LeastSteps
 pub mod ToldLaws
 pub mod HitSteps
-pub mod EndSteps
 pub mod WordBits
 pub mod PlaceLists
 pub mod ClosureSteps
@@ -42,6 +41,8 @@ pub mod SideBySide
 pub mod WholeParts
 pub mod DeadPart
 pub mod LeafMet
+pub mod AloneRecords
+pub mod EndRecords
 pub mod LeafLaws
 pub mod SameCharts
 pub mod WithHits

@@ -29,10 +29,6 @@ byte_of : (place : ChartPlace) (a b : ℕ) → place.takes ≡ label.Byte a → 
 byte_of place a b one other = cc
 
 module _ (chart : Chart) (places : List ℕ) where
-  -- no place is read
-  pub named_none : (named : List Bool) → length named ≡ 256 → NamedBefore chart places named 0
-  named_none named long = record { long = long; each = λ k b place lt within at is small. absurd (omega (arith, lt)) }
-
   module _ (named : List Bool) (i : ℕ) (place : ChartPlace) (read : slice_get chart.places.items (get_or places i 0) ≡ Some place)
       (is : NamedBefore chart places named i) where
     -- what is read at the last index

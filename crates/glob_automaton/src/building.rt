@@ -15,7 +15,7 @@ use crate::sets::Gathering;
 use automata::{CompileFault, Dfa, TargetRange};
 use indexmap::IndexSet;
 use std::alloc::{AllocError, Global};
-use verdicts::Record;
+use verdicts::{Record, records_are_their_hits};
 
 /// The most different sets of live places, the empty set among them.
 const MOST_SETS: usize = 16384;
@@ -38,10 +38,10 @@ struct States {
     start: u32,
 }
 
-/// Builds the automaton of a chart.
+/// Builds the automaton of a chart of one rule.
 pub(crate) fn build(alloc: Global, chart: &Chart) -> Result<Dfa, CompileFault>
     requires chart { IsPartOfChart chart.now }
-    requires few { length chart.now.rules.items ≤ 1024 }
+    requires one { length chart.now.rules.items ≡ 1 }
     ensures ok { IfOk result (IsBuilt chart.now) }
     ensures err { IfErr result (IsBuildFault chart.now) }
 {
@@ -88,7 +88,7 @@ fn add_states(
     states: &mut States,
 ) -> Result<(), CompileFault>
     requires chart { IsPartOfChart chart.now }
-    requires few { length chart.now.rules.items ≤ 1024 }
+    requires one { length chart.now.rules.items ≡ 1 }
     requires gathering { IsGathering chart.now gathering.old }
     requires none { AreStates chart.now (lists_of sets.old) states.old.ranges.items states.old.firsts.items states.old.records.items states.old.start 0 }
     ensures ok { OnOk result (IsBuilt chart.now (tables states.new.ranges.items states.new.firsts.items states.new.records.items states.new.start)) }
@@ -96,7 +96,6 @@ fn add_states(
     ensures err { IfErr result (IsBuildFault chart.now) }
 {
     let classes = ByteClasses::of(chart);
-    let ends = ends_of(alloc, chart)?;
     let mut set = Vec::new(alloc);
     for state in 0..MOST_SETS {
         if !sets.copy(state, &mut set)? {
@@ -105,7 +104,7 @@ fn add_states(
         let first = count(&states.ranges);
         add_row(chart, &classes, &set, gathering, sets, &mut states.ranges)?;
         keep(&mut states.firsts, first)?;
-        keep(&mut states.records, record_of(chart, &ends, &set))?;
+        keep(&mut states.records, record_of(chart, &set))?;
     }
     Ok(())
 }
@@ -336,33 +335,16 @@ fn add_row(
     Ok(())
 }
 
-// The ends of the rules, in order; collected once, so that the places of each set can be looked up in them.
-fn ends_of(alloc: Global, chart: &Chart) -> Result<Vec<usize>, AllocError>
-    ensures { IfOk result (λ ends. ends.items ≡ map (λ d. d.end) chart.now.rules.items) }
-{
-    let mut ends = Vec::new(alloc);
-    for rule in &chart.rules {
-        ends.push(rule.end)?;
-    }
-    Ok(ends)
-}
-
-// The least hits of a set: those of the rules whose ends are in it. Iterates over the set, not over the rules, since there may be
-// far more rules than places. The ends ascend, so the rule of a place is found by binary search; the set ascends too, so the hits
-// come in the order of their numbers.
-fn record_of(chart: &Chart, ends: &[usize], set: &[usize]) -> Record
-    requires chart { IsPartOfChart chart.now }
-    requires few { length chart.now.rules.items ≤ 1024 }
-    requires ends { ends.now ≡ map (λ d. d.end) chart.now.rules.items }
-    requires ascending { IsAscending set.now }
+// The hits of a set: those of the chart's rule, whose number is 1, if its end is in the set.
+fn record_of(chart: &Chart, set: &[usize]) -> Record
+    requires { length chart.now.rules.items ≡ 1 }
     ensures { IsRecordOf chart.now set.now result }
 {
-    let mut record = Record::none();
-    for place in set {
-        if let Ok(number) = ends.binary_search(place) {
-            let rule = chart.rules[number];
-            record = record.with_rule(rule.kind, rule.perms, number as u16 + 1);
-        }
+    records_are_their_hits();
+    let rule = chart.rules[0];
+    if set.contains(&rule.end) {
+        Record::none().with_rule(rule.kind, rule.perms, 1)
+    } else {
+        Record::none()
     }
-    record
 }

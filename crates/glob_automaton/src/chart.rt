@@ -1,4 +1,4 @@
-//! The places of all rules, and how a match goes from one to the next: a nondeterministic automaton whose empty moves are
+//! The places of a rule, and how a match goes from one to the next: a nondeterministic automaton whose empty moves are
 //! entries.
 ghost use Rattle.std.specs.Prelude.{◌≡◌, ◌≤◌, ◌++◌, ◌∷◌, [], IfOk, IsTrue, OnOk, length};
 ghost use Rattle.rule_globs.specs.Glob.{ByteSet, one, run};
@@ -58,7 +58,7 @@ pub(crate) struct ChartRule {
     pub perms: Perms,
 }
 
-/// The places of all rules, rule after rule: each rule's end, and then its places from the last to the first.
+/// The places of some rules, rule after rule: each rule's end, and then its places from the last to the first. Here it is one rule.
 #[derive(Drop)]
 pub(crate) struct Chart {
     pub places: Vec<ChartPlace>,
@@ -84,7 +84,7 @@ impl Chart {
     /// The chart of the path of a rule, as that of a rule that allows reading.
     pub(crate) fn of_path(alloc: Global, rule: &Rule) -> Result<Chart, AllocError>
         ensures chart { IfOk result (IsChartOf (reading (rule_value rule.now) ∷ [])) }
-        ensures few { IfOk result (λ chart. length chart.rules.items ≤ 1024) }
+        ensures one { IfOk result (λ chart. length chart.rules.items ≡ 1) }
     {
         let mut chart = Chart::blank(alloc);
         chart.draw_path(rule)?;

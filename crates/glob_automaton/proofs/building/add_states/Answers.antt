@@ -4,16 +4,9 @@ use Rattle.automata.specs.declared.range.TargetRange.{TargetRange}
 use Rattle.verdicts.specs.declared.record.Record.{Record}
 use Rattle.glob_automaton.specs.inner.Building.{IsRecordOf}
 use Rattle.glob_automaton.specs.inner.States.{lists_of, AreStates, IsRowOfSet}
-use Rattle.glob_automaton.proofs.BuiltStates.{set_read, set_ascends, one_state_more, built_states, no_more}
+use Rattle.glob_automaton.proofs.BuiltStates.{one_state_more, built_states, no_more}
 use Rattle.glob_automaton.proofs.building.add_states.Goals as goal
 use Rattle.glob_automaton.proofs.building.add_states.Goals.{else-loop-state-test, then-loop-state-test+in_ok-copy+then-not-branch}
-
-pub record_of-requires-clause-ascending : goal.record_of-requires-clause-ascending
-record_of-requires-clause-ascending c =
-    let sets = lists_of c.loop-state.sets in
-    set_ascends c.args.chart.now sets c.deref-in-loop-state-2.result.now c.loop-state.invariant.1.sets_few
-    (set_read sets c.deref-in-loop-state-2.result.now c.loop-state.state (c.in_ok-copy.ensures.there.0 c.if-not-branch.false)
-    (c.deref-in-loop-state-2.ensures.value ∙ c.in_ok-copy.ensures.set c.if-not-branch.false))
 
 pub loop-state-preserved : goal.loop-state-preserved
 loop-state-preserved c =
@@ -30,7 +23,7 @@ loop-state-preserved c =
     c.record_of.result c.loop-state.invariant.1 (c.in_ok-copy.ensures.there.0 c.if-not-branch.false) (c.in_ok-copy.ensures.set c.if-not-branch.false)
     c.in_ok-add_row.ensures.sets c.in_ok-add_row.ensures.kept
     (subst (λ z. IsRowOfSet chart new z row) c.deref.ensures.value c.in_ok-add_row.ensures.row.2)
-    (subst (λ z. IsRecordOf chart z c.record_of.result) c.deref-in-loop-state-2.ensures.value c.record_of.ensures) in (
+    (subst (λ z. IsRecordOf chart z c.record_of.result) c.deref-in-loop-state.ensures.value c.record_of.ensures) in (
       c.in_ok-add_row.ensures.gathering,
       subst (λ (z : List TargetRange). AreStates chart new z c.keep.new.list.items c.keep-in-loop-state.new.list.items states.start (c.loop-state.state + 1))
           (sym c.in_ok-add_row.ensures.row.1)

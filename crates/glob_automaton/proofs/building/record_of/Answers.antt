@@ -1,22 +1,20 @@
--- Each rule is added whose end is a place of the set.
-use Rattle.std.proofs.Common.{◌∙◌, subst, sym}
-use Rattle.glob_automaton.proofs.EndSteps.{IsRecordBefore, ends-none, found-add, missed-skip, ends-all}
+use Rattle.std.proofs.Common.{◌≡◌, ◌∙◌, ap, nat_eq, refl, sym, subst, Some, slice_get, arith}
+use Rattle.std.proofs.lemmas.Bool.{eqb-true}
+use Rattle.std.proofs.lemmas.Map.Views.{Contains-from_any}
+use Rattle.std.proofs.lemmas.Option.{slice_get_read}
+use Rattle.verdicts.specs.declared.record.Record.{Record}
+use Rattle.verdicts.specs.Hits.{no_hits, record_with}
+use Rattle.glob_automaton.specs.inner.Building.{IsRecordOf}
+use Rattle.glob_automaton.proofs.EndRecords.{end_record}
 use Rattle.glob_automaton.proofs.building.record_of.Goals as goal
-use Rattle.glob_automaton.proofs.building.record_of.Goals.{in-Ok, in_default}
 
-pub loop-place-init : goal.loop-place-init
-loop-place-init c = subst (IsRecordBefore c.args.chart.now c.args.set.now 0) (sym c.none-record.ensures) (ends-none c.args.chart.now c.args.set.now)
-
-pub loop-place-preserved : goal.loop-place-preserved
-loop-place-preserved c =
-    elim c.match-binary_search.branch [
-      | in-Ok w ↦ found-add c.args.chart.now c.requires.chart c.args.set.now c.requires.ascending c.loop-place.place-index c.loop-place-test.true
-          c.args.ends.now c.loop-place.record c.match-binary_search.record w.in-Ok.number w.index-rule.result.now c.requires.ends w.in-Ok.ensures.position
-          w.index-rule.ensures (w.record-is ∙ w.with_rule-record.ensures) c.loop-place.invariant
-      | in_default w ↦ missed-skip c.args.chart.now c.requires.chart c.args.set.now c.requires.ascending c.loop-place.place-index c.loop-place-test.true
-          c.args.ends.now c.loop-place.record c.match-binary_search.record w.in_default.field-0 c.requires.ends w.in_default.ensures.position
-          w.record-is c.loop-place.invariant
-    ]
-
-pub returns : goal.returns
-returns c = ends-all c.args.chart.now c.args.set.now c.loop-place.place-index c.loop-place.record c.loop-place-test.false c.loop-place.invariant
+pub returns-then-contains : goal.returns-then-contains
+returns-then-contains c =
+    let chart = c.args.chart.now in
+    let rule = c.index.result.now in
+    let stands : slice_get chart.rules.items 0 ≡ Some rule = slice_get_read chart.rules.items _ 0 rule refl (omega (arith, c.requires)) c.index.ensures in
+    let made : c.with_rule.result ≡ record_with no_hits rule.kind rule.perms 1 =
+    c.with_rule.ensures ∙ ap (λ (z : Record). record_with z rule.kind rule.perms 1) c.none.ensures in
+    subst (IsRecordOf chart c.args.set.now) (sym made)
+    (end_record c.records_are_their_hits.ensures.made chart c.args.set.now rule c.requires stands
+    (Contains-from_any {eq = λ a b. nat_eq b a} (λ x y e. sym (eqb-true y x e)) rule.end c.args.set.now (sym c.contains.ensures.value ∙ c.if-contains.true)))
