@@ -19,6 +19,8 @@ mod profiles;
 #[cfg(test)]
 mod records;
 #[cfg(test)]
+mod rows;
+#[cfg(test)]
 mod subjects;
 #[cfg(test)]
 mod variables;
