@@ -3,8 +3,9 @@
 #
 # The first has a row for each profile: the rules, the states, the time and the peak memory, next to them what apparmor_parser
 # takes for the same text, if it is installed, and how many times as fast as the parser the compiler is. Each time is the least
-# of RUNS runs of the whole process, with its start; the first row, of a profile without rules, shows how much the start is.
-# The texts of bench/profiles have the counts of rules and states of real profiles that take compilers long, in words of our own.
+# of RUNS runs of the whole process, with its start; both programs take turns. The first row, of a profile without rules, shows
+# how much the start is. The texts of bench/profiles have the counts of rules and states of real profiles that take compilers
+# long, in words of our own.
 #
 # The second has the time of one compilation in process, for the texts at the limit and just over it: COMPILATIONS in one process
 # take so much longer than none.
@@ -50,18 +51,32 @@ microseconds() {
     echo $(($(date +%s%N) / 1000))
 }
 
-# least RUN FILE: the least time of a run, in microseconds
+# once RUN FILE: the time of one run, in microseconds, without what it takes to ask for the time of day
+overhead=0
+once() {
+    begin=$(microseconds)
+    "$1" "$2" >/dev/null 2>&1 || :
+    echo $(($(microseconds) - begin - overhead))
+}
+
+# least FILE RUN..: the least times of these runs, which take turns, in microseconds
 least() {
-    best=
-    run=0
-    while [ "$run" -lt "$RUNS" ]; do
-        begin=$(microseconds)
-        "$1" "$2" >/dev/null 2>&1 || :
-        took=$(($(microseconds) - begin))
-        if [ -z "$best" ] || [ "$took" -lt "$best" ]; then best=$took; fi
-        run=$((run + 1))
+    file=$1
+    shift
+    for each in "$@"; do eval "best_$each="; done
+    turn=0
+    while [ "$turn" -lt "$RUNS" ]; do
+        for each in "$@"; do
+            took=$(once "$each" "$file")
+            eval "best=\$best_$each"
+            if [ -z "$best" ] || [ "$took" -lt "$best" ]; then eval "best_$each=$took"; fi
+        done
+        turn=$((turn + 1))
     done
-    echo "$best"
+    for each in "$@"; do eval "echo \"\$best_$each\""; done
+}
+nothing() {
+    :
 }
 
 # milliseconds TIME
@@ -104,11 +119,12 @@ row() {
 # profile FILE: a row of the first table
 profile() {
     states=$(compiled "$1")
-    time=$(least compiled "$1")
+    times=$(least "$1" compiled ${parser:+parsed})
+    time=${times%%[!0-9]*}
     held=$(memory "$1" $COMPILE)
     parser_time=- parser_held=- ratio=-
     if [ -n "$parser" ]; then
-        parser_time=$(least parsed "$1")
+        parser_time=${times##*[!0-9]}
         parser_held=$(memory "$1" apparmor_parser -q -Q -K -S "$1")
         ratio=$(awk -v parser="$parser_time" -v time="$time" 'BEGIN { printf "%.1f", parser / time }')
         parser_time=$(milliseconds "$parser_time")
@@ -121,9 +137,8 @@ profile() {
 in_process() {
     one=-
     if [ -z "$(idle "$1")" ]; then
-        many=$(least repeated "$1")
-        none=$(least idle "$1")
-        one=$(milliseconds $(((many - none) / COMPILATIONS)))
+        times=$(least "$1" repeated idle)
+        one=$(milliseconds $(((${times%%[!0-9]*} - ${times##*[!0-9]}) / COMPILATIONS)))
     fi
     printf '%-18s %10s\n' "$(basename "$1" .profile)" "$one"
 }
@@ -163,6 +178,7 @@ text() {
         BEGIN { seed = 1; print "profile hostile {"; '"$2"'; print "}" }' >"$work/$1"
 }
 
+overhead=$(least - nothing)
 row profile rules states time memory parser memory ratio
 echo 'profile smallest {}' >"$work/smallest.profile"
 for file in "$work/smallest.profile" examples/profiles/*.profile bench/profiles/*.profile bench/at_limit.profile \
