@@ -19,10 +19,16 @@ zero_target s b lt small =
     none : (s : ℕ) → s < 1 → s ≡ 0
     none s lt = omega (arith, lt)
 
-alone : (records : List Record) → length records ≡ 1 → IsWhole (record { rows = rows_of (one ∷ []) (0 ∷ []); records = records; start = 0 })
+alone : (records : List Record) → length records ≡ 1 →
+    IsWhole (record { rows = rows_of (one ∷ []) (0 ∷ []); records = records; start = 0 })
 alone records long = record {
   rows_long = λ s lt. ap length (row_at (one ∷ []) (0 ∷ []) s (omega (arith, lt, rows_long (one ∷ []) (0 ∷ [])))) ∙ targets_long _ 0 256;
-  targets = λ s b lt small. omega (arith, zero_target s b (omega (arith, lt, rows_long (one ∷ []) (0 ∷ []))) small, rows_long (one ∷ []) (0 ∷ []));
+  targets = λ s b lt small. omega (
+    arith,
+    zero_target s b (omega (arith, lt, rows_long (one ∷ []) (0 ∷ []))) small,
+    rows_long
+        (one ∷ []) (0 ∷ []),
+  );
   each_record = omega (arith, long, rows_long (one ∷ []) (0 ∷ []));
   start_there = omega (arith, rows_long (one ∷ []) (0 ∷ []));
   few = omega (arith, rows_long (one ∷ []) (0 ∷ []));
@@ -30,7 +36,8 @@ alone records long = record {
   begins = inr (refl, rows_long (one ∷ []) (0 ∷ []));
 }
 
-pub dead_whole : (ranges : List TargetRange) (firsts : List ℕ) (records : List Record) → ranges ≡ one ∷ [] → firsts ≡ 0 ∷ [] → length records ≡ 1 →
+pub dead_whole : (ranges : List TargetRange) (firsts : List ℕ) (records : List Record) → ranges ≡ one ∷ [] → firsts ≡ 0 ∷ [] →
+    length records ≡ 1 →
     IsWhole (record { rows = rows_of ranges firsts; records = records; start = 0 })
 dead_whole ranges firsts records e f long =
     subst (λ (r : List TargetRange). IsWhole (record { rows = rows_of r firsts; records = records; start = 0 })) (sym e)

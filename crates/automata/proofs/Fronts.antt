@@ -1,5 +1,6 @@
 -- A row as far as it is written: each byte before `from` has its target, whatever follows.
-use Rattle.std.proofs.Common.{◌≡◌, ◌⊎◌, inl, inr, ⊎_elim, ℕ, ◌+◌, ◌<◌, ◌≤◌, List, [], ◌∷◌, ◌++◌, append_assoc, append-nil, refl, sym, ap, ◌∙◌, subst, arith}
+use Rattle.std.proofs.Common.{◌≡◌, ◌⊎◌, inl, inr, ⊎_elim, ℕ, ◌+◌, ◌<◌, ◌≤◌, List, [], ◌∷◌, ◌++◌, append_assoc, append-nil, refl, sym, ap}
+use Rattle.std.proofs.Common.{◌∙◌, subst, arith}
 use Rattle.std.proofs.lemmas.Bool.{cases_lt}
 use Rattle.automata.specs.declared.range.TargetRange.{TargetRange}
 use Rattle.automata.specs.Rows.{target_in, IsRowFrom, IsRowAppended, IsRowOf}
@@ -55,7 +56,8 @@ module _ (was holds : ℕ → ℕ → Type 0) (still : (c t : ℕ) → was c t �
     }
 
   -- one range more
-  pub one_range_more : (old ranges : List TargetRange) → IsSoFar was old ranges from → r.last < 255 → IsSoFar holds old (ranges ++ r ∷ []) (r.last + 1)
+  pub one_range_more : (old ranges : List TargetRange) → IsSoFar was old ranges from → r.last < 255 →
+      IsSoFar holds old (ranges ++ r ∷ []) (r.last + 1)
   one_range_more old ranges far more = record {
     row = far.row ++ r ∷ [];
     is = ap (λ z. z ++ r ∷ []) far.is ∙ append_assoc old far.row (r ∷ []);
@@ -63,7 +65,8 @@ module _ (was holds : ℕ → ℕ → Type 0) (still : (c t : ℕ) → was c t �
   }
 
   -- the last range
-  pub last_range : (old ranges : List TargetRange) → IsSoFar was old ranges from → r.last ≡ 255 → IsRowAppended holds old (ranges ++ r ∷ [])
+  pub last_range : (old ranges : List TargetRange) → IsSoFar was old ranges from → r.last ≡ 255 →
+      IsRowAppended holds old (ranges ++ r ∷ [])
   last_range old ranges far all = (
     far.row ++ r ∷ [],
     ap (λ z. z ++ r ∷ []) far.is ∙ append_assoc old far.row (r ∷ []),

@@ -29,7 +29,8 @@ impl Model for Dfa {
 
     ghost view = { λ d. record { rows = rows_of d.ranges.items d.firsts.items; records = d.records.items; start = d.start } };
 
-    ghost invariant = { λ d. IsWhole (record { rows = rows_of d.ranges.items d.firsts.items; records = d.records.items; start = d.start }) × AreRows d.ranges.items d.firsts.items };
+    ghost invariant = { λ d. IsWhole (record { rows = rows_of d.ranges.items d.firsts.items; records = d.records.items; start = d.start })
+        × AreRows d.ranges.items d.firsts.items };
 }
 
 impl Dfa {

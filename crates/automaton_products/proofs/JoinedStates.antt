@@ -1,5 +1,6 @@
 -- The states of a product, one more after another.
-use Rattle.std.proofs.Common.{◌≡◌, ◌⊎◌, inl, inr, ⊎_elim, ℕ, ◌+◌, ◌<◌, ◌≤◌, List, [], ◌∷◌, ◌++◌, length, drop, Some, slice_get, slice_index_or, refl, sym, ap, ◌∙◌, subst, arith}
+use Rattle.std.proofs.Common.{◌≡◌, ◌⊎◌, inl, inr, ⊎_elim, ℕ, ◌+◌, ◌<◌, ◌≤◌, List, [], ◌∷◌, ◌++◌, length, drop, Some, slice_get}
+use Rattle.std.proofs.Common.{slice_index_or, refl, sym, ap, ◌∙◌, subst, arith}
 use Rattle.std.proofs.Math.Seq.{get_or-append_seam, drop-append_seam}
 use Rattle.std.proofs.lemmas.Bool.{cases_lt}
 use Rattle.std.proofs.lemmas.List.{length-append, length-drop, get_or_append_left, drop-append-le}
@@ -44,13 +45,16 @@ module _ (a b : Automaton) where
   }
 
   -- a pair of the old ones is still that of its number
-  same_pair : (old new : List Pair) (s : ℕ) (p : Pair) → Keeps old new → s < length old → slice_get new s ≡ Some p → slice_get old s ≡ Some p
+  same_pair : (old new : List Pair) (s : ℕ) (p : Pair) → Keeps old new → s < length old → slice_get new s ≡ Some p →
+      slice_get old s ≡ Some p
   same_pair old new s p kept lt at =
       let is = slice_get-get_or old s p lt in
       is ∙ ap Some (same_Some (slice_index_or old s p) p (sym (kept_at old new s (slice_index_or old s p) kept is) ∙ at))
 
-  pub one_state_more : (old new : List Pair) (ranges row : List TargetRange) (firsts : List ℕ) (records : List Record) (state : ℕ) (p : Pair) (r q : Record) →
-      AreStates a b old ranges firsts records state → slice_get old state ≡ Some p → AreFewPairs a b new → Keeps old new → IsJoinedRow a b new p row →
+  pub one_state_more : (old new : List Pair) (ranges row : List TargetRange) (firsts : List ℕ) (records : List Record) (state : ℕ)
+      (p : Pair) (r q : Record) →
+      AreStates a b old ranges firsts records state → slice_get old state ≡ Some p → AreFewPairs a b new → Keeps old new →
+      IsJoinedRow a b new p row →
       slice_get a.records p.one ≡ Some r → slice_get b.records p.other ≡ Some q →
       AreStates a b new (ranges ++ row) (firsts ++ length ranges ∷ []) (records ++ joined r q ∷ []) (state + 1)
   one_state_more old new ranges row firsts records state p r q are at few kept its_row first second = record {
@@ -70,7 +74,8 @@ module _ (a b : Automaton) where
         let now : s ≡ state = omega (arith, le, below) in
         let its : p ≡ z = same_Some p z (sym (kept_at old new state p kept at) ∙ ap (slice_get new) (sym now) ∙ here) in
         subst (λ f. IsJoinedRow a b new z (drop f (ranges ++ row)))
-        (sym (ap (λ i. slice_index_or (firsts ++ length ranges ∷ []) i 0) (now ∙ sym are.each_row) ∙ get_or-append_seam firsts (length ranges) [] 0))
+        (sym (ap (λ i. slice_index_or (firsts ++ length ranges ∷ []) i 0) (now ∙ sym are.each_row) ∙ get_or-append_seam firsts
+        (length ranges) [] 0))
         (subst (IsJoinedRow a b new z) (sym (drop-append_seam ranges row)) (subst (λ (x : Pair). IsJoinedRow a b new x row) its its_row)))
         (cases_lt s state);
     recorded = λ s z x y below here one two. ⊎_elim

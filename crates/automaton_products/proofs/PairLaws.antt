@@ -1,5 +1,6 @@
 -- Pairs that are met, and how they go on.
-use Rattle.std.proofs.Common.{◌≡◌, ◌⊎◌, inl, inr, ⊎_elim, ℕ, zero, suc, ◌+◌, ◌<◌, ◌≤◌, List, [], ◌∷◌, ◌++◌, length, Some, slice_get, append-nil, append_assoc, refl, sym, ap, ◌∙◌, subst, arith}
+use Rattle.std.proofs.Common.{◌≡◌, ◌⊎◌, inl, inr, ⊎_elim, ℕ, zero, suc, ◌+◌, ◌<◌, ◌≤◌, List, [], ◌∷◌, ◌++◌, length, Some, slice_get}
+use Rattle.std.proofs.Common.{append-nil, append_assoc, refl, sym, ap, ◌∙◌, subst, arith}
 use Rattle.std.proofs.lemmas.List.{length-append}
 use Rattle.std.proofs.lemmas.List.Elements.{All-nil, All-push, All-head, All-tail}
 use Rattle.std.proofs.lemmas.Option.{none-some, same_Some, slice_get_within}
@@ -9,7 +10,8 @@ use Rattle.automata.specs.declared.fault.CompileFault.TheVariants.{TooManyStates
 use Rattle.automata.specs.Automata.{Automaton, IsWhole, target, goes_to, state_after, most_sets}
 use Rattle.automaton_products.specs.declared.pairs.Pair.{Pair}
 use Rattle.automaton_products.specs.Numbering.{AreDistinct, IsNumbered, IsNumberFault}
-use Rattle.automaton_products.specs.Products.{pair, dead_pair, start_pair, next_pair, IsMet, IsReached, ArePairs, AreFewPairs, Keeps, IsProductFault}
+use Rattle.automaton_products.specs.Products.{pair, dead_pair, start_pair, next_pair, IsMet, IsReached, ArePairs, AreFewPairs, Keeps}
+use Rattle.automaton_products.specs.Products.{IsProductFault}
 use Rattle.automaton_products.proofs.PairNumbers.{get_stays, get_last, get_either, distinct_more}
 
 -- ---- states after bytes
@@ -18,10 +20,12 @@ pub goes_one_more : (a : Automaton) (s : ℕ) (bytes : List ℕ) (b : ℕ) → g
 goes_one_more a s [] b = refl
 goes_one_more a s (c ∷ bytes) b = goes_one_more a (target a s c) bytes b
 
-pub goes_there : (a : Automaton) (s : ℕ) (bytes : List ℕ) → IsWhole a → s < length a.rows → are_bytes bytes → goes_to a s bytes < length a.rows
+pub goes_there : (a : Automaton) (s : ℕ) (bytes : List ℕ) → IsWhole a → s < length a.rows → are_bytes bytes →
+    goes_to a s bytes < length a.rows
 goes_there a s [] whole lt small = lt
 goes_there a s (b ∷ bytes) whole lt small =
-    goes_there a (target a s b) bytes whole (whole.targets s b lt (All-head (λ c. c < 256) b bytes small)) (All-tail (λ c. c < 256) b bytes small)
+    goes_there a (target a s b) bytes whole (whole.targets s b lt (All-head (λ c. c < 256) b bytes small))
+    (All-tail (λ c. c < 256) b bytes small)
 
 pub after_there : (a : Automaton) (bytes : List ℕ) → IsWhole a → are_bytes bytes → state_after a bytes < length a.rows
 after_there a bytes whole small = goes_there a a.start bytes whole whole.start_there small
@@ -90,7 +94,8 @@ module _ (a b : Automaton) where
       ))
       is.grows
 
-  pub pair_fault : (old : List Pair) (p : Pair) (fault : CompileFault) → ArePairs a b old → IsMet a b p → IsNumberFault old p fault → IsProductFault a b fault
+  pub pair_fault : (old : List Pair) (p : Pair) (fault : CompileFault) → ArePairs a b old → IsMet a b p → IsNumberFault old p fault →
+      IsProductFault a b fault
   pair_fault old p TooManyStates are met is = (
     old ++ p ∷ [],
     record {

@@ -1,5 +1,6 @@
 -- Numbers of what is met: where a key stands, and what the keys are with one more.
-use Rattle.std.proofs.Common.{◌≡◌, ◌≢◌, ◌⊎◌, inl, inr, ⊎_elim, ℕ, zero, suc, ◌+◌, ◌<◌, ◌≤◌, Bool, true, false, true≢false, List, [], ◌∷◌, ◌++◌, length, Some, slice_get, get_or, refl, sym, ap, ◌∙◌, arith}
+use Rattle.std.proofs.Common.{◌≡◌, ◌≢◌, ◌⊎◌, inl, inr, ⊎_elim, ℕ, zero, suc, ◌+◌, ◌<◌, ◌≤◌, Bool, true, false, true≢false, List, [], ◌∷◌}
+use Rattle.std.proofs.Common.{◌++◌, length, Some, slice_get, get_or, refl, sym, ap, ◌∙◌, arith}
 use Rattle.std.specs.List.{IsDistinct, list_any, position}
 use Rattle.std.proofs.lemmas.Bool.{cases_lt}
 use Rattle.std.proofs.lemmas.List.{length-append}
@@ -22,7 +23,8 @@ module _ {K : Type 0} where
   get_last [] x = refl
   get_last (y ∷ xs) x = get_last xs x
 
-  pub get_either : (xs : List K) (x y : K) (i : ℕ) → slice_get (xs ++ x ∷ []) i ≡ Some y → (slice_get xs i ≡ Some y) ⊎ ((i ≡ length xs) × (x ≡ y))
+  pub get_either : (xs : List K) (x y : K) (i : ℕ) → slice_get (xs ++ x ∷ []) i ≡ Some y → (slice_get xs i ≡ Some y)
+      ⊎ ((i ≡ length xs) × (x ≡ y))
   get_either [] x y zero e = inr (refl, same_Some x y e)
   get_either [] x y (suc i) e = absurd (none-some y e)
   get_either (z ∷ xs) x y zero e = inl e
@@ -62,7 +64,8 @@ module _ {K : Type 0} (eq : K → K → Bool) (same : (a b : K) → eq a b ≡ t
         grows = inl refl;
       }
 
-  pub numbered_new : (keys new : List K) (key : K) (i : ℕ) → new ≡ keys ++ key ∷ [] → ((k : K) × (slice_get new i ≡ Some k) × (eq key k ≡ true)) →
+  pub numbered_new : (keys new : List K) (key : K) (i : ℕ) → new ≡ keys ++ key ∷ [] →
+      ((k : K) × (slice_get new i ≡ Some k) × (eq key k ≡ true)) →
       IsDistinct eq new → length keys ≤ most_sets → length keys ≢ most_sets → IsNumbered keys new key i
   numbered_new keys new key i added stored distinct few other = record {
     at = stored.1 ∙ ap Some (sym (same key stored.0 stored.2));

@@ -1,5 +1,6 @@
 -- A product, once there is a state for each pair.
-use Rattle.std.proofs.Common.{◌≡◌, ◌⊎◌, inl, inr, ⊎_elim, ℕ, ◌+◌, ◌<◌, ◌≤◌, List, [], ◌∷◌, length, drop, Some, slice_get, slice_index_or, refl, sym, ap, ◌∙◌, subst, arith}
+use Rattle.std.proofs.Common.{◌≡◌, ◌⊎◌, inl, inr, ⊎_elim, ℕ, ◌+◌, ◌<◌, ◌≤◌, List, [], ◌∷◌, length, drop, Some, slice_get, slice_index_or}
+use Rattle.std.proofs.Common.{refl, sym, ap, ◌∙◌, subst, arith}
 use Rattle.std.proofs.lemmas.Bool.{cases_lt}
 use Rattle.std.proofs.lemmas.Option.{same_Some, slice_get_within, slice_get-get_or}
 use Rattle.verdicts.specs.declared.record.Record.{Record}
@@ -15,8 +16,10 @@ use Rattle.automaton_products.proofs.PairLaws.{dead_next, after_there}
 abbrev pub tables : List TargetRange → List ℕ → List Record → ℕ → Automaton
 tables ranges firsts records start = record { rows = rows_of ranges firsts; records = records; start = start }
 
-module _ (a b : Automaton) (one : IsWhole a) (other : IsWhole b) (pairs : List Pair) (ranges : List TargetRange) (firsts : List ℕ) (records : List Record)
-    (start : ℕ) (are : AreStates a b pairs ranges firsts records (length pairs)) (first : start ≤ 1) (begins : slice_get pairs start ≡ Some (start_pair a b)) where
+module _ (a b : Automaton) (one : IsWhole a) (other : IsWhole b) (pairs : List Pair) (ranges : List TargetRange) (firsts : List ℕ)
+    (records : List Record)
+    (start : ℕ) (are : AreStates a b pairs ranges firsts records (length pairs)) (first : start ≤ 1)
+    (begins : slice_get pairs start ≡ Some (start_pair a b)) where
   abbrev pub c : Automaton
   c = tables ranges firsts records start
 
@@ -27,12 +30,15 @@ module _ (a b : Automaton) (one : IsWhole a) (other : IsWhole b) (pairs : List P
   pair_at s lt = slice_get-get_or pairs s dead_pair lt
 
   pub are_rows : AreRows ranges firsts
-  are_rows s lt = (are.row s (slice_index_or pairs s dead_pair) (omega (arith, lt, are.each_row)) (pair_at s (omega (arith, lt, are.each_row)))).is_row
+  are_rows s lt = (are.row s (slice_index_or pairs s dead_pair) (omega (arith, lt, are.each_row))
+      (pair_at s (omega (arith, lt, are.each_row)))).is_row
 
-  step : (s byte : ℕ) (p : Pair) → slice_get pairs s ≡ Some p → byte < 256 → slice_get pairs (target c s byte) ≡ Some (next_pair a b p byte)
+  step : (s byte : ℕ) (p : Pair) → slice_get pairs s ≡ Some p → byte < 256 → slice_get pairs (target c s byte)
+      ≡ Some (next_pair a b p byte)
   step s byte p at small =
       let lt = slice_get_within pairs s p at in
-      ap (slice_get pairs) (target_at ranges firsts s byte (omega (arith, lt, are.each_row)) small) ∙ (are.row s p lt at).targets byte small
+      ap (slice_get pairs) (target_at ranges firsts s byte (omega (arith, lt, are.each_row)) small)
+      ∙ (are.row s p lt at).targets byte small
 
   some : 0 < length pairs
   some = slice_get_within pairs 0 dead_pair are.few.0.dead
@@ -47,7 +53,8 @@ module _ (a b : Automaton) (one : IsWhole a) (other : IsWhole b) (pairs : List P
   -- where both starts are dead, there is no other pair
   alone : start ≡ 0 → length pairs ≡ 1
   alone e =
-      let both : start_pair a b ≡ dead_pair = same_Some (start_pair a b) dead_pair (sym begins ∙ ap (slice_get pairs) e ∙ are.few.0.dead) in
+      let both : start_pair a b ≡ dead_pair = same_Some (start_pair a b) dead_pair
+      (sym begins ∙ ap (slice_get pairs) e ∙ are.few.0.dead) in
       let zero_one : a.start ≡ 0 = ap (λ (z : Pair). z.one) both in
       let zero_other : b.start ≡ 0 = ap (λ (z : Pair). z.other) both in
       let few_one : length a.rows ≡ 1 = ⊎_elim (λ h. absurd (omega (arith, h, zero_one))) (λ h. h.1) one.begins in
@@ -68,7 +75,8 @@ module _ (a b : Automaton) (one : IsWhole a) (other : IsWhole b) (pairs : List P
   pub is_whole : IsWhole c
   is_whole = record {
     rows_long = λ s lt.
-        ap length (row_at ranges firsts s (omega (arith, lt, rows_long ranges firsts))) ∙ targets_long (drop (slice_index_or firsts s 0) ranges) 0 256;
+        ap length (row_at ranges firsts s (omega (arith, lt, rows_long ranges firsts)))
+        ∙ targets_long (drop (slice_index_or firsts s 0) ranges) 0 256;
     targets = λ s byte lt small.
         let here : s < length pairs = omega (arith, lt, each) in
         let within = slice_get_within pairs (target c s byte) _ (step s byte (slice_index_or pairs s dead_pair) (pair_at s here) small) in
@@ -76,7 +84,8 @@ module _ (a b : Automaton) (one : IsWhole a) (other : IsWhole b) (pairs : List P
     each_record = omega (arith, each, are.each_record);
     start_there = let within = slice_get_within pairs start (start_pair a b) begins in omega (arith, within, each);
     few = omega (arith, each, are.few.1);
-    stays_dead = λ byte small. is_dead (target c 0 byte) (step 0 byte dead_pair are.few.0.dead small ∙ ap Some (dead_next a b one other byte small));
+    stays_dead = λ byte small. is_dead (target c 0 byte) (step 0 byte dead_pair are.few.0.dead small
+        ∙ ap Some (dead_next a b one other byte small));
     begins = ⊎_elim
         (λ lt. let e : start ≡ 0 = omega (arith, lt) in inr (e, each ∙ alone e))
         (λ le. inl (omega (arith, le, first)))

@@ -12,7 +12,8 @@ abbrev pub IsJoinedRow : Automaton → Automaton → List Pair → Pair → List
 IsJoinedRow a b pairs p row = IsRowOf (λ c t. slice_get pairs t ≡ Some (next_pair a b p c)) row
 
 -- The first pairs have their rows and records. The pairs may be more.
-pub record AreStates (a b : Automaton) (pairs : List Pair) (ranges : List TargetRange) (firsts : List ℕ) (records : List Record) (state : ℕ) : Type 0 where
+pub record AreStates (a b : Automaton) (pairs : List Pair) (ranges : List TargetRange) (firsts : List ℕ) (records : List Record)
+    (state : ℕ) : Type 0 where
   pub few : AreFewPairs a b pairs
   pub within : state ≤ length pairs
   pub each_row : length firsts ≡ state

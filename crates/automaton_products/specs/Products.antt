@@ -66,7 +66,8 @@ pub record IsProduct (a b c : Automaton) : Type 0 where
   pub each_row : length c.rows ≡ length pairs
   pub whole : IsWhole c
   pub starts : slice_get pairs c.start ≡ Some (start_pair a b)
-  pub steps : (s byte : ℕ) (p : Pair) → slice_get pairs s ≡ Some p → byte < 256 → slice_get pairs (target c s byte) ≡ Some (next_pair a b p byte)
+  pub steps : (s byte : ℕ) (p : Pair) → slice_get pairs s ≡ Some p → byte < 256 → slice_get pairs (target c s byte)
+      ≡ Some (next_pair a b p byte)
   pub records : (s : ℕ) (p : Pair) (r q : Record) → slice_get pairs s ≡ Some p → slice_get a.records p.one ≡ Some r →
       slice_get b.records p.other ≡ Some q → slice_get c.records s ≡ Some (joined r q)
 

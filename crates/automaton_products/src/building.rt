@@ -69,7 +69,8 @@ fn add_states(
     requires firsts { states.old.firsts.items ≡ [] }
     requires records { states.old.records.items ≡ [] }
     ensures kept { OnOk result (Keeps (pairs_of pairs.old) (pairs_of pairs.new)) }
-    ensures states { OnOk result (AreStates one.now other.now (pairs_of pairs.new) states.new.ranges.items states.new.firsts.items states.new.records.items (length (pairs_of pairs.new))) }
+    ensures states { OnOk result (AreStates one.now other.now (pairs_of pairs.new) states.new.ranges.items states.new.firsts.items
+        states.new.records.items (length (pairs_of pairs.new))) }
     ensures err { IfErr result (IsProductFault one.now other.now) }
 {
     for state in 0..MOST_SETS {
@@ -91,11 +92,13 @@ fn add_state(
 ) -> Result<(), CompileFault>
     requires whole_one { IsWhole one.now }
     requires whole_other { IsWhole other.now }
-    requires states { AreStates one.now other.now (pairs_of pairs.old) states.old.ranges.items states.old.firsts.items states.old.records.items (length states.old.firsts.items) }
+    requires states { AreStates one.now other.now (pairs_of pairs.old) states.old.ranges.items states.old.firsts.items
+        states.old.records.items (length states.old.firsts.items) }
     requires pair { slice_get (pairs_of pairs.old) (length states.old.firsts.items) ≡ Some pair }
     ensures kept { OnOk result (Keeps (pairs_of pairs.old) (pairs_of pairs.new)) }
     ensures one_more { OnOk result (length states.new.firsts.items ≡ length states.old.firsts.items + 1) }
-    ensures states { OnOk result (AreStates one.now other.now (pairs_of pairs.new) states.new.ranges.items states.new.firsts.items states.new.records.items (length states.new.firsts.items)) }
+    ensures states { OnOk result (AreStates one.now other.now (pairs_of pairs.new) states.new.ranges.items states.new.firsts.items
+        states.new.records.items (length states.new.firsts.items)) }
     ensures err { IfErr result (IsProductFault one.now other.now) }
 {
     let record = joined(&one.record_at(pair.one), &other.record_at(pair.other));
@@ -121,7 +124,8 @@ fn add_row(
     requires met { IsReached one.now other.now pair }
     ensures pairs { OnOk result (AreFewPairs one.now other.now (pairs_of pairs.new)) }
     ensures kept { OnOk result (Keeps (pairs_of pairs.old) (pairs_of pairs.new)) }
-    ensures row { OnOk result ((row : List TargetRange) × (ranges.new.items ≡ ranges.old.items ++ row) × IsJoinedRow one.now other.now (pairs_of pairs.new) pair row) }
+    ensures row { OnOk result ((row : List TargetRange) × (ranges.new.items ≡ ranges.old.items ++ row) × IsJoinedRow one.now other.now
+        (pairs_of pairs.new) pair row) }
     ensures err { IfErr result (IsProductFault one.now other.now) }
 {
     let mut first = one.row(pair.one);

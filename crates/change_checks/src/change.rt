@@ -58,11 +58,13 @@ fn check_symlink<'a, L: ChangeLook>(
     ensures known { IfOk result (NamesOnly (L.knows look.new)) }
     ensures fits { IfOk result Fits }
     ensures acts { IfOk result (λ act. (w : World) → L.sees look.new w →
-        and_then (text_of text.now) (λ bytes. at_one w.tree (target_for EndSlash.Refused path.now) (make w.tree (has_room (L.capacity look.new) w.tree) (Link bytes)))
+        and_then (text_of text.now) (λ bytes. at_one w.tree (target_for EndSlash.Refused path.now)
+        (make w.tree (has_room (L.capacity look.new) w.tree) (Link bytes)))
         ≡ Ok (acted (λ e. L.means e w) w.tree act)) }
     ensures tested { IfOk result (λ act. (w : World) → L.sees look.new w → IsTested (λ e. L.means e w) w.tree (L.capacity look.new) act) }
     ensures fault { IfErr result (IsFault (L.lacks look.new) (L.sees look.new) (λ w.
-        and_then (text_of text.now) (λ bytes. at_one w.tree (target_for EndSlash.Refused path.now) (make w.tree (has_room (L.capacity look.new) w.tree) (Link bytes))))) }
+        and_then (text_of text.now) (λ bytes. at_one w.tree (target_for EndSlash.Refused path.now)
+        (make w.tree (has_room (L.capacity look.new) w.tree) (Link bytes))))) }
 {
     let text = text.as_bytes();
     if let Err(errno) = check_text(text) {

@@ -79,7 +79,8 @@ pub(crate) fn find_places<'a, L: Look>(
         shape_of (kind_at (L.means places.1.directory w)) ≡ kind.Directory) }
     ensures acts { IfOk result (λ places. (w : World) → L.sees look.new w → (act : ℕ → List ℕ → ℕ → List ℕ → Changed) →
         at_two w.tree (target_for EndSlash.Refused old.now) (target_for EndSlash.Refused new.now) act
-        ≡ act (node_at (L.means places.0.directory w)) places.0.component.now (node_at (L.means places.1.directory w)) places.1.component.now) }
+        ≡ act (node_at (L.means places.0.directory w)) places.0.component.now (node_at (L.means places.1.directory w))
+        places.1.component.now) }
     ensures fault { IfErr result (λ fault. (act : World → ℕ → List ℕ → ℕ → List ℕ → Changed) → IsFault (L.lacks look.new) (L.sees look.new)
         (λ w. at_two w.tree (target_for EndSlash.Refused old.now) (target_for EndSlash.Refused new.now) (act w)) fault) }
 {

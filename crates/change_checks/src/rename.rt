@@ -56,11 +56,13 @@ fn check_move<'a, L: ChangeLook>(
     ensures known { IfOk result (NamesOnly (L.knows look.new)) }
     ensures fits { IfOk result Fits }
     ensures acts { IfOk result (λ act. (w : World) → L.sees look.new w →
-        rename w.tree (node_at (L.means from.now.directory w)) from.now.component.now (node_at (L.means to.now.directory w)) to.now.component.now
+        rename w.tree (node_at (L.means from.now.directory w)) from.now.component.now (node_at (L.means to.now.directory w))
+        to.now.component.now
         ≡ Ok (acted (λ e. L.means e w) w.tree act)) }
     ensures tested { IfOk result (λ act. (w : World) → L.sees look.new w → IsTested (λ e. L.means e w) w.tree (L.capacity look.new) act) }
     ensures fault { IfErr result (IsFault (L.lacks look.new) (L.sees look.new) (λ w.
-        rename w.tree (node_at (L.means from.now.directory w)) from.now.component.now (node_at (L.means to.now.directory w)) to.now.component.now)) }
+        rename w.tree (node_at (L.means from.now.directory w)) from.now.component.now (node_at (L.means to.now.directory w))
+        to.now.component.now)) }
 {
     let Some(entry) = look.child(from.directory, from.component)? else {
         return Err(WalkFault::Refused(Errno::ENOENT));
@@ -88,19 +90,23 @@ fn check_onto<'a, L: ChangeLook>(
     requires other { L.knows look.old other }
     requires directory { (w : World) → L.sees look.old w → shape_of (kind_at (L.means to.now.directory w)) ≡ kind.Directory }
     requires fits { length to.now.component.now ≤ LONGEST_COMPONENT }
-    requires moves { (w : World) → L.sees look.old w → child_of w.tree (L.means from.now.directory w) from.now.component.now ≡ Some (L.means entry w) }
-    requires onto { (w : World) → L.sees look.old w → child_of w.tree (L.means to.now.directory w) to.now.component.now ≡ Some (L.means other w) }
+    requires moves { (w : World) → L.sees look.old w → child_of w.tree (L.means from.now.directory w) from.now.component.now
+        ≡ Some (L.means entry w) }
+    requires onto { (w : World) → L.sees look.old w → child_of w.tree (L.means to.now.directory w) to.now.component.now
+        ≡ Some (L.means other w) }
     ensures kept { L.kept look.new ≡ L.kept look.old }
     ensures narrows { Narrows (L.sees look.old) (L.sees look.new) }
     ensures keeps { (e : L.Entry) → L.knows look.old e → L.knows look.new e }
     ensures known { IfOk result (NamesOnly (L.knows look.new)) }
     ensures fits { IfOk result Fits }
     ensures acts { IfOk result (λ act. (w : World) → L.sees look.new w →
-        rename w.tree (node_at (L.means from.now.directory w)) from.now.component.now (node_at (L.means to.now.directory w)) to.now.component.now
+        rename w.tree (node_at (L.means from.now.directory w)) from.now.component.now (node_at (L.means to.now.directory w))
+        to.now.component.now
         ≡ Ok (acted (λ e. L.means e w) w.tree act)) }
     ensures tested { IfOk result (λ act. (w : World) → L.sees look.new w → IsTested (λ e. L.means e w) w.tree (L.capacity look.new) act) }
     ensures fault { IfErr result (IsFault (L.lacks look.new) (L.sees look.new) (λ w.
-        rename w.tree (node_at (L.means from.now.directory w)) from.now.component.now (node_at (L.means to.now.directory w)) to.now.component.now)) }
+        rename w.tree (node_at (L.means from.now.directory w)) from.now.component.now (node_at (L.means to.now.directory w))
+        to.now.component.now)) }
 {
     if look.node(other)? == look.node(entry)? {
         return Ok(Act::Nothing);
@@ -121,7 +127,8 @@ fn goes_below<L: ChangeLook>(look: &mut L, entry: L::Entry, into: L::Entry) -> R
     ensures narrows { Narrows (L.sees look.old) (L.sees look.new) }
     ensures keeps { (e : L.Entry) → L.knows look.old e → L.knows look.new e }
     ensures answer { IfOk result (λ below. (w : World) → L.sees look.new w →
-        (is_directory (kind_at (L.means entry w)) && is_below w.tree.entries (length w.tree.entries) (node_at (L.means entry w)) (node_at (L.means into w))) ≡ below) }
+        (is_directory (kind_at (L.means entry w)) && is_below w.tree.entries (length w.tree.entries) (node_at (L.means entry w))
+        (node_at (L.means into w))) ≡ below) }
     ensures torn { IfErr result (λ _. IsTorn (L.lacks look.new) (L.sees look.new)) }
 {
     match look.kind(entry)? {
@@ -145,11 +152,13 @@ fn check_replaced<L: ChangeLook>(
     ensures kept { L.kept look.new ≡ L.kept look.old }
     ensures narrows { Narrows (L.sees look.old) (L.sees look.new) }
     ensures keeps { (e : L.Entry) → L.knows look.old e → L.knows look.new e }
-    ensures gives_way { OnOk result ((w : World) (old new : Entry) (go : Changed) → L.sees look.new w → L.means entry w ≡ Held old → L.means other w ≡ Held new →
+    ensures gives_way { OnOk result ((w : World) (old new : Entry) (go : Changed) → L.sees look.new w → L.means entry w ≡ Held old →
+        L.means other w ≡ Held new →
         onto_kind w.tree.entries old new go ≡ go) }
     ensures empty { OnOk result ((w : World) → L.sees look.new w → shape_of (kind_at (L.means other w)) ≡ kind.Directory →
         is_empty w.tree.entries (node_at (L.means other w)) ≡ true) }
-    ensures fault { IfErr result (λ fault. (old new : World → Entry) (go : World → Changed) → ((w : World) → L.sees look.new w → (L.means entry w ≡ Held (old w)) × (L.means other w ≡ Held (new w))) →
+    ensures fault { IfErr result (λ fault. (old new : World → Entry) (go : World → Changed) →
+        ((w : World) → L.sees look.new w → (L.means entry w ≡ Held (old w)) × (L.means other w ≡ Held (new w))) →
         IsFault (L.lacks look.new) (L.sees look.new) (λ w. onto_kind w.tree.entries (old w) (new w) (go w)) fault) }
 {
     let moves_directory = look.kind(entry)? == Kind::Directory;

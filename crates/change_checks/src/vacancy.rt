@@ -54,11 +54,13 @@ pub(crate) fn check_link<'a, L: ChangeLook>(
     ensures known { IfOk result (NamesOnly (L.knows look.new)) }
     ensures fits { IfOk result Fits }
     ensures acts { IfOk result (λ act. (w : World) → L.sees look.new w →
-        at_two w.tree (target_for EndSlash.Refused old.now) (target_for EndSlash.Refused new.now) (link w.tree (has_room (L.capacity look.new) w.tree))
+        at_two w.tree (target_for EndSlash.Refused old.now) (target_for EndSlash.Refused new.now)
+        (link w.tree (has_room (L.capacity look.new) w.tree))
         ≡ Ok (acted (λ e. L.means e w) w.tree act)) }
     ensures tested { IfOk result (λ act. (w : World) → L.sees look.new w → IsTested (λ e. L.means e w) w.tree (L.capacity look.new) act) }
     ensures fault { IfErr result (IsFault (L.lacks look.new) (L.sees look.new) (λ w.
-        at_two w.tree (target_for EndSlash.Refused old.now) (target_for EndSlash.Refused new.now) (link w.tree (has_room (L.capacity look.new) w.tree)))) }
+        at_two w.tree (target_for EndSlash.Refused old.now) (target_for EndSlash.Refused new.now)
+        (link w.tree (has_room (L.capacity look.new) w.tree)))) }
 {
     let (from, to) = find_places(look, old, new)?;
     let file = find_file(look, &from)?;
@@ -72,10 +74,12 @@ fn check_vacant<L: ChangeLook>(look: &mut L, place: &Place<'_, L::Entry>) -> Res
     ensures kept { L.kept look.new ≡ L.kept look.old }
     ensures narrows { Narrows (L.sees look.old) (L.sees look.new) }
     ensures keeps { (e : L.Entry) → L.knows look.old e → L.knows look.new e }
-    ensures free { OnOk result ((w : World) → L.sees look.new w → find w.tree.entries (node_at (L.means place.now.directory w)) place.now.component.now ≡ None) }
+    ensures free { OnOk result ((w : World) → L.sees look.new w → find w.tree.entries (node_at (L.means place.now.directory w))
+        place.now.component.now ≡ None) }
     ensures room { OnOk result ((w : World) → L.sees look.new w → has_room (L.capacity look.new) w.tree ≡ true) }
     ensures fault_of_make { IfErr result (λ fault. (kind : World → NodeKind) → IsFault (L.lacks look.new) (L.sees look.new) (λ w.
-        make w.tree (has_room (L.capacity look.new) w.tree) (kind w) (node_at (L.means place.now.directory w)) place.now.component.now) fault) }
+        make w.tree (has_room (L.capacity look.new) w.tree) (kind w) (node_at (L.means place.now.directory w)) place.now.component.now)
+        fault) }
     ensures fault_of_link { IfErr result (λ fault. (old : World → Entry) → IsFault (L.lacks look.new) (L.sees look.new) (λ w.
         link_to w.tree (has_room (L.capacity look.new) w.tree) (old w) (node_at (L.means place.now.directory w)) place.now.component.now
         (find w.tree.entries (node_at (L.means place.now.directory w)) place.now.component.now)) fault) }
@@ -100,7 +104,8 @@ fn find_file<L: Look>(look: &mut L, place: &Place<'_, L::Entry>) -> Result<L::En
     ensures there { IfOk result (λ file. (w : World) → L.sees look.new w →
         child_of w.tree (L.means place.now.directory w) place.now.component.now ≡ Some (L.means file w)) }
     ensures file { IfOk result (λ file. (w : World) → L.sees look.new w → kind_at (L.means file w) ≡ NodeKind.File) }
-    ensures fault { IfErr result (λ fault. (room : World → Bool) (into : World → ℕ) (name : List ℕ) → IsFault (L.lacks look.new) (L.sees look.new)
+    ensures fault { IfErr result (λ fault. (room : World → Bool) (into : World → ℕ) (name : List ℕ) →
+        IsFault (L.lacks look.new) (L.sees look.new)
         (λ w. link w.tree (room w) (node_at (L.means place.now.directory w)) place.now.component.now (into w) name) fault) }
 {
     let Some(entry) = look.child(place.directory, place.component)? else {

@@ -23,17 +23,25 @@ first_words capacity = ap (λ (n : ℕ). set (set (replicate n 0) 1 1) 2 1) (one
 pub rule_first : (capacity : ℕ) (words : List ℕ) → words ≡ 0 ∷ opening_row capacity
     → KeptBy (EncodesChanges capacity) (row_length capacity) (at_rest [] (opening_row capacity)) words (first_view capacity ∷ [])
 rule_first capacity words is =
-    subst (λ (ws : List ℕ). KeptBy (EncodesChanges capacity) (row_length capacity) (at_rest [] (opening_row capacity)) ws (first_view capacity ∷ [])) (sym is)
-    (opening_kept (EncodesChanges capacity) (row_length capacity) (opening_row capacity) 0 (length-opening capacity) (root_alone, refl, opens capacity))
+    subst (λ (ws : List ℕ). KeptBy (EncodesChanges capacity) (row_length capacity) (at_rest [] (opening_row capacity)) ws
+    (first_view capacity ∷ [])) (sym is)
+    (opening_kept (EncodesChanges capacity) (row_length capacity) (opening_row capacity) 0 (length-opening capacity)
+    (root_alone, refl, opens capacity))
 
-pub knows_first : (table : TableId) (key : ℕ) (seat : RowSeat) (capacity : ℕ) (words : List ℕ) → capacity ≤ 16384 → words ≡ 0 ∷ opening_row capacity → table.words ≡ length words → seat.table_id ≡ table
+pub knows_first : (table : TableId) (key : ℕ) (seat : RowSeat) (capacity : ℕ) (words : List ℕ) → capacity ≤ 16384 →
+    words ≡ 0 ∷ opening_row capacity → table.words ≡ length words → seat.table_id ≡ table
     → seat.me ≡ (first_view capacity, []) → key ≡ capacity → KeeperKnows table key seat capacity 2 0
 knows_first table key seat capacity words small is count own me key_is =
     let at_first : (IsKeeping seat.me × ((keeper_of seat.me.0) ≡ at_rest [] (opening_row capacity))) =
     subst (λ (m : Mine). IsKeeping m × ((keeper_of m.0) ≡ at_rest [] (opening_row capacity))) (sym me) (refl, refl) in
     record {
       own = own;
-      at = record { words = count ∙ (ap length is ∙ (let l = length-opening capacity in omega (arith, l))); key_is = key_is; small = small };
+      at = record {
+        words = count ∙ (ap length is ∙ (let l = length-opening capacity in omega (arith, l)));
+        key_is =
+            key_is;
+        small = small;
+      };
       role = at_first.0;
       shut = ap (λ k. k.pending) at_first.1;
       kept = kept_first (held seat capacity) (ap (λ k. k.history) at_first.1) (ap (λ k. k.cells) at_first.1);

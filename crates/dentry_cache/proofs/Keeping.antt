@@ -1,5 +1,6 @@
 -- What the parts of a keeper have in common, before and after a change.
-use Rattle.std.proofs.Common.{None, ◌≡◌, ◌≢◌, ℕ, ◌+◌, ◌<◌, ◌≤◌, Bool, true, false, List, [], ◌∷◌, ◌++◌, length, sym, refl, ap, ◌∙◌, subst, arith, length-append, ◌*◌}
+use Rattle.std.proofs.Common.{None, ◌≡◌, ◌≢◌, ℕ, ◌+◌, ◌<◌, ◌≤◌, Bool, true, false, List, [], ◌∷◌, ◌++◌, length, sym, refl, ap, ◌∙◌, subst}
+use Rattle.std.proofs.Common.{arith, length-append, ◌*◌}
 use Rattle.std.proofs.lemmas.Bool.{lt-ltb, ltb-true}
 use Rattle.std.specs.List.{All}
 use Rattle.std.specs.Prelude.{Ok, Err, nat_lt, if◌then◌else◌, IsOk}
@@ -37,7 +38,8 @@ module _ (capacity : ℕ) (history : List Change) (t : Tree) (made : tree_after 
   more = after_more capacity 0 root_alone t history change (length history) (omega arith) made
 
   counted : length history < max_changes → tree_after capacity (history ++ change ∷ []) ≡ apply t (has_room capacity t) change
-  counted few = more ∙ ap (λ (b : Bool). if b then apply t (has_room capacity t) change else Err EOVERFLOW) (lt-ltb (length history) max_changes few)
+  counted few = more ∙ ap (λ (b : Bool). if b then apply t (has_room capacity t) change else Err EOVERFLOW)
+      (lt-ltb (length history) max_changes few)
 
   too_many : length history ≡ max_changes → tree_after capacity (history ++ change ∷ []) ≡ Err EOVERFLOW
   too_many many = more ∙ ap (λ (n : ℕ). apply_counted capacity n t change) many
@@ -45,7 +47,8 @@ module _ (capacity : ℕ) (history : List Change) (t : Tree) (made : tree_after 
   -- a change that was accepted was counted
   few_were : (u : Tree) → tree_after capacity (history ++ change ∷ []) ≡ Ok u → length history < max_changes
   few_were u is =
-      elim (nat_lt (length history) max_changes) as (λ (b : Bool). nat_lt (length history) max_changes ≡ b → (if b then apply t (has_room capacity t) change else Err EOVERFLOW) ≡ Ok u → length history < max_changes) [
+      elim (nat_lt (length history) max_changes) as (λ (b : Bool). nat_lt (length history) max_changes ≡ b →
+      (if b then apply t (has_room capacity t) change else Err EOVERFLOW) ≡ Ok u → length history < max_changes) [
         | true ↦ λ q h. ltb-true (length history) max_changes q
         | false ↦ λ q h. absurd (err_is_ok EOVERFLOW u h)
       ] refl (sym more ∙ is)
@@ -90,7 +93,8 @@ sees_history h next version k = record {
   world = record { tree = k.tree; named = spot_at (slot_at h.cells); sound = tree_after_well h.capacity h.history k.tree k.made };
   made = k.made;
   seen = (h.cells, refl, record { tree = k.encodes; named = λ s. refl });
-  only = λ w (row, is, encodes). same_tree h.capacity h.cells k.tree w.tree k.encodes (subst (λ (r : List ℕ). Encodes h.capacity r w.tree) is encodes.tree);
+  only = λ w (row, is, encodes). same_tree h.capacity h.cells k.tree w.tree k.encodes
+      (subst (λ (r : List ℕ). Encodes h.capacity r w.tree) is encodes.tree);
 }
 
 -- what is known about the tree that the cells encode, while changes are counted
@@ -103,7 +107,8 @@ module _ (h : Held) (next : ℕ) (n : Countable h next) where
 
   module _ (change : Change) where
     pub planned : (plan : List Cell)
-        → ((row : List ℕ) (w : World) → row ≡ h.cells → EncodesWorld h.capacity row w → w.tree.next ≡ next → Plans h.capacity row w change plan)
+        → ((row : List ℕ) (w : World) → row ≡ h.cells → EncodesWorld h.capacity row w → w.tree.next ≡ next →
+        Plans h.capacity row w change plan)
         → IsPlanned h change plan
     planned plan plans =
         let p = plans h.cells n.world refl n.stands n.next_is in
@@ -127,7 +132,8 @@ module _ (h : Held) (next : ℕ) (n : Countable h next) where
     ]
 
 -- the parts after a change was made
-pub kept_next : (h : Held) (next version : ℕ) (change : Change) (plan : List Cell) (h' : Held) → IsKept h next version → IsPlanned h change plan → h'.capacity ≡ h.capacity → h'.history ≡ h.history ++ change ∷ [] → h'.cells ≡ write h.cells plan
+pub kept_next : (h : Held) (next version : ℕ) (change : Change) (plan : List Cell) (h' : Held) → IsKept h next version →
+    IsPlanned h change plan → h'.capacity ≡ h.capacity → h'.history ≡ h.history ++ change ∷ [] → h'.cells ≡ write h.cells plan
     → IsKept h' (next_after next change) (version + 1)
 kept_next h next version change plan h' k ((w, stood, named, plans), (u, made, encodes)) capacity history cells =
     let few = few_were h.capacity h.history k.tree k.made change u made in
@@ -143,16 +149,22 @@ kept_next h next version change plan h' k ((w, stood, named, plans), (u, made, e
     }
 
 -- the cells of a plan are the row's
-pub within : (capacity : ℕ) (cells : List ℕ) (history : List Change) (change : Change) (plan : List Cell) → IsPlan capacity cells history change plan → All (λ (cell : Cell). cell.place < row_length capacity) plan
-within capacity cells history change plan (w, made, stands, plans) = subst (λ (n : ℕ). All (λ (cell : Cell). cell.place < n) plan) stands.tree.long plans.lean.within
+pub within : (capacity : ℕ) (cells : List ℕ) (history : List Change) (change : Change) (plan : List Cell) →
+    IsPlan capacity cells history change plan → All (λ (cell : Cell). cell.place < row_length capacity) plan
+within capacity cells history change plan (w, made, stands, plans) = subst (λ (n : ℕ). All (λ (cell : Cell). cell.place < n) plan)
+    stands.tree.long plans.lean.within
 
 -- a keeper's parts, where they make up this value
-pub kept_of : (table : TableId) (key : ℕ) (seat : RowSeat) (capacity next version : ℕ) (h : Held) → KeeperKnows table key seat capacity next version → held seat capacity ≡ h → IsKept h next version
+pub kept_of : (table : TableId) (key : ℕ) (seat : RowSeat) (capacity next version : ℕ) (h : Held) →
+    KeeperKnows table key seat capacity next version → held seat capacity ≡ h → IsKept h next version
 kept_of table key seat capacity next version h knows is = subst (λ (x : Held). IsKept x next version) is knows.kept
 
-pub knows_next : (table : TableId) (key : ℕ) (seat : RowSeat) (capacity next version : ℕ) (h : Held) (change : Change) (plan : List Cell) (seat' : RowSeat) (next' : ℕ)
-    → KeeperKnows table key seat capacity next version → held seat capacity ≡ h → IsPlanned h change plan → seat'.table_id ≡ seat.table_id → IsKeeping seat'.me → (keeper_of seat'.me.0).pending ≡ None
-    → (keeper_of seat'.me.0).history ≡ (keeper_of seat.me.0).history ++ change ∷ [] → (keeper_of seat'.me.0).cells ≡ write (keeper_of seat.me.0).cells plan → next' ≡ next_after next change
+pub knows_next : (table : TableId) (key : ℕ) (seat : RowSeat) (capacity next version : ℕ) (h : Held) (change : Change) (plan : List Cell)
+    (seat' : RowSeat) (next' : ℕ)
+    → KeeperKnows table key seat capacity next version → held seat capacity ≡ h → IsPlanned h change plan → seat'.table_id
+    ≡ seat.table_id → IsKeeping seat'.me → (keeper_of seat'.me.0).pending ≡ None
+    → (keeper_of seat'.me.0).history ≡ (keeper_of seat.me.0).history ++ change ∷ [] → (keeper_of seat'.me.0).cells
+    ≡ write (keeper_of seat.me.0).cells plan → next' ≡ next_after next change
     → KeeperKnows table key seat' capacity next' (version + 1)
 knows_next table key seat capacity next version h change plan seat' next' knows is planned own role shut history cells next_is = record {
   own = own ∙ knows.own;
@@ -161,18 +173,22 @@ knows_next table key seat capacity next version h change plan seat' next' knows 
   shut = shut;
   kept = subst (λ (n : ℕ). IsKept (held seat' capacity) n (version + 1)) (sym next_is)
       (kept_next h next version change plan (held seat' capacity) (kept_of table key seat capacity next version h knows is) planned
-      (ap (λ (x : Held). x.capacity) is) (history ∙ ap (λ (x : Held). x.history ++ change ∷ []) is) (cells ∙ ap (λ (x : Held). write x.cells plan) is));
+      (ap (λ (x : Held). x.capacity) is) (history ∙ ap (λ (x : Held). x.history ++ change ∷ []) is)
+      (cells ∙ ap (λ (x : Held). write x.cells plan) is));
 }
 
 -- the count of a keeper at rest
 at_rest_count : (k : KeeperView) → k.pending ≡ None → count_of k ≡ 2 * length k.history
 at_rest_count k shut = let none = ap pending_count shut in omega (arith, none)
 
-pub count_of_version : (table : TableId) (key : ℕ) (seat : RowSeat) (capacity next version : ℕ) (h : Held) → KeeperKnows table key seat capacity next version → held seat capacity ≡ h → h.count ≡ 2 * version
+pub count_of_version : (table : TableId) (key : ℕ) (seat : RowSeat) (capacity next version : ℕ) (h : Held) →
+    KeeperKnows table key seat capacity next version → held seat capacity ≡ h → h.count ≡ 2 * version
 count_of_version table key seat capacity next version h knows is =
-    ap (λ (x : Held). x.count) (sym is) ∙ (at_rest_count (keeper_of seat.me.0) knows.shut ∙ ap (λ (n : ℕ). 2 * n) (sym knows.kept.version_is))
+    ap (λ (x : Held). x.count) (sym is) ∙ (at_rest_count (keeper_of seat.me.0) knows.shut ∙ ap (λ (n : ℕ). 2 * n)
+    (sym knows.kept.version_is))
 
-pub count_next : (k k' : KeeperView) (change : Change) → k.pending ≡ None → k'.pending ≡ None → k'.history ≡ k.history ++ change ∷ [] → count_of k' ≡ count_of k + 2
+pub count_next : (k k' : KeeperView) (change : Change) → k.pending ≡ None → k'.pending ≡ None → k'.history ≡ k.history ++ change ∷ [] →
+    count_of k' ≡ count_of k + 2
 count_next k k' change shut shut' more =
     let a = at_rest_count k shut in
     let b = at_rest_count k' shut' in

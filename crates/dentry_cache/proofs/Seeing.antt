@@ -10,7 +10,8 @@ use Rattle.row_plan.specs.Changes.{EncodesChanges}
 use Rattle.dentry_cache.specs.Told.{SeesAfter}
 
 -- a row that encodes the changes gives a world
-pub sees_after : (capacity : ℕ) (reads : List Cell) (changes : List Change) (cells : List ℕ) → EncodesChanges capacity cells changes → Agrees reads cells → SeesAfter capacity reads changes
+pub sees_after : (capacity : ℕ) (reads : List Cell) (changes : List Change) (cells : List ℕ) → EncodesChanges capacity cells changes →
+    Agrees reads cells → SeesAfter capacity reads changes
 sees_after capacity reads changes cells (t, made, encodes) agrees = record {
   world = record { tree = t; named = spot_at (slot_at cells); sound = tree_after_well capacity changes t made };
   made = made;

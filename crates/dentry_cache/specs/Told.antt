@@ -45,7 +45,8 @@ HasRead word before found after =
 abbrev pub HasEnded : ℕ → Mine → ℕ → Mine → Type 0
 HasEnded capacity before count after =
     (seen : List Change) × (after ≡ walking (ending (walker_of before.0) count seen)) × Sees (walker_of before.0) count seen
-    × (count ≡ (walker_of before.0).noted → count % 2 ≡ 0 → ((walker_of before.0).seen ≡ seen) × SeesAfter capacity (walker_of before.0).reads seen)
+    × (count ≡ (walker_of before.0).noted → count % 2 ≡ 0 → ((walker_of before.0).seen ≡ seen) × SeesAfter capacity
+    (walker_of before.0).reads seen)
 
 -- the keeper reads a word, opens a change, sets a cell, and closes the change
 abbrev pub HasLooked : ℕ → Mine → ℕ → Mine → Type 0

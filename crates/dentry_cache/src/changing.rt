@@ -25,7 +25,8 @@ pub(crate) fn perform(
     requires role { IsKeeping seat.old.me }
     requires shut { (keeper_of seat.old.me.0).pending ≡ None }
     requires count { (count ≡ count_of (keeper_of seat.old.me.0)) × (count + 2 < 2 ^ 64) }
-    requires planned { EncodesChanges table.now.shared.key (write (keeper_of seat.old.me.0).cells plan.now) ((keeper_of seat.old.me.0).history ++ change.now ∷ []) }
+    requires planned { EncodesChanges table.now.shared.key (write (keeper_of seat.old.me.0).cells plan.now)
+        ((keeper_of seat.old.me.0).history ++ change.now ∷ []) }
     requires within { All (λ cell. cell.place < row_length table.now.shared.key) plan.now }
     ensures own { seat.new.table_id ≡ seat.old.table_id }
     ensures role { IsKeeping seat.new.me }
@@ -51,7 +52,8 @@ pub(crate) fn begin(
     requires role { IsKeeping seat.old.me }
     requires shut { (keeper_of seat.old.me.0).pending ≡ None }
     requires count { (count ≡ count_of (keeper_of seat.old.me.0)) × (count + 2 < 2 ^ 64) }
-    requires planned { EncodesChanges table.now.shared.key (write (keeper_of seat.old.me.0).cells plan.now) ((keeper_of seat.old.me.0).history ++ change.now ∷ []) }
+    requires planned { EncodesChanges table.now.shared.key (write (keeper_of seat.old.me.0).cells plan.now)
+        ((keeper_of seat.old.me.0).history ++ change.now ∷ []) }
     requires within { All (λ cell. cell.place < row_length table.now.shared.key) plan.now }
     requires fewer { set ≤ length plan.now }
     ensures own { seat.new.table_id ≡ seat.old.table_id }

@@ -128,7 +128,8 @@ impl Keeper {
     /// Returns a new walker, which has seen nothing and may go to another thread.
     pub fn walker(&mut self) -> Result<Walker, NoSeat>
         ensures same { self.new ≡ self.old }
-        ensures walker { IfOk result (λ walker. (walker.table ≡ self.old.table) × (walker.capacity ≡ self.old.capacity) × (walker.view ≡ newcomer)) }
+        ensures walker { IfOk result (λ walker. (walker.table ≡ self.old.table) × (walker.capacity ≡ self.old.capacity)
+            × (walker.view ≡ newcomer)) }
     {
         self.look.cells.walker()
     }

@@ -49,7 +49,8 @@ impl Model for KeptRow {
 
     ghost view = { λ k. held k.seat k.capacity };
 
-    ghost invariant = { λ k. KeeperKnows (arc_value k.table).shared.table_id (arc_value k.table).shared.key k.seat k.capacity k.next k.version };
+    ghost invariant = { λ k. KeeperKnows (arc_value k.table).shared.table_id (arc_value k.table).shared.key k.seat
+        k.capacity k.next k.version };
 }
 
 impl KeptRow {
@@ -132,7 +133,8 @@ impl KeptRow {
     }
 
     pub(crate) fn walker(&self) -> Result<Walker, NoSeat>
-        ensures { IfOk result (λ walker. (walker.table ≡ self.now.table) × (walker.capacity ≡ self.now.capacity) × (walker.view ≡ newcomer)) }
+        ensures { IfOk result (λ walker. (walker.table ≡ self.now.table) × (walker.capacity ≡ self.now.capacity)
+            × (walker.view ≡ newcomer)) }
     {
         match Arc::try_clone(&self.table) {
             Ok(table) => {

@@ -14,5 +14,6 @@ ghost use Rattle.row_plan.specs.Changes.{EncodesChanges};
 pub fn walkers_write_nothing()
     ensures { (capacity seat word to : ℕ) (w : WalkerView) (after : View) (words : List ℕ) (views : List View)
         → Holds (EncodesChanges capacity) (row_length capacity) words views → get_elem? views seat ≡ some (Walks w)
-        → Holds (EncodesChanges capacity) (row_length capacity) (slice_set words word to) (slice_set views seat after) → slice_set words word to ≡ words }
+        → Holds (EncodesChanges capacity) (row_length capacity) (slice_set words word to) (slice_set views seat after) →
+        slice_set words word to ≡ words }
 {}

@@ -5,7 +5,8 @@ ghost use Rattle.directory_tree.specs.declared.change.Change.TheVariants.{Mkdir}
 ghost use Rattle.row_rule.specs.declared.cell.Cell.{Cell};
 ghost use Rattle.row_rule.specs.declared.view.View.TheVariants.{Walks};
 ghost use Rattle.row_rule.specs.Steps.{newcomer};
-ghost use Rattle.dentry_cache.specs.Told.{KeepsRule, first_view, HasEntered, HasBegun, HasRead, HasEnded, HasLooked, HasOpened, HasSet, HasClosed, lent_view, met_view, IsTold};
+ghost use Rattle.dentry_cache.specs.Told.{KeepsRule, first_view, HasEntered, HasBegun, HasRead, HasEnded, HasLooked, HasOpened, HasSet};
+ghost use Rattle.dentry_cache.specs.Told.{HasClosed, lent_view, met_view, IsTold};
 
 use atomic_table::{Join, Play, Seat, Split, Table, TableRule};
 use row_rule::View;

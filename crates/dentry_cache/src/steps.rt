@@ -88,7 +88,8 @@ pub(crate) fn open<J: Planned>(
     requires shut { (keeper_of seat.old.me.0).pending ≡ None }
     requires count { (count ≡ count_of (keeper_of seat.old.me.0)) × (count + 1 < 2 ^ 64) }
     requires picked { (J.change ≡ change.now) × (J.plan ≡ plan.now) }
-    requires planned { EncodesChanges table.now.shared.key (write (keeper_of seat.old.me.0).cells plan.now) ((keeper_of seat.old.me.0).history ++ change.now ∷ []) }
+    requires planned { EncodesChanges table.now.shared.key (write (keeper_of seat.old.me.0).cells plan.now)
+        ((keeper_of seat.old.me.0).history ++ change.now ∷ []) }
     ensures own { seat.new.table_id ≡ seat.old.table_id }
     ensures role { IsKeeping seat.new.me }
     ensures told { keeper_of seat.new.me.0 ≡ opening (keeper_of seat.old.me.0) change.now plan.now }
@@ -101,7 +102,8 @@ pub(crate) fn set_cell(table: &RowTable, seat: &mut RowSeat, cell: Cell)
     requires own { seat.old.table_id ≡ table.now.shared.table_id }
     requires words { (cell.place + 1 < table.now.shared.table_id.words) × (cell.place < 2 ^ 32) }
     requires role { IsKeeping seat.old.me }
-    requires next { (change : Change) × (left : List Cell) × ((keeper_of seat.old.me.0).pending ≡ Some record { change = change; left = cell ∷ left }) }
+    requires next { (change : Change) × (left : List Cell)
+        × ((keeper_of seat.old.me.0).pending ≡ Some record { change = change; left = cell ∷ left }) }
     ensures own { seat.new.table_id ≡ seat.old.table_id }
     ensures role { IsKeeping seat.new.me }
     ensures told { keeper_of seat.new.me.0 ≡ setting (keeper_of seat.old.me.0) cell }

@@ -56,7 +56,8 @@ impl Model for Attempt {
 
     ghost view = { λ w. walk w.seat w.capacity };
 
-    ghost invariant = { λ w. WalkerKnows (arc_value w.table).shared.table_id (arc_value w.table).shared.key w.seat w.capacity × ((walker_of w.seat.me.0).noted ≡ w.began) };
+    ghost invariant = { λ w. WalkerKnows (arc_value w.table).shared.table_id (arc_value w.table).shared.key w.seat w.capacity
+        × ((walker_of w.seat.me.0).noted ≡ w.began) };
 }
 
 impl Walker {

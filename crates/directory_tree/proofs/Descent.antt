@@ -1,5 +1,6 @@
 -- No climb from a directory meets what lies below it.
-use Rattle.std.proofs.Common.{◌≡◌, ℕ, zero, suc, ◌<◌, ◌==◌, ◌≢◌, Bool, true, false, List, Some, None, Option, sym, ap, ◌∙◌, subst, arith, ne_eqb}
+use Rattle.std.proofs.Common.{◌≡◌, ℕ, zero, suc, ◌<◌, ◌==◌, ◌≢◌, Bool, true, false, List, Some, None, Option, sym, ap, ◌∙◌, subst, arith}
+use Rattle.std.proofs.Common.{ne_eqb}
 use Rattle.std.specs.Prelude.{if◌then◌else◌}
 use Rattle.directory_tree.specs.Tree.{Tree, Entry, WellFormed, root, find, own_entry, is_below, is_directory}
 use Rattle.directory_tree.proofs.Found.{found_at}
@@ -14,7 +15,8 @@ module _ (t : Tree) (well : WellFormed t) (low m : ℕ) (deep_low : Deep t.entri
 
   -- A directory of another depth is another directory.
   other_depth : (k x : ℕ) → k < m → Deep t.entries k x → (x == low) ≡ false
-  other_depth k x less up = ne_eqb x low (λ p. let same = one_depth t.entries k m low (subst (Deep t.entries k) p up) deep_low in absurd (omega arith))
+  other_depth k x less up = ne_eqb x low (λ p. let same = one_depth t.entries k m low (subst (Deep t.entries k) p up) deep_low in
+      absurd (omega arith))
 
   -- A climb from a directory of less depth never reaches this one.
   not_met : (n k x : ℕ) → k < m → Deep t.entries k x → is_below t.entries n low x ≡ false
@@ -28,7 +30,8 @@ module _ (t : Tree) (well : WellFormed t) (low m : ℕ) (deep_low : Deep t.entri
       ∙ not_met n k e.of (omega arith) up
 
 -- The directory that has a directory's entry doesn't lie below it.
-pub never_below_itself : (t : Tree) (d : ℕ) (c : List ℕ) (e : Entry) (n : ℕ) → WellFormed t → find t.entries d c ≡ Some e → is_directory e.kind ≡ true → is_below t.entries n e.node d ≡ false
+pub never_below_itself : (t : Tree) (d : ℕ) (c : List ℕ) (e : Entry) (n : ℕ) → WellFormed t → find t.entries d c ≡ Some e →
+    is_directory e.kind ≡ true → is_below t.entries n e.node d ≡ false
 never_below_itself t d c e n well is directory =
     let (k, l) = well.rooted d c e is in
     let (m, less, up) = deep t.entries k d l in

@@ -8,7 +8,8 @@ use Rattle.directory_tree.proofs.Changes.{tree_after_well, root_well}
 
 -- every plain value has a sound tree
 pub plain_well : (p : Plain) → WellFormed (tree_of p)
-plain_well p = elim (tree_after p.capacity p.history) as (λ (r : Changed). tree_after p.capacity p.history ≡ r → WellFormed (elim r as (λ _. Tree) [ Ok t ↦ t | Err e ↦ root_alone ])) [
-  | Ok t ↦ λ is. tree_after_well p.capacity p.history t is
-  | Err e ↦ λ is. root_well
-] refl
+plain_well p = elim (tree_after p.capacity p.history) as (λ (r : Changed). tree_after p.capacity p.history ≡ r →
+    WellFormed (elim r as (λ _. Tree) [ Ok t ↦ t | Err e ↦ root_alone ])) [
+      | Ok t ↦ λ is. tree_after_well p.capacity p.history t is
+      | Err e ↦ λ is. root_well
+    ] refl

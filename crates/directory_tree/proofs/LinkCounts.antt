@@ -1,5 +1,6 @@
 -- A walk is refused for links exactly if it meets one more link than it may follow.
-use Rattle.std.proofs.Common.{◌≡◌, ◌≢◌, ◌↔◌, ℕ, zero, suc, pred, ◌&&◌, Bool, true, false, List, [], ◌∷◌, ◌++◌, Some, None, Option, sym, refl, ap, ◌∙◌}
+use Rattle.std.proofs.Common.{◌≡◌, ◌≢◌, ◌↔◌, ℕ, zero, suc, pred, ◌&&◌, Bool, true, false, List, [], ◌∷◌, ◌++◌, Some, None, Option, sym}
+use Rattle.std.proofs.Common.{refl, ap, ◌∙◌}
 use Rattle.std.specs.Prelude.{if◌then◌else◌, Ok, Err}
 use Rattle.names.specs.declared.errors.Errno.TheVariants.{ENOENT, ENOTDIR, ELOOP}
 use Rattle.directory_tree.specs.declared.node.NodeKind.{NodeKind}
@@ -30,12 +31,16 @@ Meets follow None w = w ≢ Err ELOOP
 Meets follow (Some next) w = w ≡ follow next.0 next.1
 
 -- At an entry of any kind both definitions see the same link.
-meets_kind : (follow : ℕ → List Step → Walked) (k : NodeKind) (ends : Bool) (last : Last) (found go : Walked) (on : Option Onward) (behind : List ℕ → Onward) → found ≢ Err ELOOP → Meets follow on go
-    → Meets follow (link_at (ends && stays last) on behind k) (at_kind ends last found go (λ text. follow (behind text).0 (behind text).1) k)
+meets_kind : (follow : ℕ → List Step → Walked) (k : NodeKind) (ends : Bool) (last : Last) (found go : Walked) (on : Option Onward)
+    (behind : List ℕ → Onward) → found ≢ Err ELOOP → Meets follow on go
+    → Meets follow (link_at (ends && stays last) on behind k)
+    (at_kind ends last found go (λ text. follow (behind text).0 (behind text).1) k)
 meets_kind follow Directory ends last found go on behind ok h = h
-meets_kind follow File ends last found go on behind ok h = elim ends as (λ (b : Bool). (if b then found else Err ENOTDIR) ≢ Err ELOOP) [ true ↦ ok | false ↦ file_no_loop ]
+meets_kind follow File ends last found go on behind ok h = elim ends as (λ (b : Bool). (if b then found else Err ENOTDIR) ≢ Err ELOOP)
+    [ true ↦ ok | false ↦ file_no_loop ]
 meets_kind follow (Link text) ends last found go on behind ok h =
-    elim (ends && stays last) as (λ (b : Bool). Meets follow (if b then None else Some (behind text)) (if b then found else follow (behind text).0 (behind text).1)) [ true ↦ ok | false ↦ refl ]
+    elim (ends && stays last) as (λ (b : Bool). Meets follow (if b then None else Some (behind text))
+    (if b then found else follow (behind text).0 (behind text).1)) [ true ↦ ok | false ↦ refl ]
 
 module _ (t : Tree) (last : Last) where
   -- A walk goes on after the first link that it follows.
@@ -45,10 +50,15 @@ module _ (t : Tree) (last : Last) where
   along follow d (Up ∷ xs) = along follow (above t d) xs
   along follow d (Down c ∷ xs) =
       elim (find t.entries d c) as (λ (o : Option Entry). Meets follow
-      (elim o as (λ _. Option Onward) [ None ↦ None | Some e ↦ link_at (is_last xs && stays last) (first_link t last e.node xs) (λ text. (start_of text d, steps_of text ++ xs)) e.kind ])
+      (elim o as (λ _. Option Onward) [
+        | None ↦ None
+        | Some e ↦ link_at (is_last xs && stays last) (first_link t last e.node xs)
+            (λ text. (start_of text d, steps_of text ++ xs)) e.kind
+      ])
       (at_entry (is_last xs) last (λ n. onward t last follow n xs) (λ text. follow (start_of text d) (steps_of text ++ xs)) o)) [
         | None ↦ missing_no_loop
-        | Some e ↦ meets_kind follow e.kind (is_last xs) last (Ok (Held e)) (onward t last follow e.node xs) (first_link t last e.node xs) (λ text. (start_of text d, steps_of text ++ xs))
+        | Some e ↦ meets_kind follow e.kind (is_last xs) last (Ok (Held e)) (onward t last follow e.node xs) (first_link t last e.node xs)
+            (λ text. (start_of text d, steps_of text ++ xs))
             (ok_no_loop (Held e)) (along follow e.node xs)
       ]
 
@@ -61,7 +71,8 @@ module _ (t : Tree) (last : Last) where
 
   -- A walk that may follow `n` links is refused for links exactly if there is one more.
   pub refused_past : (n d : ℕ) (xs : List Step) → (resolve t last n d xs ≡ Err ELOOP) ↔ (links_followed t last (suc n) d xs ≡ suc n)
-  refused_past zero d xs = one_more zero (λ d xs. Err ELOOP) (first_link t last d xs) (onward t last (λ d xs. Err ELOOP) d xs) (along (λ d xs. Err ELOOP) d xs) (λ next. ((λ q. refl), (λ q. refl)))
+  refused_past zero d xs = one_more zero (λ d xs. Err ELOOP) (first_link t last d xs) (onward t last (λ d xs. Err ELOOP) d xs)
+      (along (λ d xs. Err ELOOP) d xs) (λ next. ((λ q. refl), (λ q. refl)))
   refused_past (suc n) d xs =
-      one_more (suc n) (λ d xs. resolve t last n d xs) (first_link t last d xs) (onward t last (λ d xs. resolve t last n d xs) d xs) (along (λ d xs. resolve t last n d xs) d xs)
-      (λ next. refused_past n next.0 next.1)
+      one_more (suc n) (λ d xs. resolve t last n d xs) (first_link t last d xs) (onward t last (λ d xs. resolve t last n d xs) d xs)
+      (along (λ d xs. resolve t last n d xs) d xs) (λ next. refused_past n next.0 next.1)

@@ -1,5 +1,6 @@
 -- A node exists as long as it has an entry, and stays what it was.
-use Rattle.std.proofs.Common.{◌≡◌, ◌≢◌, ◌↔◌, ℕ, ◌+◌, ◌==◌, Bool, true, false, List, Some, None, Option, sym, refl, ap, ◌∙◌, arith, eqb-true, eq-eqb}
+use Rattle.std.proofs.Common.{◌≡◌, ◌≢◌, ◌↔◌, ℕ, ◌+◌, ◌==◌, Bool, true, false, List, Some, None, Option, sym, refl, ap, ◌∙◌, arith}
+use Rattle.std.proofs.Common.{eqb-true, eq-eqb}
 use Rattle.std.specs.Prelude.{if◌then◌else◌, Ok}
 use mathlib.Core.Logic.{◌⊎◌, inl, inr}
 use Rattle.directory_tree.specs.declared.node.NodeKind.{NodeKind}
@@ -27,12 +28,14 @@ module _ (t : Tree) (well : WellFormed t) where
       elim (n == root) as (λ (b : Bool). (n == root) ≡ b → (n ≡ root) ⊎ HasNode t n k) [
         | true ↦ λ q. inl (eqb-true n root q)
         | false ↦ λ q.
-            let (e, is, node, kind) = kind_found t.entries n k well.distinct (sym (ap (λ (b : Bool). if b then Some Directory else entry_kind t.entries n) q) ∙ h) in
+            let (e, is, node, kind) = kind_found t.entries n k well.distinct
+            (sym (ap (λ (b : Bool). if b then Some Directory else entry_kind t.entries n) q) ∙ h) in
             inr (e.of, e.component, e, is, node, kind)
       ] refl
 
   -- A node is gone exactly if it isn't the root and has no entry.
-  pub gone_without_entry : (n : ℕ) → (kind_of t n ≡ None) ↔ ((n ≢ root) × ((d : ℕ) (c : List ℕ) (e : Entry) → find t.entries d c ≡ Some e → e.node ≢ n))
+  pub gone_without_entry : (n : ℕ) → (kind_of t n ≡ None)
+      ↔ ((n ≢ root) × ((d : ℕ) (c : List ℕ) (e : Entry) → find t.entries d c ≡ Some e → e.node ≢ n))
   gone_without_entry n = (
     (λ h. (
       (λ p. none_is_some Directory (sym h ∙ root_kind n p)),
@@ -55,7 +58,8 @@ module _ (t : Tree) (well : WellFormed t) where
   ]
 
 -- A node that exists after a change was there before with its kind, or is the next.
-came : (t u : Tree) (room : Bool) (change : Change) (n : ℕ) (k : NodeKind) → WellFormed t → apply t room change ≡ Ok u → kind_of u n ≡ Some k → (kind_of t n ≡ Some k) ⊎ ((n ≡ t.next) × (u.next ≡ t.next + 1))
+came : (t u : Tree) (room : Bool) (change : Change) (n : ℕ) (k : NodeKind) → WellFormed t → apply t room change ≡ Ok u →
+    kind_of u n ≡ Some k → (kind_of t n ≡ Some k) ⊎ ((n ≡ t.next) × (u.next ≡ t.next + 1))
 came t u room change n k well h is = elim (stands_by u (apply_keeps t u room change well h) n k is) [
   | inl p ↦ inl (root_kind t well n p ∙ sym (root_kind u (apply_keeps t u room change well h) n p) ∙ is)
   | inr (d, c, z, there, node, kind) ↦ elim (apply_comes t u room change h d c z there) [
@@ -65,7 +69,8 @@ came t u room change n k well h is = elim (stands_by u (apply_keeps t u room cha
 ]
 
 -- A node that exists is what it was, or is gone after a change.
-pub kept_or_gone : (t u : Tree) (room : Bool) (change : Change) (n : ℕ) (kind : NodeKind) → WellFormed t → apply t room change ≡ Ok u → kind_of t n ≡ Some kind → (kind_of u n ≡ Some kind) ⊎ (kind_of u n ≡ None)
+pub kept_or_gone : (t u : Tree) (room : Bool) (change : Change) (n : ℕ) (kind : NodeKind) → WellFormed t → apply t room change ≡ Ok u →
+    kind_of t n ≡ Some kind → (kind_of u n ≡ Some kind) ⊎ (kind_of u n ≡ None)
 kept_or_gone t u room change n kind well h stood =
     elim (kind_of u n) as (λ (o : Option NodeKind). kind_of u n ≡ o → (o ≡ Some kind) ⊎ (o ≡ None)) [
       | None ↦ λ is. inr refl
@@ -76,7 +81,8 @@ kept_or_gone t u room change n kind well h stood =
     ] refl
 
 -- A node that is new has the next number.
-pub new_is_next : (t u : Tree) (room : Bool) (change : Change) (n : ℕ) (kind : NodeKind) → WellFormed t → apply t room change ≡ Ok u → kind_of t n ≡ None → kind_of u n ≡ Some kind → (n ≡ t.next) × (u.next ≡ t.next + 1)
+pub new_is_next : (t u : Tree) (room : Bool) (change : Change) (n : ℕ) (kind : NodeKind) → WellFormed t → apply t room change ≡ Ok u →
+    kind_of t n ≡ None → kind_of u n ≡ Some kind → (n ≡ t.next) × (u.next ≡ t.next + 1)
 new_is_next t u room change n kind well h none is = elim (came t u room change n kind well h is) [
   | inl same ↦ absurd (none_is_some kind (sym none ∙ same))
   | inr new ↦ new

@@ -1,5 +1,6 @@
 -- An entry that moves leaves the tree well-formed.
-use Rattle.std.proofs.Common.{◌≡◌, ℕ, zero, suc, ◌<◌, ◌≤◌, ◌==◌, ◌≢◌, ◌&&◌, Bool, true, false, List, [], ◌∷◌, Some, None, Option, sym, refl, ap, ◌∙◌, subst, arith, eq-eqb, ne_eqb}
+use Rattle.std.proofs.Common.{◌≡◌, ℕ, zero, suc, ◌<◌, ◌≤◌, ◌==◌, ◌≢◌, ◌&&◌, Bool, true, false, List, [], ◌∷◌, Some, None, Option, sym}
+use Rattle.std.proofs.Common.{refl, ap, ◌∙◌, subst, arith, eq-eqb, ne_eqb}
 use Rattle.std.specs.Prelude.{if◌then◌else◌}
 use mathlib.Core.Logic.{◌⊎◌, inl, inr}
 use Rattle.directory_tree.specs.Components.{IsComponent}
@@ -20,14 +21,17 @@ pub not_below : (es : List Entry) (a m k d : ℕ) → Deep es m d → m ≤ k �
 not_below es a zero k d up low h = up
 not_below es a (suc m) zero d up low h = absurd (omega arith)
 not_below es a (suc m) (suc k) d (e, is, other, up) low h =
-    elim (d == a) as (λ (b : Bool). (d == a) ≡ b → (if b then true else elim (own_entry es d) as (λ _. Bool) [ None ↦ false | Some e ↦ is_below es k a e.of ]) ≡ false → Avoids es a (suc m) d) [
+    elim (d == a) as (λ (b : Bool). (d == a) ≡ b →
+    (if b then true else elim (own_entry es d) as (λ _. Bool) [ None ↦ false | Some e ↦ is_below es k a e.of ]) ≡ false →
+    Avoids es a (suc m) d) [
       | true ↦ λ q r. absurd (true_is_false r)
       | false ↦ λ q r. (
         e,
         is,
         other,
         (λ p. true_is_false (sym (eq-eqb d a p) ∙ q)),
-        not_below es a m k e.of up (omega arith) (sym (ap (λ (o : Option Entry). elim o as (λ _. Bool) [ None ↦ false | Some e ↦ is_below es k a e.of ]) is) ∙ r),
+        not_below es a m k e.of up (omega arith)
+            (sym (ap (λ (o : Option Entry). elim o as (λ _. Bool) [ None ↦ false | Some e ↦ is_below es k a e.of ]) is) ∙ r),
       )
     ] refl h
 
@@ -35,23 +39,28 @@ option_place : ℕ → List ℕ → ℕ → List ℕ → Option Entry → Option
 option_place d c into name None = None
 option_place d c into name (Some e) = Some (place_one d c into name e)
 
-same_node : (d : ℕ) (c : List ℕ) (into : ℕ) (name : List ℕ) (e : Entry) → ((place_one d c into name e).node ≡ e.node) × ((place_one d c into name e).kind ≡ e.kind)
-same_node d c into name e = elim (is_at d c e) as (λ (b : Bool). ((if b then entry into name e.node e.kind else e).node ≡ e.node) × ((if b then entry into name e.node e.kind else e).kind ≡ e.kind)) [
-  | true ↦ (refl, refl)
-  | false ↦ (refl, refl)
-]
+same_node : (d : ℕ) (c : List ℕ) (into : ℕ) (name : List ℕ) (e : Entry) → ((place_one d c into name e).node ≡ e.node)
+    × ((place_one d c into name e).kind ≡ e.kind)
+same_node d c into name e = elim (is_at d c e) as (λ (b : Bool). ((if b then entry into name e.node e.kind else e).node ≡ e.node)
+    × ((if b then entry into name e.node e.kind else e).kind ≡ e.kind)) [
+      | true ↦ (refl, refl)
+      | false ↦ (refl, refl)
+    ]
 
-own_entry-placed : (d : ℕ) (c : List ℕ) (into : ℕ) (name : List ℕ) (es : List Entry) (x : ℕ) (e : Entry) → own_entry es x ≡ Some e → own_entry (placed d c into name es) x ≡ Some (place_one d c into name e)
+own_entry-placed : (d : ℕ) (c : List ℕ) (into : ℕ) (name : List ℕ) (es : List Entry) (x : ℕ) (e : Entry) → own_entry es x ≡ Some e →
+    own_entry (placed d c into name es) x ≡ Some (place_one d c into name e)
 own_entry-placed d c into name [] x e h = absurd (none_is_some e h)
 own_entry-placed d c into name (y ∷ es) x e h =
     let k = same_node d c into name y in
     (λ i. if (k.0 i == x) && is_directory (k.1 i) then Some (place_one d c into name y) else own_entry (placed d c into name es) x)
-    ∙ elim ((y.node == x) && is_directory y.kind) as (λ (b : Bool). (if b then Some y else own_entry es x) ≡ Some e → (if b then Some (place_one d c into name y) else own_entry (placed d c into name es) x) ≡ Some (place_one d c into name e)) [
+    ∙ elim ((y.node == x) && is_directory y.kind) as (λ (b : Bool). (if b then Some y else own_entry es x) ≡ Some e →
+    (if b then Some (place_one d c into name y) else own_entry (placed d c into name es) x) ≡ Some (place_one d c into name e)) [
       | true ↦ λ q. ap (λ (z : Entry). Some (place_one d c into name z)) (some_inj y e q)
       | false ↦ λ q. own_entry-placed d c into name es x e q
     ] h
 
-module _ (u : Tree) (well : WellFormed u) (d : ℕ) (c : List ℕ) (into : ℕ) (name : List ℕ) (old : Entry) (is : find u.entries d c ≡ Some old) (free : find u.entries into name ≡ None)
+module _ (u : Tree) (well : WellFormed u) (d : ℕ) (c : List ℕ) (into : ℕ) (name : List ℕ) (old : Entry)
+    (is : find u.entries d c ≡ Some old) (free : find u.entries into name ≡ None)
     (proper : IsComponent name) (m : ℕ) (avoids : Avoids u.entries old.node m into) where
   abbrev es : List Entry
   es = u.entries
@@ -66,51 +75,74 @@ module _ (u : Tree) (well : WellFormed u) (d : ℕ) (c : List ℕ) (into : ℕ) 
   other = λ a b. none_is_some old (sym free ∙ (λ i. find es (a i) (b i)) ∙ is)
 
   -- an entry of a key that is free of both places
-  stays_at : (y : Entry) (rest : List Entry) → find (y ∷ rest) into name ≡ None → find rest y.of y.component ≡ None → Distinct (placed d c into name rest) → Distinct (placed d c into name (y ∷ rest))
+  stays_at : (y : Entry) (rest : List Entry) → find (y ∷ rest) into name ≡ None → find rest y.of y.component ≡ None →
+      Distinct (placed d c into name rest) → Distinct (placed d c into name (y ∷ rest))
   stays_at y rest none single more =
-      elim (is_at into name y) as (λ (b : Bool). is_at into name y ≡ b → (if b then Some y else find rest into name) ≡ None → Distinct (placed d c into name (y ∷ rest))) [
+      elim (is_at into name y) as (λ (b : Bool). is_at into name y ≡ b → (if b then Some y else find rest into name) ≡ None →
+      Distinct (placed d c into name (y ∷ rest))) [
         | true ↦ λ p r. absurd (none_is_some y (sym r))
-        | false ↦ λ p r. elim (is_at d c y) as (λ (b : Bool). is_at d c y ≡ b → Distinct ((if b then entry into name y.node y.kind else y) ∷ placed d c into name rest)) [
-          | true ↦ λ q. let k = at_once d c y.of y.component q in
-              (find-placed_new d c into name other rest r ∙ ap (put_at into name) ((λ i. find rest (sym k.0 i) (sym k.1 i)) ∙ single), more)
-          | false ↦ λ q. (
-            find-placed_else d c into name other rest y.of y.component
-                (λ a b. true_is_false (sym (is_at-same d c y a b) ∙ q)) (λ a b. true_is_false (sym (is_at-same into name y a b) ∙ p)) ∙ single,
-            more,
-          )
-        ] refl
+        | false ↦ λ p r. elim (is_at d c y) as (λ (b : Bool). is_at d c y ≡ b →
+            Distinct ((if b then entry into name y.node y.kind else y) ∷ placed d c into name rest)) [
+              | true ↦ λ q. let k = at_once d c y.of y.component q in (
+                find-placed_new d c into name other rest r ∙ ap (put_at into name)
+                    ((λ i. find rest (sym k.0 i) (sym k.1 i)) ∙ single),
+                more,
+              )
+              | false ↦ λ q. (
+                find-placed_else d c into name other rest y.of y.component
+                    (λ a b. true_is_false (sym (is_at-same d c y a b) ∙ q)) (λ a b. true_is_false (sym (is_at-same into name y a b) ∙ p))
+                    ∙ single,
+                more,
+              )
+            ] refl
       ] refl none
 
   none_rest : (y : Entry) (rest : List Entry) → find (y ∷ rest) into name ≡ None → find rest into name ≡ None
-  none_rest y rest h = elim (is_at into name y) as (λ (b : Bool). (if b then Some y else find rest into name) ≡ None → find rest into name ≡ None) [
-    | true ↦ λ q. absurd (none_is_some y (sym q))
-    | false ↦ λ q. q
-  ] h
+  none_rest y rest h = elim (is_at into name y) as (λ (b : Bool). (if b then Some y else find rest into name) ≡ None →
+      find rest into name ≡ None) [
+        | true ↦ λ q. absurd (none_is_some y (sym q))
+        | false ↦ λ q. q
+      ] h
 
   Distinct-placed : (xs : List Entry) → Distinct xs → find xs into name ≡ None → Distinct (placed d c into name xs)
   Distinct-placed [] h none = tt
   Distinct-placed (y ∷ xs) h none = stays_at y xs none h.0 (Distinct-placed xs h.1 (none_rest y xs none))
 
   -- what is found after the move: what was there, but not the old entry; or the new one
-  after_found : (d' : ℕ) (c' : List ℕ) (z : Entry) → find after d' c' ≡ Some z → ((find es d' c' ≡ Some z) × (is_at d c z ≡ false)) ⊎ ((d' ≡ into) × (z ≡ new))
+  after_found : (d' : ℕ) (c' : List ℕ) (z : Entry) → find after d' c' ≡ Some z → ((find es d' c' ≡ Some z) × (is_at d c z ≡ false))
+      ⊎ ((d' ≡ into) × (z ≡ new))
   after_found d' c' z h =
-      elim (is_at into name z) as (λ (b : Bool). is_at into name z ≡ b → ((find es d' c' ≡ Some z) × (is_at d c z ≡ false)) ⊎ ((d' ≡ into) × (z ≡ new))) [
+      elim (is_at into name z) as (λ (b : Bool). is_at into name z ≡ b → ((find es d' c' ≡ Some z) × (is_at d c z ≡ false))
+      ⊎ ((d' ≡ into) × (z ≡ new))) [
         | true ↦ λ q. let k = at_key after into name d' c' z h q in
-            inr (k.0, some_inj z new (sym h ∙ (λ i. find after (k.0 i) (k.1 i)) ∙ find-placed_new d c into name other es free ∙ ap (put_at into name) is))
-        | false ↦ λ q. elim (is_at d c z) as (λ (b : Bool). is_at d c z ≡ b → ((find es d' c' ≡ Some z) × (b ≡ false)) ⊎ ((d' ≡ into) × (z ≡ new))) [
-          | true ↦ λ r. let k = at_key after d c d' c' z h r in absurd (none_is_some z (sym (find-placed_old d c into name other es) ∙ sym (λ i. find after (k.0 i) (k.1 i)) ∙ h))
-          | false ↦ λ r. inl (sym (find-placed_else d c into name other es d' c' (apart_from after d c d' c' z h r) (apart_from after into name d' c' z h q)) ∙ h, refl)
-        ] refl
+            inr (
+              k.0,
+              some_inj z new (sym h ∙ (λ i. find after (k.0 i) (k.1 i)) ∙ find-placed_new d c into name other es free
+                  ∙ ap (put_at into name) is),
+            )
+        | false ↦ λ q. elim (is_at d c z) as (λ (b : Bool). is_at d c z ≡ b → ((find es d' c' ≡ Some z) × (b ≡ false))
+            ⊎ ((d' ≡ into) × (z ≡ new))) [
+              | true ↦ λ r. let k = at_key after d c d' c' z h r in
+                  absurd (none_is_some z (sym (find-placed_old d c into name other es) ∙ sym (λ i. find after (k.0 i) (k.1 i)) ∙ h))
+              | false ↦ λ r. inl (
+                sym (find-placed_else d c into name other es d' c' (apart_from after d c d' c' z h r)
+                    (apart_from after into name d' c' z h q)) ∙ h,
+                refl,
+              )
+            ] refl
       ] refl
 
   abbrev climb : ℕ → Option Entry → Bool
   climb n o = elim o as (λ _. Bool) [ None ↦ false | Some z ↦ leads after n z.of ]
 
-  one_up : (n x : ℕ) (e : Entry) → x ≢ root → own_entry es x ≡ Some e → leads after (suc n) x ≡ leads after n (place_one d c into name e).of
-  one_up n x e apart at = ap (λ (b : Bool). if b then true else climb n (own_entry after x)) (ne_eqb x root apart) ∙ ap (climb n) (own_entry-placed d c into name es x e at)
+  one_up : (n x : ℕ) (e : Entry) → x ≢ root → own_entry es x ≡ Some e → leads after (suc n) x ≡ leads after n
+      (place_one d c into name e).of
+  one_up n x e apart at = ap (λ (b : Bool). if b then true else climb n (own_entry after x)) (ne_eqb x root apart)
+      ∙ ap (climb n) (own_entry-placed d c into name es x e at)
 
   is_old : (x : ℕ) (e : Entry) → own_entry es x ≡ Some e → is_at d c e ≡ true → e ≡ old
-  is_old x e at q = let k = at_once d c e.of e.component q in some_inj e old (sym (own_entry_found es x e well.distinct at).found ∙ (λ i. find es (k.0 i) (k.1 i)) ∙ is)
+  is_old x e at q = let k = at_once d c e.of e.component q in some_inj e old (sym (own_entry_found es x e well.distinct at).found
+      ∙ (λ i. find es (k.0 i) (k.1 i)) ∙ is)
 
   avoid_leads : (n x : ℕ) → Avoids es old.node n x → leads after n x ≡ true
   avoid_leads zero x h = eq-eqb x root h
@@ -125,12 +157,18 @@ module _ (u : Tree) (well : WellFormed u) (d : ℕ) (c : List ℕ) (into : ℕ) 
   deep_leads zero x h = (0, eq-eqb x root h)
   deep_leads (suc n) x (e, at, apart, up) =
       elim (is_at d c e) as (λ (b : Bool). is_at d c e ≡ b → (k : ℕ) × (leads after k x ≡ true)) [
-        | true ↦ λ q. (suc m, one_up m x e apart at ∙ ap (λ (b : Bool). leads after m (if b then entry into name e.node e.kind else e).of) q ∙ avoid_leads m into avoids)
-        | false ↦ λ q. let (k, l) = deep_leads n e.of up in (suc k, one_up k x e apart at ∙ ap (λ (b : Bool). leads after k (if b then entry into name e.node e.kind else e).of) q ∙ l)
+        | true ↦ λ q. (
+          suc m,
+          one_up m x e apart at ∙ ap (λ (b : Bool). leads after m (if b then entry into name e.node e.kind else e).of)
+              q ∙ avoid_leads m into avoids,
+        )
+        | false ↦ λ q. let (k, l) = deep_leads n e.of up in
+            (suc k, one_up k x e apart at ∙ ap (λ (b : Bool). leads after k (if b then entry into name e.node e.kind else e).of) q ∙ l)
       ] refl
 
   -- the entry that this one was before the move
-  before : (d' : ℕ) (c' : List ℕ) (z : Entry) → find after d' c' ≡ Some z → (a : ℕ) × (b : List ℕ) × (y : Entry) × (find es a b ≡ Some y) × (y.node ≡ z.node) × (y.kind ≡ z.kind)
+  before : (d' : ℕ) (c' : List ℕ) (z : Entry) → find after d' c' ≡ Some z → (a : ℕ) × (b : List ℕ) × (y : Entry) × (find es a b ≡ Some y)
+      × (y.node ≡ z.node) × (y.kind ≡ z.kind)
   before d' c' z h = elim (after_found d' c' z h) [
     | inl k ↦ (d', c', z, k.0, refl, refl)
     | inr k ↦ (d, c, old, is, ap (λ (w : Entry). w.node) (sym k.1), ap (λ (w : Entry). w.kind) (sym k.1))
@@ -143,7 +181,8 @@ module _ (u : Tree) (well : WellFormed u) (d : ℕ) (c : List ℕ) (into : ℕ) 
   move_keeps = record {
     distinct = Distinct-placed u.entries well.distinct free;
     past_root = well.past_root;
-    low = λ d' c' z h. let (a, b, y, at, node, kind) = before d' c' z h in subst (λ (n : ℕ). (root < n) × (n < u.next)) node (well.low a b y at);
+    low = λ d' c' z h. let (a, b, y, at, node, kind) = before d' c' z h in subst (λ (n : ℕ). (root < n) × (n < u.next)) node
+        (well.low a b y at);
     one_kind = λ d' c' d'' c'' x y hx hy same.
         let (a, b, x0, at, node, kind) = before d' c' x hx in
         let (a', b', y0, at', node', kind') = before d'' c'' y hy in
@@ -156,7 +195,8 @@ module _ (u : Tree) (well : WellFormed u) (d : ℕ) (c : List ℕ) (into : ℕ) 
       ]
       | inr a ↦ elim (after_found d'' c'' y hy) [
         | inl b ↦
-            let e : old ≡ y = well.one_entry d c d'' c'' old y is b.0 (sym (ap (λ (w : Entry). w.node) a.1) ∙ same) (ap (λ (w : Entry). is_directory w.kind) (sym a.1) ∙ directory) in
+            let e : old ≡ y = well.one_entry d c d'' c'' old y is b.0 (sym (ap (λ (w : Entry). w.node) a.1) ∙ same)
+            (ap (λ (w : Entry). is_directory w.kind) (sym a.1) ∙ directory) in
             absurd (true_is_false (sym (ap (is_at d c) (sym e) ∙ old_at) ∙ b.1))
         | inr b ↦ a.1 ∙ sym b.1
       ]

@@ -10,13 +10,15 @@ then_same : (r : Changed) → and_then r (λ u. Ok u) ≡ r
 then_same (Ok t) = refl
 then_same (Err e) = refl
 
-pub after_more : (capacity count : ℕ) (t v : Tree) (cs : List Change) (c : Change) (n : ℕ) → n ≡ count + length cs → after_from capacity count t cs ≡ Ok v
+pub after_more : (capacity count : ℕ) (t v : Tree) (cs : List Change) (c : Change) (n : ℕ) → n ≡ count + length cs →
+    after_from capacity count t cs ≡ Ok v
     → after_from capacity count t (cs ++ c ∷ []) ≡ apply_counted capacity n v c
 after_more capacity count t v [] c n is h =
     let same : count ≡ n = omega arith in
     then_same (apply_counted capacity count t c) ∙ (λ i. apply_counted capacity (same i) (ok_inj t v h i) c)
 after_more capacity count t v (x ∷ cs) c n is h =
-    elim (apply_counted capacity count t x) as (λ (r : Changed). and_then r (λ u. after_from capacity (count + 1) u cs) ≡ Ok v → and_then r (λ u. after_from capacity (count + 1) u (cs ++ c ∷ [])) ≡ apply_counted capacity n v c) [
+    elim (apply_counted capacity count t x) as (λ (r : Changed). and_then r (λ u. after_from capacity (count + 1) u cs) ≡ Ok v →
+    and_then r (λ u. after_from capacity (count + 1) u (cs ++ c ∷ [])) ≡ apply_counted capacity n v c) [
       | Ok w ↦ λ q. after_more capacity (count + 1) w v cs c n (omega arith) q
       | Err e ↦ λ q. absurd (err_is_ok e v q)
     ] h

@@ -1,9 +1,11 @@
 -- What a change makes of a tree, or why it is refused (mkdir(2), open(2), symlink(2), link(2), unlink(2), rmdir(2),
 -- rename(2)). The order of the tests is our choice; the first that holds is the answer.
-use Rattle.std.specs.Prelude.{ℕ, ◌+◌, ◌==◌, ◌&&◌, ◌||◌, Bool, true, false, not, List, [], ◌∷◌, ◌++◌, map, length, Option, Some, None, Result, Ok, Err, nat_lt, if◌then◌else◌, bytes_eq}
+use Rattle.std.specs.Prelude.{ℕ, ◌+◌, ◌==◌, ◌&&◌, ◌||◌, Bool, true, false, not, List, [], ◌∷◌, ◌++◌, map, length, Option, Some, None}
+use Rattle.std.specs.Prelude.{Result, Ok, Err, nat_lt, if◌then◌else◌, bytes_eq}
 use Rattle.std.specs.List.{list_any}
 use Rattle.names.specs.declared.errors.Errno.{Errno}
-use Rattle.names.specs.declared.errors.Errno.TheVariants.{EPERM, ENOENT, EBUSY, EEXIST, ENOTDIR, EISDIR, EINVAL, ENOSPC, ENAMETOOLONG, ENOTEMPTY, EOVERFLOW}
+use Rattle.names.specs.declared.errors.Errno.TheVariants.{EPERM, ENOENT, EBUSY, EEXIST, ENOTDIR, EISDIR, EINVAL, ENOSPC, ENAMETOOLONG}
+use Rattle.names.specs.declared.errors.Errno.TheVariants.{ENOTEMPTY, EOVERFLOW}
 use Rattle.directory_tree.specs.declared.node.NodeKind.{NodeKind}
 use Rattle.directory_tree.specs.declared.node.NodeKind.TheVariants.{Directory, File, Link}
 use Rattle.directory_tree.specs.declared.node.Last.TheVariants.{Follow}
@@ -155,7 +157,8 @@ abbrev pub at_one : Tree → Result Target Errno → (ℕ → List ℕ → Chang
 at_one t target act = and_then target (λ a. and_then (parent_of t a) (λ d. act d a.last))
 
 abbrev pub at_two : Tree → Result Target Errno → Result Target Errno → (ℕ → List ℕ → ℕ → List ℕ → Changed) → Changed
-at_two t old new act = and_then old (λ a. and_then new (λ b. and_then (parent_of t a) (λ d. and_then (parent_of t b) (λ into. act d a.last into b.last))))
+at_two t old new act =
+    and_then old (λ a. and_then new (λ b. and_then (parent_of t a) (λ d. and_then (parent_of t b) (λ into. act d a.last into b.last))))
 
 -- the text of a link: not empty, no byte 0, and not too long (symlink(2); the limits and byte 0 are our choice)
 abbrev pub max_text : ℕ

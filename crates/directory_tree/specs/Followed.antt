@@ -30,4 +30,5 @@ first_link t last d (Down c ∷ xs) = elim (find t.entries d c) [
 -- how many links a walk without a limit follows, counted up to this number
 abbrev pub links_followed : Tree → Last → ℕ → ℕ → List Step → ℕ
 links_followed t last zero d xs = zero
-links_followed t last (suc n) d xs = elim (first_link t last d xs) [ None ↦ zero | Some next ↦ suc (links_followed t last n next.0 next.1) ]
+links_followed t last (suc n) d xs =
+    elim (first_link t last d xs) [ None ↦ zero | Some next ↦ suc (links_followed t last n next.0 next.1) ]

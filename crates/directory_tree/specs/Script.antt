@@ -43,7 +43,8 @@ refusals =
 abbrev pub renames : List Change
 renames =
     change.Mkdir (codes "/a") ∷ change.Mkdir (codes "/a/b") ∷ change.Rename (codes "/a") (codes "/a/b/c") ∷ change.Create (codes "/f")
-    ∷ change.Link (codes "/f") (codes "/g") ∷ change.Rename (codes "/f") (codes "/g") ∷ change.Mkdir (codes "/f/x") ∷ change.Mkdir (codes "/g/x") ∷ []
+    ∷ change.Link (codes "/f") (codes "/g") ∷ change.Rename (codes "/f") (codes "/g") ∷ change.Mkdir (codes "/f/x") ∷ change.Mkdir
+    (codes "/g/x") ∷ []
 
 -- all entries are used
 abbrev pub full : List Change

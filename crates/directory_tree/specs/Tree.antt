@@ -1,6 +1,7 @@
 -- A directory tree as the list of its entries (path_resolution(7), inode(7)). Node 1 is the root, a directory that has no entry.
 -- The kind of a node is stored in each of its entries, so a node is gone once its last entry is removed.
-use Rattle.std.specs.Prelude.{◌≡◌, ℕ, zero, suc, ◌<◌, ◌==◌, ◌&&◌, Bool, true, false, List, [], ◌∷◌, Option, Some, None, if◌then◌else◌, bytes_eq}
+use Rattle.std.specs.Prelude.{◌≡◌, ℕ, zero, suc, ◌<◌, ◌==◌, ◌&&◌, Bool, true, false, List, [], ◌∷◌, Option, Some, None, if◌then◌else◌}
+use Rattle.std.specs.Prelude.{bytes_eq}
 use Rattle.directory_tree.specs.declared.node.NodeKind.{NodeKind}
 use Rattle.directory_tree.specs.declared.node.NodeKind.TheVariants.{Directory, File, Link}
 use Rattle.directory_tree.specs.Components.{IsComponent}
@@ -87,7 +88,9 @@ pub record WellFormed (t : Tree) : Type 0 where
   pub distinct : Distinct t.entries
   pub past_root : root < t.next
   pub low : (d : ℕ) (c : List ℕ) (e : Entry) → Has t d c e → (root < e.node) × (e.node < t.next)
-  pub one_kind : (d : ℕ) (c : List ℕ) (d' : ℕ) (c' : List ℕ) (e e' : Entry) → Has t d c e → Has t d' c' e' → e.node ≡ e'.node → e.kind ≡ e'.kind
-  pub one_entry : (d : ℕ) (c : List ℕ) (d' : ℕ) (c' : List ℕ) (e e' : Entry) → Has t d c e → Has t d' c' e' → e.node ≡ e'.node → is_directory e.kind ≡ true → e ≡ e'
+  pub one_kind : (d : ℕ) (c : List ℕ) (d' : ℕ) (c' : List ℕ) (e e' : Entry) → Has t d c e → Has t d' c' e' → e.node ≡ e'.node →
+      e.kind ≡ e'.kind
+  pub one_entry : (d : ℕ) (c : List ℕ) (d' : ℕ) (c' : List ℕ) (e e' : Entry) → Has t d c e → Has t d' c' e' → e.node ≡ e'.node →
+      is_directory e.kind ≡ true → e ≡ e'
   pub rooted : (d : ℕ) (c : List ℕ) (e : Entry) → Has t d c e → (n : ℕ) × (leads t.entries n d ≡ true)
   pub named : (d : ℕ) (c : List ℕ) (e : Entry) → Has t d c e → IsComponent e.component

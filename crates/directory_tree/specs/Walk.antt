@@ -1,5 +1,6 @@
 -- The walk along a path, symbolic links followed (path_resolution(7)).
-use Rattle.std.specs.Prelude.{ℕ, zero, suc, ◌==◌, ◌&&◌, Bool, true, false, List, [], ◌∷◌, ◌++◌, Option, Some, None, Result, Ok, Err, if◌then◌else◌}
+use Rattle.std.specs.Prelude.{ℕ, zero, suc, ◌==◌, ◌&&◌, Bool, true, false, List, [], ◌∷◌, ◌++◌, Option, Some, None, Result, Ok, Err}
+use Rattle.std.specs.Prelude.{if◌then◌else◌}
 use Rattle.names.specs.declared.errors.Errno.{Errno}
 use Rattle.names.specs.declared.errors.Errno.TheVariants.{ENOENT, ENOTDIR, ELOOP}
 use Rattle.directory_tree.specs.declared.node.NodeKind.{NodeKind}
@@ -56,7 +57,8 @@ module _ (t : Tree) (last : Last) where
   onward follow d [] = Ok (spot_of t d)
   onward follow d (Here ∷ xs) = onward follow d xs
   onward follow d (Up ∷ xs) = onward follow (above t d) xs
-  onward follow d (Down c ∷ xs) = at_entry (is_last xs) last (λ n. onward follow n xs) (λ text. follow (start_of text d) (steps_of text ++ xs)) (find t.entries d c)
+  onward follow d (Down c ∷ xs) = at_entry (is_last xs) last (λ n. onward follow n xs)
+      (λ text. follow (start_of text d) (steps_of text ++ xs)) (find t.entries d c)
 
   -- with this many links left: a link's components are put in front of the rest
   abbrev pub resolve : ℕ → ℕ → List Step → Walked

@@ -1,9 +1,11 @@
 //! Worked examples: what the definitions of `specs/` answer for short scripts of changes. The functions do nothing: each exists
 //! only for its contract.
 ghost use Rattle.std.specs.Prelude.{◌≡◌, List, [], ◌∷◌, ◌++◌, codes, Ok, Err};
-ghost use Rattle.names.specs.declared.errors.Errno.TheVariants.{EPERM, ENOENT, EBUSY, EEXIST, ENOTDIR, EISDIR, EINVAL, ENOSPC, ELOOP, ENOTEMPTY, ENAMETOOLONG};
+ghost use Rattle.names.specs.declared.errors.Errno.TheVariants.{EPERM, ENOENT, EBUSY, EEXIST, ENOTDIR, EISDIR, EINVAL, ENOSPC, ELOOP};
+ghost use Rattle.names.specs.declared.errors.Errno.TheVariants.{ENOTEMPTY, ENAMETOOLONG};
 ghost use Rattle.directory_tree.specs.Components.{slash};
-ghost use Rattle.directory_tree.specs.Script.{answers, opened, moved_directory, refusals, renames, full, chain, numbered, through_link, long_name, run_of, deep_path};
+ghost use Rattle.directory_tree.specs.Script.{answers, opened, moved_directory, refusals, renames, full, chain, numbered, through_link};
+ghost use Rattle.directory_tree.specs.Script.{long_name, run_of, deep_path};
 
 /// Answers to changes, in their order.
 pub fn changes_are_answered()

@@ -24,8 +24,32 @@ pub no_profile : (capacity : ℕ) → (m : Machine) × Legal capacity unpublishe
 no_profile capacity =
     let a : Machine = moved_on (first capacity) 1 (begun (root_for to_read)) in
     let b : Machine = moved_on a 1 (unpublished (root_for to_read) 0) in
-    let c : Machine = answered b 1 [] in
-    (c, (None, a, (1, NoProfile 0) ∷ [], (refl, refl), (None, b, (1, NoProfile 0) ∷ [], (root_for to_read, refl, refl), (Some (NoProfile 0), c, [], (1, refl, ([], (refl, refl), refl)), (refl, refl), refl), refl), refl))
+    let c : Machine = answered b 1 [] in (
+      c,
+      (
+        None,
+        a,
+        (1, NoProfile 0) ∷ [],
+        (refl, refl),
+        (
+          None,
+          b,
+          (1, NoProfile 0) ∷ [],
+          (root_for to_read, refl, refl),
+          (
+            Some
+                (NoProfile 0),
+            c,
+            [],
+            (1, refl, ([], (refl, refl), refl)),
+            (refl, refl),
+            refl,
+          ),
+          refl,
+        ),
+        refl,
+      ),
+    )
 
 abbrev pub asked : Perms → Policed
 asked ask = record { call = root_for ask; policy_version = 1; judge = by_rules [] }
@@ -40,7 +64,8 @@ pub no_nil : (d : Deed) → d ∷ [] ≢ []
 no_nil d e = subst (λ (l : List Deed). elim l as (λ _. Type 0) [ [] ↦ ⊥ | y ∷ ys ↦ Unit {0} ]) e tt
 
 -- for any answer that may be given to the whole call, which reads no cell
-whole : (capacity : ℕ) (ask : Perms) (end : Result Reached Errno) (told : Answer) (name : List ℕ) → ((t : Tree) → reached t (47 ∷ []) ask ≡ end)
+whole : (capacity : ℕ) (ask : Perms) (end : Result Reached Errno) (told : Answer) (name : List ℕ) →
+    ((t : Tree) → reached t (47 ∷ []) ask ≡ end)
     → Tells capacity (asked ask) rewalked told name → (m : Machine) × Legal capacity (whole_call ask) ((1, told) ∷ []) m
 whole capacity ask end told name ends tells =
     let ds : List Deed = published (112 ∷ []) (by_rules []) ∷ [] in
@@ -104,4 +129,5 @@ judged_root capacity =
     ((refl, refl), refl, refl, (λ row t agrees well encodes. reads_root t), refl)
 
 pub failed_root : (capacity : ℕ) → (m : Machine) × Legal capacity (whole_call nothing) ((1, Failed EINVAL 0) ∷ []) m
-failed_root capacity = whole capacity nothing (Err EINVAL) (Failed EINVAL 0) [] asks_nothing ((refl, refl), refl, (λ row t agrees well encodes. asks_nothing t), refl)
+failed_root capacity = whole capacity nothing (Err EINVAL) (Failed EINVAL 0) [] asks_nothing
+    ((refl, refl), refl, (λ row t agrees well encodes. asks_nothing t), refl)

@@ -1,5 +1,6 @@
 -- The first change of a row: four cells make the directory `/b` in the row of the root alone.
-use Rattle.std.proofs.Common.{◌≡◌, ◌≢◌, Bool, true, ℕ, ◌%◌, ◌/◌, ◌<◌, ◌≤◌, List, [], ◌∷◌, length, set, replicate, sym, refl, ap, ◌∙◌, subst, arith, length-set, get_or-set_other, get_or-set_same}
+use Rattle.std.proofs.Common.{◌≡◌, ◌≢◌, Bool, true, ℕ, ◌%◌, ◌/◌, ◌<◌, ◌≤◌, List, [], ◌∷◌, length, set, replicate, sym, refl, ap, ◌∙◌}
+use Rattle.std.proofs.Common.{subst, arith, length-set, get_or-set_other, get_or-set_same}
 use Rattle.std.specs.Prelude.{slice_index, slice_set, Ok}
 use Rattle.std.proofs.lemmas.Bool.{lt-ltb}
 use Rattle.std.proofs.lemmas.List.{get_or-replicate, set-get_or}
@@ -30,7 +31,11 @@ use Rattle.event_core.specs.Examples.{mkdir_b}
 -- there
 abbrev pub four_cells : List Cell
 four_cells =
-    record { place = 164; word = 1 } ∷ record { place = 165; word = 2 } ∷ record { place = 167; word = 1 } ∷ record { place = 168; word = 98 } ∷ []
+    record { place = 164; word = 1 } ∷ record { place = 165; word = 2 } ∷ record { place = 167; word = 1 } ∷ record {
+      place =
+          168;
+      word = 98;
+    } ∷ []
 
 abbrev tree_with_b : Tree
 tree_with_b = with_entry root_alone (entry 1 (98 ∷ []) 2 Directory) 3
@@ -66,13 +71,15 @@ module _ (capacity : ℕ) (room : 1 ≤ capacity) where
   zero_at : (k : ℕ) → 1 < k → k < 328 → slice_index row k ≡ 0
   zero_at k past l =
       let m = row_length capacity in
-      get_or-set_other (set (replicate m 0) 0 1) 1 k 1 0 (λ e. absurd (omega arith)) ∙ get_or-set_other (replicate m 0) 0 k 1 0 (λ e. absurd (omega arith))
+      get_or-set_other (set (replicate m 0) 0 1) 1 k 1 0 (λ e. absurd (omega arith)) ∙ get_or-set_other (replicate m 0) 0 k 1 0
+      (λ e. absurd (omega arith))
       ∙ get_or-replicate m k 0 0 (omega arith)
 
   -- a word that is not set
   kept_after : (k : ℕ) → k ≢ 164 → k ≢ 165 → k ≢ 167 → k ≢ 168 → slice_index after k ≡ slice_index row k
   kept_after k a b c d =
-      get_or-set_other third 168 k 98 0 d ∙ get_or-set_other second 167 k 1 0 c ∙ get_or-set_other first 165 k 2 0 b ∙ get_or-set_other row 164 k 1 0 a
+      get_or-set_other third 168 k 98 0 d ∙ get_or-set_other second 167 k 1 0 c ∙ get_or-set_other first 165 k 2 0 b
+      ∙ get_or-set_other row 164 k 1 0 a
 
   long_first : length first ≡ length row
   long_first = length-set row 164 1
@@ -98,11 +105,13 @@ module _ (capacity : ℕ) (room : 1 ≤ capacity) where
 
   parent_is : slice_index after 166 ≡ 0
   parent_is =
-      kept_after 166 (λ e. absurd (omega arith)) (λ e. absurd (omega arith)) (λ e. absurd (omega arith)) (λ e. absurd (omega arith)) ∙ zero_at 166 (omega arith) (omega arith)
+      kept_after 166 (λ e. absurd (omega arith)) (λ e. absurd (omega arith)) (λ e. absurd (omega arith)) (λ e. absurd (omega arith))
+      ∙ zero_at 166 (omega arith) (omega arith)
 
   lengths_are : slice_index after 167 ≡ 1
   lengths_are =
-      get_or-set_other third 168 167 98 0 (λ e. absurd (omega arith)) ∙ get_or-set_same second 167 1 0 (let l = long in let m = long_second in omega arith)
+      get_or-set_other third 168 167 98 0 (λ e. absurd (omega arith)) ∙ get_or-set_same second 167 1 0 (let l = long in let m =
+      long_second in omega arith)
 
   byte_is : slice_index after 168 ≡ 98
   byte_is = get_or-set_same third 168 98 0 (let l = long in let m = long_third in omega arith)
@@ -131,12 +140,16 @@ module _ (capacity : ℕ) (room : 1 ≤ capacity) where
   lean : IsLean row four_cells
   lean =
       let l = long in
-      let one = grows row [] row 164 1 (omega arith) (begins row) refl (λ e. let z = zero_at 164 (omega arith) (omega arith) in absurd (omega arith)) in
-      let two = grows row _ first 165 2 (omega arith) one (get_or-set_other row 164 165 1 0 (λ e. absurd (omega arith))) (λ e. let z = zero_at 165 (omega arith) (omega arith) in absurd (omega arith)) in
-      let three = grows row _ second 167 1 (omega arith) two (get_or-set_other first 165 167 2 0 (λ e. absurd (omega arith)) ∙ get_or-set_other row 164 167 1 0 (λ e. absurd (omega arith)))
+      let one = grows row [] row 164 1 (omega arith) (begins row) refl (λ e. let z = zero_at 164 (omega arith) (omega arith) in
+      absurd (omega arith)) in
+      let two = grows row _ first 165 2 (omega arith) one (get_or-set_other row 164 165 1 0 (λ e. absurd (omega arith)))
+      (λ e. let z = zero_at 165 (omega arith) (omega arith) in absurd (omega arith)) in
+      let three = grows row _ second 167 1 (omega arith) two (get_or-set_other first 165 167 2 0 (λ e. absurd (omega arith))
+      ∙ get_or-set_other row 164 167 1 0 (λ e. absurd (omega arith)))
       (λ e. let z = zero_at 167 (omega arith) (omega arith) in absurd (omega arith)) in
       let four = grows row _ third 168 98 (omega arith) three
-      (get_or-set_other second 167 168 1 0 (λ e. absurd (omega arith)) ∙ get_or-set_other first 165 168 2 0 (λ e. absurd (omega arith)) ∙ get_or-set_other row 164 168 1 0 (λ e. absurd (omega arith)))
+      (get_or-set_other second 167 168 1 0 (λ e. absurd (omega arith)) ∙ get_or-set_other first 165 168 2 0 (λ e. absurd (omega arith))
+      ∙ get_or-set_other row 164 168 1 0 (λ e. absurd (omega arith)))
       (λ e. let z = zero_at 168 (omega arith) (omega arith) in absurd (omega arith)) in
       four.lean
 
@@ -144,7 +157,8 @@ module _ (capacity : ℕ) (room : 1 ≤ capacity) where
   parent_stays : slice_set second 166 0 ≡ second
   parent_stays =
       let z : slice_index second 166 ≡ 0 =
-      get_or-set_other first 165 166 2 0 (λ e. absurd (omega arith)) ∙ get_or-set_other row 164 166 1 0 (λ e. absurd (omega arith)) ∙ zero_at 166 (omega arith) (omega arith) in
+      get_or-set_other first 165 166 2 0 (λ e. absurd (omega arith)) ∙ get_or-set_other row 164 166 1 0 (λ e. absurd (omega arith))
+      ∙ zero_at 166 (omega arith) (omega arith) in
       ap (set second 166) (sym z) ∙ set-get_or second 166 0
 
   leaves : write row four_cells ≡ with_slot row 1 (new_slot Directory 2 0 (98 ∷ []))
@@ -180,11 +194,24 @@ module _ (capacity : ℕ) (room : 1 ≤ capacity) where
             tested = record { free = refl; directory = refl; room = has_place };
             holds = record { within = old.slots.root.within; filled = λ e. absurd (omega arith) };
           };
-          leaves = (1, record { free = record { past_root = omega arith; within = omega arith; free = zero_at 164 (omega arith) (omega arith) }; first = λ r free. let past = free.past_root in omega arith }, leaves);
+          leaves = (
+            1,
+            record {
+              free = record {
+                past_root = omega arith;
+                within = omega arith;
+                free =
+                    zero_at 164 (omega arith) (omega arith);
+              };
+              first = λ r free. let past = free.past_root in omega arith;
+            },
+            leaves,
+          );
         },
       )
 
 pub encodes_change : (capacity : ℕ) → 1 ≤ capacity → EncodesChanges capacity (write (opening_row capacity) four_cells) (mkdir_b ∷ [])
 encodes_change capacity room =
-    let made : tree_after capacity (mkdir_b ∷ []) ≡ Ok tree_with_b = ap (λ (b : Bool). and_then (apply root_alone b mkdir_b) (λ t. Ok t)) (lt-ltb 0 capacity (omega arith)) in
+    let made : tree_after capacity (mkdir_b ∷ []) ≡ Ok tree_with_b = ap (λ (b : Bool). and_then (apply root_alone b mkdir_b) (λ t. Ok t))
+    (lt-ltb 0 capacity (omega arith)) in
     (tree_with_b, made, encodes capacity room)

@@ -1,11 +1,13 @@
 -- A session that is in a call stays so until it answers, and only one at rest begins a call.
-use Rattle.std.proofs.Common.{◌≡◌, ◌≢◌, ℕ, suc, ◌==◌, Bool, true, false, List, [], ◌∷◌, ◌++◌, Some, None, Option, sym, refl, ap, ◌∙◌, subst, arith, eqb-true, eq-eqb, inl, inr, ⊎_elim}
+use Rattle.std.proofs.Common.{◌≡◌, ◌≢◌, ℕ, suc, ◌==◌, Bool, true, false, List, [], ◌∷◌, ◌++◌, Some, None, Option, sym, refl, ap, ◌∙◌}
+use Rattle.std.proofs.Common.{subst, arith, eqb-true, eq-eqb, inl, inr, ⊎_elim}
 use Rattle.std.specs.Prelude.{◌⊎◌, if◌then◌else◌}
 use Rattle.std.specs.List.{Contains}
 use Rattle.mediation.specs.Judge.{Judge}
 use Rattle.justification.specs.declared.answer.Answer.{Answer}
 use Rattle.event_core.specs.Machine.{Call, Event, Session, Machine, with_session}
-use Rattle.event_core.specs.Machine.Event.{begin, read_policy, read_count, read_cell, check_count, answer, open_change, set_cell, close_change, publish}
+use Rattle.event_core.specs.Machine.Event.{begin, read_policy, read_count, read_cell, check_count, answer, open_change, set_cell}
+use Rattle.event_core.specs.Machine.Event.{close_change, publish}
 use Rattle.event_core.specs.Machine.Stage.{resting, begun}
 use Rattle.event_core.specs.Takes.{Moves, Takes, after_policy}
 use Rattle.event_core.specs.Runs.{Runs}
@@ -14,9 +16,11 @@ abbrev IsCalling : ℕ → Machine → Type 0
 IsCalling s m = (m.sessions s).stage ≢ resting
 
 -- a session moves on in its call, which is this one or another
-moves_on : (old new : Machine) (r s : ℕ) (session : Session) → session.stage ≢ resting → new ≡ record old { sessions = with_session old.sessions r session } → IsCalling s old → IsCalling s new
+moves_on : (old new : Machine) (r s : ℕ) (session : Session) → session.stage ≢ resting →
+    new ≡ record old { sessions = with_session old.sessions r session } → IsCalling s old → IsCalling s new
 moves_on old new r s session calls is calling =
-    subst (IsCalling s) (sym is) (elim (r == s) as (λ (b : Bool). (if b then session else old.sessions s).stage ≢ resting) [ true ↦ calls | false ↦ calling ])
+    subst (IsCalling s) (sym is) (elim (r == s) as (λ (b : Bool). (if b then session else old.sessions s).stage ≢ resting)
+    [ true ↦ calls | false ↦ calling ])
 
 after_policy_calls : (call : Call) (version : ℕ) (o : Option Judge) → after_policy call version o ≢ resting
 after_policy_calls call version None e = absurd (cc e)
@@ -34,11 +38,13 @@ moves_calling s old new set_cell (change, cell, left, pending, is) = subst (IsCa
 moves_calling s old new close_change (change, pending, is) = subst (IsCalling s) (sym is)
 moves_calling s old new (publish deeds) (some_deeds, few, is) = subst (IsCalling s) (sym is)
 
-takes_calling : (s : ℕ) (old new : Machine) (event : Event) (told : Option Answer) → Takes old event told new → IsCalling s old → (event ≡ answer s) ⊎ IsCalling s new
+takes_calling : (s : ℕ) (old new : Machine) (event : Event) (told : Option Answer) → Takes old event told new → IsCalling s old →
+    (event ≡ answer s) ⊎ IsCalling s new
 takes_calling s old new event None moves calling = inr (moves_calling s old new event moves calling)
 takes_calling s old new event (Some told) (r, which, (name, may, is)) calling =
     subst (λ (m : Machine). (event ≡ answer s) ⊎ IsCalling s m) (sym is)
-    (elim (r == s) as (λ (b : Bool). (r == s) ≡ b → (event ≡ answer s) ⊎ ((if b then record { name = name; stage = resting } else old.sessions s).stage ≢ resting)) [
+    (elim (r == s) as (λ (b : Bool). (r == s) ≡ b → (event ≡ answer s)
+    ⊎ ((if b then record { name = name; stage = resting } else old.sessions s).stage ≢ resting)) [
       | true ↦ λ own. inl (which ∙ ap answer (eqb-true r s own))
       | false ↦ λ other. inr calling
     ] refl)
@@ -51,18 +57,25 @@ begins_not s next old new (Some told) calling (r, which, rest) = cc which
 there : (event first : Event) (events : List Event) → Contains events event → Contains (first ∷ events) event
 there event first events (k, within, at) = (suc k, omega arith, at)
 
-answered_before : (s : ℕ) (next : Call) (middle after : List Event) (from : Machine) (answers : List (ℕ × Answer)) (to : Machine) → IsCalling s from → Runs from (middle ++ begin s next ∷ after) answers to → Contains middle (answer s)
-answered_before s next [] after from answers to calling (told, between, later, takes, runs, is) = absurd (begins_not s next from between told calling takes)
+answered_before : (s : ℕ) (next : Call) (middle after : List Event) (from : Machine) (answers : List (ℕ × Answer)) (to : Machine) →
+    IsCalling s from → Runs from (middle ++ begin s next ∷ after) answers to → Contains middle (answer s)
+answered_before s next [] after from answers to calling (told, between, later, takes, runs, is) =
+    absurd (begins_not s next from between told calling takes)
 answered_before s next (e ∷ es) after from answers to calling (told, between, later, takes, runs, is) =
-    ⊎_elim (λ same. (0, omega arith, same)) (λ still. there (answer s) e es (answered_before s next es after between later to still runs)) (takes_calling s from between e told takes calling)
+    ⊎_elim (λ same. (0, omega arith, same)) (λ still. there (answer s) e es (answered_before s next es after between later to still runs))
+    (takes_calling s from between e told takes calling)
 
 -- a call has begun
 begins : (s : ℕ) (call : Call) (old new : Machine) (told : Option Answer) → Takes old (begin s call) told new → IsCalling s new
 begins s call old new None (at, is) =
     subst (IsCalling s) (sym is)
-    (subst (λ (b : Bool). (if b then record { name = (old.sessions s).name; stage = begun call } else old.sessions s).stage ≢ resting) (sym (eq-eqb s s refl)) (λ e. cc e))
+    (subst (λ (b : Bool). (if b then record { name = (old.sessions s).name; stage = begun call } else old.sessions s).stage ≢ resting)
+    (sym (eq-eqb s s refl)) (λ e. cc e))
 begins s call old new (Some told) (r, which, rest) = absurd (cc which)
 
-pub one_call : (s : ℕ) (call next : Call) (before middle after : List Event) (from : Machine) (answers : List (ℕ × Answer)) (to : Machine) → Runs from (before ++ begin s call ∷ middle ++ begin s next ∷ after) answers to → Contains middle (answer s)
-one_call s call next [] middle after from answers to (told, between, later, takes, runs, is) = answered_before s next middle after between later to (begins s call from between told takes) runs
-one_call s call next (e ∷ es) middle after from answers to (told, between, later, takes, runs, is) = one_call s call next es middle after between later to runs
+pub one_call : (s : ℕ) (call next : Call) (before middle after : List Event) (from : Machine) (answers : List (ℕ × Answer))
+    (to : Machine) → Runs from (before ++ begin s call ∷ middle ++ begin s next ∷ after) answers to → Contains middle (answer s)
+one_call s call next [] middle after from answers to (told, between, later, takes, runs, is) = answered_before s next middle after between
+    later to (begins s call from between told takes) runs
+one_call s call next (e ∷ es) middle after from answers to (told, between, later, takes, runs, is) =
+    one_call s call next es middle after between later to runs

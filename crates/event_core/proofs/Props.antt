@@ -37,13 +37,17 @@ number_prop a b = hlevel codes
 abbrev Held : (n : ℕ) (f : ℕ → Slot) (e : Entry) → Type 0
 Held n f e = (s : ℕ) × IsUsed n f s × (entry_at f s ≡ e)
 
-held_prop : (n : ℕ) (f : ℕ → Slot) (e : Entry) → ((s r : ℕ) → IsUsed n f s → IsUsed n f r → entry_at f s ≡ entry_at f r → s ≡ r) → IsProp (Held n f e)
+held_prop : (n : ℕ) (f : ℕ → Slot) (e : Entry) → ((s r : ℕ) → IsUsed n f s → IsUsed n f r → entry_at f s ≡ entry_at f r → s ≡ r) →
+    IsProp (Held n f e)
 held_prop n f e once (s, used, is) (r, used', is') = joined s r (once s r used used' (is ∙ sym is')) used is used' is' where
-  at_one : (s : ℕ) (u u' : IsUsed n f s) (p p' : entry_at f s ≡ e) → (let x : Held n f e = (s, u, p) in x) ≡ (let y : Held n f e = (s, u', p') in y)
+  at_one : (s : ℕ) (u u' : IsUsed n f s) (p p' : entry_at f s ≡ e) → (let x : Held n f e = (s, u, p) in x)
+      ≡ (let y : Held n f e = (s, u', p') in y)
   at_one s u u' p p' = λ i. (s, used_prop n f s u u' i, entry_prop (entry_at f s) e p p' i)
 
-  joined : (s r : ℕ) → s ≡ r → (u : IsUsed n f s) (p : entry_at f s ≡ e) (u' : IsUsed n f r) (p' : entry_at f r ≡ e) → (let x : Held n f e = (s, u, p) in x) ≡ (let y : Held n f e = (r, u', p') in y)
-  joined s r same u p = subst (λ (z : ℕ). (u' : IsUsed n f z) (p' : entry_at f z ≡ e) → (let x : Held n f e = (s, u, p) in x) ≡ (let y : Held n f e = (z, u', p') in y)) same (λ u' p'. at_one s u u' p p')
+  joined : (s r : ℕ) → s ≡ r → (u : IsUsed n f s) (p : entry_at f s ≡ e) (u' : IsUsed n f r) (p' : entry_at f r ≡ e) →
+      (let x : Held n f e = (s, u, p) in x) ≡ (let y : Held n f e = (r, u', p') in y)
+  joined s r same u p = subst (λ (z : ℕ). (u' : IsUsed n f z) (p' : entry_at f z ≡ e) → (let x : Held n f e = (s, u, p) in x)
+      ≡ (let y : Held n f e = (z, u', p') in y)) same (λ u' p'. at_one s u u' p p')
 
 pub slots_prop : (n : ℕ) (f : ℕ → Slot) (t : Tree) → IsProp (EncodesSlots n f t)
 slots_prop n f t x y = λ i. record {
@@ -62,9 +66,18 @@ encodes_prop capacity row t x y = λ i. record {
 }
 
 pub changes_prop : (capacity : ℕ) (cells : List ℕ) (changes : List Change) → IsProp (EncodesChanges capacity cells changes)
-changes_prop capacity cells changes (t, made, encodes) (u, made', encodes') = joined t u (ok_inj t u (sym made ∙ made')) made encodes made' encodes' where
-  at_one : (t : Tree) (p p' : tree_after capacity changes ≡ Ok t) (e e' : Encodes capacity cells t) → (let x : EncodesChanges capacity cells changes = (t, p, e) in x) ≡ (let y : EncodesChanges capacity cells changes = (t, p', e') in y)
-  at_one t p p' e e' = λ i. (t, tree_prop (tree_after capacity changes) (Ok t) p p' i, encodes_prop capacity cells t e e' i)
+changes_prop capacity cells changes (t, made, encodes) (u, made', encodes') = joined t u (ok_inj t u (sym made ∙ made')) made
+    encodes made' encodes' where
+      at_one : (t : Tree) (p p' : tree_after capacity changes ≡ Ok t) (e e' : Encodes capacity cells t) →
+          (let x : EncodesChanges capacity cells changes = (t, p, e) in x)
+          ≡ (let y : EncodesChanges capacity cells changes = (t, p', e') in y)
+      at_one t p p' e e' = λ i. (t, tree_prop (tree_after capacity changes) (Ok t) p p' i, encodes_prop capacity cells t e e' i)
 
-  joined : (t u : Tree) → t ≡ u → (p : tree_after capacity changes ≡ Ok t) (e : Encodes capacity cells t) (p' : tree_after capacity changes ≡ Ok u) (e' : Encodes capacity cells u) → (let x : EncodesChanges capacity cells changes = (t, p, e) in x) ≡ (let y : EncodesChanges capacity cells changes = (u, p', e') in y)
-  joined t u same p e = subst (λ (z : Tree). (p' : tree_after capacity changes ≡ Ok z) (e' : Encodes capacity cells z) → (let x : EncodesChanges capacity cells changes = (t, p, e) in x) ≡ (let y : EncodesChanges capacity cells changes = (z, p', e') in y)) same (λ p' e'. at_one t p p' e e')
+      joined : (t u : Tree) → t ≡ u → (p : tree_after capacity changes ≡ Ok t) (e : Encodes capacity cells t)
+          (p' : tree_after capacity changes
+          ≡ Ok u) (e' : Encodes capacity cells u) → (let x : EncodesChanges capacity cells changes = (t, p, e) in x)
+          ≡ (let y : EncodesChanges capacity cells changes = (u, p', e') in y)
+      joined t u same p e = subst (λ (z : Tree). (p' : tree_after capacity changes ≡ Ok z) (e' : Encodes capacity cells z) →
+          (let x : EncodesChanges capacity cells changes = (t, p, e) in x)
+          ≡ (let y : EncodesChanges capacity cells changes = (z, p', e') in
+          y)) same (λ p' e'. at_one t p p' e e')

@@ -2,7 +2,8 @@
 use Rattle.std.proofs.Common.{◌≡◌, ℕ, List, [], ◌∷◌, ◌++◌, Some, None, Option, sym, refl, ap, ◌∙◌, subst, append_assoc}
 use Rattle.justification.specs.declared.answer.Answer.{Answer}
 use Rattle.event_core.specs.Machine.{Event, Machine, first}
-use Rattle.event_core.specs.Machine.Event.{begin, read_policy, read_count, read_cell, check_count, answer, open_change, set_cell, close_change, publish}
+use Rattle.event_core.specs.Machine.Event.{begin, read_policy, read_count, read_cell, check_count, answer, open_change, set_cell}
+use Rattle.event_core.specs.Machine.Event.{close_change, publish}
 use Rattle.event_core.specs.Takes.{Answers, Takes}
 use Rattle.event_core.specs.Runs.{told_by, Runs, Legal}
 use Rattle.event_core.specs.Right.{IsToldIn}
@@ -26,7 +27,8 @@ abbrev Pair : ℕ → Answer → ℕ × Answer
 Pair s told = (s, told)
 
 -- the answer of this event
-here : (capacity : ℕ) (events : List Event) (said : List (ℕ × Answer)) (from between : Machine) (s : ℕ) (told : Answer) (es : List Event) → Legal capacity events said from → Answers from s told between → IsToldIn capacity (events ++ answer s ∷ es) s told
+here : (capacity : ℕ) (events : List Event) (said : List (ℕ × Answer)) (from between : Machine) (s : ℕ) (told : Answer) (es : List Event) →
+    Legal capacity events said from → Answers from s told between → IsToldIn capacity (events ++ answer s ∷ es) s told
 here capacity events said from between s told es legal answers = record {
   before = events;
   after = es;
@@ -37,19 +39,25 @@ here capacity events said from between s told es legal answers = record {
   right = all_right capacity events said from s told between legal (s, refl, answers);
 }
 
-told_at : (capacity : ℕ) (events : List Event) (before after later : List (ℕ × Answer)) (s : ℕ) (told : Answer) (from between : Machine) (e : Event) (es : List Event) (said : List (ℕ × Answer)) (a : Answer) (r : ℕ)
+told_at : (capacity : ℕ) (events : List Event) (before after later : List (ℕ × Answer)) (s : ℕ) (told : Answer) (from between : Machine)
+    (e : Event) (es : List Event) (said : List (ℕ × Answer)) (a : Answer) (r : ℕ)
     → Legal capacity events said from → Answers from r a between → e ≡ answer r → (r, a) ∷ later ≡ before ++ (s, told) ∷ after
-    → ((rest : List (ℕ × Answer)) → later ≡ rest ++ (s, told) ∷ after → IsToldIn capacity (events ++ e ∷ es) s told) → IsToldIn capacity (events ++ e ∷ es) s told
+    → ((rest : List (ℕ × Answer)) → later ≡ rest ++ (s, told) ∷ after → IsToldIn capacity (events ++ e ∷ es) s told) →
+    IsToldIn capacity (events ++ e ∷ es) s told
 told_at capacity events [] after later s told from between e es said a r legal answers which is on =
     let same : Pair r a ≡ Pair s told = head_is (r, a) (s, told) later after is in
     subst (λ (x : Event). IsToldIn capacity (events ++ x ∷ es) s told) (sym which)
-    (subst (λ (p : ℕ × Answer). IsToldIn capacity (events ++ answer r ∷ es) p.0 p.1) same (here capacity events said from between r a es legal answers))
-told_at capacity events (x ∷ xs) after later s told from between e es said a r legal answers which is on = on xs (tail_is (r, a) x later (xs ++ (s, told) ∷ after) is)
+    (subst (λ (p : ℕ × Answer). IsToldIn capacity (events ++ answer r ∷ es) p.0 p.1) same
+    (here capacity events said from between r a es legal answers))
+told_at capacity events (x ∷ xs) after later s told from between e es said a r legal answers which is on =
+    on xs (tail_is (r, a) x later (xs ++ (s, told) ∷ after) is)
 
 -- the first answer is of the first event, or a later one's
-by_event : (capacity : ℕ) (events : List Event) (before after later : List (ℕ × Answer)) (s : ℕ) (told : Answer) (from between : Machine) (e : Event) (es : List Event) (said : List (ℕ × Answer)) (o : Option Answer)
+by_event : (capacity : ℕ) (events : List Event) (before after later : List (ℕ × Answer)) (s : ℕ) (told : Answer) (from between : Machine)
+    (e : Event) (es : List Event) (said : List (ℕ × Answer)) (o : Option Answer)
     → Legal capacity events said from → Takes from e o between → told_by e o ++ later ≡ before ++ (s, told) ∷ after
-    → ((rest : List (ℕ × Answer)) → later ≡ rest ++ (s, told) ∷ after → IsToldIn capacity (events ++ e ∷ es) s told) → IsToldIn capacity (events ++ e ∷ es) s told
+    → ((rest : List (ℕ × Answer)) → later ≡ rest ++ (s, told) ∷ after → IsToldIn capacity (events ++ e ∷ es) s told) →
+    IsToldIn capacity (events ++ e ∷ es) s told
 by_event capacity events before after later s told from between e es said None legal moves is on =
     on before (sym (ap (λ (l : List (ℕ × Answer)). l ++ later) (silent e)) ∙ is) where
       silent : (e : Event) → told_by e None ≡ []
@@ -67,10 +75,14 @@ by_event capacity events before after later s told from between e es said (Some 
     told_at capacity events before after later s told from between e es said a r legal answers which
     (ap (λ (x : Event). told_by x (Some a) ++ later) (sym which) ∙ is) on
 
-pub told_right : (capacity : ℕ) (events : List Event) (said : List (ℕ × Answer)) (from : Machine) (more : List Event) (answers before after : List (ℕ × Answer)) (to : Machine) (s : ℕ) (told : Answer)
-    → Legal capacity events said from → Runs from more answers to → answers ≡ before ++ (s, told) ∷ after → IsToldIn capacity (events ++ more) s told
-told_right capacity events said from [] answers before after to s told legal (none, same) is = absurd (none_before (s, told) before after (sym none ∙ is))
+pub told_right : (capacity : ℕ) (events : List Event) (said : List (ℕ × Answer)) (from : Machine) (more : List Event)
+    (answers before after : List (ℕ × Answer)) (to : Machine) (s : ℕ) (told : Answer)
+    → Legal capacity events said from → Runs from more answers to → answers ≡ before ++ (s, told) ∷ after →
+    IsToldIn capacity (events ++ more) s told
+told_right capacity events said from [] answers before after to s told legal (none, same) is =
+    absurd (none_before (s, told) before after (sym none ∙ is))
 told_right capacity events said from (e ∷ es) answers before after to s told legal (o, between, later, takes, runs, parts) is =
     by_event capacity events before after later s told from between e es said o legal takes (sym parts ∙ is) (λ rest at.
     subst (λ (all : List Event). IsToldIn capacity all s told) (append_assoc events (e ∷ []) es)
-    (told_right capacity (events ++ e ∷ []) (said ++ told_by e o) between es later rest after to s told (run_snoc (first capacity) events said from e o between legal takes) runs at))
+    (told_right capacity (events ++ e ∷ []) (said ++ told_by e o) between es later rest after to s told
+    (run_snoc (first capacity) events said from e o between legal takes) runs at))

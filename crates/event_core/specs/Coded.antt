@@ -4,7 +4,8 @@ use Rattle.mediation.specs.PolicyChanges.{deed_of}
 use Rattle.event_core.specs.declared.event.Event as code
 use Rattle.event_core.specs.declared.event.Event.TheVariants as coded
 use Rattle.event_core.specs.Machine.{Event}
-use Rattle.event_core.specs.Machine.Event.{begin, read_policy, read_count, read_cell, check_count, answer, open_change, set_cell, close_change, publish}
+use Rattle.event_core.specs.Machine.Event.{begin, read_policy, read_count, read_cell, check_count, answer, open_change, set_cell}
+use Rattle.event_core.specs.Machine.Event.{close_change, publish}
 
 abbrev pub event_of : code.Event → Event
 event_of (coded.Begin session profile path ask) = begin session (record { profile = profile.now; path = path.now; ask = ask })

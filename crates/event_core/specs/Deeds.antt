@@ -3,7 +3,8 @@ use Rattle.std.specs.Prelude.{ℕ, ◌+◌, List, [], ◌∷◌, ◌++◌}
 use Rattle.directory_tree.specs.declared.change.Change.{Change}
 use Rattle.mediation.specs.Deeds.{Deed}
 use Rattle.event_core.specs.Machine.{Event}
-use Rattle.event_core.specs.Machine.Event.{begin, read_policy, read_count, read_cell, check_count, answer, open_change, set_cell, close_change, publish}
+use Rattle.event_core.specs.Machine.Event.{begin, read_policy, read_count, read_cell, check_count, answer, open_change, set_cell}
+use Rattle.event_core.specs.Machine.Event.{close_change, publish}
 
 -- the changes of the tree that one event opens, the changes that it closes, and those of the policy that it publishes
 abbrev pub opens : Event → List Change

@@ -26,7 +26,8 @@ unpublished_call = begin 1 (root_for to_read) ∷ read_policy 1 ∷ answer 1 ∷
 -- `p` is published without rules, and then the whole call is made
 abbrev pub whole_call : Perms → List Event
 whole_call ask =
-    publish (published (112 ∷ []) (by_rules []) ∷ []) ∷ begin 1 (root_for ask) ∷ read_policy 1 ∷ read_count 1 ∷ check_count 1 ∷ answer 1 ∷ []
+    publish (published (112 ∷ []) (by_rules []) ∷ []) ∷ begin 1 (root_for ask) ∷ read_policy 1 ∷ read_count 1 ∷ check_count
+    1 ∷ answer 1 ∷ []
 
 -- the directory `/b` is made
 abbrev pub mkdir_b : Change

@@ -7,7 +7,8 @@ use Rattle.justification.specs.declared.answer.Answer.{Answer}
 use Rattle.row_rule.specs.Row.{left_of}
 use Rattle.row_rule.specs.declared.view.WalkerView.{WalkerView}
 use Rattle.event_core.specs.Machine.{Call, Event, Policed, Machine}
-use Rattle.event_core.specs.Machine.Event.{begin, read_policy, read_count, read_cell, check_count, answer, open_change, set_cell, close_change, publish}
+use Rattle.event_core.specs.Machine.Event.{begin, read_policy, read_count, read_cell, check_count, answer, open_change, set_cell}
+use Rattle.event_core.specs.Machine.Event.{close_change, publish}
 use Rattle.event_core.specs.Machine.Stage.{resting, begun, unpublished, policed, walking, checked}
 use Rattle.event_core.specs.Takes.{Moves, Takes}
 
@@ -38,5 +39,6 @@ cell_reads s (suc count) = read_cell s ∷ cell_reads s count
 -- About a change, while none is open: it may be opened, and this many cells are to be set until it may be closed; or the definition
 -- refuses it with this errno, including the one for too many changes.
 abbrev pub IsTested : Machine → Change → Result ℕ Errno → Type 0
-IsTested m change (Ok count) = IsLawful m (open_change change) × ((new : Machine) → Moves m (open_change change) new → length (left_of new.keeper.pending) ≡ count)
+IsTested m change (Ok count) = IsLawful m (open_change change) × ((new : Machine) → Moves m (open_change change) new →
+    length (left_of new.keeper.pending) ≡ count)
 IsTested m change (Err errno) = (m.keeper.pending ≡ None) × (tree_after m.capacity (m.keeper.history ++ change ∷ []) ≡ Err errno)

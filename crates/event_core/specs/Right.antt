@@ -7,7 +7,8 @@ use Rattle.justification.specs.declared.answer.Answer.TheVariants.{Judged, Faile
 use Rattle.justification.specs.Justified.{Justified}
 use Rattle.row_rule.specs.Row.{count_of}
 use Rattle.event_core.specs.Machine.{Call, Event, Machine}
-use Rattle.event_core.specs.Machine.Event.{begin, read_policy, read_count, read_cell, check_count, answer, open_change, set_cell, close_change, publish}
+use Rattle.event_core.specs.Machine.Event.{begin, read_policy, read_count, read_cell, check_count, answer, open_change, set_cell}
+use Rattle.event_core.specs.Machine.Event.{close_change, publish}
 use Rattle.event_core.specs.Runs.{Legal}
 
 -- a session's event that begins a call

@@ -10,7 +10,8 @@ use Rattle.row_rule.specs.Row.{write, count_of}
 use Rattle.row_rule.specs.Steps.{newcomer, beginning, reading, ending, opening, setting, closing}
 use Rattle.row_plan.specs.Changes.{EncodesChanges, IsPlan}
 use Rattle.event_core.specs.Machine.{Call, Event, Policed, Stage, Machine, moved_on, answered, with_keeper, with_deeds}
-use Rattle.event_core.specs.Machine.Event.{begin, read_policy, read_count, read_cell, check_count, answer, open_change, set_cell, close_change, publish}
+use Rattle.event_core.specs.Machine.Event.{begin, read_policy, read_count, read_cell, check_count, answer, open_change, set_cell}
+use Rattle.event_core.specs.Machine.Event.{close_change, publish}
 use Rattle.event_core.specs.Machine.Stage.{resting, begun, unpublished, policed, walking, checked}
 use Rattle.event_core.specs.Walking.{MayDo, MayAnswer}
 

@@ -32,7 +32,8 @@ pub fn listed_answers_are_right()
 
 /// There is one answer to a call: after a legal run there is one way to answer a session, and one machine that results.
 pub fn answers_are_the_only_ones()
-    ensures { (capacity : ℕ) (events : List Event) (answers : List (ℕ × Answer)) (m : Machine) (s : ℕ) (told other : Answer) (new another : Machine) →
+    ensures { (capacity : ℕ) (events : List Event) (answers : List (ℕ × Answer)) (m : Machine) (s : ℕ) (told other : Answer)
+        (new another : Machine) →
         Legal capacity events answers m → Answers m s told new → Answers m s other another → (told ≡ other) × (new ≡ another) }
 {}
 

@@ -31,7 +31,8 @@ pub trait EventMachine {
         ensures ok { IfOk result (λ count. (count ≤ most) × Runs (machine self.old) (cell_reads session count) [] (machine self.new)) }
         ensures all { IfOk result (λ count. count < most → ¬ (IsLawful (machine self.new) (read_cell session))) }
         ensures turn { IfOk result (λ count. count < most → ¬ (HasTurn (machine self.new) (read_cell session))) }
-        ensures err { IfErr result (λ fault. (fault ≡ StepFault.NoMemory) × ((count : ℕ) × (count < most) × Runs (machine self.old) (cell_reads session count) [] (machine self.new))) };
+        ensures err { IfErr result (λ fault. (fault ≡ StepFault.NoMemory)
+            × ((count : ℕ) × (count < most) × Runs (machine self.old) (cell_reads session count) [] (machine self.new))) };
 
     /// How many cells a change would set, which is the number of events [`Event::CellSet`] from its [`Event::Open`] to its
     /// [`Event::Close`]; or the errno that it is refused with. Not possible while another change is open. Changes nothing.

@@ -12,7 +12,8 @@ use Rattle.flat_canonical.proofs.QuotedWords.{hidden_head, name_is_hidden}
 use Rattle.flat_canonical.proofs.PartsRead.{reading, takes_none, takes_to, reads_quoted}
 
 reads_name : (read : List PartValue) (name rest : List ℕ) → is_name name ≡ true → ends_with_backslash name ≡ false
-    → name_part parts.Name (reading read (34 ∷ (name ++ 34 ∷ rest))) ≡ Ok (reading (read ++ (part_of parts.Name (in_quotes name) ∷ [])) rest)
+    → name_part parts.Name (reading read (34 ∷ (name ++ 34 ∷ rest)))
+    ≡ Ok (reading (read ++ (part_of parts.Name (in_quotes name) ∷ [])) rest)
 reads_name read [] rest h e = absurd cc
 reads_name read (b ∷ name) rest h e =
     let p = name_parts b name h in
@@ -25,22 +26,30 @@ reads_name read (b ∷ name) rest h e =
     not_quoted true e = e
     not_quoted false e = refl
 
-reads_brace : (read : List PartValue) (rest : List ℕ) → head_rest (reading read (123 ∷ rest)) ≡ Ok (reading (read ++ (part_of parts.Open (codes "{") ∷ [])) rest)
+reads_brace : (read : List PartValue) (rest : List ℕ) → head_rest (reading read (123 ∷ rest))
+    ≡ Ok (reading (read ++ (part_of parts.Open (codes "{") ∷ [])) rest)
 unfolding head_rest
 reads_brace read rest = let none = takes_none parts.Blank read (123 ∷ rest) in rw (none, none) refl
 
 -- the head after its name
 reads_named : (read : List PartValue) (name rest : List ℕ) → is_name name ≡ true → ends_with_backslash name ≡ false
     → named_head (reading read (34 ∷ (name ++ 34 ∷ 32 ∷ 123 ∷ rest)))
-    ≡ Ok (reading (((read ++ (part_of parts.Name (in_quotes name) ∷ [])) ++ (part_of parts.Blank (codes " ") ∷ [])) ++ (part_of parts.Open (codes "{") ∷ [])) rest)
+    ≡ Ok (reading (((read ++ (part_of parts.Name (in_quotes name) ∷ [])) ++ (part_of parts.Blank (codes " ") ∷ []))
+    ++ (part_of parts.Open (codes "{") ∷ [])) rest)
 unfolding named_head
 reads_named read name rest h e =
     let named = read ++ (part_of parts.Name (in_quotes name) ∷ []) in
     let behind = named ++ (part_of parts.Blank (codes " ") ∷ []) in
-    rw (reads_name read name (32 ∷ 123 ∷ rest) h e, takes_to parts.Blank named 32 [] (123 ∷ rest), takes_none parts.Blank behind (123 ∷ rest)) (reads_brace behind rest)
+    rw (
+      reads_name read name (32 ∷ 123 ∷ rest) h e,
+      takes_to parts.Blank named 32 [] (123 ∷ rest),
+      takes_none parts.Blank behind
+          (123 ∷ rest),
+    ) (reads_brace behind rest)
 
 pub reads_head : (name rest : List ℕ) → is_name name ≡ true → ends_with_backslash name ≡ false
     → profile_head (reading [] (codes "profile \"" ++ (name ++ 34 ∷ 32 ∷ 123 ∷ rest))) ≡ Ok (reading (head_item name).parts rest)
 reads_head name rest h e =
     let there = part_of parts.Profile (codes "profile") ∷ [] in
-    rw (takes_to parts.Blank there 32 [] (34 ∷ (name ++ 34 ∷ 32 ∷ 123 ∷ rest))) (reads_named (there ++ (part_of parts.Blank (codes " ") ∷ [])) name rest h e)
+    rw (takes_to parts.Blank there 32 [] (34 ∷ (name ++ 34 ∷ 32 ∷ 123 ∷ rest)))
+    (reads_named (there ++ (part_of parts.Blank (codes " ") ∷ [])) name rest h e)

@@ -22,7 +22,8 @@ use Rattle.flat_text.specs.Headers.{profile_head}
 use Rattle.flat_text.specs.Rules as flat_rules
 use Rattle.flat_text.specs.Rules.{of_kind}
 use Rattle.flat_text.specs.Texts.{inner_item, outer_item, item_at, at_start, behind_item, ReadsFrom, ReadsItems, ends, goes_on}
-use Rattle.flat_canonical.specs.CanonicalItems.{part_of, path_text, blank_item, head_item, rule_item, close_item, inner_items, canonical_items, ends_with_backslash, CanBeQuoted}
+use Rattle.flat_canonical.specs.CanonicalItems.{part_of, path_text, blank_item, head_item, rule_item, close_item, inner_items}
+use Rattle.flat_canonical.specs.CanonicalItems.{canonical_items, ends_with_backslash, CanBeQuoted}
 use Rattle.flat_canonical.proofs.PartsRead.{reading, reads_blank}
 use Rattle.flat_canonical.proofs.HeadRead.{reads_head}
 use Rattle.flat_canonical.proofs.RulesRead.{body_text, reads_rule}
@@ -63,12 +64,14 @@ no_blank Allow r rest = refl
 no_blank Deny r rest = refl
 
 blank_before_rule : (r : RuleValue) (rest : List ℕ)
-    → item_inside (10 ∷ 32 ∷ 32 ∷ rule_bytes r rest) ≡ Ok (items.Blank, reading (part_of parts.Blank (codes "\n  ") ∷ []) (rule_bytes r rest))
+    → item_inside (10 ∷ 32 ∷ 32 ∷ rule_bytes r rest)
+    ≡ Ok (items.Blank, reading (part_of parts.Blank (codes "\n  ") ∷ []) (rule_bytes r rest))
 unfolding item_at
 blank_before_rule r rest = rw (reads_blank [] 10 (32 ∷ 32 ∷ []) (rule_bytes r rest) refl (no_blank r.kind r rest)) refl
 
 -- a qualifier or a quote begins neither the profile's end nor a hat or a child
-rule_of : (kind : RuleKind) (r : RuleValue) (rest : List ℕ) → item_inside (qualifier_text kind ++ body_text r rest) ≡ flat_rules.rule_item (reading [] (qualifier_text kind ++ body_text r rest))
+rule_of : (kind : RuleKind) (r : RuleValue) (rest : List ℕ) → item_inside (qualifier_text kind ++ body_text r rest) ≡ flat_rules.rule_item
+    (reading [] (qualifier_text kind ++ body_text r rest))
 unfolding item_at inner_item
 rule_of Allow r rest = refl
 rule_of Deny r rest = refl
@@ -84,41 +87,51 @@ inner_text rules = 10 ∷ (flat_map rule_line rules ++ codes "}\n")
 line_parts : (r : RuleValue) (behind : List ℕ) → rule_line r ++ behind ≡ 32 ∷ 32 ∷ rule_bytes r (10 ∷ behind)
 line_parts r behind = at r.kind
   where
-    body : (path perms : List ℕ) → (34 ∷ (path ++ (34 ∷ 32 ∷ (perms ++ 44 ∷ 10 ∷ [])))) ++ behind ≡ 34 ∷ (path ++ 34 ∷ 32 ∷ (perms ++ 44 ∷ 10 ∷ behind))
+    body : (path perms : List ℕ) → (34 ∷ (path ++ (34 ∷ 32 ∷ (perms ++ 44 ∷ 10 ∷ [])))) ++ behind
+        ≡ 34 ∷ (path ++ 34 ∷ 32 ∷ (perms ++ 44 ∷ 10 ∷ behind))
     body path perms = simp append_assoc
 
-    at : (kind : RuleKind) → (kind_text kind ++ (34 ∷ (path_text r.items ++ (34 ∷ 32 ∷ (letters r.perms ++ 44 ∷ 10 ∷ []))))) ++ behind ≡ 32 ∷ 32 ∷ (qualifier_text kind ++ body_text r (10 ∷ behind))
+    at : (kind : RuleKind) → (kind_text kind ++ (34 ∷ (path_text r.items ++ (34 ∷ 32 ∷ (letters r.perms ++ 44 ∷ 10 ∷ []))))) ++ behind
+        ≡ 32 ∷ 32 ∷ (qualifier_text kind ++ body_text r (10 ∷ behind))
     at Allow = ap (λ (x : List ℕ). 32 ∷ 32 ∷ x) (body (path_text r.items) (letters r.perms))
     at Deny = ap (λ (x : List ℕ). codes "  deny " ++ x) (body (path_text r.items) (letters r.perms))
 
 -- The blank before a rule begins with the LF after the rule before it, or after the brace.
 first_line : (r : RuleValue) (rules : List RuleValue) → inner_text (r ∷ rules) ≡ 10 ∷ 32 ∷ 32 ∷ rule_bytes r (inner_text rules)
 first_line r rules =
-    ap (λ (x : List ℕ). 10 ∷ x) (append_assoc (rule_line r) (flat_map rule_line rules) (codes "}\n") ∙ line_parts r (flat_map rule_line rules ++ codes "}\n"))
+    ap (λ (x : List ℕ). 10 ∷ x) (append_assoc (rule_line r) (flat_map rule_line rules) (codes "}\n")
+    ∙ line_parts r (flat_map rule_line rules ++ codes "}\n"))
 
 -- the closing brace, on a line of its own
 last_line : ReadsInside (codes "\n}\n") (inner_items [])
 unfolding item_at inner_item
 last_line =
-    one_more (behind_item items.Profile at_start) (codes "\n}\n") items.Blank (reading (blank_item (codes "\n")).parts (codes "}\n")) (close_item ∷ blank_item (codes "\n") ∷ []) None (_, _, refl) refl
-    (one_more (behind_item items.Profile at_start) (codes "}\n") items.Close (reading close_item.parts (codes "\n")) (blank_item (codes "\n") ∷ []) None (_, _, refl) refl
-    (one_more (behind_item items.Close (behind_item items.Profile at_start)) (codes "\n") items.Blank (reading (blank_item (codes "\n")).parts []) [] None (_, _, refl) refl (ends (behind_item items.Close (behind_item items.Profile at_start)) refl)))
+    one_more (behind_item items.Profile at_start) (codes "\n}\n") items.Blank (reading (blank_item (codes "\n")).parts (codes "}\n"))
+    (close_item ∷ blank_item (codes "\n") ∷ []) None (_, _, refl) refl (one_more (behind_item items.Profile at_start) (codes "}\n")
+    items.Close (reading close_item.parts (codes "\n")) (blank_item (codes "\n") ∷ []) None (_, _, refl) refl
+    (one_more (behind_item items.Close (behind_item items.Profile at_start)) (codes "\n") items.Blank
+    (reading (blank_item (codes "\n")).parts []) [] None (_, _, refl) refl
+    (ends (behind_item items.Close (behind_item items.Profile at_start)) refl)))
 
-reads_inner : (rules : List RuleValue) → list_all is_rule rules ≡ true → Each (λ (r : RuleValue). ends_with_backslash (path_text r.items) ≡ false) rules
+reads_inner : (rules : List RuleValue) → list_all is_rule rules ≡ true →
+    Each (λ (r : RuleValue). ends_with_backslash (path_text r.items) ≡ false) rules
     → ReadsInside (inner_text rules) (inner_items rules)
 reads_inner [] h e = last_line
 reads_inner (r ∷ rules) h e =
     let p = and_parts (is_rule r) (list_all is_rule rules) h in
     let rest = inner_text rules in
     let behind = reads_inner rules p.1 e.1 in
-    let rule = one_more (behind_item items.Profile at_start) (rule_bytes r rest) items.Rule (reading (rule_item r).parts rest) (inner_items rules) None (some_rule r.kind r rest) (rule_there r rest p.0 e.0) behind in
+    let rule = one_more (behind_item items.Profile at_start) (rule_bytes r rest) items.Rule (reading (rule_item r).parts rest)
+    (inner_items rules) None (some_rule r.kind r rest) (rule_there r rest p.0 e.0) behind in
     rw (first_line r rules)
-    (one_more (behind_item items.Profile at_start) (10 ∷ 32 ∷ 32 ∷ rule_bytes r rest) items.Blank (reading (blank_item (codes "\n  ")).parts (rule_bytes r rest)) (rule_item r ∷ inner_items rules) None
+    (one_more (behind_item items.Profile at_start) (10 ∷ 32 ∷ 32 ∷ rule_bytes r rest) items.Blank
+    (reading (blank_item (codes "\n  ")).parts (rule_bytes r rest)) (rule_item r ∷ inner_items rules) None
     (10, 32 ∷ 32 ∷ rule_bytes r rest, refl) (blank_before_rule r rest) rule)
 
 -- ---- the whole text
 
-head_there : (name rest : List ℕ) → item_at at_start (reading [] (codes "profile \"" ++ (name ++ 34 ∷ 32 ∷ 123 ∷ rest))) ≡ of_kind items.Profile (profile_head (reading [] (codes "profile \"" ++ (name ++ 34 ∷ 32 ∷ 123 ∷ rest))))
+head_there : (name rest : List ℕ) → item_at at_start (reading [] (codes "profile \"" ++ (name ++ 34 ∷ 32 ∷ 123 ∷ rest)))
+    ≡ of_kind items.Profile (profile_head (reading [] (codes "profile \"" ++ (name ++ 34 ∷ 32 ∷ 123 ∷ rest))))
 unfolding item_at outer_item
 head_there name rest = refl
 
@@ -128,6 +141,6 @@ reads_canonical p h quoted =
     let q = profile_parts p h in
     let rest = inner_text p.rules in
     let head = reads_head p.name rest q.0 quoted.name in
-    one_more at_start (codes "profile \"" ++ (p.name ++ 34 ∷ 32 ∷ 123 ∷ rest)) items.Profile (reading (head_item p.name).parts rest) (inner_items p.rules) None (_, _, refl)
-    (head_there p.name rest ∙ ap (λ (r : Result Reading Stop). of_kind items.Profile r) head)
+    one_more at_start (codes "profile \"" ++ (p.name ++ 34 ∷ 32 ∷ 123 ∷ rest)) items.Profile (reading (head_item p.name).parts rest)
+    (inner_items p.rules) None (_, _, refl) (head_there p.name rest ∙ ap (λ (r : Result Reading Stop). of_kind items.Profile r) head)
     (reads_inner p.rules q.2 quoted.paths)

@@ -1,5 +1,6 @@
 -- Parts that are read at a known front: what is taken, and what is left.
-use Rattle.std.proofs.Common.{◌≡◌, ℕ, ◌-◌, true, false, List, [], ◌∷◌, ◌++◌, length, drop, Ok, refl, sym, ap, ◌∙◌, append_assoc, ◌==◌, arith}
+use Rattle.std.proofs.Common.{◌≡◌, ℕ, ◌-◌, true, false, List, [], ◌∷◌, ◌++◌, length, drop, Ok, refl, sym, ap, ◌∙◌, append_assoc, ◌==◌}
+use Rattle.std.proofs.Common.{arith}
 use Rattle.std.specs.List.{list_all}
 use Rattle.std.proofs.lemmas.Bool.{and_parts, ne_eqb, or_parts}
 use Rattle.std.proofs.lemmas.List.{length-append}
@@ -44,19 +45,27 @@ takes_none kind read rest =
 
 -- ---- blanks
 
-white_ends : (white rest : List ℕ) → list_all is_white white ≡ true → begins opens_blank rest ≡ false → blank_at false (white ++ rest) ≡ Ok rest
+white_ends : (white rest : List ℕ) → list_all is_white white ≡ true → begins opens_blank rest ≡ false →
+    blank_at false (white ++ rest) ≡ Ok rest
 white_ends [] [] h e = refl
 white_ends [] (b ∷ rest) h e = let p = or_parts (is_white b) (is_hash b) e in rw (p.0, p.1) refl
 white_ends (w ∷ white) rest h e =
     let p = and_parts (is_white w) (list_all is_white white) h in
     rw (p.0) (white_ends white rest p.1 e)
 
-pub reads_blank : (read : List PartValue) (w : ℕ) (white rest : List ℕ) → list_all is_white (w ∷ white) ≡ true → begins opens_blank rest ≡ false
+pub reads_blank : (read : List PartValue) (w : ℕ) (white rest : List ℕ) → list_all is_white (w ∷ white) ≡ true →
+    begins opens_blank rest ≡ false
     → blank_part (reading read (w ∷ (white ++ rest))) ≡ Ok (reading (read ++ (part_of parts.Blank (w ∷ white) ∷ [])) rest)
 reads_blank read w white rest h e = rw (white_ends (w ∷ white) rest h e, takes_to parts.Blank read w white rest) refl
 
 -- ---- words in quotes
 
-pub reads_quoted : (kind : PartKind) (read : List PartValue) (bytes rest : List ℕ) → are_hidden false bytes ≡ true → ends_with_backslash bytes ≡ false
+pub reads_quoted : (kind : PartKind) (read : List PartValue) (bytes rest : List ℕ) → are_hidden false bytes ≡ true →
+    ends_with_backslash bytes ≡ false
     → word_part kind (reading read (34 ∷ (bytes ++ 34 ∷ rest))) ≡ Ok (reading (read ++ (part_of kind (in_quotes bytes) ∷ [])) rest)
-reads_quoted kind read bytes rest h e = rw (word_ends bytes rest h e, sym (append_assoc bytes (34 ∷ []) rest), takes_to kind read 34 (bytes ++ 34 ∷ []) rest) refl
+reads_quoted kind read bytes rest h e = rw (
+  word_ends bytes rest h e,
+  sym (append_assoc bytes (34 ∷ []) rest),
+  takes_to kind read 34
+      (bytes ++ 34 ∷ []) rest,
+) refl

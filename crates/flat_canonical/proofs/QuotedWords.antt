@@ -39,27 +39,31 @@ hidden_head before b bytes h =
     record { zero = s.0; line_feed = s.1; quote = no_quote before b q.1; rest = p.1 }
 
 -- such bytes that don't end with a backslash, and a quote
-pub quoted_ends : (before : Bool) (bytes rest : List ℕ) → are_hidden before bytes ≡ true → behind_backslash before bytes ≡ false → quoted_at before (bytes ++ 34 ∷ rest) ≡ Ok rest
+pub quoted_ends : (before : Bool) (bytes rest : List ℕ) → are_hidden before bytes ≡ true → behind_backslash before bytes ≡ false →
+    quoted_at before (bytes ++ 34 ∷ rest) ≡ Ok rest
 quoted_ends before [] rest h e = rw e refl
 quoted_ends before (b ∷ bytes) rest h e =
     let p = hidden_head before b bytes h in
     let more = quoted_ends (b == 92) bytes rest p.rest e in
     rw (p.zero, p.line_feed, p.quote) more
 
-pub word_ends : (bytes rest : List ℕ) → are_hidden false bytes ≡ true → ends_with_backslash bytes ≡ false → word_end (34 ∷ (bytes ++ 34 ∷ rest)) ≡ Ok rest
+pub word_ends : (bytes rest : List ℕ) → are_hidden false bytes ≡ true → ends_with_backslash bytes ≡ false →
+    word_end (34 ∷ (bytes ++ 34 ∷ rest)) ≡ Ok rest
 unfolding word_end
 word_ends bytes rest h e = quoted_ends false bytes rest h e
 
 -- ---- names
 
 -- A backslash that escapes the byte after it comes directly before it.
-name_hidden : (escaped before : Bool) (bytes : List ℕ) → (escaped && not before) ≡ false → are_name_bytes escaped bytes ≡ true → are_hidden before bytes ≡ true
+name_hidden : (escaped before : Bool) (bytes : List ℕ) → (escaped && not before) ≡ false → are_name_bytes escaped bytes ≡ true →
+    are_hidden before bytes ≡ true
 name_hidden escaped before [] e h = refl
 name_hidden escaped before (b ∷ bytes) e h =
     let p = and_parts (can_stand b && (escaped || not (b == 34))) (are_name_bytes (not escaped && b == 92) bytes) h in
     let q = and_parts (can_stand b) (escaped || not (b == 34)) p.0 in
     let here : (before || not (b == 34)) ≡ true = quote_taken escaped before (not (b == 34)) e q.1 in
-    let more : are_hidden (b == 92) bytes ≡ true = name_hidden (not escaped && b == 92) (b == 92) bytes (taken_by_it (not escaped) (b == 92)) p.1 in
+    let more : are_hidden (b == 92) bytes ≡ true = name_hidden (not escaped && b == 92) (b == 92) bytes
+    (taken_by_it (not escaped) (b == 92)) p.1 in
     rw (q.0, here) more
   where
     quote_taken : (escaped before other : Bool) → (escaped && not before) ≡ false → (escaped || other) ≡ true → (before || other) ≡ true
@@ -129,7 +133,8 @@ ranges_hidden (r ∷ ranges) h =
     let p = and_parts (is_range r) (list_all is_range ranges) h in
     hidden_append (range_text r) (flat_map range_text ranges) (range_hidden r p.0) (ranges_hidden ranges p.1)
 
-token_hidden : (after_slash : Bool) (depth : ℕ) (behind : List Token) (t : Token) → is_token after_slash depth behind t ≡ true → Hidden (token_text t)
+token_hidden : (after_slash : Bool) (depth : ℕ) (behind : List Token) (t : Token) → is_token after_slash depth behind t ≡ true →
+    Hidden (token_text t)
 token_hidden after_slash depth behind (byte b) h = escaped_hidden (codes "*?[{},\\\"@") b refl h
 token_hidden after_slash depth behind any_byte h = plain_hidden 63 refl refl
 token_hidden after_slash depth behind (bracket negated ranges) h =
@@ -142,14 +147,17 @@ token_hidden after_slash depth behind (bracket negated ranges) h =
         hidden_append (codes "[") (94 ∷ (flat_map range_text ranges ++ codes "]")) (plain_hidden 91 refl refl)
         (hidden_append (codes "^") (flat_map range_text ranges ++ codes "]") (plain_hidden 94 refl refl) g)
     at false g = hidden_append (codes "[") (flat_map range_text ranges ++ codes "]") (plain_hidden 91 refl refl) g
-token_hidden after_slash depth behind (stars true strict) h = hidden_append (codes "*") (codes "*") (plain_hidden 42 refl refl) (plain_hidden 42 refl refl)
+token_hidden after_slash depth behind (stars true strict) h = hidden_append (codes "*") (codes "*") (plain_hidden 42 refl refl)
+    (plain_hidden 42 refl refl)
 token_hidden after_slash depth behind (stars false strict) h = plain_hidden 42 refl refl
 token_hidden after_slash depth behind opening h = plain_hidden 123 refl refl
 token_hidden after_slash depth behind between h = plain_hidden 44 refl refl
 token_hidden after_slash depth behind closing h = plain_hidden 125 refl refl
 
-pub path_is_hidden : (after_slash : Bool) (depth : ℕ) (tokens : List Token) → are_tokens after_slash depth tokens ≡ true → Hidden (path_text tokens)
+pub path_is_hidden : (after_slash : Bool) (depth : ℕ) (tokens : List Token) → are_tokens after_slash depth tokens ≡ true →
+    Hidden (path_text tokens)
 path_is_hidden after_slash depth [] h = λ before. refl
 path_is_hidden after_slash depth (t ∷ tokens) h =
     let p = and_parts (is_token after_slash depth tokens t) (are_tokens (is_plain_slash t) (depth_behind t depth) tokens) h in
-    hidden_append (token_text t) (path_text tokens) (token_hidden after_slash depth tokens t p.0) (path_is_hidden (is_plain_slash t) (depth_behind t depth) tokens p.1)
+    hidden_append (token_text t) (path_text tokens) (token_hidden after_slash depth tokens t p.0)
+    (path_is_hidden (is_plain_slash t) (depth_behind t depth) tokens p.1)

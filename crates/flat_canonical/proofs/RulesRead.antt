@@ -22,7 +22,8 @@ use Rattle.flat_text.specs.declared.part.ItemKind.TheVariants as items
 use Rattle.flat_text.specs.Parts.{PartValue}
 use Rattle.flat_text.specs.WordParts.{path_part}
 use Rattle.flat_text.specs.Rules as rules
-use Rattle.flat_canonical.specs.CanonicalItems.{part_of, in_quotes, path_text, rule_item, qualifier_parts, ends_with_backslash, plain_letters}
+use Rattle.flat_canonical.specs.CanonicalItems.{part_of, in_quotes, path_text, rule_item, qualifier_parts, ends_with_backslash}
+use Rattle.flat_canonical.specs.CanonicalItems.{plain_letters}
 use Rattle.flat_canonical.proofs.LettersRead.{letters_read}
 use Rattle.flat_canonical.proofs.QuotedWords.{path_is_hidden}
 use Rattle.flat_canonical.proofs.PartsRead.{reading, takes_none, takes_to, takes_front, reads_blank, reads_quoted}
@@ -40,8 +41,10 @@ path_begins (opening ∷ tokens) h = absurd cc
 path_begins (between ∷ tokens) h = absurd cc
 path_begins (closing ∷ tokens) h = absurd cc
 
-reads_path : (read : List PartValue) (tokens : List Token) (rest : List ℕ) → readable.is_path tokens ≡ true → ends_with_backslash (path_text tokens) ≡ false
-    → path_part parts.Path (reading read (34 ∷ (path_text tokens ++ 34 ∷ rest))) ≡ Ok (reading (read ++ (part_of parts.Path (in_quotes (path_text tokens)) ∷ [])) rest)
+reads_path : (read : List PartValue) (tokens : List Token) (rest : List ℕ) → readable.is_path tokens ≡ true →
+    ends_with_backslash (path_text tokens) ≡ false
+    → path_part parts.Path (reading read (34 ∷ (path_text tokens ++ 34 ∷ rest)))
+    ≡ Ok (reading (read ++ (part_of parts.Path (in_quotes (path_text tokens)) ∷ [])) rest)
 reads_path read tokens rest h e =
     let p = path_parts tokens h in
     let first = path_begins tokens p.0 in
@@ -64,12 +67,14 @@ reads_permissions : (denies : Bool) (unknown : Stop) (s : Perms) (rest : List �
 reads_permissions denies unknown s rest h = rw (letters_word s rest, some_letters s h, letters_read s) refl
 
 takes_permissions : (read : List PartValue) (s : Perms) (rest : List ℕ) → list_any (has s) all_permissions ≡ true
-    → rules.permissions_part (reading read (letters s ++ 44 ∷ rest)) ≡ reading (read ++ (part_of parts.Permissions (letters s) ∷ [])) (44 ∷ rest)
+    → rules.permissions_part (reading read (letters s ++ 44 ∷ rest)) ≡ reading (read ++ (part_of parts.Permissions (letters s) ∷ []))
+    (44 ∷ rest)
 takes_permissions read s rest h = rw (letters_word s rest) (takes_front parts.Permissions read (letters s) (44 ∷ rest) (some_letters s h))
 
 -- ---- the rule
 
-reads_end : (read : List PartValue) (rest : List ℕ) → rules.rule_end (reading read (44 ∷ rest)) ≡ Ok (reading (read ++ (part_of parts.Comma (codes ",") ∷ [])) rest)
+reads_end : (read : List PartValue) (rest : List ℕ) → rules.rule_end (reading read (44 ∷ rest))
+    ≡ Ok (reading (read ++ (part_of parts.Comma (codes ",") ∷ [])) rest)
 unfolding rules.rule_end
 reads_end read rest = rw (takes_none parts.Blank read (44 ∷ rest)) refl
 
@@ -83,7 +88,8 @@ body_parts r =
     part_of parts.Path (in_quotes (path_text r.items)) ∷ part_of parts.Blank (codes " ") ∷ part_of parts.Permissions (letters r.perms)
     ∷ part_of parts.Comma (codes ",") ∷ []
 
-reads_body : (denies : Bool) (read : List PartValue) (r : RuleValue) (rest : List ℕ) → readable.is_rule r ≡ true → ends_with_backslash (path_text r.items) ≡ false
+reads_body : (denies : Bool) (read : List PartValue) (r : RuleValue) (rest : List ℕ) → readable.is_rule r ≡ true →
+    ends_with_backslash (path_text r.items) ≡ false
     → rules.path_first denies (reading read (body_text r rest)) ≡ Ok (reading (read ++ body_parts r) rest)
 unfolding rules.path_first
 reads_body denies read r rest h e =
@@ -103,8 +109,10 @@ reads_body denies read r rest h e =
     ) (ap (λ (x : List PartValue). Ok (reading x rest)) parted)
 
 -- a rule of this kind, with what comes after its qualifier
-reads_kind : (kind : RuleKind) (r : RuleValue) (rest : List ℕ) → readable.is_rule r ≡ true → ends_with_backslash (path_text r.items) ≡ false
-    → rules.rule_item (reading [] (qualifier_text kind ++ body_text r rest)) ≡ Ok (items.Rule, reading (qualifier_parts kind ++ body_parts r) rest)
+reads_kind : (kind : RuleKind) (r : RuleValue) (rest : List ℕ) → readable.is_rule r ≡ true →
+    ends_with_backslash (path_text r.items) ≡ false
+    → rules.rule_item (reading [] (qualifier_text kind ++ body_text r rest))
+    ≡ Ok (items.Rule, reading (qualifier_parts kind ++ body_parts r) rest)
 unfolding rules.rule_item rules.unqualified_item rules.body_part
 reads_kind Allow r rest h e = rw (reads_body false [] r rest h e) refl
 reads_kind Deny r rest h e =

@@ -1,5 +1,6 @@
 -- What a file rule of a flattened text says, by its parts (apparmor.d(5), "Rule Qualifiers", "Access Modes").
-use Rattle.std.specs.Prelude.{ℕ, ◌-◌, List, [], ◌∷◌, length, take, drop, not, ◌==◌, Option, Some, None, option_map, find, Bool, true, false, ◌&&◌, ◌||◌, if◌then◌else◌}
+use Rattle.std.specs.Prelude.{ℕ, ◌-◌, List, [], ◌∷◌, length, take, drop, not, ◌==◌, Option, Some, None, option_map, find, Bool, true}
+use Rattle.std.specs.Prelude.{false, ◌&&◌, ◌||◌, if◌then◌else◌}
 use Rattle.std.specs.List.{list_any}
 use Rattle.names.specs.declared.permissions.Permission.TheVariants.{Link}
 use Rattle.names.specs.declared.permissions.Perms.{Perms}

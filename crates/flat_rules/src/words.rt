@@ -1,7 +1,9 @@
 //! What a file rule says, by its parts.
 ghost use Rattle.std.specs.Prelude.{◌≡◌, option_map, true, false};
 ghost use Rattle.names.specs.Permissions.{set_of};
-ghost use Rattle.flat_rules.specs.RuleWords.{content, is_deny, is_owner, is_other, is_link, is_path, is_permissions, is_arrow_part, past_blank, target_text, first_bytes, has_part, permissions_lead, letters_in, perms_of_rule, kind_of, applies_to_of, path_of, may_bind_link, target_of};
+ghost use Rattle.flat_rules.specs.RuleWords.{content, is_deny, is_owner, is_other, is_link, is_path, is_permissions, is_arrow_part};
+ghost use Rattle.flat_rules.specs.RuleWords.{past_blank, target_text, first_bytes, has_part, permissions_lead, letters_in, perms_of_rule};
+ghost use Rattle.flat_rules.specs.RuleWords.{kind_of, applies_to_of, path_of, may_bind_link, target_of};
 
 use flat_text::{Part, PartKind};
 use flat_words::{Letters, letters_of};

@@ -1,5 +1,6 @@
 -- Each step reads on: what it takes from the front of what is left are parts more, none of which is empty.
-use Rattle.std.proofs.Common.{◌≡◌, ℕ, zero, suc, ◌≤◌, ◌<◌, ◌-◌, ◌+◌, Bool, true, false, cond, List, [], ◌∷◌, ◌++◌, length, take, drop, Result, Ok, Err, refl, sym, ap, subst, ◌∙◌, append_assoc, ◌⊎◌, inl, inr, ◌==◌, eqb, arith}
+use Rattle.std.proofs.Common.{◌≡◌, ℕ, zero, suc, ◌≤◌, ◌<◌, ◌-◌, ◌+◌, Bool, true, false, cond, List, [], ◌∷◌, ◌++◌, length, take, drop}
+use Rattle.std.proofs.Common.{Result, Ok, Err, refl, sym, ap, subst, ◌∙◌, append_assoc, ◌⊎◌, inl, inr, ◌==◌, eqb, arith}
 use Rattle.std.proofs.lemmas.Bool.{eqb-true, ne_eqb}
 use Rattle.std.proofs.lemmas.List.{take-append-drop, append-nil, length-append, length-take, length-drop}
 use Rattle.std.proofs.lemmas.Grind.{flat_map-append}
@@ -40,10 +41,13 @@ going_on s t u h g = record {
   whole = each_append h.more g.more h.whole g.whole;
 }
 
-pub going_taken : (kind : PartKind) (n : ℕ) (s : Reading) → (kind ≡ parts.Blank → is_blank false (take n s.rest) ≡ true) → Goes s (taken kind n s)
+pub going_taken : (kind : PartKind) (n : ℕ) (s : Reading) → (kind ≡ parts.Blank → is_blank false (take n s.rest) ≡ true) →
+    Goes s (taken kind n s)
 going_taken kind n s h =
-    let at : (b : Bool) → (length (take n s.rest) == 0) ≡ b → Goes s (cond b s (record { parts = s.parts ++ (record { kind = kind; bytes = take n s.rest } ∷ []); rest = drop n s.rest })) =
-    λ b. elim b as (λ b. (length (take n s.rest) == 0) ≡ b → Goes s (cond b s (record { parts = s.parts ++ (record { kind = kind; bytes = take n s.rest } ∷ []); rest = drop n s.rest }))) [
+    let at : (b : Bool) → (length (take n s.rest) == 0) ≡ b →
+    Goes s (cond b s (record { parts = s.parts ++ (record { kind = kind; bytes = take n s.rest } ∷ []); rest = drop n s.rest })) =
+    λ b. elim b as (λ b. (length (take n s.rest) == 0) ≡ b →
+    Goes s (cond b s (record { parts = s.parts ++ (record { kind = kind; bytes = take n s.rest } ∷ []); rest = drop n s.rest }))) [
       | true ↦ λ e. going_stays s
       | false ↦ λ e. record {
         more = record { kind = kind; bytes = take n s.rest } ∷ [];

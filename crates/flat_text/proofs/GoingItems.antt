@@ -1,5 +1,6 @@
 -- Statements, headers, assignments and rules read on.
-use Rattle.std.proofs.Common.{◌≡◌, ℕ, zero, suc, ◌≤◌, ◌<◌, ◌-◌, ◌+◌, Bool, true, false, not, cond, List, [], ◌∷◌, ◌++◌, length, take, drop, Option, Some, None, Result, Ok, Err, refl, sym, ap, subst, ◌∙◌, ◌⊎◌, inl, inr, ◌==◌, eqb, eq-eqb, arith}
+use Rattle.std.proofs.Common.{◌≡◌, ℕ, zero, suc, ◌≤◌, ◌<◌, ◌-◌, ◌+◌, Bool, true, false, not, cond, List, [], ◌∷◌, ◌++◌, length, take, drop}
+use Rattle.std.proofs.Common.{Option, Some, None, Result, Ok, Err, refl, sym, ap, subst, ◌∙◌, ◌⊎◌, inl, inr, ◌==◌, eqb, eq-eqb, arith}
 use Rattle.std.specs.Prelude.{◌&&◌, ◌||◌, nat_eq, codes}
 use Rattle.std.specs.List.{starts_with}
 use Rattle.std.proofs.lemmas.Bool.{eqb-true, ne_eqb, and_parts}
@@ -17,7 +18,8 @@ use Rattle.flat_words.specs.Steps.{Stop, left_out, ◌>>=◌, fault_here, syntax
 use Rattle.flat_text.specs.Readings.{Reading, taken, taken_to}
 use Rattle.flat_words.specs.Words.{is_path, is_colon}
 use Rattle.flat_text.specs.WordParts.{blank_part, gap_part, word_part, path_part, literal_part, name_part, within_quotes}
-use Rattle.flat_words.specs.Statements.{nothing_open, statement_step, statement_at, past_word, past_byte, past_equals, is_space, boolean_at}
+use Rattle.flat_words.specs.Statements.{nothing_open, statement_step, statement_at, past_word, past_byte, past_equals, is_space}
+use Rattle.flat_words.specs.Statements.{boolean_at}
 use Rattle.flat_text.specs.Statements.{statement_part, boolean_part}
 use Rattle.flat_words.specs.Conditions.{past_condition, past_parentheses, unknown_flag}
 use Rattle.flat_text.specs.Headers.{flags_to, condition_part, attachment_part, head_rest, named_head, profile_head, hat_head, caret_head}
@@ -26,29 +28,34 @@ use Rattle.flat_text.specs.Assignments.{separators_part, values_at, values_part,
 use Rattle.flat_words.proofs.Shorter.{statement_shorter, after_shorter, boolean_shorter, leading_white, use_shorter}
 use Rattle.flat_words.proofs.Steps.{bind_ok, chosen, ok_is, not_ok}
 use Rattle.flat_text.proofs.Going.{Goes, going_stays, going_on, going_taken, going_shortens}
-use Rattle.flat_text.proofs.GoingWords.{Shortens, shorter_on, on_shorter, shortens_taken, shortens_to, front_taken, blank_goes, gap_goes, word_shortens, path_shortens, name_shortens, literal_goes}
+use Rattle.flat_text.proofs.GoingWords.{Shortens, shorter_on, on_shorter, shortens_taken, shortens_to, front_taken, blank_goes, gap_goes}
+use Rattle.flat_text.proofs.GoingWords.{word_shortens, path_shortens, name_shortens, literal_goes}
 
 -- ---- statements
 
 pub statement_shortens : (s t : Reading) → statement_part s ≡ Ok t → Shortens s t
 statement_shortens s t e =
     let p = bind_ok (statement_at nothing_open s.rest) (λ rest. Ok (taken_to parts.Statement rest s)) t e in
-    subst (λ u. Shortens s u) (ok_is (taken_to parts.Statement p.0 s) t p.2) (shortens_to parts.Statement p.0 s (λ b. absurd cc) (statement_shorter nothing_open s.rest p.0 p.1))
+    subst (λ u. Shortens s u) (ok_is (taken_to parts.Statement p.0 s) t p.2) (shortens_to parts.Statement p.0 s (λ b. absurd cc)
+    (statement_shorter nothing_open s.rest p.0 p.1))
 
 pub boolean_shortens : (s t : Reading) → 0 < length s.rest → boolean_part s ≡ Ok t → Shortens s t
 boolean_shortens s t there e =
     let p = bind_ok (boolean_at (drop 1 s.rest)) (λ rest. Ok (taken_to parts.Statement rest s)) t e in
     let a = boolean_shorter (drop 1 s.rest) p.0 p.1 in
     let b = length-drop 1 s.rest in
-    subst (λ u. Shortens s u) (ok_is (taken_to parts.Statement p.0 s) t p.2) (shortens_to parts.Statement p.0 s (λ b. absurd cc) (omega (arith, a, b, there)))
+    subst (λ u. Shortens s u) (ok_is (taken_to parts.Statement p.0 s) t p.2) (shortens_to parts.Statement p.0 s (λ b. absurd cc)
+    (omega (arith, a, b, there)))
 
 -- ---- headers
 
 flags_goes : (rest : List ℕ) (s t : Reading) → flags_to rest s ≡ Ok t → Goes s t
 flags_goes rest s t e = at (unknown_flag (take (length s.rest - length rest) s.rest)) e
   where
-    at : (flag : Option (List ℕ)) → ◌≡◌ {A = Result Reading Stop} (elim flag [ None ↦ Ok (taken_to parts.Flags rest s) | Some w ↦ fault_here (left_out w) s.rest ]) (Ok t) → Goes s t
-    at None e = subst (λ u. Goes s u) (ok_is (taken_to parts.Flags rest s) t e) (going_taken parts.Flags (length s.rest - length rest) s (λ b. absurd cc))
+    at : (flag : Option (List ℕ)) → ◌≡◌ {A = Result Reading Stop}
+        (elim flag [ None ↦ Ok (taken_to parts.Flags rest s) | Some w ↦ fault_here (left_out w) s.rest ]) (Ok t) → Goes s t
+    at None e = subst (λ u. Goes s u) (ok_is (taken_to parts.Flags rest s) t e)
+        (going_taken parts.Flags (length s.rest - length rest) s (λ b. absurd cc))
     at (Some w) e = absurd (not_ok _ t e)
 
 pub condition_goes : (s t : Reading) → condition_part s ≡ Ok t → Goes s t
@@ -57,7 +64,8 @@ condition_goes s t e =
       | inl h ↦
           let p = bind_ok (past_word s.rest) _ t h.1 in
           let q = bind_ok (past_condition p.0) _ t p.2 in
-          subst (λ u. Goes s u) (ok_is (taken_to parts.Xattrs q.0 s) t q.2) (going_taken parts.Xattrs (length s.rest - length q.0) s (λ b. absurd cc))
+          subst (λ u. Goes s u) (ok_is (taken_to parts.Xattrs q.0 s) t q.2)
+          (going_taken parts.Xattrs (length s.rest - length q.0) s (λ b. absurd cc))
       | inr h ↦ elim (chosen (is_word (codes "flags") s.rest) _ _ _ h.1) [
         | inl g ↦
             let p = bind_ok (past_word s.rest) _ t g.1 in
@@ -109,13 +117,15 @@ pub profile_head_shortens : (s t : Reading) → profile_head s ≡ Ok t → Shor
 profile_head_shortens s t e =
     let a = bind_ok (blank_part (taken parts.Profile 7 s)) _ t e in
     let first = going_taken parts.Profile 7 s (λ b. absurd cc) in
-    on_shorter s a.0 t (going_on s (taken parts.Profile 7 s) a.0 first (blank_goes (taken parts.Profile 7 s) a.0 a.1)) (named_head_shortens a.0 t a.2)
+    on_shorter s a.0 t (going_on s (taken parts.Profile 7 s) a.0 first (blank_goes (taken parts.Profile 7 s) a.0 a.1))
+    (named_head_shortens a.0 t a.2)
 
 pub hat_head_shortens : (s t : Reading) → hat_head s ≡ Ok t → Shortens s t
 hat_head_shortens s t e =
     let a = bind_ok (blank_part (taken parts.Hat 3 s)) _ t e in
     let first = going_taken parts.Hat 3 s (λ b. absurd cc) in
-    on_shorter s a.0 t (going_on s (taken parts.Hat 3 s) a.0 first (blank_goes (taken parts.Hat 3 s) a.0 a.1)) (named_head_shortens a.0 t a.2)
+    on_shorter s a.0 t (going_on s (taken parts.Hat 3 s) a.0 first (blank_goes (taken parts.Hat 3 s) a.0 a.1))
+    (named_head_shortens a.0 t a.2)
 
 pub caret_head_shortens : (s t : Reading) → caret_head s ≡ Ok t → Shortens s t
 caret_head_shortens s t e =
@@ -134,7 +144,8 @@ values_go (suc n) s t e =
       | inr h ↦
           let p = bind_ok (word_part parts.Value (separators_part s)) (λ behind. values_at n behind) t h.1 in
           going_on s (separators_part s) t (separators_go s)
-          (going_on (separators_part s) p.0 t (word_shortens parts.Value (λ b. absurd cc) (separators_part s) p.0 p.1).goes (values_go n p.0 t p.2))
+          (going_on (separators_part s) p.0 t (word_shortens parts.Value (λ b. absurd cc) (separators_part s) p.0 p.1).goes
+          (values_go n p.0 t p.2))
     ]
 
 values_part_goes : (s t : Reading) → values_part s ≡ Ok t → Goes s t
@@ -142,13 +153,15 @@ unfolding values_part
 values_part_goes s t e =
     let p = bind_ok (word_part parts.Value (separators_part s)) (λ behind. values_at (suc (length behind.rest)) behind) t e in
     going_on s (separators_part s) t (separators_go s)
-    (going_on (separators_part s) p.0 t (word_shortens parts.Value (λ b. absurd cc) (separators_part s) p.0 p.1).goes (values_go (suc (length p.0.rest)) p.0 t p.2))
+    (going_on (separators_part s) p.0 t (word_shortens parts.Value (λ b. absurd cc) (separators_part s) p.0 p.1).goes
+    (values_go (suc (length p.0.rest)) p.0 t p.2))
 
 white_goes : (s : Reading) → Goes s (white_part s)
 white_goes s =
     let cut = leading_parts is_white s.rest in
     let front : take (length s.rest - length (after is_white s.rest)) s.rest ≡ leading is_white s.rest =
-    subst (λ (x : List ℕ). take (length x - length (after is_white s.rest)) x ≡ leading is_white s.rest) (sym cut) (front_taken (leading is_white s.rest) (after is_white s.rest)) in
+    subst (λ (x : List ℕ). take (length x - length (after is_white s.rest)) x ≡ leading is_white s.rest) (sym cut)
+    (front_taken (leading is_white s.rest) (after is_white s.rest)) in
     going_taken parts.Blank (length s.rest - length (after is_white s.rest)) s (λ _. ap (is_blank false) front ∙ leading_white s.rest)
 
 operator_goes : (s : Reading) → Goes s (operator_part s)
@@ -163,10 +176,13 @@ unfolding assignment_part
 assignment_shortens s t e = at (past_use s.rest) refl e
   where
     at : (o : Option (List ℕ)) → past_use s.rest ≡ o
-        → ◌≡◌ {A = Result Reading Stop} (elim o [ None ↦ syntax_here s.rest | Some rest ↦ values_part (operator_part (white_part (taken_to parts.Variable rest s))) ]) (Ok t) → Shortens s t
+        → ◌≡◌ {A = Result Reading Stop}
+        (elim o [ None ↦ syntax_here s.rest | Some rest ↦ values_part (operator_part (white_part (taken_to parts.Variable rest s))) ])
+        (Ok t) → Shortens s t
     at None u e = absurd (not_ok _ t e)
     at (Some rest) u e =
         let v = taken_to parts.Variable rest s in
         shorter_on s v t (shortens_to parts.Variable rest s (λ b. absurd cc) (use_shorter s.rest rest u))
         (going_on v (white_part v) t (white_goes v)
-        (going_on (white_part v) (operator_part (white_part v)) t (operator_goes (white_part v)) (values_part_goes (operator_part (white_part v)) t e)))
+        (going_on (white_part v) (operator_part (white_part v)) t (operator_goes (white_part v))
+        (values_part_goes (operator_part (white_part v)) t e)))

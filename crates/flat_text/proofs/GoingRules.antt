@@ -1,5 +1,6 @@
 -- Rules and whole items read on.
-use Rattle.std.proofs.Common.{◌≡◌, ℕ, zero, suc, ◌≤◌, ◌<◌, ◌-◌, ◌+◌, Bool, true, false, not, cond, List, [], ◌∷◌, ◌++◌, length, take, drop, Option, Some, None, Result, Ok, Err, refl, sym, ap, subst, ◌∙◌, ◌⊎◌, inl, inr, ◌==◌, eqb, eq-eqb, arith}
+use Rattle.std.proofs.Common.{◌≡◌, ℕ, zero, suc, ◌≤◌, ◌<◌, ◌-◌, ◌+◌, Bool, true, false, not, cond, List, [], ◌∷◌, ◌++◌, length, take, drop}
+use Rattle.std.proofs.Common.{Option, Some, None, Result, Ok, Err, refl, sym, ap, subst, ◌∙◌, ◌⊎◌, inl, inr, ◌==◌, eqb, eq-eqb, arith}
 use Rattle.std.specs.Prelude.{◌&&◌, ◌||◌, nat_eq, codes}
 use Rattle.std.proofs.lemmas.Bool.{eqb-true, ne_eqb, and_parts}
 use Rattle.std.proofs.lemmas.Slice.Eq.{bytes_eq-Decides}
@@ -20,27 +21,35 @@ use Rattle.flat_text.specs.Statements.{statement_part, boolean_part}
 use Rattle.flat_text.specs.Headers.{named_head, profile_head, hat_head, caret_head}
 use Rattle.flat_words.specs.Assignments.{is_assignment}
 use Rattle.flat_text.specs.Assignments.{assignment_part}
-use Rattle.flat_text.specs.Rules.{optional_word, optional_choice, permissions_word, permissions_part, target_part, comma_part, rule_end, path_first, links_and_runs, permissions_first, begins_path_word, is_left_out_byte, body_part, guarded_body, file_rule, link_rule, of_kind, unqualified_item, rule_item, word_left_out}
+use Rattle.flat_text.specs.Rules.{optional_word, optional_choice, permissions_word, permissions_part, target_part, comma_part, rule_end}
+use Rattle.flat_text.specs.Rules.{path_first, links_and_runs, permissions_first, begins_path_word, is_left_out_byte, body_part}
+use Rattle.flat_text.specs.Rules.{guarded_body, file_rule, link_rule, of_kind, unqualified_item, rule_item, word_left_out}
 use Rattle.flat_text.specs.Texts.{inner_item, outer_item, item_at}
 use Rattle.flat_words.proofs.Steps.{bind_ok, chosen, ok_is, not_ok}
 use Rattle.flat_text.proofs.Going.{Goes, going_stays, going_on, going_taken, going_shortens}
-use Rattle.flat_text.proofs.GoingWords.{Shortens, shorter_on, on_shorter, shortens_taken, blank_goes, blank_shortens, gap_goes, word_shortens, path_shortens, literal_goes}
-use Rattle.flat_text.proofs.GoingItems.{statement_shortens, boolean_shortens, named_head_shortens, profile_head_shortens, hat_head_shortens, caret_head_shortens, assignment_shortens}
+use Rattle.flat_text.proofs.GoingWords.{Shortens, shorter_on, on_shorter, shortens_taken, blank_goes, blank_shortens, gap_goes}
+use Rattle.flat_text.proofs.GoingWords.{word_shortens, path_shortens, literal_goes}
+use Rattle.flat_text.proofs.GoingItems.{statement_shortens, boolean_shortens, named_head_shortens, profile_head_shortens}
+use Rattle.flat_text.proofs.GoingItems.{hat_head_shortens, caret_head_shortens, assignment_shortens}
 
 -- ---- words
 
-optional_goes : (kind : PartKind) → (kind ≡ parts.Blank → ⊥) → (name : List ℕ) (s t : Reading) → optional_word kind name s ≡ Ok t → Goes s t
+optional_goes : (kind : PartKind) → (kind ≡ parts.Blank → ⊥) → (name : List ℕ) (s t : Reading) →
+    optional_word kind name s ≡ Ok t → Goes s t
 optional_goes kind other name s t e =
     elim (chosen (is_word name s.rest) _ _ _ e) [
-      | inl h ↦ going_on s (taken kind (length name) s) t (going_taken kind (length name) s (λ b. absurd (other b))) (blank_goes (taken kind (length name) s) t h.1)
+      | inl h ↦ going_on s (taken kind (length name) s) t (going_taken kind (length name) s (λ b. absurd (other b)))
+          (blank_goes (taken kind (length name) s) t h.1)
       | inr h ↦ subst (λ u. Goes s u) (ok_is s t h.1) (going_stays s)
     ]
 
-choice_goes : (kind other_kind : PartKind) → (kind ≡ parts.Blank → ⊥) → (other_kind ≡ parts.Blank → ⊥) → (name other_name : List ℕ) (s t : Reading)
+choice_goes : (kind other_kind : PartKind) → (kind ≡ parts.Blank → ⊥) → (other_kind ≡ parts.Blank → ⊥) →
+    (name other_name : List ℕ) (s t : Reading)
     → optional_choice kind name other_kind other_name s ≡ Ok t → Goes s t
 choice_goes kind other_kind h g name other_name s t e =
     elim (chosen (is_word name s.rest) _ _ _ e) [
-      | inl k ↦ going_on s (taken kind (length name) s) t (going_taken kind (length name) s (λ b. absurd (h b))) (blank_goes (taken kind (length name) s) t k.1)
+      | inl k ↦ going_on s (taken kind (length name) s) t (going_taken kind (length name) s (λ b. absurd (h b)))
+          (blank_goes (taken kind (length name) s) t k.1)
       | inr k ↦ optional_goes other_kind g other_name s t k.1
     ]
 
@@ -77,7 +86,8 @@ pub some_length : (n : ℕ) → (n == 0) ≡ false → 0 < n
 some_length zero e = absurd cc
 some_length (suc n) e = omega arith
 
-permissions_shorten : (denies : Bool) (stop : Stop) (s : Reading) (l : Letters) → permissions_word denies stop s.rest ≡ Ok l → Shortens s (permissions_part s)
+permissions_shorten : (denies : Bool) (stop : Stop) (s : Reading) (l : Letters) → permissions_word denies stop s.rest ≡ Ok l →
+    Shortens s (permissions_part s)
 permissions_shorten denies stop s l e =
     elim (chosen (length (word s.rest) == 0) _ _ _ e) [
       | inl h ↦ absurd (not_ok _ l h.1)
@@ -122,14 +132,16 @@ body_shortens denies s t e =
       | inl h ↦ path_first_shortens denies s t h.1
       | inr h ↦ elim (chosen (not (length (word s.rest) == 0)) _ _ _ h.1) [
         | inl g ↦ permissions_first_shortens denies s t g.1
-        | inr g ↦ elim (chosen (begins is_left_out_byte s.rest) _ _ _ g.1) [ inl k ↦ absurd (not_ok _ t k.1) | inr k ↦ absurd (not_ok _ t k.1) ]
+        | inr g ↦ elim (chosen (begins is_left_out_byte s.rest) _ _ _ g.1)
+            [ inl k ↦ absurd (not_ok _ t k.1) | inr k ↦ absurd (not_ok _ t k.1) ]
       ]
     ]
 
 guarded_shortens : (denies : Bool) (s t : Reading) → guarded_body denies s ≡ Ok t → Shortens s t
 guarded_shortens denies s t e =
     let a = bind_ok (optional_choice parts.Safe (codes "safe") parts.Unsafe (codes "unsafe") s) _ t e in
-    on_shorter s a.0 t (choice_goes parts.Safe parts.Unsafe (λ b. absurd cc) (λ b. absurd cc) (codes "safe") (codes "unsafe") s a.0 a.1) (body_shortens denies a.0 t a.2)
+    on_shorter s a.0 t (choice_goes parts.Safe parts.Unsafe (λ b. absurd cc) (λ b. absurd cc) (codes "safe") (codes "unsafe") s a.0 a.1)
+    (body_shortens denies a.0 t a.2)
 
 -- a word of some letters is here, so something is left
 named_there : (name bytes : List ℕ) → 0 < length name → is_word name bytes ≡ true → 0 < length bytes
@@ -158,7 +170,11 @@ link_shortens s t there e =
     let c = bind_ok (path_part parts.Path b.0) _ t b.2 in
     let d = bind_ok (blank_part c.0) _ t c.2 in
     let g = bind_ok (cond (is_arrow d.0.rest) (target_part d.0) (syntax_here d.0.rest)) (λ comma. comma_part comma) t d.2 in
-    let arrow : Goes d.0 g.0 = elim (chosen (is_arrow d.0.rest) _ _ _ g.1) [ inl h ↦ target_goes d.0 g.0 h.1 | inr h ↦ absurd (not_ok _ g.0 h.1) ] in
+    let arrow : Goes d.0 g.0 = elim (chosen (is_arrow d.0.rest) _ _ _ g.1) [
+      | inl h ↦ target_goes d.0 g.0 h.1
+      | inr h ↦ absurd
+          (not_ok _ g.0 h.1)
+    ] in
     shorter_on s f t (shortens_taken parts.Link 4 s (λ b. absurd cc) (omega arith) there)
     (going_on f a.0 t (blank_goes f a.0 a.1)
     (going_on a.0 b.0 t (optional_goes parts.Subset (λ b. absurd cc) (codes "subset") a.0 b.0 b.1)
@@ -171,7 +187,8 @@ link_shortens s t there e =
 abbrev Item : Type 0
 Item = ItemKind × Reading
 
-kind_shortens : (kind : ItemKind) (r : Result Reading Stop) (s : Reading) (i : Item) → of_kind kind r ≡ Ok i → ((t : Reading) → r ≡ Ok t → Shortens s t) → Shortens s i.1
+kind_shortens : (kind : ItemKind) (r : Result Reading Stop) (s : Reading) (i : Item) → of_kind kind r ≡ Ok i →
+    ((t : Reading) → r ≡ Ok t → Shortens s t) → Shortens s i.1
 kind_shortens kind r s i e h =
     let p = bind_ok r (λ t. Ok (kind, t)) i e in
     subst (λ (u : Item). Shortens s u.1) (ok_is (kind, p.0) i p.2) (h p.0 p.1)
@@ -200,15 +217,18 @@ rule_shortens s i e =
     let b = bind_ok (optional_choice parts.Allow (codes "allow") parts.Deny (codes "deny") a.0) _ i a.2 in
     let c = bind_ok (optional_choice parts.Owner (codes "owner") parts.Other (codes "other") b.0) _ i b.2 in
     on_shorter s a.0 i.1 (optional_goes parts.Audit (λ b. absurd cc) (codes "audit") s a.0 a.1)
-    (on_shorter a.0 b.0 i.1 (choice_goes parts.Allow parts.Deny (λ b. absurd cc) (λ b. absurd cc) (codes "allow") (codes "deny") a.0 b.0 b.1)
-    (on_shorter b.0 c.0 i.1 (choice_goes parts.Owner parts.Other (λ b. absurd cc) (λ b. absurd cc) (codes "owner") (codes "other") b.0 c.0 c.1)
+    (on_shorter a.0 b.0 i.1 (choice_goes parts.Allow parts.Deny (λ b. absurd cc) (λ b. absurd cc) (codes "allow")
+    (codes "deny") a.0 b.0 b.1)
+    (on_shorter b.0 c.0 i.1 (choice_goes parts.Owner parts.Other (λ b. absurd cc) (λ b. absurd cc) (codes "owner")
+    (codes "other") b.0 c.0 c.1)
     (unqualified_shortens (is_word (codes "deny") a.0.rest) (length a.0.rest) c.0 i c.2)))
 
 inner_shortens : (s : Reading) (i : Item) → 0 < length s.rest → inner_item s ≡ Ok i → Shortens s i.1
 unfolding inner_item
 inner_shortens s i there e =
     elim (chosen (begins is_close_brace s.rest) _ _ _ e) [
-      | inl h ↦ subst (λ (u : Item). Shortens s u.1) (ok_is (items.Close, taken parts.Close 1 s) i h.1) (shortens_taken parts.Close 1 s (λ b. absurd cc) (omega arith) there)
+      | inl h ↦ subst (λ (u : Item). Shortens s u.1) (ok_is (items.Close, taken parts.Close 1 s) i h.1)
+          (shortens_taken parts.Close 1 s (λ b. absurd cc) (omega arith) there)
       | inr h ↦ elim (chosen (begins (λ b. b == 94) s.rest) _ _ _ h.1) [
         | inl g ↦ kind_shortens items.Hat (caret_head s) s i g.1 (caret_head_shortens s)
         | inr g ↦ elim (chosen (is_word (codes "hat") s.rest) _ _ _ g.1) [
@@ -239,7 +259,8 @@ outer_shortens begun s i there e =
               | inl n ↦ kind_shortens items.Profile (profile_head s) s i n.1 (profile_head_shortens s)
               | inr n ↦ elim (chosen (is_word (codes "abi") s.rest) _ _ _ n.1) [
                 | inl o ↦ kind_shortens items.Statement (statement_part s) s i o.1 (statement_shortens s)
-                | inr o ↦ elim (chosen (length (word s.rest) == 0) _ _ _ o.1) [ inl q ↦ absurd (not_ok _ i q.1) | inr q ↦ absurd (not_ok _ i q.1) ]
+                | inr o ↦ elim (chosen (length (word s.rest) == 0) _ _ _ o.1)
+                    [ inl q ↦ absurd (not_ok _ i q.1) | inr q ↦ absurd (not_ok _ i q.1) ]
               ]
             ]
           ]

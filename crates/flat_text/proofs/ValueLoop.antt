@@ -17,17 +17,25 @@ value_shorter s t e =
     let b = going_shortens s (separators_part s) (separators_go s) in
     omega (arith, a, b)
 
-pub values_end : (room : ℕ) (s : Reading) (whole : Result Reading Stop) → length s.rest < room → values_at room s ≡ whole → line_ends (separators_part s).rest ≡ true → whole ≡ Ok (separators_part s)
+pub values_end : (room : ℕ) (s : Reading) (whole : Result Reading Stop) → length s.rest < room → values_at room s ≡ whole →
+    line_ends (separators_part s).rest ≡ true → whole ≡ Ok (separators_part s)
 values_end zero s whole h e l = absurd (omega (arith, h))
-values_end (suc room) s whole h e l = sym e ∙ ap (λ b. cond b (Ok (separators_part s)) (word_part parts.Value (separators_part s) >>= λ behind. values_at room behind)) l
+values_end (suc room) s whole h e l =
+    sym e ∙ ap (λ b. cond b (Ok (separators_part s)) (word_part parts.Value (separators_part s) >>= λ behind. values_at room behind)) l
 
-pub values_fail : (room : ℕ) (s : Reading) (whole : Result Reading Stop) (r : Result Reading Stop) → length s.rest < room → values_at room s ≡ whole → line_ends (separators_part s).rest ≡ false
+pub values_fail : (room : ℕ) (s : Reading) (whole : Result Reading Stop) (r : Result Reading Stop) → length s.rest < room →
+    values_at room s ≡ whole → line_ends (separators_part s).rest ≡ false
     → word_part parts.Value (separators_part s) ≡ r → (k : ℕ) × (whole ≡ (r >>= λ behind. values_at k behind)) × (length s.rest ≤ k)
 values_fail zero s whole r h e l w = absurd (omega (arith, h))
-values_fail (suc room) s whole r h e l w =
-    (room, sym e ∙ ap (λ b. cond b (Ok (separators_part s)) (word_part parts.Value (separators_part s) >>= λ behind. values_at room behind)) l ∙ ap (λ (x : Result Reading Stop). x >>= λ behind. values_at room behind) w, omega (arith, h))
+values_fail (suc room) s whole r h e l w = (
+  room,
+  sym e ∙ ap (λ b. cond b (Ok (separators_part s)) (word_part parts.Value (separators_part s) >>= λ behind. values_at room
+      behind)) l ∙ ap (λ (x : Result Reading Stop). x >>= λ behind. values_at room behind) w,
+  omega (arith, h),
+)
 
-pub values_more : (room : ℕ) (s t : Reading) (whole : Result Reading Stop) → length s.rest < room → values_at room s ≡ whole → line_ends (separators_part s).rest ≡ false
+pub values_more : (room : ℕ) (s t : Reading) (whole : Result Reading Stop) → length s.rest < room → values_at room s ≡ whole →
+    line_ends (separators_part s).rest ≡ false
     → word_part parts.Value (separators_part s) ≡ Ok t → (k : ℕ) × (length t.rest < k) × (values_at k t ≡ whole)
 values_more room s t whole h e l w =
     let p = values_fail room s whole (Ok t) h e l w in

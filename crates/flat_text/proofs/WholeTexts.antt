@@ -1,5 +1,6 @@
 -- The items of a text are all of its bytes, and a text has one outcome.
-use Rattle.std.proofs.Common.{◌≡◌, ℕ, zero, suc, ◌≤◌, ◌<◌, ◌-◌, ◌+◌, Bool, true, false, not, cond, List, [], ◌∷◌, ◌++◌, length, Option, Some, None, Result, Ok, Err, refl, sym, ap, ap₂, subst, ◌∙◌, append_assoc, ◌⊎◌, inl, inr, arith}
+use Rattle.std.proofs.Common.{◌≡◌, ℕ, zero, suc, ◌≤◌, ◌<◌, ◌-◌, ◌+◌, Bool, true, false, not, cond, List, [], ◌∷◌, ◌++◌, length, Option}
+use Rattle.std.proofs.Common.{Some, None, Result, Ok, Err, refl, sym, ap, ap₂, subst, ◌∙◌, append_assoc, ◌⊎◌, inl, inr, arith}
 use Rattle.rule_globs.specs.Each.{Each}
 use Rattle.flat_text.specs.declared.part.ItemKind.{ItemKind}
 use Rattle.flat_text.specs.declared.text.Position.{Position}
@@ -17,10 +18,12 @@ abbrev start_of : ℕ → List ℕ → Reading
 start_of b bytes = record { parts = []; rest = b ∷ bytes }
 
 -- one item and what is left are what was there
-item_cut : (position : Position) (b : ℕ) (bytes : List ℕ) (kind : ItemKind) (s : Reading) → item_at position (start_of b bytes) ≡ Ok (kind, s) → Shortens (start_of b bytes) s
+item_cut : (position : Position) (b : ℕ) (bytes : List ℕ) (kind : ItemKind) (s : Reading) → item_at position (start_of b bytes)
+    ≡ Ok (kind, s) → Shortens (start_of b bytes) s
 item_cut position b bytes kind s e = item_shortens position (start_of b bytes) (kind, s) (omega arith) e
 
-item_bytes : (position : Position) (b : ℕ) (bytes : List ℕ) (kind : ItemKind) (s : Reading) → item_at position (start_of b bytes) ≡ Ok (kind, s) → bytes_of_parts s.parts ++ s.rest ≡ b ∷ bytes
+item_bytes : (position : Position) (b : ℕ) (bytes : List ℕ) (kind : ItemKind) (s : Reading) → item_at position (start_of b bytes)
+    ≡ Ok (kind, s) → bytes_of_parts s.parts ++ s.rest ≡ b ∷ bytes
 item_bytes position b bytes kind s e =
     let g = (item_cut position b bytes kind s e).goes in
     ap (λ (p : List PartValue). bytes_of_parts p ++ s.rest) g.parts ∙ g.bytes
@@ -32,18 +35,26 @@ front_from position text read end (ends p h) = ([], refl, λ _. refl)
 front_from position text read end (lacks p h) = ([], refl, λ e. absurd cc)
 front_from position text read end (stops p b bytes stop e) = (b ∷ bytes, refl, λ e. absurd cc)
 front_from position text read end (goes_on p b bytes kind s others last e r) =
-    let h = front_from (behind_item kind p) s.rest others last r in
-    (h.0, append_assoc (bytes_of_parts s.parts) (bytes_of_items others) h.0 ∙ ap (λ (x : List ℕ). bytes_of_parts s.parts ++ x) h.1 ∙ item_bytes p b bytes kind s e, h.2)
+    let h = front_from (behind_item kind p) s.rest others last r in (
+      h.0,
+      append_assoc (bytes_of_parts s.parts) (bytes_of_items others) h.0 ∙ ap (λ (x : List ℕ). bytes_of_parts s.parts ++ x) h.1
+          ∙ item_bytes p b bytes kind s e,
+      h.2,
+    )
 
-pub items_from : (position : Position) (text : List ℕ) (read : List ItemValue) (end : Option Stop) → ReadsFrom position text read end → Each IsItem read
+pub items_from : (position : Position) (text : List ℕ) (read : List ItemValue) (end : Option Stop) → ReadsFrom position text read end →
+    Each IsItem read
 items_from position text read end (ends p h) = tt
 items_from position text read end (lacks p h) = tt
 items_from position text read end (stops p b bytes stop e) = tt
 items_from position text read end (goes_on p b bytes kind s others last e r) =
     let cut = item_cut p b bytes kind s e in
     let parts = subst (λ (x : List PartValue). Each IsPart x) (sym cut.goes.parts) cut.goes.whole in
-    let less = cut.less in
-    (record { some = some_parts s.parts (item_bytes p b bytes kind s e) less; parts = parts }, items_from (behind_item kind p) s.rest others last r)
+    let less = cut.less in (
+      record { some = some_parts s.parts (item_bytes p b bytes kind s e) less; parts = parts },
+      items_from (behind_item kind p)
+          s.rest others last r,
+    )
   where
     some_parts : (x : List PartValue) → bytes_of_parts x ++ s.rest ≡ b ∷ bytes → length s.rest < length (b ∷ bytes) → 0 < length x
     some_parts [] same less = let n = ap length same in absurd (omega (arith, n, less))
@@ -90,7 +101,8 @@ some_from (suc room) position (b ∷ bytes) h = at (item_at position (start_of b
     some_from room (behind_item kind position) s.rest (omega (arith, h, less)))
   where
     at : (r : Result (ItemKind × Reading) Stop) → item_at position (start_of b bytes) ≡ r
-        → ((kind : ItemKind) (s : Reading) → item_at position (start_of b bytes) ≡ Ok (kind, s) → Outcome (behind_item kind position) s.rest) → Outcome position (b ∷ bytes)
+        → ((kind : ItemKind) (s : Reading) → item_at position (start_of b bytes) ≡ Ok (kind, s) →
+        Outcome (behind_item kind position) s.rest) → Outcome position (b ∷ bytes)
     at (Err stop) e next = ([], Some stop, stops position b bytes stop e)
     at (Ok i) e next =
         let others = next i.0 i.1 e in

@@ -23,7 +23,8 @@ flags_to rest s = elim (unknown_flag (take (length s.rest - length rest) s.rest)
 -- a condition, if one is here
 abbrev pub condition_part : Reading → Result Reading Stop
 condition_part s =
-    if is_word (codes "xattrs") s.rest then (past_word s.rest >>= λ behind. past_condition behind >>= λ rest. Ok (taken_to parts.Xattrs rest s))
+    if is_word (codes "xattrs") s.rest then (past_word s.rest >>= λ behind. past_condition behind >>= λ rest. Ok
+    (taken_to parts.Xattrs rest s))
     else if is_word (codes "flags") s.rest then (past_word s.rest >>= λ behind. past_condition behind >>= λ rest. flags_to rest s)
     else if begins (λ b. b == 40) s.rest then (past_parentheses s.rest >>= λ rest. flags_to rest s)
     else Ok s

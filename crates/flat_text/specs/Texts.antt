@@ -1,6 +1,7 @@
 -- Flattened profile texts (apparmor.d(5), "Format"; apparmor_parser(8), --preprocess): their items in order, up to the end or
 -- to the first fault.
-use Rattle.std.specs.Prelude.{◌≡◌, ℕ, ◌+◌, ◌-◌, List, [], ◌∷◌, length, codes, Result, Ok, Err, Option, Some, None, Bool, true, false, not, ◌&&◌, ◌||◌, ◌==◌, if◌then◌else◌}
+use Rattle.std.specs.Prelude.{◌≡◌, ℕ, ◌+◌, ◌-◌, List, [], ◌∷◌, length, codes, Result, Ok, Err, Option, Some, None, Bool, true, false, not}
+use Rattle.std.specs.Prelude.{◌&&◌, ◌||◌, ◌==◌, if◌then◌else◌}
 use Rattle.rule_reader.specs.TextBytes.{begins, opens_blank, is_close_brace}
 use Rattle.rule_reader.specs.ReadWords.{word, is_word}
 use Rattle.flat_text.specs.declared.part.PartKind.TheVariants as parts

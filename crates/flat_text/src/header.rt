@@ -8,7 +8,8 @@ use flat_words::{
 };
 
 impl<'t> Reader<'t> {
-    ghost use Rattle.flat_text.specs.Headers.{flags_to, condition_part, attachment_part, head_rest, named_head, profile_head, hat_head, caret_head};
+    ghost use Rattle.flat_text.specs.Headers.{flags_to, condition_part, attachment_part, head_rest, named_head, profile_head, hat_head};
+    ghost use Rattle.flat_text.specs.Headers.{caret_head};
     ghost use Rattle.flat_words.specs.Gives.{Gives};
 
     /// The flags up to these bytes, each of which must be known.

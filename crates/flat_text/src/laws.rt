@@ -17,7 +17,8 @@ pub fn items_are_the_text()
 
 /// Each text has one list of items, and one fault or none.
 pub fn texts_have_one_outcome()
-    ensures one { (text : List ℕ) (items others : List ItemValue) (end other : Option Stop) → ReadsItems text items end → ReadsItems text others other
+    ensures one { (text : List ℕ) (items others : List ItemValue) (end other : Option Stop) → ReadsItems text items end →
+        ReadsItems text others other
         → (items ≡ others) × (end ≡ other) }
     ensures some { (text : List ℕ) → (items : List ItemValue) × (end : Option Stop) × ReadsItems text items end }
 {}

@@ -2,7 +2,8 @@
 ghost use Rattle.std.specs.Prelude.{◌≡◌, [], Ok, length};
 ghost use Rattle.flat_words.specs.Gives.{Gives};
 ghost use Rattle.flat_text.specs.Readings.{taken, taken_to};
-ghost use Rattle.flat_text.specs.WordParts.{blank_part, gap_part, word_part, path_part, literal_part, name_part, within_quotes, begins_no_name};
+ghost use Rattle.flat_text.specs.WordParts.{blank_part, gap_part, word_part, path_part, literal_part, name_part, within_quotes};
+ghost use Rattle.flat_text.specs.WordParts.{begins_no_name};
 ghost use Rattle.rule_reader.specs.TextBytes.{begins};
 
 use crate::part::{Part, PartKind};

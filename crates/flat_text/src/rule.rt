@@ -58,7 +58,9 @@ fn links_and_runs(letters: Letters) -> bool
 
 impl<'t> Reader<'t> {
     ghost use Rattle.std.specs.Prelude.{◌≡◌, length, Ok, codes};
-    ghost use Rattle.flat_text.specs.Rules.{optional_word, optional_choice, permissions_part, target_part, comma_part, rule_end, path_first, permissions_first, body_part, guarded_body, file_rule, link_rule, unqualified_item, rule_item};
+    ghost use Rattle.flat_text.specs.Rules.{optional_word, optional_choice, permissions_part, target_part, comma_part, rule_end};
+    ghost use Rattle.flat_text.specs.Rules.{path_first, permissions_first, body_part, guarded_body, file_rule, link_rule};
+    ghost use Rattle.flat_text.specs.Rules.{unqualified_item, rule_item};
     ghost use Rattle.flat_words.specs.Gives.{Gives};
 
     /// This word and the blank after it, if it is here.

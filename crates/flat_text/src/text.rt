@@ -161,7 +161,8 @@ fn next_item(
     bytes: &[u8],
 ) -> Result<(Item<'_>, &[u8]), Failure<'_>>
     requires { 0 < length bytes.now }
-    ensures { Gives (λ x. (x.0.kind, record { parts = x.0.parts; rest = x.1.now })) result (item_at position (record { parts = []; rest = bytes.now })) }
+    ensures { Gives (λ x. (x.0.kind, record { parts = x.0.parts; rest = x.1.now })) result
+        (item_at position (record { parts = []; rest = bytes.now })) }
 {
     let mut reader = Reader::new(alloc, bytes);
     let kind = reader.item(position)?;

@@ -1,17 +1,20 @@
 -- What is left after a part of a text is shorter than what was there.
-use Rattle.std.proofs.Common.{◌≡◌, ℕ, zero, suc, ◌≤◌, ◌<◌, ◌-◌, ◌+◌, Bool, true, false, not, cond, List, [], ◌∷◌, ◌++◌, length, take, drop, Option, Some, None, Result, Ok, Err, refl, sym, ap, subst, ◌∙◌, ◌⊎◌, inl, inr, ◌==◌, eqb, eq-eqb, arith}
+use Rattle.std.proofs.Common.{◌≡◌, ℕ, zero, suc, ◌≤◌, ◌<◌, ◌-◌, ◌+◌, Bool, true, false, not, cond, List, [], ◌∷◌, ◌++◌, length, take, drop}
+use Rattle.std.proofs.Common.{Option, Some, None, Result, Ok, Err, refl, sym, ap, subst, ◌∙◌, ◌⊎◌, inl, inr, ◌==◌, eqb, eq-eqb, arith}
 use Rattle.std.specs.Prelude.{◌&&◌, ◌||◌, nat_eq, codes}
 use Rattle.std.specs.List.{starts_with}
 use Rattle.std.proofs.lemmas.Bool.{eqb-true, ne_eqb, cases_lt, and_parts}
 use Rattle.std.proofs.lemmas.List.{length-append, length-drop}
-use Rattle.rule_reader.specs.TextBytes.{begins, is_white, is_hash, opens_blank, is_include, is_quote, is_comma, is_word_byte, is_open_brace}
+use Rattle.rule_reader.specs.TextBytes.{begins, is_white, is_hash, opens_blank, is_include, is_quote, is_comma, is_word_byte}
+use Rattle.rule_reader.specs.TextBytes.{is_open_brace}
 use Rattle.rule_reader.specs.ReadWords.{after, leading, word, after_word}
 use Rattle.rule_reader.proofs.ReadRuns.{leading_parts}
 use Rattle.flat_words.specs.declared.statement.Unclosed.{Unclosed}
 use Rattle.flat_words.specs.Blanks.{is_blank}
 use Rattle.flat_words.specs.Steps.{Stop, ◌>>=◌, syntax_here}
 use Rattle.flat_words.specs.Words.{blank_at, comma_ends, bare_at, quoted_at, word_end}
-use Rattle.flat_words.specs.Statements.{statement_step, statement_at, past_word, past_byte, past_equals, past_boolean_name, is_space, boolean_at}
+use Rattle.flat_words.specs.Statements.{statement_step, statement_at, past_word, past_byte, past_equals, past_boolean_name, is_space}
+use Rattle.flat_words.specs.Statements.{boolean_at}
 use Rattle.flat_words.specs.Assignments.{past_use}
 use Rattle.flat_words.proofs.Steps.{bind_ok, chosen, ok_is, not_ok}
 
@@ -77,7 +80,8 @@ word_shorter (b ∷ bytes) rest e =
     elim (chosen (is_quote b) _ _ _ e) [
       | inl h ↦ let l = quoted_shorter false bytes rest h.1 in omega (arith, l)
       | inr h ↦
-          let p = bind_ok (bare_at false (b ∷ bytes)) (λ rest. cond (length rest == length (b ∷ bytes)) (syntax_here (b ∷ bytes)) (Ok rest)) rest h.1 in
+          let p = bind_ok (bare_at false (b ∷ bytes)) (λ rest. cond (length rest == length (b ∷ bytes)) (syntax_here (b ∷ bytes))
+          (Ok rest)) rest h.1 in
           elim (chosen (length p.0 == length (b ∷ bytes)) _ _ _ p.2) [
             | inl g ↦ absurd (not_ok _ rest g.1)
             | inr g ↦
@@ -124,8 +128,10 @@ opened_shorter (b ∷ bytes) rest h e =
 
 -- ---- statements
 
-statement_behind : (b : ℕ) (bytes rest : List ℕ) (next : Option Unclosed) → ((o : Unclosed) → statement_at o bytes ≡ Ok rest → length rest < length bytes)
-    → ◌≡◌ {A = Result (List ℕ) Stop} (elim next [ None ↦ Ok bytes | Some o ↦ statement_at o bytes ]) (Ok rest) → length rest < length (b ∷ bytes)
+statement_behind : (b : ℕ) (bytes rest : List ℕ) (next : Option Unclosed) → ((o : Unclosed) → statement_at o bytes ≡ Ok rest →
+    length rest < length bytes)
+    → ◌≡◌ {A = Result (List ℕ) Stop} (elim next [ None ↦ Ok bytes | Some o ↦ statement_at o bytes ]) (Ok rest) →
+    length rest < length (b ∷ bytes)
 statement_behind b bytes rest None h e = let l = ap length (ok_is bytes rest e) in omega (arith, l)
 statement_behind b bytes rest (Some o) h e = let l = h o e in omega (arith, l)
 
@@ -189,12 +195,14 @@ pub leading_white : (bytes : List ℕ) → is_blank false (leading is_white byte
 leading_white [] = refl
 leading_white (b ∷ bytes) = at (is_white b) refl (leading_white bytes)
   where
-    at : (t : Bool) → is_white b ≡ t → is_blank false (leading is_white bytes) ≡ true → is_blank false (cond t (b ∷ leading is_white bytes) []) ≡ true
+    at : (t : Bool) → is_white b ≡ t → is_blank false (leading is_white bytes) ≡ true →
+        is_blank false (cond t (b ∷ leading is_white bytes) []) ≡ true
     at true e h = ap (λ t. cond t (is_blank false (leading is_white bytes)) (is_hash b && is_blank true (leading is_white bytes))) e ∙ h
     at false e h = refl
 
 pub use_shorter : (bytes rest : List ℕ) → past_use bytes ≡ Some rest → length rest < length bytes
-use_shorter bytes rest e = at (starts_with nat_eq bytes (codes "@{") && not (length (word (drop 2 bytes)) == 0) && begins (λ b. b == 125) (after_word (drop 2 bytes))) refl e
+use_shorter bytes rest e = at (starts_with nat_eq bytes (codes "@{") && not (length (word (drop 2 bytes)) == 0) && begins (λ b. b == 125)
+    (after_word (drop 2 bytes))) refl e
   where
     some_is : {A : Type 0} (x y : A) → Some x ≡ Some y → x ≡ y
     some_is x y e = cc
@@ -203,7 +211,8 @@ use_shorter bytes rest e = at (starts_with nat_eq bytes (codes "@{") && not (len
     first_there [] h = absurd cc
     first_there (b ∷ bs) h = omega arith
 
-    at : (b : Bool) → (starts_with nat_eq bytes (codes "@{") && not (length (word (drop 2 bytes)) == 0) && begins (λ b. b == 125) (after_word (drop 2 bytes))) ≡ b
+    at : (b : Bool) → (starts_with nat_eq bytes (codes "@{") && not (length (word (drop 2 bytes)) == 0) && begins (λ b. b == 125)
+        (after_word (drop 2 bytes))) ≡ b
         → cond b (Some (drop 1 (after_word (drop 2 bytes)))) None ≡ Some rest → length rest < length bytes
     at true t e =
         let there = first_there (after_word (drop 2 bytes)) (and_parts _ (begins (λ b. b == 125) (after_word (drop 2 bytes))) t).1 in

@@ -1,5 +1,6 @@
 -- Where an assignment to a variable begins, and what separates its values (apparmor.d(5), "Variables").
-use Rattle.std.specs.Prelude.{ℕ, List, [], ◌∷◌, length, codes, Option, Some, None, Bool, true, false, not, ◌&&◌, ◌||◌, ◌==◌, if◌then◌else◌, drop, nat_eq}
+use Rattle.std.specs.Prelude.{ℕ, List, [], ◌∷◌, length, codes, Option, Some, None, Bool, true, false, not, ◌&&◌, ◌||◌, ◌==◌, if◌then◌else◌}
+use Rattle.std.specs.Prelude.{drop, nat_eq}
 use Rattle.std.specs.List.{starts_with}
 use Rattle.rule_reader.specs.TextBytes.{begins, is_white}
 use Rattle.rule_reader.specs.ReadWords.{word, after_word, after}
@@ -8,7 +9,8 @@ use Rattle.flat_words.specs.Statements.{is_space}
 -- what is left after @{NAME}, if it is at the front (125 is the closing brace)
 abbrev pub past_use : List ℕ → Option (List ℕ)
 past_use bytes =
-    if starts_with nat_eq bytes (codes "@{") && not (length (word (drop 2 bytes)) == 0) && begins (λ b. b == 125) (after_word (drop 2 bytes))
+    if starts_with nat_eq bytes (codes "@{") && not (length (word (drop 2 bytes)) == 0) && begins (λ b. b == 125)
+    (after_word (drop 2 bytes))
     then Some (drop 1 (after_word (drop 2 bytes)))
     else None
 

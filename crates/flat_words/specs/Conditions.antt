@@ -1,5 +1,6 @@
 -- The contents of the head of a profile besides its names: extended attributes and flags (apparmor.d(5), "Format").
-use Rattle.std.specs.Prelude.{ℕ, List, [], ◌∷◌, codes, Result, Ok, Option, Some, None, Bool, true, false, not, ◌&&◌, ◌||◌, ◌==◌, if◌then◌else◌, find}
+use Rattle.std.specs.Prelude.{ℕ, List, [], ◌∷◌, codes, Result, Ok, Option, Some, None, Bool, true, false, not, ◌&&◌, ◌||◌, ◌==◌}
+use Rattle.std.specs.Prelude.{if◌then◌else◌, find}
 use Rattle.rule_reader.specs.TextBytes.{is_white, is_quote, is_comma}
 use Rattle.rule_reader.specs.ReadWords.{leading, after}
 use Rattle.flat_words.specs.Steps.{Stop, ◌>>=◌, syntax_here}

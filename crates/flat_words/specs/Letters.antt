@@ -73,8 +73,22 @@ with_mode l m = record {
 abbrev pub with_letter : Letters → ℕ → Option Letters
 with_letter l b =
     if to_ascii_lowercase b == 97
-    then Some (record { perms = l.perms; append = true; exec = l.exec; two_modes = l.two_modes; capitals = l.capitals || not (b == to_ascii_lowercase b) })
-    else option_map (λ p. record { perms = with_permission l.perms p; append = l.append; exec = l.exec; two_modes = l.two_modes; capitals = l.capitals || not (b == to_ascii_lowercase b) })
+    then Some (record {
+      perms = l.perms;
+      append = true;
+      exec = l.exec;
+      two_modes = l.two_modes;
+      capitals =
+          l.capitals || not (b == to_ascii_lowercase b);
+    })
+    else option_map (λ p. record {
+      perms = with_permission l.perms p;
+      append = l.append;
+      exec = l.exec;
+      two_modes = l.two_modes;
+      capitals =
+          l.capitals || not (b == to_ascii_lowercase b);
+    })
     (permission_of (to_ascii_lowercase b))
 
 -- What was read after one more letter: what the letters stand for, and the exec mode whose letters began. None if the letter
@@ -83,7 +97,9 @@ abbrev pub letter_step : Letters → ExecMode → ℕ → Option (Letters × Exe
 letter_step l m b =
     if is_exec b then Some (with_mode l m, bare_mode)
     else if is_change b then (if is_bare m then Some (l, record { change = Some b; otherwise = None }) else None)
-    else if is_otherwise b then (if is_letter_there m.otherwise then None else Some (l, record { change = m.change; otherwise = Some (otherwise_letter m.change b) }))
+    else if is_otherwise b then
+    (if is_letter_there m.otherwise then None else
+    Some (l, record { change = m.change; otherwise = Some (otherwise_letter m.change b) }))
     else if is_bare m then option_map (λ n. (n, bare_mode)) (with_letter l b)
     else None
 

@@ -1,5 +1,6 @@
 -- Statements, i.e. the rules of a profile that aren't about files (apparmor.d(5), "Format"), and where each ends.
-use Rattle.std.specs.Prelude.{ℕ, suc, ◌-◌, ◌+◌, List, [], ◌∷◌, length, codes, Result, Ok, Option, Some, None, Bool, true, false, not, ◌&&◌, ◌||◌, ◌==◌, if◌then◌else◌, drop, nat_eq}
+use Rattle.std.specs.Prelude.{ℕ, suc, ◌-◌, ◌+◌, List, [], ◌∷◌, length, codes, Result, Ok, Option, Some, None, Bool, true, false, not, ◌&&◌}
+use Rattle.std.specs.Prelude.{◌||◌, ◌==◌, if◌then◌else◌, drop, nat_eq}
 use Rattle.std.specs.List.{list_any, starts_with}
 use Rattle.std.specs.Str.{bytes_eq}
 use Rattle.rule_reader.specs.TextBytes.{begins, is_white, is_hash, is_include, is_quote, is_comma, is_close_brace, is_open_brace}
@@ -75,7 +76,8 @@ statement_step unclosed b bytes = elim unclosed.within [
 -- what is left after a statement of which this much is open
 abbrev pub statement_at : Unclosed → List ℕ → Result (List ℕ) Stop
 statement_at unclosed [] = syntax_here []
-statement_at unclosed (b ∷ bytes) = statement_step unclosed b bytes >>= λ next. elim next [ None ↦ Ok bytes | Some o ↦ statement_at o bytes ]
+statement_at unclosed (b ∷ bytes) = statement_step unclosed b bytes >>= λ next. elim next
+    [ None ↦ Ok bytes | Some o ↦ statement_at o bytes ]
 
 -- ---- booleans: $NAME = WORD or ${NAME} = WORD, on one line
 

@@ -2,7 +2,8 @@
 ghost use Rattle.std.specs.Prelude.{◌≡◌, ◌==◌, length, find, false, not, option_map};
 ghost use Rattle.rule_reader.specs.TextBytes.{is_white};
 ghost use Rattle.rule_reader.specs.ReadWords.{leading, after};
-ghost use Rattle.flat_words.specs.Conditions.{parentheses_at, past_parentheses, past_condition, parts_flags, is_flag, is_flag_byte, allowing_flags, unknown_flag};
+ghost use Rattle.flat_words.specs.Conditions.{parentheses_at, past_parentheses, past_condition, parts_flags, is_flag, is_flag_byte};
+ghost use Rattle.flat_words.specs.Conditions.{allowing_flags, unknown_flag};
 ghost use Rattle.flat_words.specs.Statements.{is_one_of};
 ghost use Rattle.flat_words.specs.Gives.{Reads};
 

@@ -1,6 +1,8 @@
 //! The letters of a rule's permissions.
 ghost use Rattle.std.specs.Prelude.{◌≡◌, ◌||◌, ◌==◌};
-ghost use Rattle.flat_words.specs.Letters.{is_change, is_otherwise, otherwise_letter, bare_mode, is_bare, is_same_mode, inherits, differs_from, no_letters, with_mode, with_letter, letter_step, letters_of, mode_fits, are_fitting};
+ghost use Rattle.flat_words.specs.Letters.{is_change, is_otherwise, otherwise_letter, bare_mode, is_bare, is_same_mode, inherits};
+ghost use Rattle.flat_words.specs.Letters.{differs_from, no_letters, with_mode, with_letter, letter_step, letters_of, mode_fits};
+ghost use Rattle.flat_words.specs.Letters.{are_fitting};
 
 use names::{Permission, Perms};
 

@@ -1,7 +1,8 @@
 //! Statements, i.e. rules that aren't about files, and where each ends.
 ghost use Rattle.std.specs.Prelude.{◌≡◌, ◌≤◌, ◌+◌, ◌∷◌, length, IfOk, IfSome};
 ghost use Rattle.flat_words.specs.inner.Counts.{max_count, OpensAtMostOne};
-ghost use Rattle.flat_words.specs.Statements.{is_statement, ends_statement, nothing_open, still, plain_step, statement_step, statement_at, past_equals, past_boolean_name, boolean_at};
+ghost use Rattle.flat_words.specs.Statements.{is_statement, ends_statement, nothing_open, still, plain_step, statement_step, statement_at};
+ghost use Rattle.flat_words.specs.Statements.{past_equals, past_boolean_name, boolean_at};
 ghost use Rattle.rule_reader.specs.ReadWords.{after};
 ghost use Rattle.flat_words.specs.Statements.{is_space};
 ghost use Rattle.flat_words.specs.Gives.{Reads};

@@ -1,5 +1,6 @@
 -- How the bytes stay together that are taken alike, while more and more sets of bytes part them.
-use Rattle.std.proofs.Common.{◌≡◌, ℕ, ◌<◌, ◌≤◌, ◌+◌, ◌==◌, ◌&&◌, not, nat_lt, Bool, true, false, List, [], length, slice_index_or, slice_set, refl, sym, ap, ◌∙◌, ⊎_elim, arith}
+use Rattle.std.proofs.Common.{◌≡◌, ℕ, ◌<◌, ◌≤◌, ◌+◌, ◌==◌, ◌&&◌, not, nat_lt, Bool, true, false, List, [], length, slice_index_or}
+use Rattle.std.proofs.Common.{slice_set, refl, sym, ap, ◌∙◌, ⊎_elim, arith}
 use Rattle.std.proofs.Math.ListN.{replicate}
 use Rattle.std.proofs.lemmas.Bool.Decides.{leb_tells, eqb_tells}
 use Rattle.std.proofs.lemmas.List.{get_or-replicate, length-replicate, get_or-set_other, get_or-set_same}
@@ -76,7 +77,8 @@ next_class classes old new k is split = record {
   zeros = stays (λ b. b == 0) old new (slice_index_or classes k []) split is.zeros;
   slashes = stays (λ b. b == 47) old new (slice_index_or classes k []) split is.slashes;
   tables = and_last (λ n. Together (λ b. slice_index_or (slice_index_or classes n []) b false) new) k
-      (λ n lt. stays (λ b. slice_index_or (slice_index_or classes n []) b false) old new (slice_index_or classes k []) split (is.tables n lt))
+      (λ n lt. stays (λ b. slice_index_or (slice_index_or classes n []) b false) old new (slice_index_or classes k []) split
+      (is.tables n lt))
       split.taken_alike;
 }
 
@@ -92,7 +94,8 @@ above : (least : List ℕ) (b : ℕ) → Together (λ b. b == 0) least → b < 2
 above least b zeros lt = above_zero (least_of least b) ∙ ap not (zeros b lt) ∙ sym (above_zero b)
 
 -- whatever isn't one byte alone takes a byte and its least one alike
-taken_together : (chart : Chart) (least : List ℕ) (b : ℕ) (by : Label) → PartedBefore chart.classes.items least (length chart.classes.items) →
+taken_together : (chart : Chart) (least : List ℕ) (b : ℕ) (by : Label) → PartedBefore chart.classes.items least
+    (length chart.classes.items) →
     b < 256 → IsKnown chart by → NamesNone by → takes_byte chart.classes.items by (least_of least b) ≡ takes_byte chart.classes.items by b
 taken_together chart least b (label.Byte a) is lt known none = absurd none
 taken_together chart least b label.InComponent is lt known none =

@@ -11,7 +11,8 @@ use Rattle.verdicts.specs.Hits.{no_hits, hits_after, hits_with, record_with}
 use Rattle.verdicts.specs.Least.{IsLeastOrNone, hits_of, no_hit, record_of}
 
 -- `S kind p` is the set of the numbers of rules of a kind that hit with a permission
-module _ (made : (hits : Permission → LeastHits) (p : Permission) → hits_of (record_of hits) p ≡ hits p) (S : RuleKind → Permission → ℕ → Type 0) where
+module _ (made : (hits : Permission → LeastHits) (p : Permission) → hits_of (record_of hits) p ≡ hits p)
+    (S : RuleKind → Permission → ℕ → Type 0) where
   abbrev pub AreLeastOf : Permission → LeastHits → Type 0
   AreLeastOf p hits = IsLeastOrNone (S Allow p) hits.allow × IsLeastOrNone (S Deny p) hits.deny
 

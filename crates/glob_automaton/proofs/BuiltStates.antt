@@ -1,5 +1,6 @@
 -- The states that are built so far: one for each set, in the order of the sets.
-use Rattle.std.proofs.Common.{◌≡◌, ◌⊎◌, inl, inr, ⊎_elim, ℕ, ◌+◌, ◌<◌, ◌≤◌, ◌↔◌, Bool, IsTrue, false, true≢false, List, [], ◌∷◌, ◌++◌, length, drop, slice_index_or, refl, sym, ap, ◌∙◌, subst, subst₂, arith}
+use Rattle.std.proofs.Common.{◌≡◌, ◌⊎◌, inl, inr, ⊎_elim, ℕ, ◌+◌, ◌<◌, ◌≤◌, ◌↔◌, Bool, IsTrue, false, true≢false, List, [], ◌∷◌, ◌++◌}
+use Rattle.std.proofs.Common.{length, drop, slice_index_or, refl, sym, ap, ◌∙◌, subst, subst₂, arith}
 use Rattle.std.proofs.Math.Seq.{get_or-append_seam, drop-append_seam}
 use Rattle.std.proofs.lemmas.List.{length-append, length-drop, get_or_append_left, drop-append-le}
 use Rattle.std.proofs.lemmas.Bool.{cases_lt}
@@ -36,7 +37,8 @@ empty_set_alone chart old new number none is = ⊎_elim
     )
 
 -- no state yet, once the set that is live at first has its number
-pub no_states : (chart : Chart) (old new : List (List ℕ)) (set : List ℕ) (start : ℕ) → AreFewSets chart old → length old ≡ 1 → IsStartOf chart set →
+pub no_states : (chart : Chart) (old new : List (List ℕ)) (set : List ℕ) (start : ℕ) → AreFewSets chart old → length old ≡ 1 →
+    IsStartOf chart set →
     IsNumbered old new set start → AreStates chart new [] [] [] start 0
 no_states chart old new set start are one begun is =
     let w = numbered_sets chart old new set start are (inr ([], begins chart set begun)) is in
@@ -63,7 +65,8 @@ kept_long : (old new : List (List ℕ)) → Keeps old new → length old ≤ len
 kept_long old new kept = omega (arith, ap length kept.1, length-append old kept.0)
 
 -- a row stays the same when sets are added, and other rows after it
-kept_row : (chart : Chart) (old new : List (List ℕ)) (set : List ℕ) (row more : List TargetRange) → Keeps old new → IsRowOfSet chart old set row →
+kept_row : (chart : Chart) (old new : List (List ℕ)) (set : List ℕ) (row more : List TargetRange) → Keeps old new →
+    IsRowOfSet chart old set row →
     IsRowOfSet chart new set (row ++ more)
 kept_row chart old new set row more kept is = record {
   is_row = row_stays row more 0 is.is_row;
@@ -85,8 +88,10 @@ module _ {X : Type 0} (xs : List X) (x d : X) where
   newest i at = ap (λ z. slice_index_or (xs ++ x ∷ []) z d) at ∙ get_or-append_seam xs x [] d
 
 -- one state more
-pub one_state_more : (chart : Chart) (sets new : List (List ℕ)) (ranges row : List TargetRange) (firsts : List ℕ) (records : List Record) (start state : ℕ)
-    (set : List ℕ) (r : Record) → AreStates chart sets ranges firsts records start state → state < length sets → set ≡ slice_index_or sets state [] →
+pub one_state_more : (chart : Chart) (sets new : List (List ℕ)) (ranges row : List TargetRange) (firsts : List ℕ) (records : List Record)
+    (start state : ℕ)
+    (set : List ℕ) (r : Record) → AreStates chart sets ranges firsts records start state → state < length sets →
+    set ≡ slice_index_or sets state [] →
     AreFewSets chart new → Keeps sets new → IsRowOfSet chart new set row → IsRecordOf chart set r →
     AreStates chart new (ranges ++ row) (firsts ++ length ranges ∷ []) (records ++ r ∷ []) start (state + 1)
 one_state_more chart sets new ranges row firsts records start state set r are lt is few kept its_row its_record = record {
@@ -107,10 +112,12 @@ one_state_more chart sets new ranges row firsts records start state set r are lt
       (kept_row chart sets new (slice_index_or sets s []) (drop begin ranges) row kept its))
       (λ le. let at : s ≡ state = omega (arith, below, le) in
       subst₂ (λ x y. IsRowOfSet chart new x y) (its_set s at)
-      (sym (ap (λ z. drop z (ranges ++ row)) (newest firsts (length ranges) 0 s (omega (arith, at, are.each_row))) ∙ drop-append_seam ranges row)) its_row)
+      (sym (ap (λ z. drop z (ranges ++ row)) (newest firsts (length ranges) 0 s (omega (arith, at, are.each_row)))
+      ∙ drop-append_seam ranges row)) its_row)
       (cases_lt s state);
   recorded = λ s none below. ⊎_elim
-      (λ old. subst₂ (λ x y. IsRecordOf chart x y) (sym (there s old)) (sym (earlier records r none s (omega (arith, old, are.each_record))))
+      (λ old. subst₂ (λ x y. IsRecordOf chart x y) (sym (there s old))
+      (sym (earlier records r none s (omega (arith, old, are.each_record))))
       (are.recorded s none old))
       (λ le. let at : s ≡ state = omega (arith, below, le) in
       subst₂ (λ x y. IsRecordOf chart x y) (its_set s at) (sym (newest records r none s (omega (arith, at, are.each_record)))) its_record)
@@ -132,9 +139,11 @@ module _ (chart : Chart) (sets : List (List ℕ)) (ranges : List TargetRange) (f
   count : state ≡ length sets
   count = omega (arith, all, are.within)
 
-  target_of : (s b : ℕ) → s < length sets → b < 256 → IsTargetOf chart sets (slice_index_or sets s []) b (slice_index_or (slice_index_or rows s []) b 0)
+  target_of : (s b : ℕ) → s < length sets → b < 256 → IsTargetOf chart sets (slice_index_or sets s []) b
+      (slice_index_or (slice_index_or rows s []) b 0)
   target_of s b lt small =
-      subst (λ t. IsTargetOf chart sets (slice_index_or sets s []) b t) (sym (target_at ranges firsts s b (omega (arith, lt, count, are.each_row)) small))
+      subst (λ t. IsTargetOf chart sets (slice_index_or sets s []) b t)
+      (sym (target_at ranges firsts s b (omega (arith, lt, count, are.each_row)) small))
       ((are.row s (omega (arith, lt, count))).targets b small)
 
   pub are_rows : AreRows ranges firsts
@@ -169,7 +178,8 @@ module _ (chart : Chart) (sets : List (List ℕ)) (ranges : List TargetRange) (f
       (λ lt.
       let more : 1 < length sets = omega (arith, lt, each) in
       let reached = are.sets_few.0.reached 1 (omega arith) more in
-      absurd (are.sets_few.0.different 0 1 (omega arith) more (empty ∙ sym (all_empty chart begun reached.0 (slice_index_or sets 1 []) reached.1))))
+      absurd (are.sets_few.0.different 0 1 (omega arith) more
+      (empty ∙ sym (all_empty chart begun reached.0 (slice_index_or sets 1 []) reached.1))))
       (λ le. omega (arith, le, some, each))
       (cases_lt 1 (length rows))
 
@@ -182,7 +192,8 @@ module _ (chart : Chart) (sets : List (List ℕ)) (ranges : List TargetRange) (f
   pub is_whole : IsWhole (tables ranges firsts records start)
   is_whole = record {
     rows_long = λ s lt.
-        ap length (row_at ranges firsts s (omega (arith, lt, rows_long ranges firsts))) ∙ targets_long (drop (slice_index_or firsts s 0) ranges) 0 256;
+        ap length (row_at ranges firsts s (omega (arith, lt, rows_long ranges firsts)))
+        ∙ targets_long (drop (slice_index_or firsts s 0) ranges) 0 256;
     targets = λ s b lt small. omega (arith, (target_of s b (omega (arith, lt, each)) small).0, each);
     each_record = omega (arith, each, count, are.each_record);
     start_there = omega (arith, are.start_there, each);

@@ -1,5 +1,6 @@
 -- Entries and places that were there stay what they are when more are pushed, and what is live at an entry stays so.
-use Rattle.std.proofs.Common.{[], ◌≡◌, ℕ, zero, suc, ◌+◌, ◌<◌, ◌≤◌, inl, inr, ⊎_elim, List, ◌∷◌, ◌++◌, length, refl, sym, ap, ◌∙◌, arith, None, Some}
+use Rattle.std.proofs.Common.{[], ◌≡◌, ℕ, zero, suc, ◌+◌, ◌<◌, ◌≤◌, inl, inr, ⊎_elim, List, ◌∷◌, ◌++◌, length, refl, sym, ap, ◌∙◌, arith}
+use Rattle.std.proofs.Common.{None, Some}
 use Rattle.std.specs.List.{slice_get}
 use Rattle.std.proofs.lemmas.Option.{slice_get_within}
 use Rattle.rule_globs.specs.Glob.{Glob, empty, one, run, cat, none, alt, places}
@@ -24,7 +25,8 @@ get_last [] x = refl
 get_last (y ∷ xs) x = get_last xs x
 
 -- and nothing else
-pub get_right : {X : Type 0} (xs : List X) (x y : X) (i : ℕ) → length xs ≤ i → slice_get (xs ++ x ∷ []) i ≡ Some y → (i ≡ length xs) × (x ≡ y)
+pub get_right : {X : Type 0} (xs : List X) (x y : X) (i : ℕ) → length xs ≤ i → slice_get (xs ++ x ∷ []) i ≡ Some y →
+    (i ≡ length xs) × (x ≡ y)
 get_right [] x y zero le h = (refl, cc h)
 get_right [] x y (suc i) le h = absurd (none_is_some y h)
 get_right (z ∷ xs) x y zero le h = absurd (omega (arith, le))

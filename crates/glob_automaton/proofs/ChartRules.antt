@@ -1,5 +1,6 @@
 -- A rule more in the chart: its end, and its places before it. The rules before it stay.
-use Rattle.std.proofs.Common.{[], ◌≡◌, ℕ, ◌+◌, ◌<◌, ◌≤◌, false, ◌↔◌, ⊎_elim, List, ◌∷◌, ◌++◌, length, IsTrue, Vec, Global, refl, sym, ap, ◌∙◌, subst, arith, Some}
+use Rattle.std.proofs.Common.{[], ◌≡◌, ℕ, ◌+◌, ◌<◌, ◌≤◌, false, ◌↔◌, ⊎_elim, List, ◌∷◌, ◌++◌, length, IsTrue, Vec, Global, refl, sym, ap}
+use Rattle.std.proofs.Common.{◌∙◌, subst, arith, Some}
 use Rattle.std.specs.List.{slice_get}
 use Rattle.std.proofs.lemmas.List.{length-append}
 use Rattle.std.proofs.lemmas.Bool.{cases_lt}
@@ -22,7 +23,8 @@ with_rules chart rules = record { places = chart.places; entries = chart.entries
 
 -- what the chart's places refer to is there
 abbrev pub RefersWithin : Chart → Type 0
-RefersWithin chart = (p : ℕ) (place : ChartPlace) → slice_get chart.places.items p ≡ Some place → (place.behind < length chart.entries.items) × IsKnown chart place.takes
+RefersWithin chart = (p : ℕ) (place : ChartPlace) → slice_get chart.places.items p ≡ Some place →
+    (place.behind < length chart.entries.items) × IsKnown chart place.takes
 
 -- the place of a rule's end
 abbrev pub end_place : ChartPlace
@@ -33,8 +35,10 @@ pub kept_rule : (old new : Chart) (rule : RuleValue) (d : ChartRule) → IsOrder
     Grows old.places.items new.places.items → Grows old.entries.items new.entries.items → Grows old.classes.items new.classes.items →
     HasRule old rule d → HasRule new rule d
 kept_rule old new rule d ordered within more_places more_entries more_classes has =
-    let before : (p : ℕ) (place : ChartPlace) → p ≤ d.end + places (pattern rule) → slice_get new.places.items p ≡ Some place → slice_get old.places.items p ≡ Some place =
-    λ p place le h. sym (ap (λ z. slice_get z p) more_places.1 ∙ get_left old.places.items more_places.0 p (omega (arith, le, has.fits))) ∙ h in
+    let before : (p : ℕ) (place : ChartPlace) → p ≤ d.end + places (pattern rule) → slice_get new.places.items p ≡ Some place →
+    slice_get old.places.items p ≡ Some place =
+    λ p place le h. sym (ap (λ z. slice_get z p) more_places.1 ∙ get_left old.places.items more_places.0 p (omega (arith, le, has.fits)))
+    ∙ h in
     record {
       kind = has.kind;
       perms = has.perms;
@@ -50,7 +54,8 @@ kept_rule old new rule d ordered within more_places more_entries more_classes ha
           (λ u. was.0 (sym same ∙ u), λ u. same ∙ was.1 u);
       goes = λ p q place le last h.
           let was = has.goes p q place le last (before p place last h) in
-          let stays = live_as_before old.entries.items new.entries.items place.behind q ordered more_entries (within p place (before p place last h)).0 in
+          let stays = live_as_before old.entries.items new.entries.items place.behind q ordered more_entries
+          (within p place (before p place last h)).0 in
           (λ u. was.0 (stays.0 u), λ u. stays.1 (was.1 u));
     }
 
@@ -79,7 +84,8 @@ new_rule s0 s2 s3 all rule d last pushed is kind perms at_last dr =
       fits = omega (arith, dr.count, base);
       starts = λ q. (
         λ h. subst (λ z. Starts (pattern rule) z (λ r. r ≡ d.end) q) base
-            (starts_by (pattern rule) (length s2.places.items) (IsIn s2.entries.items last) (λ r. r ≡ d.end) (λ r. (at_last r).0) q ((dr.starts q).0 h)),
+            (starts_by (pattern rule) (length s2.places.items) (IsIn s2.entries.items last) (λ r. r ≡ d.end) (λ r. (at_last r).0) q
+            ((dr.starts q).0 h)),
         λ h. (dr.starts q).1
             (starts_by (pattern rule) (length s2.places.items) (λ r. r ≡ d.end) (IsIn s2.entries.items last) (λ r. (at_last r).1) q
             (subst (λ z. Starts (pattern rule) z (λ r. r ≡ d.end) q) (sym base) h)),
@@ -91,7 +97,8 @@ new_rule s0 s2 s3 all rule d last pushed is kind perms at_last dr =
           sym (ap (λ z. slice_get z p) dr.places_stay.1 ∙ get_left s2.places.items dr.places_stay.0 p less) ∙ h in
           let w : (p ≡ length s0.places.items) × (end_place ≡ place) =
           get_right s0.places.items end_place place p (omega (arith, le, is)) (sym (ap (λ z. slice_get z p) pushed) ∙ was) in
-          let nothing : takes_byte s3.classes.items place.takes b ≡ false = ap (λ (z : ChartPlace). takes_byte s3.classes.items z.takes b) (sym w.1) in (
+          let nothing : takes_byte s3.classes.items place.takes b ≡ false = ap (λ (z : ChartPlace). takes_byte s3.classes.items z.takes b)
+          (sym w.1) in (
             λ u. absurd (cc (u, nothing)),
             λ u. absurd (omega (arith, w.0, is, (takes_own (pattern rule) (d.end + 1) p b u).0)),
           ))
@@ -102,7 +109,8 @@ new_rule s0 s2 s3 all rule d last pushed is kind perms at_last dr =
       goes = λ p q place le le_last h.
           let was = dr.goes p q place (omega (arith, le, base)) h in (
             λ u. subst (λ z. Goes (pattern rule) z (λ r. r ≡ d.end) p q) base
-                (goes_by (pattern rule) (length s2.places.items) (IsIn s2.entries.items last) (λ r. r ≡ d.end) (λ r. (at_last r).0) p q (was.0 u)),
+                (goes_by (pattern rule) (length s2.places.items) (IsIn s2.entries.items last) (λ r. r ≡ d.end)
+                (λ r. (at_last r).0) p q (was.0 u)),
             λ u. was.1
                 (goes_by (pattern rule) (length s2.places.items) (λ r. r ≡ d.end) (IsIn s2.entries.items last) (λ r. (at_last r).1) p q
                 (subst (λ z. Goes (pattern rule) z (λ r. r ≡ d.end) p q) (sym base) u)),
@@ -118,7 +126,8 @@ pub chart_more : (s0 s2 s3 : Chart) (all : Vec ChartRule Global) (rules : List R
     IsChartOf (rules ++ rule ∷ []) (with_rules s3 all)
 chart_more s0 s2 s3 all rules rule d last chart pushed is kind perms is_last grown same_classes dr done =
     let classes : Grows s0.classes.items s3.classes.items =
-    grows_on s0.classes.items s2.classes.items s3.classes.items (grows_not s0.classes.items s2.classes.items (ap (λ z. z.items) same_classes)) dr.classes_stay in
+    grows_on s0.classes.items s2.classes.items s3.classes.items
+    (grows_not s0.classes.items s2.classes.items (ap (λ z. z.items) same_classes)) dr.classes_stay in
     let all_places : Grows s0.places.items s3.places.items =
     grows_on s0.places.items s2.places.items s3.places.items (end_place ∷ [], pushed) dr.places_stay in
     let all_entries : Grows s0.entries.items s3.entries.items =
@@ -127,7 +136,11 @@ chart_more s0 s2 s3 all rules rule d last chart pushed is kind perms is_last gro
     ap (λ z. slice_get z last) grown ∙ ap (λ z. slice_get (s0.entries.items ++ entry.Place d.end ∷ []) z) is_last
     ∙ get_last s0.entries.items (entry.Place d.end) in
     let at_last : (q : ℕ) → IsIn s2.entries.items last q ↔ (q ≡ d.end) =
-    λ q. (λ h. in_place s2.entries.items last d.end q here h, λ h. at_place s2.entries.items last q (here ∙ ap (λ z. Some (entry.Place z)) (sym h))) in
+    λ q. (
+      λ h. in_place s2.entries.items last d.end q here h,
+      λ h. at_place s2.entries.items last q
+          (here ∙ ap (λ z. Some (entry.Place z)) (sym h)),
+    ) in
     let count : length s2.places.items ≡ length s0.places.items + 1 = ap length pushed ∙ length-append s0.places.items (end_place ∷ []) in
     let has : HasRule (with_rules s3 all) rule d = new_rule s0 s2 s3 all rule d last pushed is kind perms at_last dr in
     record {
@@ -135,12 +148,16 @@ chart_more s0 s2 s3 all rules rule d last chart pushed is kind perms is_last gro
       there = λ p place h. ⊎_elim
           (λ t. ⊎_elim
           (λ u.
-          let was = chart.there p place u.0 in
-          (omega (arith, was.0, grown_length s0.entries.items s3.entries.items all_entries), known_on s0 (with_rules s3 all) place.takes classes was.1))
+          let was = chart.there p place u.0 in (
+            omega (arith, was.0, grown_length s0.entries.items s3.entries.items all_entries),
+            known_on s0 (with_rules s3 all)
+                place.takes classes was.1,
+          ))
           (λ le.
           let w : (p ≡ length s0.places.items) × (end_place ≡ place) =
           get_right s0.places.items end_place place p le (sym (ap (λ z. slice_get z p) pushed) ∙ t.0) in
-          subst (λ (z : ChartPlace). (z.behind < length s3.entries.items) × IsKnown (with_rules s3 all) z.takes) w.1 (omega (arith, dr.ready.there), tt))
+          subst (λ (z : ChartPlace). (z.behind < length s3.entries.items) × IsKnown (with_rules s3 all) z.takes) w.1
+          (omega (arith, dr.ready.there), tt))
           (old_or_new s0.places.items s2.places.items p place (end_place ∷ [], pushed) t.0))
           (λ le.
           let was = dr.there p place le h in

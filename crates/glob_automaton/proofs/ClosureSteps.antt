@@ -1,5 +1,6 @@
 -- The closure of one more entry.
-use Rattle.std.proofs.Common.{◌≡◌, ◌⊎◌, ◌↔◌, inl, inr, ⊎_elim, ◌==◌, ◌||◌, ◌++◌, ◌<◌, true, false, true≢false, ℕ, zero, suc, List, [], ◌∷◌, length, Some, slice_get, slice_index_or, refl, sym, ap, ◌∙◌, subst}
+use Rattle.std.proofs.Common.{◌≡◌, ◌⊎◌, ◌↔◌, inl, inr, ⊎_elim, ◌==◌, ◌||◌, ◌++◌, ◌<◌, true, false, true≢false, ℕ, zero, suc, List, [], ◌∷◌}
+use Rattle.std.proofs.Common.{length, Some, slice_get, slice_index_or, refl, sym, ap, ◌∙◌, subst}
 use Rattle.std.proofs.Math.Bool.{or-true}
 use Rattle.std.proofs.lemmas.Bool.{eqb-true}
 use Rattle.std.proofs.lemmas.Bool.Decides.{eqb_tells}
@@ -12,7 +13,8 @@ use Rattle.glob_automaton.proofs.DrawingLaws.{in_nothing, in_place, in_run, in_e
 use Rattle.glob_automaton.proofs.PlaceLists.{either_has}
 
 -- what holds of each element of a list, and of one that is appended
-pub pushed_each : {X : Type 0} (P : ℕ → X → Type 0) (xs : List X) (x : X) → ((i : ℕ) (y : X) → slice_get xs i ≡ Some y → P i y) → P (length xs) x →
+pub pushed_each : {X : Type 0} (P : ℕ → X → Type 0) (xs : List X) (x : X) → ((i : ℕ) (y : X) → slice_get xs i ≡ Some y → P i y) →
+    P (length xs) x →
     (i : ℕ) (y : X) → slice_get (xs ++ x ∷ []) i ≡ Some y → P i y
 pushed_each P [] x all new zero y at = subst (P 0) (same_Some x y at) new
 pushed_each P [] x all new (suc i) y at = absurd (none-some y at)
@@ -41,7 +43,8 @@ module _ (entries : List Entry) (e : ℕ) (old : List ℕ) (none : (q : ℕ) →
     λ same. is q ∙ ap (λ z. has_place old q || z) (⊎_elim (λ h. h.0) (λ h. absurd (h.1 same)) (eqb_tells q p)) ∙ or-true (has_place old q),
   )
 
-  pub place_live : (p : ℕ) (new : List ℕ) → slice_get entries e ≡ Some (entry.Place p) → ((q : ℕ) → has_place new q ≡ (has_place old q || (q == p))) →
+  pub place_live : (p : ℕ) (new : List ℕ) → slice_get entries e ≡ Some (entry.Place p) →
+      ((q : ℕ) → has_place new q ≡ (has_place old q || (q == p))) →
       (q : ℕ) → Has new q ↔ IsIn entries e q
   place_live p new stands is q = (
     λ h. subst (λ z. IsIn entries e z) (sym ((added p new is q).0 h)) (at_place entries e p stands),

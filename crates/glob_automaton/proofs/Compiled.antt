@@ -1,5 +1,6 @@
 -- What is built on the chart of some rules is their automaton.
-use Rattle.std.proofs.Common.{◌≡◌, ◌≢◌, ℕ, zero, suc, ◌+◌, ◌-◌, ◌<◌, ◌≤◌, ◌↔◌, inl, inr, List, [], ◌∷◌, ◌++◌, length, Some, slice_get, slice_index_or, IsTrue, append_assoc, append-nil, refl, sym, ap, ◌∙◌, subst, arith}
+use Rattle.std.proofs.Common.{◌≡◌, ◌≢◌, ℕ, zero, suc, ◌+◌, ◌-◌, ◌<◌, ◌≤◌, ◌↔◌, inl, inr, List, [], ◌∷◌, ◌++◌, length, Some, slice_get}
+use Rattle.std.proofs.Common.{slice_index_or, IsTrue, append_assoc, append-nil, refl, sym, ap, ◌∙◌, subst, arith}
 use Rattle.std.specs.List.{Contains}
 use Rattle.std.specs.Prelude.{Result, Ok, Err, IfErr}
 use Rattle.std.specs.Result.{IsErrAnd}
@@ -80,7 +81,9 @@ module _ (first : LiveAtFirst) (after : LiveAfterByte) (by_steps : LeftFirst) (r
           w.1,
           has_it.kind ∙ h.2,
           subst (λ z. IsTrue (has z p)) (sym has_it.perms) h.3,
-          subst (λ z. Contains set z) last ((number_there first after rules chart is bytes set reached (n - 1) h.0 d (places g) stands w.1 (omega arith)).1 (inr (refl, h.4))),
+          subst (λ z. Contains set z) last
+              ((number_there first after rules chart is bytes set reached (n - 1) h.0 d (places g) stands w.1 (omega arith)).1
+              (inr (refl, h.4))),
         ),
   )
 
@@ -101,7 +104,8 @@ module _ (first : LiveAtFirst) (after : LiveAfterByte) (by_steps : LeftFirst) (r
     -- the state after more bytes is that of the set that they reach
     followed : (s : ℕ) (front bytes : List ℕ) → s < length b.sets → IsReached chart front (slice_index_or b.sets s []) → are_bytes bytes →
         (goes_to a s bytes < length b.sets) × IsReached chart (front ++ bytes) (slice_index_or b.sets (goes_to a s bytes) [])
-    followed s front [] lt reached small = (lt, subst (λ z. IsReached chart z (slice_index_or b.sets s [])) (sym (append-nil front)) reached)
+    followed s front [] lt reached small =
+        (lt, subst (λ z. IsReached chart z (slice_index_or b.sets s [])) (sym (append-nil front)) reached)
     followed s front (c ∷ bytes) lt reached small =
         let one : c < 256 = small 0 0 (omega arith) in
         let next : ℕ = target a s c in
@@ -125,7 +129,8 @@ module _ (first : LiveAtFirst) (after : LiveAfterByte) (by_steps : LeftFirst) (r
 
     state_same : (x y : List ℕ) → are_bytes x → are_bytes y → (state_after a x ≡ state_after a y) ↔ SameSet rules x y
     state_same x y one two =
-        let equal = equal_sets first after by_steps rules chart is x y (slice_index_or b.sets (state_after a x) []) (slice_index_or b.sets (state_after a y) [])
+        let equal = equal_sets first after by_steps rules chart is x y (slice_index_or b.sets (state_after a x) [])
+        (slice_index_or b.sets (state_after a y) [])
         (state_set x one) (state_set y two) in (
           λ e. equal.0 (ap (λ s. slice_index_or b.sets s []) e),
           λ same. same_state (state_after a x) (state_after a y) (state_there x one) (state_there y two) (equal.1 same),
@@ -133,7 +138,8 @@ module _ (first : LiveAtFirst) (after : LiveAfterByte) (by_steps : LeftFirst) (r
 
     state_dead : (bytes : List ℕ) → are_bytes bytes → (state_after a bytes ≡ 0) ↔ NoneLive rules bytes
     state_dead bytes small =
-        let none = empty_set first after by_steps rules chart is bytes (slice_index_or b.sets (state_after a bytes) []) (state_set bytes small) in (
+        let none = empty_set first after by_steps rules chart is bytes (slice_index_or b.sets (state_after a bytes) [])
+        (state_set bytes small) in (
           λ e. none.0 (ap (λ s. slice_index_or b.sets s []) e ∙ b.are_sets.empty),
           λ h. same_state (state_after a bytes) 0 (state_there bytes small) b.are_sets.some (none.1 h ∙ sym b.are_sets.empty),
         )
@@ -159,14 +165,17 @@ module _ (first : LiveAtFirst) (after : LiveAfterByte) (by_steps : LeftFirst) (r
             let inside : j < length prefixes = omega (arith, within) in
             let low : i < j = omega (arith, lt) in
             h.different i j low inside
-            ((state_same (slice_index_or prefixes i []) (slice_index_or prefixes j []) (small i (omega (arith, low, inside))) (small j inside)).0 e)
+            ((state_same (slice_index_or prefixes i []) (slice_index_or prefixes j []) (small i (omega (arith, low, inside)))
+            (small j inside)).0 e)
 
         below : (i : ℕ) → i < length prefixes + 1 → state_of prefixes i < length b.sets
         below zero lt = b.are_sets.some
-        below (suc i) lt = let inside : i < length prefixes = omega (arith, lt) in state_there (slice_index_or prefixes i []) (small i inside)
+        below (suc i) lt = let inside : i < length prefixes = omega (arith, lt) in
+            state_there (slice_index_or prefixes i []) (small i inside)
 
     -- the record of a state
-    record_there : (s : ℕ) → s < length b.sets → (r : Record) × (slice_get a.records s ≡ Some r) × IsRecordOf chart (slice_index_or b.sets s []) r
+    record_there : (s : ℕ) → s < length b.sets → (r : Record) × (slice_get a.records s ≡ Some r) × IsRecordOf chart
+        (slice_index_or b.sets s []) r
     record_there s lt =
         let r : Record = slice_index_or a.records s no_hits in
         (r, slice_get-get_or a.records s no_hits (omega (arith, lt, b.each_row, b.whole.each_record)), b.records s no_hits lt)
@@ -207,6 +216,7 @@ module _ (first : LiveAtFirst) (after : LiveAfterByte) (by_steps : LeftFirst) (r
   not_built slashes NoMemory h = tt
 
 -- out of memory says nothing about the rules
-pub no_memory : {T : Type 0} (rules : List RuleValue) (r : Result T CompileFault) → IsErrAnd r (λ fault. fault ≡ NoMemory) → IfErr r (IsCompileFault rules)
+pub no_memory : {T : Type 0} (rules : List RuleValue) (r : Result T CompileFault) → IsErrAnd r (λ fault. fault ≡ NoMemory) →
+    IfErr r (IsCompileFault rules)
 no_memory rules (Ok x) h = tt
 no_memory rules (Err fault) h = subst (IsCompileFault rules) (sym h) tt

@@ -1,5 +1,6 @@
 -- Rules have more sets than a number, or they don't: the different ones are found one by one.
-use Rattle.std.proofs.Common.{◌≢◌, ℕ, ◌+◌, ◌<◌, ◌≤◌, Bool, IsTrue, ◌↔◌, ◌⊎◌, inl, inr, ⊎_elim, List, [], length, slice_index_or, subst, arith}
+use Rattle.std.proofs.Common.{◌≢◌, ℕ, ◌+◌, ◌<◌, ◌≤◌, Bool, IsTrue, ◌↔◌, ◌⊎◌, inl, inr, ⊎_elim, List, [], length, slice_index_or, subst}
+use Rattle.std.proofs.Common.{arith}
 use Rattle.std.proofs.lemmas.Bool.{cases_lt}
 use Rattle.std.proofs.lemmas.List.Elements.{All-nil}
 use Rattle.rule_profile.specs.Profile.{RuleValue}
@@ -37,7 +38,8 @@ module _ (by_cuts : TakesByCuts) (by_steps : LeftFirst) (rules : List RuleValue)
   place_right : (i : ℕ) → i < length prefixes → (place_of by_cuts by_steps rules all prefixes i < length all)
       × SameSet rules (slice_index_or prefixes i []) (slice_index_or all (place_of by_cuts by_steps rules all prefixes i) [])
   unfolding place_of
-  place_right i lt = index_right rules all (slice_index_or prefixes i []) (met_or_not by_cuts by_steps rules all (slice_index_or prefixes i []))
+  place_right i lt = index_right rules all (slice_index_or prefixes i [])
+      (met_or_not by_cuts by_steps rules all (slice_index_or prefixes i []))
       (each (slice_index_or prefixes i []) (h.prefixes_of_names i [] lt)) (h.some_live i [] lt)
 
   places_differ : (i j : ℕ) → i < j → j < length prefixes →
@@ -49,7 +51,8 @@ module _ (by_cuts : TakesByCuts) (by_steps : LeftFirst) (rules : List RuleValue)
       let one : SameSet rules x (slice_index_or all shared []) =
       subst (λ z. SameSet rules x (slice_index_or all z [])) e (place_right i (omega (arith, lt, within))).1 in
       h.different i j lt within
-      (same_through rules x (slice_index_or all shared []) y one (same_back rules y (slice_index_or all shared []) (place_right j within).1))
+      (same_through rules x (slice_index_or all shared []) y one (same_back rules y (slice_index_or all shared [])
+      (place_right j within).1))
 
   -- where each prefix of a name is counted, no more are different
   few_different : length prefixes ≤ length all

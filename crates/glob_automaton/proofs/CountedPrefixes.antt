@@ -1,5 +1,6 @@
 -- Where no byte leads to a new set, each prefix of a name has a set that is counted.
-use Rattle.std.proofs.Common.{ℕ, suc, ◌<◌, inl, inr, ⊎_elim, List, [], ◌∷◌, ◌++◌, slice_index_or, All, append_assoc, append-nil, sym, subst, arith}
+use Rattle.std.proofs.Common.{ℕ, suc, ◌<◌, inl, inr, ⊎_elim, List, [], ◌∷◌, ◌++◌, slice_index_or, All, append_assoc, append-nil, sym}
+use Rattle.std.proofs.Common.{subst, arith}
 use Rattle.std.proofs.lemmas.List.Elements.{All-head, All-tail}
 use Rattle.rule_profile.specs.Profile.{RuleValue}
 use Rattle.glob_automaton.specs.Sets.{SameSet, IsPrefixOfName, AreDifferent}
@@ -14,7 +15,8 @@ abbrev pub AreAll : List RuleValue → List (List ℕ) → Type 0
 AreAll rules prefixes = (x : List ℕ) → IsPrefixOfName x → IsCounted rules prefixes x
 
 -- what is counted is so with one prefix more
-counted_more : (rules : List RuleValue) (prefixes : List (List ℕ)) (x y : List ℕ) → IsCounted rules prefixes y → IsCounted rules (x ∷ prefixes) y
+counted_more : (rules : List RuleValue) (prefixes : List (List ℕ)) (x y : List ℕ) → IsCounted rules prefixes y →
+    IsCounted rules (x ∷ prefixes) y
 counted_more rules prefixes x y (inl h) = inl h
 counted_more rules prefixes x y (inr h) = inr (suc h.0, omega (arith, h.1), h.2)
 
@@ -31,7 +33,8 @@ module _ (after : LiveAfterByte) (by_steps : LeftFirst) (rules : List RuleValue)
       (λ t. inr (t.0, t.1, same_through rules (x ++ b ∷ []) (y ++ b ∷ []) (slice_index_or prefixes t.0 []) same t.2))
       (closed.goes_on met.0 met.1 b below above)
 
-  counted_behind : (x bytes : List ℕ) → All (λ c. (0 < c) × (c < 256)) bytes → IsCounted rules prefixes x → IsCounted rules prefixes (x ++ bytes)
+  counted_behind : (x bytes : List ℕ) → All (λ c. (0 < c) × (c < 256)) bytes → IsCounted rules prefixes x →
+      IsCounted rules prefixes (x ++ bytes)
   counted_behind x [] all h = subst (IsCounted rules prefixes) (sym (append-nil x)) h
   counted_behind x (b ∷ bytes) all h =
       let here : (0 < b) × (b < 256) = All-head (λ c. (0 < c) × (c < 256)) b bytes all in

@@ -1,5 +1,6 @@
 -- The sets of a chart but the empty one, counted by front parts of names.
-use Rattle.std.proofs.Common.{◌≡◌, ◌≢◌, ℕ, zero, suc, ◌+◌, ◌<◌, ◌≤◌, Bool, true, false, ◌||◌, eqb, List, [], ◌∷◌, length, slice_index_or, All, refl, sym, ap, ◌∙◌, subst, arith, eqb-true, ne_eqb}
+use Rattle.std.proofs.Common.{◌≡◌, ◌≢◌, ℕ, zero, suc, ◌+◌, ◌<◌, ◌≤◌, Bool, true, false, ◌||◌, eqb, List, [], ◌∷◌, length, slice_index_or}
+use Rattle.std.proofs.Common.{All, refl, sym, ap, ◌∙◌, subst, arith, eqb-true, ne_eqb}
 use Rattle.std.specs.List.{IsDistinct, AllByRecursion, list_any}
 use Rattle.std.proofs.lemmas.List.Elements.{All-nil, All-cons}
 use Rattle.std.proofs.lemmas.Map.Steps.{length-le_from_distinct_below}
@@ -33,7 +34,8 @@ others_differ f x (suc k) h = (ne_eqb x (f k) (λ e. h k (omega arith) (sym e)),
 values_differ : (f : ℕ → ℕ) (k : ℕ) → ((i j : ℕ) → i < j → j < k → f i ≢ f j) → IsDistinct eqb (values f k)
 unfolding values IsDistinct
 values_differ f zero h = tt
-values_differ f (suc k) h = (others_differ f (f k) k (λ i lt. h i k lt (omega arith)), values_differ f k (λ i j lt within. h i j lt (omega (arith, within))))
+values_differ f (suc k) h =
+    (others_differ f (f k) k (λ i lt. h i k lt (omega arith)), values_differ f k (λ i j lt within. h i j lt (omega (arith, within))))
 
 values_below : (f : ℕ → ℕ) (k n : ℕ) → ((i : ℕ) → i < k → f i < n) → (q : ℕ) → list_any (eqb q) (values f k) ≡ true → q < n
 unfolding values
@@ -59,9 +61,17 @@ module _ (first : LiveAtFirst) (after : LiveAfterByte) (by_steps : LeftFirst) (r
 
   -- the prefixes that lead to the sets from this one on
   leading : (from left : ℕ) → 0 < from → from + left ≡ length sets →
-      (prefixes : List (List ℕ)) × (length prefixes ≡ left) × All IsPrefixOfName prefixes × All (λ bytes. ¬ (NoneLive rules bytes)) prefixes
-      × ((i : ℕ) → i < left → IsReached chart (slice_index_or prefixes i []) (slice_index_or sets (from + i) []))
-  leading from zero some e = ([], refl, All-nil IsPrefixOfName, All-nil (λ bytes. ¬ (NoneLive rules bytes)), λ i lt. absurd (omega (arith, lt)))
+      (prefixes : List (List ℕ)) × (length prefixes ≡ left) × All IsPrefixOfName prefixes
+      × All (λ bytes. ¬ (NoneLive rules bytes)) prefixes × ((i : ℕ) → i < left → IsReached chart (slice_index_or prefixes i [])
+      (slice_index_or sets (from + i) []))
+  leading from zero some e = (
+    [],
+    refl,
+    All-nil IsPrefixOfName,
+    All-nil (λ bytes. ¬ (NoneLive rules bytes)),
+    λ i lt. absurd
+        (omega (arith, lt)),
+  )
   leading from (suc left) some e =
       let w = are.reached from some (omega (arith, e)) in
       let rest = leading (from + 1) left (omega arith) (omega (arith, e)) in
@@ -69,7 +79,8 @@ module _ (first : LiveAtFirst) (after : LiveAfterByte) (by_steps : LeftFirst) (r
       let member = some_member (slice_index_or sets from []) empty in (
         w.0 ∷ rest.0,
         ap suc rest.1,
-        All-cons IsPrefixOfName w.0 rest.0 (prefix_of_name first after rules chart w.0 (slice_index_or sets from []) w.1 is slashes member.0 member.1) rest.2,
+        All-cons IsPrefixOfName w.0 rest.0 (prefix_of_name first after rules chart w.0 (slice_index_or sets from []) w.1 is slashes
+            member.0 member.1) rest.2,
         All-cons (λ bytes. ¬ (NoneLive rules bytes)) w.0 rest.0
             (λ none. empty ((empty_set first after by_steps rules chart is w.0 (slice_index_or sets from []) w.1).1 none)) rest.3,
         each from left w.0 rest.0 w.1 rest.4,
@@ -84,18 +95,20 @@ module _ (first : LiveAtFirst) (after : LiveAfterByte) (by_steps : LeftFirst) (r
 
   -- as many different sets as there are, the empty one counted
   pub each_counted : (prefixes : List (List ℕ)) × AreDifferent rules prefixes × (length prefixes + 1 ≡ length sets)
-  each_counted = elim (length sets) as (λ n. length sets ≡ n → (prefixes : List (List ℕ)) × AreDifferent rules prefixes × (length prefixes + 1 ≡ length sets)) [
-    | zero ↦ λ e. absurd (omega (arith, e, are.some))
-    | suc n ↦ λ e.
-        let w = leading 1 n (omega arith) (omega (arith, e)) in (
-          w.0,
-          record {
-            prefixes_of_names = w.2;
-            some_live = w.3;
-            different = λ i j lt within same. are.different (1 + i) (1 + j) (omega (arith, lt)) (omega (arith, within, e, w.1))
-                ((equal_sets first after by_steps rules chart is (slice_index_or w.0 i []) (slice_index_or w.0 j [])
-                (slice_index_or sets (1 + i) []) (slice_index_or sets (1 + j) []) (w.4 i (omega (arith, lt, within, w.1))) (w.4 j (omega (arith, within, w.1)))).1 same);
-          },
-          omega (arith, e, w.1),
-        )
-  ] refl
+  each_counted = elim (length sets) as (λ n. length sets ≡ n → (prefixes : List (List ℕ)) × AreDifferent rules prefixes
+      × (length prefixes + 1 ≡ length sets)) [
+        | zero ↦ λ e. absurd (omega (arith, e, are.some))
+        | suc n ↦ λ e.
+            let w = leading 1 n (omega arith) (omega (arith, e)) in (
+              w.0,
+              record {
+                prefixes_of_names = w.2;
+                some_live = w.3;
+                different = λ i j lt within same. are.different (1 + i) (1 + j) (omega (arith, lt)) (omega (arith, within, e, w.1))
+                    ((equal_sets first after by_steps rules chart is (slice_index_or w.0 i []) (slice_index_or w.0 j [])
+                    (slice_index_or sets (1 + i) []) (slice_index_or sets (1 + j) []) (w.4 i (omega (arith, lt, within, w.1)))
+                    (w.4 j (omega (arith, within, w.1)))).1 same);
+              },
+              omega (arith, e, w.1),
+            )
+      ] refl

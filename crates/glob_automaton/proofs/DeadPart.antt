@@ -11,7 +11,8 @@ use Rattle.automaton_products.proofs.PairLaws.{after_there}
 use Rattle.glob_automaton.specs.Parts.{IsAutomatonOfPart}
 
 pub dead_part : ((hits : Permission → LeastHits) (p : Permission) → hits_of (record_of hits) p ≡ hits p) →
-    (rules : List RuleValue) (first last : ℕ) (a : Automaton) → first ≡ last → IsWhole a → length a.rows ≡ 1 → slice_get a.records 0 ≡ Some no_hits →
+    (rules : List RuleValue) (first last : ℕ) (a : Automaton) → first ≡ last → IsWhole a → length a.rows ≡ 1 →
+    slice_get a.records 0 ≡ Some no_hits →
     IsAutomatonOfPart rules first last a
 dead_part made rules first last a none whole alone nothing = record {
   whole = whole;

@@ -48,7 +48,8 @@ weight_alternative [] back one_of = omega arith
 weight_alternative (x ∷ front) back one_of = omega (arith, weight_alternative front back one_of)
 
 -- the last element of what is left is the first of what is done
-pub one_more_done : {X : Type 0} (all left rest back : List X) (x : X) → all ≡ left ++ back → left ≡ rest ++ x ∷ [] → all ≡ rest ++ x ∷ back
+pub one_more_done : {X : Type 0} (all left rest back : List X) (x : X) → all ≡ left ++ back → left ≡ rest ++ x ∷ [] →
+    all ≡ rest ++ x ∷ back
 one_more_done all left rest back x e f = e ∙ ap (λ z. z ++ back) f ∙ append_assoc rest (x ∷ []) back
 
 -- nothing is left: all is done
@@ -73,11 +74,13 @@ pub item_of : {E : Type 0} (old new : Chart) (r : Result ℕ E) (behind : ℕ) (
 item_of old new r behind f g e h = subst (λ z. IfOk r (IsDrawn old new z behind)) e h
 
 -- the same, of items that are such
-pub lighter_item : (all front back : List Item) (item : Item) → all ≡ front ++ item ∷ back → weight (meaning item) < weight (meaning_of all)
+pub lighter_item : (all front back : List Item) (item : Item) → all ≡ front ++ item ∷ back →
+    weight (meaning item) < weight (meaning_of all)
 lighter_item all front back item e = omega (arith, weight_item front back item, ap (λ z. weight (meaning_of z)) e)
 
 -- and of alternatives
-pub lighter_alternative : (all front back : List (Vec Item Global)) (one_of : Vec Item Global) (items : List Item) → all ≡ front ++ one_of ∷ back →
+pub lighter_alternative : (all front back : List (Vec Item Global)) (one_of : Vec Item Global) (items : List Item) →
+    all ≡ front ++ one_of ∷ back →
     items ≡ one_of.items → weight (meaning_of items) < weight (alternatives_meaning all)
 lighter_alternative all front back one_of items e f =
     omega (arith, weight_alternative front back one_of, ap (λ z. weight (alternatives_meaning z)) e, ap (λ z. weight (meaning_of z)) f)

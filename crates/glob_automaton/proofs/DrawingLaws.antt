@@ -1,5 +1,6 @@
 -- What one step draws, and that drawings one after the other are a drawing of both.
-use Rattle.std.proofs.Common.{[], ◌≡◌, ℕ, ◌+◌, ◌<◌, ◌≤◌, Bool, true, false, ◌⊎◌, ◌↔◌, inl, inr, ⊎_elim, List, ◌∷◌, ◌++◌, length, IsTrue, refl, sym, ap, ◌∙◌, subst, arith, Some}
+use Rattle.std.proofs.Common.{[], ◌≡◌, ℕ, ◌+◌, ◌<◌, ◌≤◌, Bool, true, false, ◌⊎◌, ◌↔◌, inl, inr, ⊎_elim, List, ◌∷◌, ◌++◌, length, IsTrue}
+use Rattle.std.proofs.Common.{refl, sym, ap, ◌∙◌, subst, arith, Some}
 use Rattle.std.specs.List.{slice_get}
 use Rattle.std.specs.Prelude.{slice_index_or, slice_set, Result, Ok, Err, IfOk}
 use Rattle.std.proofs.lemmas.Option.{slice_get_within, slice_get_cases}
@@ -18,7 +19,8 @@ use Rattle.glob_automaton.specs.declared.chart.Label.{Label}
 use Rattle.glob_automaton.specs.declared.chart.Label.TheVariants as label
 use Rattle.glob_automaton.specs.declared.chart.Entry.{Entry}
 use Rattle.glob_automaton.specs.declared.chart.Entry.TheVariants as entry
-use Rattle.glob_automaton.proofs.ChartLaws.{get_left, get_last, get_right, Agree, was_in, still_in, starts_by, goes_by, takes_own, goes_own}
+use Rattle.glob_automaton.proofs.ChartLaws.{get_left, get_last, get_right, Agree, was_in, still_in, starts_by, goes_by, takes_own}
+use Rattle.glob_automaton.proofs.ChartLaws.{goes_own}
 
 -- lists that grow twice grow
 pub grows_on : {X : Type 0} (first second third : List X) → Grows first second → Grows second third → Grows first third
@@ -142,7 +144,8 @@ taken_join s1 s2 s3 a b k1 m1 k2 m2 d1 d2 p c place le h lt = ⊎_elim
 pub goes_join : (s1 s2 s3 : Chart) (a b : Glob) (k1 m1 k2 m2 : ℕ) → IsDrawn s1 s2 b k1 m1 → IsDrawn s2 s3 a k2 m2 →
     (p q : ℕ) (place : ChartPlace) → length s1.places.items ≤ p → slice_get s3.places.items p ≡ Some place →
     IsIn s3.entries.items place.behind q
-    ↔ (Goes a (length s1.places.items + places b) (IsIn s2.entries.items k2) p q ⊎ Goes b (length s1.places.items) (IsIn s1.entries.items k1) p q)
+    ↔ (Goes a (length s1.places.items + places b) (IsIn s2.entries.items k2) p q ⊎ Goes b (length s1.places.items)
+    (IsIn s1.entries.items k1) p q)
 goes_join s1 s2 s3 a b k1 m1 k2 m2 d1 d2 p q place le h = ⊎_elim
     (λ t.
     let same : IsIn s3.entries.items place.behind q ↔ IsIn s2.entries.items place.behind q =
@@ -170,8 +173,11 @@ pub there_join : (s1 s2 s3 : Chart) (a b : Glob) (k1 m1 k2 m2 : ℕ) → IsDrawn
     (place.behind < length s3.entries.items) × IsKnown s3 place.takes
 there_join s1 s2 s3 a b k1 m1 k2 m2 d1 d2 p place le h = ⊎_elim
     (λ t.
-    let was : (place.behind < length s2.entries.items) × IsKnown s2 place.takes = d1.there p place le t.0 in
-    (omega (arith, was.0, grown_length s2.entries.items s3.entries.items d2.entries_stay), known_on s2 s3 place.takes d2.classes_stay was.1))
+    let was : (place.behind < length s2.entries.items) × IsKnown s2 place.takes = d1.there p place le t.0 in (
+      omega (arith, was.0, grown_length s2.entries.items s3.entries.items d2.entries_stay),
+      known_on s2 s3 place.takes
+          d2.classes_stay was.1,
+    ))
     (λ t. d2.there p place t h)
     (old_or_new s2.places.items s3.places.items p place d2.places_stay h)
 
@@ -209,11 +215,11 @@ drawn_cat s1 s2 s3 a b behind mid start d1 d2 = record {
   ready = d2.ready;
   starts = λ q. (
     λ h. subst (λ z. Starts a z (Starts b (length s1.places.items) (IsIn s1.entries.items behind)) q) d1.count
-        (starts_by a (length s2.places.items) (IsIn s2.entries.items mid) (Starts b (length s1.places.items) (IsIn s1.entries.items behind))
-        (λ r. (d1.starts r).0) q ((d2.starts q).0 h)),
+        (starts_by a (length s2.places.items) (IsIn s2.entries.items mid)
+        (Starts b (length s1.places.items) (IsIn s1.entries.items behind)) (λ r. (d1.starts r).0) q ((d2.starts q).0 h)),
     λ h. (d2.starts q).1
-        (starts_by a (length s2.places.items) (Starts b (length s1.places.items) (IsIn s1.entries.items behind)) (IsIn s2.entries.items mid)
-        (λ r. (d1.starts r).1) q
+        (starts_by a (length s2.places.items) (Starts b (length s1.places.items) (IsIn s1.entries.items behind))
+        (IsIn s2.entries.items mid) (λ r. (d1.starts r).1) q
         (subst (λ z. Starts a z (Starts b (length s1.places.items) (IsIn s1.entries.items behind)) q) (sym d1.count) h)),
   );
   taken = taken_join s1 s2 s3 a b behind mid mid start d1 d2;
@@ -372,7 +378,8 @@ drawn_one old new takes set behind start ready known takes_set pushed is grown s
       taken = λ p b place le h lt.
           let w : (p ≡ length old.places.items) × (last ≡ place) = only p place le h in
           let e : takes_byte new.classes.items place.takes b ≡ fits set b =
-          ap (λ (z : ChartPlace). takes_byte new.classes.items z.takes b) (sym w.1) ∙ takes_on old new takes b same known ∙ takes_set b lt in
+          ap (λ (z : ChartPlace). takes_byte new.classes.items z.takes b) (sym w.1) ∙ takes_on old new takes b same known
+          ∙ takes_set b lt in
           (λ u. (w.0, sym e ∙ u), λ u. e ∙ u.1);
       goes = λ p q place le h.
           let w : (p ≡ length old.places.items) × (last ≡ place) = only p place le h in
@@ -429,7 +436,8 @@ drawn_run old new takes set behind start ready known takes_set pushed is grown s
       taken = λ p b place le h lt.
           let w : (p ≡ length old.places.items) × (last ≡ place) = only p place le h in
           let e : takes_byte new.classes.items place.takes b ≡ fits set b =
-          ap (λ (z : ChartPlace). takes_byte new.classes.items z.takes b) (sym w.1) ∙ takes_on old new takes b same known ∙ takes_set b lt in
+          ap (λ (z : ChartPlace). takes_byte new.classes.items z.takes b) (sym w.1) ∙ takes_on old new takes b same known
+          ∙ takes_set b lt in
           (λ u. (w.0, sym e ∙ u), λ u. e ∙ u.1);
       goes = λ p q place le h.
           let w : (p ≡ length old.places.items) × (last ≡ place) = only p place le h in (
@@ -475,13 +483,19 @@ if_ok (Err e) P Q R f p q = tt
 -- The bytes of a run of stars, where it crosses slashes and where it doesn't.
 pub stars_all : (chart : Chart) (crosses : Bool) (taken : Label) → crosses ≡ true → taken ≡ label.Any →
     IsKnown chart taken × TakesSet chart taken (in_stars crosses)
-stars_all chart crosses taken e f =
-    (subst (λ z. IsKnown chart z) (sym f) tt, λ b lt. ap (λ z. takes_byte chart.classes.items z b) f ∙ ap (λ z. fits (in_stars z) b) (sym e))
+stars_all chart crosses taken e f = (
+  subst (λ z. IsKnown chart z) (sym f) tt,
+  λ b lt. ap (λ z. takes_byte chart.classes.items z b) f
+      ∙ ap (λ z. fits (in_stars z) b) (sym e),
+)
 
 pub stars_some : (chart : Chart) (crosses : Bool) (taken : Label) → crosses ≡ false → taken ≡ label.InComponent →
     IsKnown chart taken × TakesSet chart taken (in_stars crosses)
-stars_some chart crosses taken e f =
-    (subst (λ z. IsKnown chart z) (sym f) tt, λ b lt. ap (λ z. takes_byte chart.classes.items z b) f ∙ ap (λ z. fits (in_stars z) b) (sym e))
+stars_some chart crosses taken e f = (
+  subst (λ z. IsKnown chart z) (sym f) tt,
+  λ b lt. ap (λ z. takes_byte chart.classes.items z b) f
+      ∙ ap (λ z. fits (in_stars z) b) (sym e),
+)
 
 -- What a run of stars stands for, strict and not.
 pub strict_stars : (crosses strict : Bool) → strict ≡ true → cat (one not_slash) (run (in_stars crosses)) ≡ stars_glob crosses strict
@@ -511,13 +525,15 @@ pub drawn_class : {E : Type 0} (old mid new : Chart) (r : Result ℕ E) (set : B
     IfOk r (IsDrawn old new (one set) behind)
 drawn_class old mid new r set table number behind is pushed same_places same_entries same_rules told h =
     let there : number < length mid.classes.items =
-    let count : length mid.classes.items ≡ length old.classes.items + 1 = ap length pushed ∙ length-append old.classes.items (table ∷ []) in
+    let count : length mid.classes.items ≡ length old.classes.items + 1 = ap length pushed
+    ∙ length-append old.classes.items (table ∷ []) in
     omega (arith, count, is) in
     let found : slice_index_or mid.classes.items number [] ≡ table =
     ap (λ z. slice_index_or z number []) pushed ∙ ap (λ z. slice_index_or (old.classes.items ++ table ∷ []) z []) is
     ∙ get_or-append_seam old.classes.items table [] [] in
     IfOk-weaker r
-    (λ start. (any : ByteSet) → IsKnown mid (label.Class number) → TakesSet mid (label.Class number) any → IsDrawn mid new (one any) behind start)
+    (λ start. (any : ByteSet) → IsKnown mid (label.Class number) → TakesSet mid (label.Class number) any →
+    IsDrawn mid new (one any) behind start)
     (IsDrawn old new (one set) behind)
     (λ start drawn. drawn_past_class old mid new (one set) behind start same_places same_entries same_rules (table ∷ [], pushed)
     (drawn set there (λ b lt. ap (λ z. slice_index_or z b false) found ∙ told b lt))) h

@@ -32,7 +32,8 @@ none Map = refl
 pub empty_record : AreTheirHits → (chart : Chart) (r : Record) → IsRecordOf chart [] r → r ≡ no_hits
 empty_record same chart r is = same r no_hits (λ p. no_hits_of p (is p))
   where
-    no_hits_of : (p : Permission) → IsLeastOrNone (EndsIn chart [] Allow p) (hits_of r p).allow × IsLeastOrNone (EndsIn chart [] Deny p) (hits_of r p).deny →
+    no_hits_of : (p : Permission) → IsLeastOrNone (EndsIn chart [] Allow p) (hits_of r p).allow × IsLeastOrNone (EndsIn chart [] Deny p)
+        (hits_of r p).deny →
         hits_of r p ≡ hits_of no_hits p
     no_hits_of p h =
         ap (λ z. record { allow = z; deny = (hits_of r p).deny }) (none_ends chart Allow p (hits_of r p).allow h.0)

@@ -12,10 +12,12 @@ use Rattle.glob_automaton.specs.declared.chart.ChartRule.{ChartRule}
 use Rattle.glob_automaton.specs.inner.Building.{EndsIn, IsRecordOf}
 use Rattle.glob_automaton.proofs.AloneRecords.{one_hits}
 
-module _ (made : (hits : Permission → LeastHits) (p : Permission) → hits_of (record_of hits) p ≡ hits p) (chart : Chart) (set : List ℕ) (rule : ChartRule)
+module _ (made : (hits : Permission → LeastHits) (p : Permission) → hits_of (record_of hits) p ≡ hits p) (chart : Chart) (set : List ℕ)
+    (rule : ChartRule)
     (one : length chart.rules.items ≡ 1) (stands : slice_get chart.rules.items 0 ≡ Some rule) where
   -- only the chart's rule can hit, and its number is 1
-  only : (kind : RuleKind) (p : Permission) (n : ℕ) → EndsIn chart set kind p n → (rule.kind ≡ kind) × IsTrue (has rule.perms p) × Contains set rule.end × (1 ≤ n)
+  only : (kind : RuleKind) (p : Permission) (n : ℕ) → EndsIn chart set kind p n → (rule.kind ≡ kind) × IsTrue (has rule.perms p)
+      × Contains set rule.end × (1 ≤ n)
   only kind p n h =
       let first : h.0 ≡ 0 = omega (arith, slice_get_within chart.rules.items h.0 h.1 h.3, one) in
       let same : h.1 ≡ rule = same_Some h.1 rule (sym h.3 ∙ ap (slice_get chart.rules.items) first ∙ stands) in

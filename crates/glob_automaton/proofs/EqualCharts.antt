@@ -58,7 +58,8 @@ perms_decided a b = (
 )
 
 rule_itself : (a : ChartRule) → rule_impl.eq-value.it a a ≡ true
-rule_itself a = joined _ _ (search rules) (joined _ _ (search rules) (joined _ _ ((kind_decided a.kind a.kind).1 refl) ((perms_decided a.perms a.perms).1 refl)))
+rule_itself a = joined _ _ (search rules)
+    (joined _ _ (search rules) (joined _ _ ((kind_decided a.kind a.kind).1 refl) ((perms_decided a.perms a.perms).1 refl)))
 
 pub rule_decided : (a b : ChartRule) → Decides (rule_impl.eq-value.it a b) (a ≡ b)
 rule_decided a b = (

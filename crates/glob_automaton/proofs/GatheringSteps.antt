@@ -1,5 +1,6 @@
 -- What is gathered, one entry after another.
-use Rattle.std.proofs.Common.{◌≡◌, ◌⊎◌, ◌↔◌, inl, inr, ⊎_elim, ℕ, ◌+◌, ◌<◌, ◌≤◌, IsTrue, true, false, true≢false, List, length, Some, slice_get, get_or, refl, sym, ap, ◌∙◌, subst, arith}
+use Rattle.std.proofs.Common.{◌≡◌, ◌⊎◌, ◌↔◌, inl, inr, ⊎_elim, ℕ, ◌+◌, ◌<◌, ◌≤◌, IsTrue, true, false, true≢false, List, length, Some}
+use Rattle.std.proofs.Common.{slice_get, get_or, refl, sym, ap, ◌∙◌, subst, arith}
 use Rattle.std.specs.List.{Contains}
 use Rattle.std.proofs.lemmas.Bool.{cases_lt}
 use Rattle.std.proofs.lemmas.Option.{same_Some, slice_get_read, slice_get_within, slice_get-get_or}
@@ -15,15 +16,18 @@ use Rattle.glob_automaton.proofs.RuleNumbers.{rule_of, rule_stands}
 
 -- q is live at the beginning of one of the first i rules
 abbrev pub StartsBefore : Chart → ℕ → ℕ → Type 0
-StartsBefore chart i q = (n : ℕ) × (d : ChartRule) × (n < i) × (slice_get chart.rules.items n ≡ Some d) × IsIn chart.entries.items d.start q
+StartsBefore chart i q = (n : ℕ) × (d : ChartRule) × (n < i) × (slice_get chart.rules.items n ≡ Some d)
+    × IsIn chart.entries.items d.start q
 
 -- q is live after one of the first i places of the set, which takes the byte
 abbrev pub StepsBefore : Chart → List ℕ → ℕ → ℕ → ℕ → Type 0
-StepsBefore chart set b i q = (k : ℕ) × (place : ChartPlace) × (k < i) × (k < length set) × (slice_get chart.places.items (get_or set k 0) ≡ Some place)
+StepsBefore chart set b i q = (k : ℕ) × (place : ChartPlace) × (k < i) × (k < length set)
+    × (slice_get chart.places.items (get_or set k 0) ≡ Some place)
     × IsTrue (takes_byte chart.classes.items place.takes b) × IsIn chart.entries.items place.behind q
 
 -- where a rule begins is an entry
-pub start_there : (chart : Chart) → IsPartOfChart chart → (i : ℕ) (d : ChartRule) → slice_get chart.rules.items i ≡ Some d → d.start < length chart.entries.items
+pub start_there : (chart : Chart) → IsPartOfChart chart → (i : ℕ) (d : ChartRule) → slice_get chart.rules.items i ≡ Some d →
+    d.start < length chart.entries.items
 start_there chart part i d at =
     let rule = rule_of chart part.0 chart.rules.items 0 part.1.drawn i d at in
     (rule_stands chart part.0 chart.rules.items 0 part.1.drawn i rule.0 d rule.1 at).start_there
@@ -34,7 +38,8 @@ member_at set i lt = (i, lt, get_or_default set i (get_or set i 0) 0 lt)
 
 module _ (chart : Chart) where
   -- One rule more is read, and what is live where it begins comes in.
-  pub starts_more : (Old New : ℕ → Type 0) (i : ℕ) (rules : List ChartRule) (d : ChartRule) → rules ≡ chart.rules.items → i < length rules →
+  pub starts_more : (Old New : ℕ → Type 0) (i : ℕ) (rules : List ChartRule) (d : ChartRule) → rules ≡ chart.rules.items →
+      i < length rules →
       ((q : ℕ) → Old q ↔ StartsBefore chart i q) →
       ((q : ℕ) → New q ↔ (Old q ⊎ IsIn chart.entries.items (get_or rules i d).start q)) →
       (q : ℕ) → New q ↔ StartsBefore chart (i + 1) q
@@ -54,7 +59,8 @@ module _ (chart : Chart) where
       )
 
   -- where the rule that is read begins is an entry
-  pub read_start_there : IsPartOfChart chart → (i : ℕ) (rules : List ChartRule) (d : ChartRule) → rules ≡ chart.rules.items → i < length rules →
+  pub read_start_there : IsPartOfChart chart → (i : ℕ) (rules : List ChartRule) (d : ChartRule) → rules ≡ chart.rules.items →
+      i < length rules →
       (get_or rules i d).start < length chart.entries.items
   read_start_there part i rules d same within = start_there chart part i (get_or rules i d)
       (subst (λ z. slice_get z i ≡ Some (get_or rules i d)) same (slice_get-get_or rules i d within))
@@ -72,7 +78,8 @@ module _ (chart : Chart) where
 
   module _ (set : List ℕ) (b : ℕ) where
     -- the place that is read
-    pub read_place : ArePlaces chart set → (i : ℕ) (place : ChartPlace) → i < length set → place ≡ get_or chart.places.items (get_or set i 0) place →
+    pub read_place : ArePlaces chart set → (i : ℕ) (place : ChartPlace) → i < length set → place ≡ get_or chart.places.items
+        (get_or set i 0) place →
         slice_get chart.places.items (get_or set i 0) ≡ Some place
     read_place are i place lt is =
         slice_get_read chart.places.items _ (get_or set i 0) place refl (are (get_or set i 0) (member_at set i lt)) is
@@ -82,7 +89,8 @@ module _ (chart : Chart) where
     number_there are i lt = are (get_or set i 0) (member_at set i lt)
 
     -- The place takes the byte, and what is live after it comes in.
-    pub steps_more : (Old New : ℕ → Type 0) (i : ℕ) (place : ChartPlace) → i < length set → slice_get chart.places.items (get_or set i 0) ≡ Some place →
+    pub steps_more : (Old New : ℕ → Type 0) (i : ℕ) (place : ChartPlace) → i < length set → slice_get chart.places.items (get_or set i 0)
+        ≡ Some place →
         takes_byte chart.classes.items place.takes b ≡ true → ((q : ℕ) → Old q ↔ StepsBefore chart set b i q) →
         ((q : ℕ) → New q ↔ (Old q ⊎ IsIn chart.entries.items place.behind q)) →
         (q : ℕ) → New q ↔ StepsBefore chart set b (i + 1) q

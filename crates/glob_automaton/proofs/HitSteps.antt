@@ -1,5 +1,6 @@
 -- The record of least hits, one rule after another.
-use Rattle.std.proofs.Common.{◌≡◌, ◌≢◌, ◌⊎◌, inl, inr, ⊎_elim, ℕ, zero, suc, ◌+◌, ◌-◌, ◌≤◌, ◌↔◌, ◌==◌, Bool, IsTrue, List, [], ◌∷◌, length, get_or, refl, sym, ap, ◌∙◌, subst, arith, if◌then◌else◌, true≢false}
+use Rattle.std.proofs.Common.{◌≡◌, ◌≢◌, ◌⊎◌, inl, inr, ⊎_elim, ℕ, zero, suc, ◌+◌, ◌-◌, ◌≤◌, ◌↔◌, ◌==◌, Bool, IsTrue, List, [], ◌∷◌, length}
+use Rattle.std.proofs.Common.{get_or, refl, sym, ap, ◌∙◌, subst, arith, if◌then◌else◌, true≢false}
 use Rattle.std.proofs.lemmas.Bool.{cases_Bool, cases_lt, eqb-true}
 use Rattle.std.proofs.lemmas.List.{get_or_default}
 use Rattle.names.specs.declared.permissions.Permission.{Permission}
@@ -39,7 +40,8 @@ HitsUpTo rules name i kind p n = (n ≤ i) × Hits rules kind p name n
 
 -- the record has the least hits of the first i rules
 abbrev pub IsLeastUpTo : List RuleValue → List ℕ → ℕ → Record → Type 0
-IsLeastUpTo rules name i r = (kind : RuleKind) (p : Permission) → IsLeastOrNone (HitsUpTo rules name i kind p) (number_of kind (hits_of r p))
+IsLeastUpTo rules name i r = (kind : RuleKind) (p : Permission) → IsLeastOrNone (HitsUpTo rules name i kind p)
+    (number_of kind (hits_of r p))
 
 -- where no number was there, the new one is taken
 first-new : (old n : ℕ) → old ≡ 0 → first_number old n ≡ n
@@ -76,7 +78,8 @@ after Deny Allow h n = inr (λ e. let never : ⊥ = cc (e) in never, refl)
 after Deny Deny h n = inl (refl, refl)
 
 -- the record after one more rule has the hits after it
-pub hits_of-with : (r : Record) (kind : RuleKind) (perms : Perms) (n : ℕ) (p : Permission) → hits_of (record_with r kind perms n) p ≡ hits_after r kind perms n p
+pub hits_of-with : (r : Record) (kind : RuleKind) (perms : Perms) (n : ℕ) (p : Permission) → hits_of (record_with r kind perms n) p
+    ≡ hits_after r kind perms n p
 hits_of-with r kind perms n Read = refl
 hits_of-with r kind perms n Write = refl
 hits_of-with r kind perms n Link = refl
@@ -109,7 +112,8 @@ hit_of rules kind p name n r at h =
 
 module _ (rules : List RuleValue) (name : List ℕ) where
   -- a hit of one rule more is one of those before or is that rule's
-  hit_before : (kind : RuleKind) (p : Permission) (i m : ℕ) → HitsUpTo rules name (i + 1) kind p m → HitsUpTo rules name i kind p m ⊎ (m ≡ i + 1)
+  hit_before : (kind : RuleKind) (p : Permission) (i m : ℕ) → HitsUpTo rules name (i + 1) kind p m →
+      HitsUpTo rules name i kind p m ⊎ (m ≡ i + 1)
   hit_before kind p i m t = ⊎_elim (λ lt. inl (omega arith, t.1)) (λ le. inr (omega (arith, le, t.0))) (cases_lt m (i + 1))
 
   -- the rule has no hit of this kind and permission
@@ -148,8 +152,8 @@ module _ (rules : List RuleValue) (name : List ℕ) where
       let is = hits_of-with r rule.kind rule.perms (i + 1) p in
       let both : Bool → LeastHits = λ b. if b then hits_with old rule.kind (i + 1) else old in
       let Least : ℕ → Type 0 = IsLeastOrNone (HitsUpTo rules name (i + 1) kind p) in ⊎_elim
-      (λ held. let now : hits_of (record_with r rule.kind rule.perms (i + 1)) p ≡ hits_with old rule.kind (i + 1) = is ∙ ap both held in ⊎_elim
-      (λ same. subst Least (sym (ap (number_of kind) now ∙ same.1))
+      (λ held. let now : hits_of (record_with r rule.kind rule.perms (i + 1)) p ≡ hits_with old rule.kind (i + 1) =
+      is ∙ ap both held in ⊎_elim (λ same. subst Least (sym (ap (number_of kind) now ∙ same.1))
       (enter kind p i (number_of kind old) (rule, at, same.0, held, takes) (least kind p)))
       (λ other. subst Least (sym (ap (number_of kind) now ∙ other.1))
       (skip kind p i (number_of kind old) (λ h. other.0 (hit_of rules kind p name (i + 1) rule at h).0) (least kind p)))
@@ -219,6 +223,7 @@ module _ (rules : List RuleValue) (name : List ℕ) where
       over matches are (i + 1) now rest (rest_of i rule rest behind) step
 
   -- going over all rules from the first on
-  pub record_over_is_least : (matches : ℕ → Bool) → AreMatches rules name matches → IsLeastRecord rules name (record_over matches 0 no_hits rules)
+  pub record_over_is_least : (matches : ℕ → Bool) → AreMatches rules name matches →
+      IsLeastRecord rules name (record_over matches 0 no_hits rules)
   record_over_is_least matches are = over matches are 0 no_hits rules
       (omega arith, λ n rule at. let e : n ≡ 0 + n = omega arith in subst (λ z. IsRuleAt rules z rule) e at) upto-none

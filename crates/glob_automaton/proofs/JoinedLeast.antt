@@ -18,7 +18,8 @@ chosen n m = ⊎_elim
     (λ no. inr (⊎_elim (λ lt. lt) (λ le. absurd (eqb-false n 0 no (omega (arith, le)))) (cases_lt 0 n), ap (λ b. if b then m else n) no))
     (cases_Bool (n == 0))
 
-module _ (rules : List RuleValue) (first middle last : ℕ) (low : first ≤ middle) (high : middle ≤ last) (kind : RuleKind) (p : Permission) (name : List ℕ) where
+module _ (rules : List RuleValue) (first middle last : ℕ) (low : first ≤ middle) (high : middle ≤ last) (kind : RuleKind) (p : Permission)
+    (name : List ℕ) where
   -- where none of the first rules hits, the least is that of the others
   of_others : (m : ℕ) → ((k : ℕ) → ¬ (HitsIn rules first middle kind p name k)) → IsLeastOrNone (HitsIn rules middle last kind p name) m →
       IsLeastOrNone (HitsIn rules first last kind p name) m
@@ -48,7 +49,8 @@ module _ (rules : List RuleValue) (first middle last : ℕ) (low : first ≤ mid
         (cases_lt middle k),
   )
 
-  pub least_joined : (n m : ℕ) → IsLeastOrNone (HitsIn rules first middle kind p name) n → IsLeastOrNone (HitsIn rules middle last kind p name) m →
+  pub least_joined : (n m : ℕ) → IsLeastOrNone (HitsIn rules first middle kind p name) n →
+      IsLeastOrNone (HitsIn rules middle last kind p name) m →
       IsLeastOrNone (HitsIn rules first last kind p name) (first_number n m)
   least_joined n m (inl h) least = ⊎_elim
       (λ t. subst (IsLeastOrNone (HitsIn rules first last kind p name)) (sym t.1) (of_others m h.1 least))

@@ -1,5 +1,6 @@
 -- The automaton of a rule's path, with the hits of the rule, is that of the part that is this rule.
-use Rattle.std.proofs.Common.{◌≡◌, ◌≢◌, ◌==◌, IsTrue, inl, inr, ⊎_elim, ℕ, ◌+◌, ◌-◌, ◌<◌, ◌≤◌, List, [], ◌∷◌, length, Some, slice_get, slice_index_or, if◌then◌else◌, refl, sym, ap, ◌∙◌, subst, arith}
+use Rattle.std.proofs.Common.{◌≡◌, ◌≢◌, ◌==◌, IsTrue, inl, inr, ⊎_elim, ℕ, ◌+◌, ◌-◌, ◌<◌, ◌≤◌, List, [], ◌∷◌, length, Some, slice_get}
+use Rattle.std.proofs.Common.{slice_index_or, if◌then◌else◌, refl, sym, ap, ◌∙◌, subst, arith}
 use Rattle.std.proofs.lemmas.Bool.{cases_Bool, eqb-true, eqb-false}
 use Rattle.std.proofs.lemmas.List.Elements.{All-head, All-tail}
 use Rattle.std.proofs.lemmas.Option.{same_Some}
@@ -67,7 +68,8 @@ module _ (rules : List RuleValue) (rule : RuleValue) (before : ℕ) (stands : sl
   one_of : (x : List ℕ) (n p : ℕ) → IsLive (reading rule ∷ []) x n p → IsLive (reading rule ∷ []) x 1 p
   one_of x n p h = subst (λ z. IsLive (reading rule ∷ []) x z p) (only_one n h.0 h.1).0 h
 
-  back_from_one : (x : List ℕ) (n p m : ℕ) (other : RuleValue) → IsRuleAt (reading rule ∷ []) n other → IsLive (reading rule ∷ []) x 1 p → IsLive (reading rule ∷ []) x n p
+  back_from_one : (x : List ℕ) (n p m : ℕ) (other : RuleValue) → IsRuleAt (reading rule ∷ []) n other → IsLive (reading rule ∷ []) x 1 p →
+      IsLive (reading rule ∷ []) x n p
   back_from_one x n p m other at h = subst (λ z. IsLive (reading rule ∷ []) x z p) (sym (only_one n other at).0) h
 
   same_up : (x y : List ℕ) → SameSet (reading rule ∷ []) x y → SameIn rules before (before + 1) x y
@@ -78,8 +80,10 @@ module _ (rules : List RuleValue) (rule : RuleValue) (before : ℕ) (stands : sl
 
   same_down : (x y : List ℕ) → SameIn rules before (before + 1) x y → SameSet (reading rule ∷ []) x y
   same_down x y same n p = (
-    λ h. back_from_one y n p 0 h.0 h.1 (live_down y (before + 1) p (omega arith) (omega arith) ((same (before + 1) p (omega arith) (omega arith)).0 (live_up x n p h))),
-    λ h. back_from_one x n p 0 h.0 h.1 (live_down x (before + 1) p (omega arith) (omega arith) ((same (before + 1) p (omega arith) (omega arith)).1 (live_up y n p h))),
+    λ h. back_from_one y n p 0 h.0 h.1 (live_down y (before + 1) p (omega arith) (omega arith)
+        ((same (before + 1) p (omega arith) (omega arith)).0 (live_up x n p h))),
+    λ h. back_from_one x n p 0 h.0 h.1 (live_down x (before + 1) p (omega arith) (omega arith)
+        ((same (before + 1) p (omega arith) (omega arith)).1 (live_up y n p h))),
   )
 
   none_up : (x : List ℕ) → NoneLive (reading rule ∷ []) x → NoneIn rules before (before + 1) x
@@ -137,7 +141,8 @@ module _ (rules : List RuleValue) (rule : RuleValue) (before : ℕ) (stands : sl
         (λ kind p is holds. hit_there kind p x is holds takes)
 
     least_none : (x : List ℕ) → ¬ (Takes (pattern rule) x) → IsLeastIn rules before (before + 1) x no_hits
-    least_none x none = nobody_hits made (λ kind p n. HitsIn rules before (before + 1) kind p x n) (λ kind p n h. none (hit_of kind p x n h).2)
+    least_none x none = nobody_hits made (λ kind p n. HitsIn rules before (before + 1) kind p x n)
+        (λ kind p n h. none (hit_of kind p x n h).2)
 
     -- reading has a hit where the path matches, and there alone
     read_none : (x : List ℕ) (n : ℕ) → n ≡ 0 → IsLeastOrNone (Hits (reading rule ∷ []) Allow Read x) n → ¬ (Takes (pattern rule) x)
@@ -148,7 +153,8 @@ module _ (rules : List RuleValue) (rule : RuleValue) (before : ℕ) (stands : sl
     read_some x n some (inl h) = absurd (some h.0)
     read_some x n some (inr h) = taken x n h.0
 
-    least_where_read : (x : List ℕ) (r : Record) → IsLeastRecord (reading rule ∷ []) x r → IsLeastIn rules before (before + 1) x (where_read hits r)
+    least_where_read : (x : List ℕ) (r : Record) → IsLeastRecord (reading rule ∷ []) x r →
+        IsLeastIn rules before (before + 1) x (where_read hits r)
     least_where_read x r h = ⊎_elim
         (λ yes. subst (IsLeastIn rules before (before + 1) x) (sym (ap (λ b. if b then no_hits else hits) yes))
         (least_none x (read_none x (hits_of r Read).allow (eqb-true (hits_of r Read).allow 0 yes) (h Read).0)))
@@ -170,7 +176,8 @@ module _ (rules : List RuleValue) (rule : RuleValue) (before : ℕ) (stands : sl
       after_same : (x : List ℕ) → are_bytes x → state_after b x ≡ state_after a x
       after_same x small = ap (λ z. goes_to b z x) made_so.start ∙ goes_same a.start x is.whole.start_there small
 
-      pub leaf_part : ((s : ℕ) → 0 < s → s < length a.rows → (x : List ℕ) × are_bytes x × (state_after a x ≡ s)) → IsAutomatonOfPart rules before (before + 1) b
+      pub leaf_part : ((s : ℕ) → 0 < s → s < length a.rows → (x : List ℕ) × are_bytes x × (state_after a x ≡ s)) →
+          IsAutomatonOfPart rules before (before + 1) b
       leaf_part met = record {
         whole = made_so.whole;
         least = λ x small.

@@ -30,7 +30,8 @@ module _ (rules : List RuleValue) (a : Automaton) (is : IsAutomatonOf rules a) w
   apart : (i j : ℕ) → i < j → j < length prefixes → after i ≢ after j
   apart i j lt within e =
       are.different i j lt within
-      ((is.one_each (slice_index_or prefixes i []) (slice_index_or prefixes j []) (small i (omega (arith, lt, within))) (small j within)).0 e)
+      ((is.one_each (slice_index_or prefixes i []) (slice_index_or prefixes j []) (small i (omega (arith, lt, within))) (small j within)).0
+      e)
 
   module _ (s : ℕ) (some : 0 < s) (below_rows : s < length a.rows) (none : (i : ℕ) → i < length prefixes → after i ≢ s) where
     value : ℕ → ℕ

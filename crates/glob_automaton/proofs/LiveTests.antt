@@ -1,5 +1,6 @@
 -- Which places are live, and whether two sets are the same, can be found out.
-use Rattle.std.proofs.Common.{◌≡◌, ℕ, zero, suc, ◌+◌, ◌-◌, ◌<◌, ◌≤◌, ◌↔◌, ◌⊎◌, inl, inr, ⊎_elim, List, [], ◌∷◌, ◌++◌, length, Some, slice_get, IsTrue, sym, ap, ◌∙◌, subst, arith}
+use Rattle.std.proofs.Common.{◌≡◌, ℕ, zero, suc, ◌+◌, ◌-◌, ◌<◌, ◌≤◌, ◌↔◌, ◌⊎◌, inl, inr, ⊎_elim, List, [], ◌∷◌, ◌++◌, length, Some}
+use Rattle.std.proofs.Common.{slice_get, IsTrue, sym, ap, ◌∙◌, subst, arith}
 use Rattle.std.specs.List.{list_all}
 use Rattle.std.proofs.lemmas.Bool.{cases_lt}
 use Rattle.std.proofs.lemmas.Option.{none-some, same_Some, slice_get_cases}
@@ -8,7 +9,8 @@ use Rattle.rule_globs.specs.PlainVerdict.{takes}
 use Rattle.rule_profile.specs.Profile.{RuleValue, pattern}
 use Rattle.rule_globs.specs.Verdict.{IsRuleAt}
 use Rattle.glob_automaton.specs.Sets.{SameSet, NoneLive}
-use Rattle.glob_automaton.proofs.Deciding.{Decided, decided_test, decided_by, decided_both, decided_either, decided_not, decided_same, decided_equal, decided_empty, decided_behind, decided_pairs, decided_cut}
+use Rattle.glob_automaton.proofs.Deciding.{Decided, decided_test, decided_by, decided_both, decided_either, decided_not, decided_same}
+use Rattle.glob_automaton.proofs.Deciding.{decided_equal, decided_empty, decided_behind, decided_pairs, decided_cut}
 use Rattle.glob_automaton.proofs.LiveByParts.{LeftFirst, IsLiveByParts, SameByParts, NoneByParts, same_by_parts, none_by_parts}
 use Rattle.glob_automaton.proofs.PatternPlaces.{live_within}
 use Rattle.glob_automaton.proofs.ReachedSets.{at_index}
@@ -18,7 +20,8 @@ abbrev pub TakesByCuts : Type 0
 TakesByCuts = (pattern : Glob) (bytes : List ℕ) → IsTrue (takes pattern bytes) ↔ Takes pattern bytes
 
 -- two rules with one number are one
-pub one_of_number : (rules : List RuleValue) (n : ℕ) (rule other : RuleValue) → IsRuleAt rules n rule → IsRuleAt rules n other → rule ≡ other
+pub one_of_number : (rules : List RuleValue) (n : ℕ) (rule other : RuleValue) → IsRuleAt rules n rule →
+    IsRuleAt rules n other → rule ≡ other
 one_of_number rules n rule other first second = same_Some rule other (sym (at_index rules n rule first) ∙ at_index rules n other second)
 
 -- more than the places of each rule
@@ -26,7 +29,8 @@ most_places : List RuleValue → ℕ
 most_places [] = 0
 most_places (rule ∷ rules) = places (pattern rule) + 1 + most_places rules
 
-places_below : (rules : List RuleValue) (i : ℕ) (rule : RuleValue) → slice_get rules i ≡ Some rule → places (pattern rule) < most_places rules
+places_below : (rules : List RuleValue) (i : ℕ) (rule : RuleValue) → slice_get rules i ≡ Some rule →
+    places (pattern rule) < most_places rules
 unfolding most_places
 places_below [] i rule e = absurd (none-some rule e)
 places_below (r ∷ rules) zero rule e =

@@ -1,5 +1,6 @@
 -- Bytes that reach a set with a member are a front part of a name, where each rule's path begins with a slash.
-use Rattle.std.proofs.Common.{◌≡◌, ℕ, zero, suc, ◌+◌, ◌<◌, true, false, ◌&&◌, nat_le, List, [], ◌∷◌, ◌++◌, length, Some, slice_get, IsTrue, sym, ap, ◌∙◌, arith}
+use Rattle.std.proofs.Common.{◌≡◌, ℕ, zero, suc, ◌+◌, ◌<◌, true, false, ◌&&◌, nat_le, List, [], ◌∷◌, ◌++◌, length, Some, slice_get, IsTrue}
+use Rattle.std.proofs.Common.{sym, ap, ◌∙◌, arith}
 use Rattle.std.specs.List.{Contains, list_all, list_any}
 use Rattle.std.proofs.lemmas.Bool.{and_parts}
 use Rattle.std.proofs.lemmas.List.Elements.{All-nil, All-push}
@@ -36,13 +37,15 @@ each_with_slash p h i rule e =
     (and_parts (begins_with_slash rule.items) (nat_le (length rule.items) 1024) front).0
 
 -- one byte more
-longer : (front : List ℕ) (b : ℕ) (tokens : List Token) (p : ℕ) → IsPrefixOfName front → 0 < b → b < 256 → IsTrue (begins_with_slash tokens) →
+longer : (front : List ℕ) (b : ℕ) (tokens : List Token) (p : ℕ) → IsPrefixOfName front → 0 < b → b < 256 →
+    IsTrue (begins_with_slash tokens) →
     LiveOrEnd (pattern_of tokens) (front ++ b ∷ []) p → IsPrefixOfName (front ++ b ∷ [])
 longer [] b tokens p h some small slash live = (first_is_slash tokens b [] p slash live, All-nil (λ c. (0 < c) × (c < 256)))
 longer (c ∷ more) b tokens p h some small slash live = (h.0, All-push (λ c. (0 < c) × (c < 256)) more b h.1 (some, small))
 
 -- a byte that leads on is not 0
-leads_on : (rules : List RuleValue) (chart : Chart) (bytes set next : List ℕ) (b q : ℕ) → IsChartOf rules chart → b < 256 → IsStepOf chart set b next →
+leads_on : (rules : List RuleValue) (chart : Chart) (bytes set next : List ℕ) (b q : ℕ) → IsChartOf rules chart → b < 256 →
+    IsStepOf chart set b next →
     ((p : ℕ) → Contains set p → IsNumber rules chart bytes p) → Contains next q → ((p : ℕ) × Contains set p) × (0 < b)
 leads_on rules chart bytes set next b q is small step numbers h =
     let w = (step.live q).0 h in

@@ -1,5 +1,6 @@
 -- Which bytes the places of a set take alone, one place after another.
-use Rattle.std.proofs.Common.{◌≡◌, ◌≢◌, ⊎_elim, ℕ, ◌+◌, ◌<◌, ◌≤◌, Bool, true, false, List, length, Some, slice_get, get_or, slice_index_or, sym, ap, ◌∙◌, subst, arith}
+use Rattle.std.proofs.Common.{◌≡◌, ◌≢◌, ⊎_elim, ℕ, ◌+◌, ◌<◌, ◌≤◌, Bool, true, false, List, length, Some, slice_get, get_or, slice_index_or}
+use Rattle.std.proofs.Common.{sym, ap, ◌∙◌, subst, arith}
 use Rattle.std.proofs.Math.ListN.{set}
 use Rattle.std.proofs.lemmas.Bool.{cases_lt}
 use Rattle.std.proofs.lemmas.Bool.Decides.{eqb_tells}
@@ -14,11 +15,13 @@ use Rattle.glob_automaton.specs.inner.Alike.{AreNamed}
 -- each byte that one of the first i places of the set takes alone is marked
 pub record NamedBefore (chart : Chart) (set : List ℕ) (named : List Bool) (i : ℕ) : Type 0 where
   pub long : length named ≡ 256
-  pub each : (k b : ℕ) (place : ChartPlace) → k < i → k < length set → slice_get chart.places.items (get_or set k 0) ≡ Some place → place.takes ≡ label.Byte b → b < 256 →
+  pub each : (k b : ℕ) (place : ChartPlace) → k < i → k < length set → slice_get chart.places.items (get_or set k 0) ≡ Some place →
+      place.takes ≡ label.Byte b → b < 256 →
       slice_index_or named b false ≡ true
 
 -- a mark that is set stays, whichever other one is set
-mark_stays : (named : List Bool) (byte b : ℕ) → b < length named → slice_index_or named b false ≡ true → slice_index_or (set named byte true) b false ≡ true
+mark_stays : (named : List Bool) (byte b : ℕ) → b < length named → slice_index_or named b false ≡ true →
+    slice_index_or (set named byte true) b false ≡ true
 mark_stays named byte b room marked = ⊎_elim
     (λ same. get_or-set_at named byte b true false same.1 (omega (arith, room, same.1)))
     (λ apart. get_or-set_other named byte b true false apart.1 ∙ marked)

@@ -1,5 +1,6 @@
 -- One new set after another is looked for, among what one byte more leads to.
-use Rattle.std.proofs.Common.{◌≡◌, ℕ, zero, suc, ◌+◌, ◌<◌, ◌⊎◌, inl, inr, ⊎_elim, List, [], ◌∷◌, ◌++◌, length, slice_index_or, All, refl, arith}
+use Rattle.std.proofs.Common.{◌≡◌, ℕ, zero, suc, ◌+◌, ◌<◌, ◌⊎◌, inl, inr, ⊎_elim, List, [], ◌∷◌, ◌++◌, length, slice_index_or, All, refl}
+use Rattle.std.proofs.Common.{arith}
 use Rattle.std.proofs.lemmas.Bool.{cases_lt}
 use Rattle.std.proofs.lemmas.List.Elements.{All-nil, All-cons, All-push}
 use Rattle.rule_profile.specs.Profile.{RuleValue}
@@ -36,7 +37,8 @@ pub record AreFound (rules : List RuleValue) (prefixes : List (List ℕ)) : Type
 -- no byte leads from these prefixes to a set that isn't counted
 pub record AreClosed (rules : List RuleValue) (prefixes : List (List ℕ)) : Type 0 where
   pub begins : IsCounted rules prefixes (47 ∷ [])
-  pub goes_on : (j : ℕ) → j < length prefixes → (b : ℕ) → b < 256 → 0 < b → IsCounted rules prefixes (slice_index_or prefixes j [] ++ b ∷ [])
+  pub goes_on : (j : ℕ) → j < length prefixes → (b : ℕ) → b < 256 → 0 < b →
+      IsCounted rules prefixes (slice_index_or prefixes j [] ++ b ∷ [])
 
 -- a prefix with a byte goes on by any byte but 0
 longer : (x : List ℕ) (b : ℕ) → IsPrefixOfName x → 0 < length x → 0 < b → b < 256 → IsPrefixOfName (x ++ b ∷ [])
@@ -48,7 +50,8 @@ longer_some [] b = omega arith
 longer_some (c ∷ more) b = omega arith
 
 -- one new prefix more
-pub one_more : (rules : List RuleValue) (prefixes : List (List ℕ)) (x : List ℕ) → AreDifferent rules prefixes → IsPrefixOfName x → IsNew rules prefixes x →
+pub one_more : (rules : List RuleValue) (prefixes : List (List ℕ)) (x : List ℕ) → AreDifferent rules prefixes → IsPrefixOfName x →
+    IsNew rules prefixes x →
     AreDifferent rules (x ∷ prefixes)
 one_more rules prefixes x h name is_new = record {
   prefixes_of_names = All-cons IsPrefixOfName x prefixes name h.prefixes_of_names;
@@ -56,7 +59,8 @@ one_more rules prefixes x h name is_new = record {
   different = differ;
 }
   where
-    differ : (i j : ℕ) → i < j → j < length (x ∷ prefixes) → ¬ (SameSet rules (slice_index_or (x ∷ prefixes) i []) (slice_index_or (x ∷ prefixes) j []))
+    differ : (i j : ℕ) → i < j → j < length (x ∷ prefixes) →
+        ¬ (SameSet rules (slice_index_or (x ∷ prefixes) i []) (slice_index_or (x ∷ prefixes) j []))
     differ i zero lt within same = omega (arith, lt)
     differ zero (suc j) lt within same = is_new.1 j (omega (arith, within)) same
     differ (suc i) (suc j) lt within same = h.different i j (omega (arith, lt)) (omega (arith, within)) same
@@ -71,8 +75,9 @@ found_more rules prefixes x h name some is_new = record {
 module _ (by_cuts : TakesByCuts) (by_steps : LeftFirst) (rules : List RuleValue) where
   pub met_or_not : (prefixes : List (List ℕ)) (x : List ℕ) → IsMet rules prefixes x ⊎ IsUnmet rules prefixes x
   met_or_not prefixes x = ⊎_elim (λ none. inr none) (λ some. inl some)
-      (all_or_some (λ j. ¬ (SameSet rules x (slice_index_or prefixes j []))) (λ j. SameSet rules x (slice_index_or prefixes j [])) (length prefixes)
-      (λ j lt. ⊎_elim (λ h. inr h) (λ h. inl h) (decided_same_set by_cuts by_steps rules x (slice_index_or prefixes j []))))
+      (all_or_some (λ j. ¬ (SameSet rules x (slice_index_or prefixes j []))) (λ j. SameSet rules x (slice_index_or prefixes j []))
+      (length prefixes) (λ j lt. ⊎_elim (λ h. inr h) (λ h. inl h)
+      (decided_same_set by_cuts by_steps rules x (slice_index_or prefixes j []))))
 
   pub counted_or_new : (prefixes : List (List ℕ)) (x : List ℕ) → IsCounted rules prefixes x ⊎ IsNew rules prefixes x
   counted_or_new prefixes x = ⊎_elim
@@ -83,12 +88,14 @@ module _ (by_cuts : TakesByCuts) (by_steps : LeftFirst) (rules : List RuleValue)
   -- ---- the next new set
 
   next_byte : (prefixes : List (List ℕ)) (j : ℕ) →
-      ((b : ℕ) → b < 256 → 0 < b → IsCounted rules prefixes (slice_index_or prefixes j [] ++ b ∷ [])) ⊎ ((b : ℕ) × (b < 256) × IsNext rules prefixes j b)
+      ((b : ℕ) → b < 256 → 0 < b → IsCounted rules prefixes (slice_index_or prefixes j [] ++ b ∷ []))
+      ⊎ ((b : ℕ) × (b < 256) × IsNext rules prefixes j b)
   next_byte prefixes j =
       all_or_some (λ b. 0 < b → IsCounted rules prefixes (slice_index_or prefixes j [] ++ b ∷ [])) (IsNext rules prefixes j) 256
       (λ b lt. ⊎_elim
       (λ zero_byte. inl (λ above. absurd (omega (arith, zero_byte, above))))
-      (λ above. ⊎_elim (λ h. inl (λ t. h)) (λ h. inr (omega (arith, above), h)) (counted_or_new prefixes (slice_index_or prefixes j [] ++ b ∷ [])))
+      (λ above. ⊎_elim (λ h. inl (λ t. h)) (λ h. inr (omega (arith, above), h))
+      (counted_or_new prefixes (slice_index_or prefixes j [] ++ b ∷ [])))
       (cases_lt b 1))
 
   find_new : (prefixes : List (List ℕ)) → AreFound rules prefixes →

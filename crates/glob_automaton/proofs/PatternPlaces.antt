@@ -1,5 +1,6 @@
 -- A pattern's own numbers, and the bytes that its places take.
-use Rattle.std.proofs.Common.{◌≡◌, ℕ, ◌+◌, ◌<◌, ◌≤◌, ◌⊎◌, inl, inr, ⊎_elim, true, List, [], ◌∷◌, ◌++◌, get_or, IsTrue, nat_lt, sym, ap, ◌∙◌, arith, ltb-true, eqb-true}
+use Rattle.std.proofs.Common.{◌≡◌, ℕ, ◌+◌, ◌<◌, ◌≤◌, ◌⊎◌, inl, inr, ⊎_elim, true, List, [], ◌∷◌, ◌++◌, get_or, IsTrue, nat_lt, sym, ap}
+use Rattle.std.proofs.Common.{◌∙◌, arith, ltb-true, eqb-true}
 use Rattle.std.proofs.lemmas.Bool.{and_parts}
 use Rattle.names.specs.Paths.{is_slash}
 use Rattle.rule_globs.specs.Glob.{Glob, empty, one, run, cat, none, alt, ByteSet, exactly, fits, contains, Takes, places, Live, LiveOrEnd}
@@ -8,7 +9,8 @@ use Rattle.rule_profile.specs.Readable.{begins_with_slash}
 use Rattle.rule_globs.specs.Tokens.{Token, byte, any_byte, bracket, stars, opening, between, closing, pattern_of}
 
 -- what is live where a pattern begins is a place of it, or is live after it
-pub starts_within : (g : Glob) (base : ℕ) (behind : Numbers) (q : ℕ) → Starts g base behind q → ((base ≤ q) × (q < base + places g)) ⊎ behind q
+pub starts_within : (g : Glob) (base : ℕ) (behind : Numbers) (q : ℕ) → Starts g base behind q →
+    ((base ≤ q) × (q < base + places g)) ⊎ behind q
 starts_within empty base behind q h = inr h
 starts_within (one set) base behind q h = inl (omega (arith, h), omega (arith, h))
 starts_within (run set) base behind q (inl h) = inl (omega (arith, h), omega (arith, h))
@@ -24,7 +26,8 @@ starts_within (alt a b) base behind q (inr h) =
     ⊎_elim (λ t. inl (t.0, omega (arith, t.1))) (λ t. inr t) (starts_within b base behind q h)
 
 -- and so is what follows a place
-pub goes_within : (g : Glob) (base : ℕ) (behind : Numbers) (p q : ℕ) → Goes g base behind p q → ((base ≤ q) × (q < base + places g)) ⊎ behind q
+pub goes_within : (g : Glob) (base : ℕ) (behind : Numbers) (p q : ℕ) → Goes g base behind p q →
+    ((base ≤ q) × (q < base + places g)) ⊎ behind q
 goes_within empty base behind p q h = absurd h
 goes_within (one set) base behind p q h = inr h.1
 goes_within (run set) base behind p q h = ⊎_elim (λ t. inl (omega (arith, t), omega (arith, t))) (λ t. inr t) h.1
@@ -78,7 +81,8 @@ end_live g x (inl h) = absurd (omega (arith, live_below g x (places g) h))
 end_live g x (inr h) = h.1
 
 -- the first byte of a part that is one byte
-first_taken : (a b : ℕ) (bytes front back : List ℕ) → is_slash a ≡ true → Takes (one (exactly a)) front → b ∷ bytes ≡ front ++ back → b ≡ 47
+first_taken : (a b : ℕ) (bytes front back : List ℕ) → is_slash a ≡ true → Takes (one (exactly a)) front →
+    b ∷ bytes ≡ front ++ back → b ≡ 47
 first_taken a b bytes front back slash h e =
     let is : a ≡ h.0 = eqb-true a h.0 (and_parts (nat_lt 0 h.0) (contains (exactly a) h.0) h.2).1 in
     let joined : b ∷ bytes ≡ h.0 ∷ back = e ∙ ap (λ z. z ++ back) h.1 in

@@ -1,5 +1,7 @@
 -- Words of bits as they are written and joined, and the places that are read off them.
-use Rattle.std.proofs.Common.{◌≡◌, ◌≢◌, ◌⊎◌, inl, inr, ⊎_elim, ℕ, ◌+◌, ◌-◌, ◌*◌, ◌/◌, ◌%◌, ◌^◌, ◌<◌, ◌≤◌, ◌==◌, ◌||◌, ◌&&◌, Bool, true, false, true≢false, nat_le, List, [], ◌∷◌, ◌++◌, length, slice_index_or, Contains, bit_or, w64, refl, sym, ap, ◌∙◌, subst, arith}
+use Rattle.std.proofs.Common.{◌≡◌, ◌≢◌, ◌⊎◌, inl, inr, ⊎_elim, ℕ, ◌+◌, ◌-◌, ◌*◌, ◌/◌, ◌%◌, ◌^◌, ◌<◌, ◌≤◌, ◌==◌, ◌||◌, ◌&&◌, Bool, true}
+use Rattle.std.proofs.Common.{false, true≢false, nat_le, List, [], ◌∷◌, ◌++◌, length, slice_index_or, Contains, bit_or, w64, refl, sym, ap}
+use Rattle.std.proofs.Common.{◌∙◌, subst, arith}
 use Rattle.std.proofs.Math.ListN.{set}
 use Rattle.std.specs.Int.Bits.{or_zero_r}
 use Rattle.std.proofs.Math.Bool.{or-false, or-true}
@@ -14,7 +16,8 @@ use Rattle.glob_automaton.specs.inner.PlaceBits.{has_from, has_place, is_bit}
 use Rattle.glob_automaton.proofs.WordBits.{bits_or, bits_zero}
 
 -- the words of one list are those of the other
-pub same_places : (old new : List ℕ) → ((w : ℕ) → slice_index_or new w 0 ≡ slice_index_or old w 0) → (q : ℕ) → has_place new q ≡ has_place old q
+pub same_places : (old new : List ℕ) → ((w : ℕ) → slice_index_or new w 0 ≡ slice_index_or old w 0) → (q : ℕ) →
+    has_place new q ≡ has_place old q
 same_places old new same q = ap (λ z. is_bit z (q % 64)) (same (q / 64))
 
 -- one bit more
@@ -31,7 +34,8 @@ module _ (words : List ℕ) (place : ℕ) (room : place / 64 < length words) whe
   not_equal : (q : ℕ) → q ≢ place → (q == place) ≡ false
   not_equal q differs = ⊎_elim (λ h. absurd (differs h.1)) (λ h. h.0) (eqb_tells q place)
 
-  pub one_added : (q : ℕ) → has_place (set words (place / 64) (bit_or (slice_index_or words (place / 64) 0) (1 * 2 ^ (place % 64) % 2 ^ 64))) q
+  pub one_added : (q : ℕ) →
+      has_place (set words (place / 64) (bit_or (slice_index_or words (place / 64) 0) (1 * 2 ^ (place % 64) % 2 ^ 64))) q
       ≡ (has_place words q || (q == place))
   unfolding joined_word
   one_added q = ⊎_elim
@@ -54,13 +58,15 @@ module _ (words : List ℕ) (place : ℕ) (room : place / 64 < length words) whe
 
 -- words joined with those from another one on
 module _ (old new : List ℕ) (first : ℕ) (words : List ℕ) (index : ℕ) (all : length words ≤ index)
-    (joined : (w : ℕ) → first ≤ w → w < first + index → slice_index_or new w 0 ≡ bit_or (slice_index_or old w 0) (slice_index_or words (w - first) 0))
+    (joined : (w : ℕ) → first ≤ w → w < first + index → slice_index_or new w 0 ≡ bit_or (slice_index_or old w 0)
+    (slice_index_or words (w - first) 0))
     (same : (w : ℕ) → (w < first) ⊎ (first + index ≤ w) → slice_index_or new w 0 ≡ slice_index_or old w 0) where
   pub all_joined : (q : ℕ) → has_place new q ≡ (has_place old q || has_from first words q)
   all_joined q = ⊎_elim
       (λ below.
       ap (λ z. is_bit z (q % 64)) (same (q / 64) (inl below))
-      ∙ sym (ap (λ z. has_place old q || (z && is_bit (slice_index_or words (q / 64 - first) 0) (q % 64))) (not_after below) ∙ or-false (has_place old q)))
+      ∙ sym (ap (λ z. has_place old q || (z && is_bit (slice_index_or words (q / 64 - first) 0) (q % 64))) (not_after below)
+      ∙ or-false (has_place old q)))
       (λ ge. ap (λ z. is_bit z (q % 64)) (⊎_elim
       (λ lt. joined (q / 64) ge lt)
       (λ le. same (q / 64) (inr le) ∙ nothing_joined (slice_index_or old (q / 64) 0) (q / 64) le)
@@ -96,7 +102,9 @@ from_within first words q has =
       low,
       ⊎_elim
           (λ lt. lt)
-          (λ le. absurd (true≢false (sym tests.1 ∙ ap (λ z. is_bit z (q % 64)) (get_or_past words (q / 64 - first) 0 (omega (arith, low, le))) ∙ bits_zero (q % 64))))
+          (λ le. absurd (true≢false
+          (sym tests.1 ∙ ap (λ z. is_bit z (q % 64)) (get_or_past words (q / 64 - first) 0 (omega (arith, low, le)))
+          ∙ bits_zero (q % 64))))
           (cases_lt (q / 64) (first + length words)),
     )
 

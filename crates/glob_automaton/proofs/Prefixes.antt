@@ -1,5 +1,6 @@
 -- Bytes after which something is live are a front part of a name.
-use Rattle.std.proofs.Common.{◌≡◌, ◌⊎◌, inl, inr, ⊎_elim, ℕ, zero, suc, ◌+◌, ◌-◌, ◌<◌, ◌≤◌, List, [], ◌∷◌, ◌++◌, length, slice_index_or, All, append_assoc, append-nil, refl, sym, ap, subst, arith}
+use Rattle.std.proofs.Common.{◌≡◌, ◌⊎◌, inl, inr, ⊎_elim, ℕ, zero, suc, ◌+◌, ◌-◌, ◌<◌, ◌≤◌, List, [], ◌∷◌, ◌++◌, length, slice_index_or}
+use Rattle.std.proofs.Common.{All, append_assoc, append-nil, refl, sym, ap, subst, arith}
 use Rattle.std.proofs.lemmas.Bool.{cases_lt}
 use Rattle.std.proofs.lemmas.List.{get_or_default}
 use Rattle.std.proofs.lemmas.Bool.Decides.{eqb_tells}
@@ -67,7 +68,8 @@ module _ (after : LiveAfterByte) (by_steps : LeftFirst) (rules : List RuleValue)
   none_behind x (b ∷ bytes) none =
       subst (NoneLive rules) (append_assoc x (b ∷ []) bytes) (none_behind (x ++ b ∷ []) bytes (none_goes_on after by_steps rules x b none))
 
-  goes_on : (x bytes : List ℕ) → IsPrefixOfName x → 0 < length x → are_bytes bytes → IsPrefixOfName (x ++ bytes) ⊎ NoneLive rules (x ++ bytes)
+  goes_on : (x bytes : List ℕ) → IsPrefixOfName x → 0 < length x → are_bytes bytes → IsPrefixOfName (x ++ bytes)
+      ⊎ NoneLive rules (x ++ bytes)
   goes_on x [] name some small = inl (subst IsPrefixOfName (sym (append-nil x)) name)
   goes_on x (b ∷ bytes) name some small = ⊎_elim
       (λ e. inr (subst (NoneLive rules) (append_assoc x (b ∷ []) bytes)
@@ -75,7 +77,8 @@ module _ (after : LiveAfterByte) (by_steps : LeftFirst) (rules : List RuleValue)
       (λ other.
       let above : 0 < b = ⊎_elim (λ lt. lt) (λ le. absurd (other.1 (omega (arith, le)))) (cases_lt 0 b) in
       subst (λ z. IsPrefixOfName z ⊎ NoneLive rules z) (append_assoc x (b ∷ []) bytes)
-      (goes_on (x ++ b ∷ []) bytes (longer x b name some above (All-head (λ c. c < 256) b bytes small)) (longer_some x b) (All-tail (λ c. c < 256) b bytes small)))
+      (goes_on (x ++ b ∷ []) bytes (longer x b name some above (All-head (λ c. c < 256) b bytes small)) (longer_some x b)
+      (All-tail (λ c. c < 256) b bytes small)))
       (eqb_tells b 0)
 
   -- bytes are a front part of a name, or nothing is live after them
@@ -85,5 +88,6 @@ module _ (after : LiveAfterByte) (by_steps : LeftFirst) (rules : List RuleValue)
       (λ e. subst (λ z. IsPrefixOfName (z ∷ bytes) ⊎ NoneLive rules (z ∷ bytes)) (sym e.1)
       (goes_on (47 ∷ []) bytes (refl, All-nil (λ c. (0 < c) × (c < 256))) (omega arith) (All-tail (λ c. c < 256) b bytes small)))
       (λ other. inr (λ n p h. other.1
-      (first_is_slash h.0.items b bytes p (slashes (n - 1) h.0 (at_index rules n h.0 h.1)) ((by_steps (pattern h.0) (b ∷ bytes) p).0 h.2))))
+      (first_is_slash h.0.items b bytes p (slashes (n - 1) h.0 (at_index rules n h.0 h.1))
+      ((by_steps (pattern h.0) (b ∷ bytes) p).0 h.2))))
       (eqb_tells b 47)

@@ -1,5 +1,6 @@
 -- The row of a set as ranges, one more where the target changes.
-use Rattle.std.proofs.Common.{◌≡◌, ⊎_elim, Bool, slice_index_or, ℕ, ◌+◌, ◌-◌, ◌<◌, ◌≤◌, ◌++◌, ◌∷◌, [], List, sym, subst, subst₂, refl, arith}
+use Rattle.std.proofs.Common.{◌≡◌, ⊎_elim, Bool, slice_index_or, ℕ, ◌+◌, ◌-◌, ◌<◌, ◌≤◌, ◌++◌, ◌∷◌, [], List, sym, subst, subst₂, refl}
+use Rattle.std.proofs.Common.{arith}
 use Rattle.std.proofs.lemmas.Bool.{cases_lt}
 use Rattle.automata.specs.declared.range.TargetRange.{TargetRange}
 use Rattle.automata.specs.Rows.{IsRowAppended, target_in}
@@ -15,14 +16,16 @@ module _ (chart : Chart) (set : List ℕ) where
   -- the bytes before the open range have their targets, and those in it so far have its target
   abbrev pub IsWritten : List (List ℕ) → List TargetRange → List TargetRange → ℕ → ℕ → Type 0
   IsWritten sets old ranges t byte =
-      (from : ℕ) × (from < byte) × IsSoFar (IsTargetOf chart sets set) old ranges from × ((c : ℕ) → from ≤ c → c < byte → IsTargetOf chart sets set c t)
+      (from : ℕ) × (from < byte) × IsSoFar (IsTargetOf chart sets set) old ranges from
+      × ((c : ℕ) → from ≤ c → c < byte → IsTargetOf chart sets set c t)
 
   -- the first byte alone
   pub one_alike : (sets : List (List ℕ)) (t : ℕ) → IsTargetOf chart sets set 0 t → (c : ℕ) → 0 ≤ c → c < 1 → IsTargetOf chart sets set c t
   one_alike sets t is c low lt = subst (λ z. IsTargetOf chart sets set z t) (omega (arith, lt)) is
 
   -- the next byte is like the one before it
-  pub like_last : (sets : List (List ℕ)) (least : List ℕ) (named : List Bool) → IsPartOfChart chart → AreAlike chart least → AreNamed chart set named →
+  pub like_last : (sets : List (List ℕ)) (least : List ℕ) (named : List Bool) → IsPartOfChart chart → AreAlike chart least →
+      AreNamed chart set named →
       (old ranges : List TargetRange) (t byte : ℕ) → byte < 256 → AreLike least named (byte - 1) byte → IsWritten sets old ranges t byte →
       IsWritten sets old ranges t (byte + 1)
   like_last sets least named part alike marks old ranges t byte small like h = (
@@ -46,7 +49,8 @@ module _ (chart : Chart) (set : List ℕ) where
     still c t is = still_target chart sets new set c t kept is
 
     -- the next byte has the same target
-    pub same_range : (old ranges : List TargetRange) (t next byte : ℕ) → IsWritten sets old ranges t byte → next ≡ t → IsTargetOf chart new set byte next →
+    pub same_range : (old ranges : List TargetRange) (t next byte : ℕ) → IsWritten sets old ranges t byte → next ≡ t →
+        IsTargetOf chart new set byte next →
         IsWritten new old ranges t (byte + 1)
     same_range old ranges t next byte h same is = (
       h.0,
@@ -68,7 +72,8 @@ module _ (chart : Chart) (set : List ℕ) where
 
     -- the next byte has another target
     pub one_more : (old ranges more : List TargetRange) (t next byte : ℕ) → byte < 256 → IsWritten sets old ranges t byte →
-        more ≡ ranges ++ record { last = byte - 1; target = t } ∷ [] → IsTargetOf chart new set byte next → IsWritten new old more next (byte + 1)
+        more ≡ ranges ++ record { last = byte - 1; target = t } ∷ [] → IsTargetOf chart new set byte next →
+        IsWritten new old more next (byte + 1)
     one_more old ranges more t next byte small h e is =
         let r : TargetRange = record { last = byte - 1; target = t } in
         let back : byte - 1 + 1 ≡ byte = omega (arith, h.1) in (
@@ -81,7 +86,8 @@ module _ (chart : Chart) (set : List ℕ) where
           λ c le lt. subst (λ z. IsTargetOf chart new set z next) (omega (arith, le, lt)) is,
         )
 
-  pub whole_row : (sets : List (List ℕ)) (old ranges more : List TargetRange) (t byte : ℕ) → byte ≡ 256 → IsWritten sets old ranges t byte →
+  pub whole_row : (sets : List (List ℕ)) (old ranges more : List TargetRange) (t byte : ℕ) → byte ≡ 256 →
+      IsWritten sets old ranges t byte →
       more ≡ ranges ++ record { last = 255; target = t } ∷ [] → IsRowAppended (IsTargetOf chart sets set) old more
   whole_row sets old ranges more t byte all h e =
       let r : TargetRange = record { last = 255; target = t } in

@@ -31,7 +31,8 @@ has_number rules i rule h = (
     back e = ap (λ z. slice_get rules z) e ∙ h
 
 -- two rules with one number are one
-same_rule : (rules : List RuleValue) (i : ℕ) (rule other : RuleValue) → slice_get rules i ≡ Some rule → IsRuleAt rules (i + 1) other → other ≡ rule
+same_rule : (rules : List RuleValue) (i : ℕ) (rule other : RuleValue) → slice_get rules i ≡ Some rule → IsRuleAt rules (i + 1) other →
+    other ≡ rule
 same_rule rules i rule other one two =
     let e : i + 1 - 1 ≡ i = omega arith in
     same_Some other rule (sym (at_index rules (i + 1) other two) ∙ ap (λ z. slice_get rules z) e ∙ one)
@@ -61,7 +62,8 @@ module _ (first : LiveAtFirst) (after : LiveAfterByte) (rules : List RuleValue) 
   number_there bytes set reached i rule d p stands drawn le = (
     λ h.
         let n = (live_numbers first after rules chart bytes set reached is (d.end + (places (pattern rule) - p))).0 h in
-        let at : i ≡ n.index = one_rule chart rules chart.rules.items 0 is.drawn i n.index rule n.rule d n.drawn (d.end + (places (pattern rule) - p))
+        let at : i ≡ n.index = one_rule chart rules chart.rules.items 0 is.drawn i n.index rule n.rule d n.drawn
+        (d.end + (places (pattern rule) - p))
         stands drawn n.stands n.is_drawn (omega arith) (omega arith) (omega (arith, n.number)) (omega (arith, n.number)) in
         let one : rule ≡ n.rule = same_Some rule n.rule (sym stands ∙ ap (λ z. slice_get rules z) at ∙ n.stands) in
         let two : d ≡ n.drawn = same_Some d n.drawn (sym drawn ∙ ap (λ z. slice_get chart.rules.items z) at ∙ n.is_drawn) in
@@ -91,7 +93,8 @@ module _ (first : LiveAtFirst) (after : LiveAfterByte) (rules : List RuleValue) 
       let le = live_within (pattern live.0) x p live.2 in (
         live.0,
         live.1,
-        (number_there y t two (n - 1) live.0 w.0 p stands w.1 le).0 (go _ ((number_there x s one (n - 1) live.0 w.0 p stands w.1 le).1 live.2)),
+        (number_there y t two (n - 1) live.0 w.0 p stands w.1 le).0
+            (go _ ((number_there x s one (n - 1) live.0 w.0 p stands w.1 le).1 live.2)),
       )
 
   -- sets are equal where the same places are live by parts

@@ -1,5 +1,6 @@
 -- The targets of a set. Bytes that are alike and that no place takes alone have one target.
-use Rattle.std.proofs.Common.{◌≡◌, ◌≢◌, ⊎_elim, ℕ, zero, suc, ◌<◌, ◌&&◌, Bool, false, true≢false, nat_lt, List, [], length, Option, Some, None, slice_get, slice_index_or, Contains, Result, Ok, Err, OnOk, refl, sym, ap, ◌∙◌, subst, arith}
+use Rattle.std.proofs.Common.{◌≡◌, ◌≢◌, ⊎_elim, ℕ, zero, suc, ◌<◌, ◌&&◌, Bool, false, true≢false, nat_lt, List, [], length, Option, Some}
+use Rattle.std.proofs.Common.{None, slice_get, slice_index_or, Contains, Result, Ok, Err, OnOk, refl, sym, ap, ◌∙◌, subst, arith}
 use Rattle.std.proofs.Math.Bool.{and-false}
 use Rattle.std.proofs.Math.ListN.{set, replicate}
 use Rattle.std.proofs.lemmas.Bool.Decides.{eqb_tells}
@@ -41,13 +42,15 @@ module _ (chart : Chart) (least : List ℕ) (part : IsPartOfChart chart) (alike 
   both_or_none : (by : Label) (b c : ℕ) → b < 256 → c < 256 → least_of least b ≡ least_of least c → IsKnown chart by → NamesNone by →
       takes_byte chart.classes.items by b ≡ takes_byte chart.classes.items by c
   both_or_none by b c small other same known none =
-      sym (alike.taken_alike b by small known none) ∙ ap (λ z. takes_byte chart.classes.items by z) same ∙ alike.taken_alike c by other known none
+      sym (alike.taken_alike b by small known none) ∙ ap (λ z. takes_byte chart.classes.items by z) same
+      ∙ alike.taken_alike c by other known none
 
   -- so does what takes a third byte alone
   unnamed_alike : (by : Label) (b c : ℕ) → b < 256 → c < 256 → least_of least b ≡ least_of least c → IsKnown chart by →
       by ≢ label.Byte b → by ≢ label.Byte c → takes_byte chart.classes.items by b ≡ takes_byte chart.classes.items by c
   unnamed_alike (label.Byte a) b c small other same known one two =
-      other_byte chart.classes.items a b (λ e. one (ap label.Byte e)) ∙ sym (other_byte chart.classes.items a c (λ e. two (ap label.Byte e)))
+      other_byte chart.classes.items a b (λ e. one (ap label.Byte e))
+      ∙ sym (other_byte chart.classes.items a c (λ e. two (ap label.Byte e)))
   unnamed_alike label.InComponent b c small other same known one two = both_or_none label.InComponent b c small other same known tt
   unnamed_alike label.Any b c small other same known one two = both_or_none label.Any b c small other same known tt
   unnamed_alike (label.Class n) b c small other same known one two = both_or_none (label.Class n) b c small other same known tt
@@ -61,7 +64,8 @@ module _ (chart : Chart) (least : List ℕ) (part : IsPartOfChart chart) (alike 
 
     -- two bytes that are alike and aren't marked lead to the same set
     pub same_step : (b c : ℕ) (next : List ℕ) → b < 256 → c < 256 → least_of least b ≡ least_of least c →
-        slice_index_or named b false ≡ false → slice_index_or named c false ≡ false → IsStepOf chart places b next → IsStepOf chart places c next
+        slice_index_or named b false ≡ false → slice_index_or named c false ≡ false → IsStepOf chart places b next →
+        IsStepOf chart places c next
     same_step b c next small other same one two step = record {
       ascending = step.ascending;
       live = λ q. (
@@ -83,7 +87,8 @@ module _ (chart : Chart) (least : List ℕ) (named : List Bool) (places : List �
     shared = λ o b target there small same unmarked. absurd (none-some target (sym (none_at n o) ∙ there));
   }
 
-  module _ (old new : List (List ℕ)) (others : List (Option ℕ)) (kept : Keeps old new) (is : AreShared chart least named old places others) where
+  module _ (old new : List (List ℕ)) (others : List (Option ℕ)) (kept : Keeps old new)
+      (is : AreShared chart least named old places others) where
     -- they stay when sets are added
     pub shared_stay : AreShared chart least named new places others
     shared_stay = record {
@@ -100,8 +105,11 @@ module _ (chart : Chart) (least : List ℕ) (named : List Bool) (places : List �
       shared = λ x b t there small same unmarked. ⊎_elim
           (λ here.
           let one : target ≡ t = same_Some target t (sym (get_or-set_at others o x (Some target) None here.1 fits_in) ∙ there) in
-          subst (λ z. IsTargetOf chart new places b z) one
-          (found.0, same_step chart least part alike places named marks k b (slice_index_or new target []) room small (at ∙ sym here.1 ∙ sym same) free unmarked found.1))
+          subst (λ z. IsTargetOf chart new places b z) one (
+            found.0,
+            same_step chart least part alike places named marks k b (slice_index_or new target []) room small
+                (at ∙ sym here.1 ∙ sym same) free unmarked found.1,
+          ))
           (λ apart. still_target chart old new places b t kept
           (is.shared x b t (sym (get_or-set_other others o x (Some target) None apart.1) ∙ there) small same unmarked))
           (eqb_tells x o);

@@ -45,7 +45,8 @@ end_behind chart (r ∷ rules) (e ∷ ds) at h (suc i) d one =
 
 -- an earlier rule's numbers are less than a later one's
 pub before : (chart : Chart) (rules : List RuleValue) (ds : List ChartRule) (at : ℕ) → HasRules chart at rules ds →
-    (i j : ℕ) (rule : RuleValue) (d e : ChartRule) → i < j → slice_get rules i ≡ Some rule → slice_get ds i ≡ Some d → slice_get ds j ≡ Some e →
+    (i j : ℕ) (rule : RuleValue) (d e : ChartRule) → i < j → slice_get rules i ≡ Some rule → slice_get ds i ≡ Some d →
+    slice_get ds j ≡ Some e →
     d.end + places (pattern rule) < e.end
 before chart [] ds at h i j rule d e lt one other later = absurd (none-some rule one)
 before chart (r ∷ rules) [] at h i j rule d e lt one other later = absurd h

@@ -30,8 +30,10 @@ module _ (one other : Chart) (same : AreSame one other) where
     starts = λ q. subst (λ z. IsIn z d.start q ↔ Starts (pattern rule) (d.end + 1) (λ r. r ≡ d.end) q) same.entries (h.starts q);
     start_there = subst (λ z. d.start < length z) same.entries h.start_there;
     taken = λ p b place low high at small.
-        subst (λ z. IsTrue (takes_byte z place.takes b) ↔ TakesAt (pattern rule) (d.end + 1) p b) same.classes (h.taken p b place low high (place_back p place at) small);
-    goes = λ p q place low high at. subst (λ z. IsIn z place.behind q ↔ Goes (pattern rule) (d.end + 1) (λ r. r ≡ d.end) p q) same.entries (h.goes p q place low high (place_back p place at));
+        subst (λ z. IsTrue (takes_byte z place.takes b) ↔ TakesAt (pattern rule) (d.end + 1) p b) same.classes
+        (h.taken p b place low high (place_back p place at) small);
+    goes = λ p q place low high at. subst (λ z. IsIn z place.behind q ↔ Goes (pattern rule) (d.end + 1) (λ r. r ≡ d.end) p q) same.entries
+        (h.goes p q place low high (place_back p place at));
   }
 
   rules_there : (at : ℕ) (rules : List RuleValue) (ds : List ChartRule) → HasRules one at rules ds → HasRules other at rules ds

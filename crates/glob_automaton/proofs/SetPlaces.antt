@@ -49,7 +49,8 @@ start_places chart set part start q h =
     place_there chart r.0 d q has (starts_within (pattern r.0) (d.end + 1) (λ z. z ≡ d.end) q begun)
 
 -- so is what is live after a byte
-pub step_places : (chart : Chart) (set next : List ℕ) (b : ℕ) → IsPartOfChart chart → b < 256 → IsStepOf chart set b next → ArePlaces chart next
+pub step_places : (chart : Chart) (set next : List ℕ) (b : ℕ) → IsPartOfChart chart → b < 256 → IsStepOf chart set b next →
+    ArePlaces chart next
 step_places chart set next b part small step q h =
     let w = (step.live q).0 h in
     let o = own_rule chart part.0 chart.rules.items 0 part.1.drawn w.0 (omega arith) (slice_get_within chart.places.items w.0 w.1 w.3) in
@@ -66,7 +67,8 @@ reached_places chart bytes set part (begins c s start) = start_places chart s pa
 reached_places chart bytes set part (goes_on c front old s b reached small step) = step_places chart old s b part small step
 
 -- the sets so far hold places alone
-pub set_places : (chart : Chart) (sets : List (List ℕ)) (set : List ℕ) → IsPartOfChart chart → AreSets chart sets → Contains sets set → ArePlaces chart set
+pub set_places : (chart : Chart) (sets : List (List ℕ)) (set : List ℕ) → IsPartOfChart chart → AreSets chart sets → Contains sets set →
+    ArePlaces chart set
 set_places chart sets set part are there = ⊎_elim
     (λ empty q h. absurd (contains_none q (subst (λ z. Contains z q) empty h)))
     (λ h. reached_places chart h.0 set part h.1)

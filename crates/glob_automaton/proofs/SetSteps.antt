@@ -1,5 +1,6 @@
 -- The sets so far with one more, and what a byte leads to from one of them.
-use Rattle.std.proofs.Common.{◌≡◌, ◌⊎◌, inl, inr, ⊎_elim, ℕ, ◌+◌, ◌<◌, ◌≤◌, List, [], ◌∷◌, ◌++◌, length, slice_index_or, Contains, Result, Ok, Err, IfOk, IfErr, OnOk, sym, ap, ◌∙◌, subst, arith}
+use Rattle.std.proofs.Common.{◌≡◌, ◌⊎◌, inl, inr, ⊎_elim, ℕ, ◌+◌, ◌<◌, ◌≤◌, List, [], ◌∷◌, ◌++◌, length, slice_index_or, Contains, Result}
+use Rattle.std.proofs.Common.{Ok, Err, IfOk, IfErr, OnOk, sym, ap, ◌∙◌, subst, arith}
 use Rattle.std.proofs.Math.Seq.{get_or-append_seam}
 use Rattle.std.proofs.lemmas.List.{length-append, append-nil, append_assoc, get_or_append_left, get_or_default}
 use Rattle.std.proofs.lemmas.Bool.{cases_lt}
@@ -23,11 +24,13 @@ pub set_there : (sets : List (List ℕ)) (i : ℕ) → i < length sets → Conta
 set_there sets i lt = (i, lt, get_or_default sets i (slice_index_or sets i []) [] lt)
 
 -- the elements before the new one are what they were
-as_before : (sets : List (List ℕ)) (set : List ℕ) (i : ℕ) → i < length sets → slice_index_or (sets ++ set ∷ []) i [] ≡ slice_index_or sets i []
+as_before : (sets : List (List ℕ)) (set : List ℕ) (i : ℕ) → i < length sets → slice_index_or (sets ++ set ∷ []) i []
+    ≡ slice_index_or sets i []
 as_before sets set i lt = get_or_append_left sets (set ∷ []) [] i lt
 
 -- the last one is the new one
-last_is : (sets : List (List ℕ)) (set : List ℕ) (i : ℕ) → i < length (sets ++ set ∷ []) → length sets ≤ i → slice_index_or (sets ++ set ∷ []) i [] ≡ set
+last_is : (sets : List (List ℕ)) (set : List ℕ) (i : ℕ) → i < length (sets ++ set ∷ []) → length sets ≤ i →
+    slice_index_or (sets ++ set ∷ []) i [] ≡ set
 last_is sets set i lt le =
     let at : i ≡ length sets = omega (arith, lt, le, length_more sets set) in
     ap (λ z. slice_index_or (sets ++ set ∷ []) z []) at ∙ get_or-append_seam sets set [] []
@@ -99,7 +102,8 @@ set_from chart sets set are there =
     (cases_lt 0 there.0)
 
 -- and so is what follows it
-pub step_from : (chart : Chart) (set next : List ℕ) (b : ℕ) → IsEmptyOrReached chart set → b < 256 → IsStepOf chart set b next → IsEmptyOrReached chart next
+pub step_from : (chart : Chart) (set next : List ℕ) (b : ℕ) → IsEmptyOrReached chart set → b < 256 → IsStepOf chart set b next →
+    IsEmptyOrReached chart next
 step_from chart set next b from small step = ⊎_elim
     (λ empty. inl (step_empty chart b next (subst (λ z. IsStepOf chart z b next) empty step)))
     (λ h. inr (h.0 ++ b ∷ [], goes_on chart h.0 set next b h.1 small step))
@@ -121,7 +125,8 @@ still_target chart old new set b target kept is =
     )
 
 -- what the number of a step says, and why it has none
-module _ (chart : Chart) (old new : List (List ℕ)) (set next places : List ℕ) (b : ℕ) (are : AreFewSets chart old) (there : Contains old set)
+module _ (chart : Chart) (old new : List (List ℕ)) (set next places : List ℕ) (b : ℕ) (are : AreFewSets chart old)
+    (there : Contains old set)
     (small : b < 256) (step : IsStepOf chart set b next) (same : places ≡ next) where
   from_set : IsEmptyOrReached chart places
   from_set = subst (λ z. IsEmptyOrReached chart z) (sym same) (step_from chart set next b (set_from chart old set are.0 there) small step)

@@ -17,17 +17,20 @@ use Rattle.glob_automaton.specs.Parts.{SameIn, NoneIn, IsAutomatonOfPart}
 use Rattle.glob_automaton.proofs.JoinedLeast.{record_joined}
 
 -- what is so of the rules of both parts is so of all
-pub same_both : (rules : List RuleValue) (first middle last : ℕ) (x y : List ℕ) → SameIn rules first middle x y → SameIn rules middle last x y →
+pub same_both : (rules : List RuleValue) (first middle last : ℕ) (x y : List ℕ) → SameIn rules first middle x y →
+    SameIn rules middle last x y →
     SameIn rules first last x y
 same_both rules first middle last x y one other n p low high = ⊎_elim
     (λ lt. other n p lt high)
     (λ le. one n p low le)
     (cases_lt middle n)
 
-pub same_first : (rules : List RuleValue) (first middle last : ℕ) (x y : List ℕ) → middle ≤ last → SameIn rules first last x y → SameIn rules first middle x y
+pub same_first : (rules : List RuleValue) (first middle last : ℕ) (x y : List ℕ) → middle ≤ last → SameIn rules first last x y →
+    SameIn rules first middle x y
 same_first rules first middle last x y le same n p low high = same n p low (omega (arith, high, le))
 
-pub same_second : (rules : List RuleValue) (first middle last : ℕ) (x y : List ℕ) → first ≤ middle → SameIn rules first last x y → SameIn rules middle last x y
+pub same_second : (rules : List RuleValue) (first middle last : ℕ) (x y : List ℕ) → first ≤ middle → SameIn rules first last x y →
+    SameIn rules middle last x y
 same_second rules first middle last x y le same n p low high = same n p (omega (arith, low, le)) high
 
 pub none_both : (rules : List RuleValue) (first middle last : ℕ) (x : List ℕ) → NoneIn rules first middle x → NoneIn rules middle last x →
@@ -37,10 +40,12 @@ none_both rules first middle last x one other n p low high = ⊎_elim
     (λ le. one n p low le)
     (cases_lt middle n)
 
-pub none_first : (rules : List RuleValue) (first middle last : ℕ) (x : List ℕ) → middle ≤ last → NoneIn rules first last x → NoneIn rules first middle x
+pub none_first : (rules : List RuleValue) (first middle last : ℕ) (x : List ℕ) → middle ≤ last → NoneIn rules first last x →
+    NoneIn rules first middle x
 none_first rules first middle last x le none n p low high = none n p low (omega (arith, high, le))
 
-pub none_second : (rules : List RuleValue) (first middle last : ℕ) (x : List ℕ) → first ≤ middle → NoneIn rules first last x → NoneIn rules middle last x
+pub none_second : (rules : List RuleValue) (first middle last : ℕ) (x : List ℕ) → first ≤ middle → NoneIn rules first last x →
+    NoneIn rules middle last x
 none_second rules first middle last x le none n p low high = none n p (omega (arith, low, le)) high
 
 module _ (a b c : Automaton) (is : IsProduct a b c) where
@@ -55,7 +60,8 @@ module _ (a b c : Automaton) (is : IsProduct a b c) where
       followed (target c s d) (target a one d) (target b other d) bytes
       (is.steps s d (pair one other) at (All-head (λ z. z < 256) d bytes small)) (All-tail (λ z. z < 256) d bytes small)
 
-  pub state_pair : (bytes : List ℕ) → are_bytes bytes → slice_get pairs (state_after c bytes) ≡ Some (pair (state_after a bytes) (state_after b bytes))
+  pub state_pair : (bytes : List ℕ) → are_bytes bytes → slice_get pairs (state_after c bytes)
+      ≡ Some (pair (state_after a bytes) (state_after b bytes))
   state_pair bytes small = followed c.start a.start b.start bytes is.starts small
 
   -- a pair has one number
@@ -81,8 +87,10 @@ module _ (made : (hits : Permission → LeastHits) (p : Permission) → hits_of 
         ((one.one_each x y small_x small_y).0 (ap (λ (z : Pair). z.one) both))
         ((other.one_each x y small_x small_y).0 (ap (λ (z : Pair). z.other) both)),
     λ same.
-        let left : state_after a x ≡ state_after a y = (one.one_each x y small_x small_y).1 (same_first rules first middle last x y high same) in
-        let right : state_after b x ≡ state_after b y = (other.one_each x y small_x small_y).1 (same_second rules first middle last x y low same) in
+        let left : state_after a x ≡ state_after a y = (one.one_each x y small_x small_y).1
+        (same_first rules first middle last x y high same) in
+        let right : state_after b x ≡ state_after b y = (other.one_each x y small_x small_y).1
+        (same_second rules first middle last x y low same) in
         one_number a b c is (state_after c x) (state_after c y) (pair (state_after a y) (state_after b y))
         (state_pair a b c is x small_x ∙ ap (λ z. Some (pair z (state_after b x))) left ∙ ap (λ z. Some (pair (state_after a y) z)) right)
         (state_pair a b c is y small_y),
@@ -107,7 +115,11 @@ module _ (made : (hits : Permission → LeastHits) (p : Permission) → hits_of 
   -- nothing hits where nothing did
   none_joined : joined no_hits no_hits ≡ no_hits
   none_joined = same_hits (joined no_hits no_hits) no_hits (λ p.
-      made (λ q. record { allow = first_number (hits_of no_hits q).allow (hits_of no_hits q).allow; deny = first_number (hits_of no_hits q).deny (hits_of no_hits q).deny }) p
+      made (λ q. record {
+        allow = first_number (hits_of no_hits q).allow (hits_of no_hits q).allow;
+        deny =
+            first_number (hits_of no_hits q).deny (hits_of no_hits q).deny;
+      }) p
       ∙ ap (λ (h : LeastHits). record { allow = first_number h.allow h.allow; deny = first_number h.deny h.deny }) (made (λ q. no_hit) p)
       ∙ sym (made (λ q. no_hit) p))
 

@@ -1,5 +1,6 @@
 -- How the bytes that are taken are parted from the others, byte by byte.
-use Rattle.std.proofs.Common.{◌≡◌, ◌≢◌, ⊎_elim, ℕ, zero, suc, ◌<◌, ◌≤◌, ◌+◌, Bool, true, false, Option, Some, None, List, length, slice_index_or, refl, sym, ap, ◌∙◌, subst, arith}
+use Rattle.std.proofs.Common.{◌≡◌, ◌≢◌, ⊎_elim, ℕ, zero, suc, ◌<◌, ◌≤◌, ◌+◌, Bool, true, false, Option, Some, None, List, length}
+use Rattle.std.proofs.Common.{slice_index_or, refl, sym, ap, ◌∙◌, subst, arith}
 use Rattle.std.proofs.Math.ListN.{set, replicate}
 use Rattle.std.proofs.Math.Bool.{beq}
 use Rattle.std.proofs.lemmas.Bool.{true≢false}
@@ -77,10 +78,12 @@ kept old taken other least k alike room is same = record {
 -- a byte that isn't goes to another least one, which was alike to it
 parted : (old : List ℕ) (taken : List Bool) (other then : List (Option ℕ)) (least : List ℕ) (k f : ℕ) → k < 256 →
     SplitBefore old taken other least k → slice_index_or taken k false ≢ slice_index_or taken (least_of least k) false →
-    f ≤ k → slice_index_or taken f false ≡ slice_index_or taken k false → least_of old f ≡ least_of old k → least_of (set least k f) f ≡ f →
+    f ≤ k → slice_index_or taken f false ≡ slice_index_or taken k false → least_of old f ≡ least_of old k →
+    least_of (set least k f) f ≡ f →
     length then ≡ 256 →
     ((o g : ℕ) → slice_index_or then o None ≡ Some g →
-    (g < k + 1) × (least_of (set least k f) g ≡ g) × (slice_index_or taken g false ≢ slice_index_or taken o false) × (least_of old g ≡ o)) →
+    (g < k + 1) × (least_of (set least k f) g ≡ g) × (slice_index_or taken g false ≢ slice_index_or taken o false)
+    × (least_of old g ≡ o)) →
     SplitBefore old taken then (set least k f) (k + 1)
 parted old taken other then least k f room is differs le same within own wide firsts = record {
   long = length-set least k f ∙ is.long;
@@ -90,7 +93,8 @@ parted old taken other then least k f room is differs le same within own wide fi
   below = and_last (λ b. least_of (set least k f) b ≤ b) k (λ b lt. subst (λ z. z ≤ b) (sym (before b lt)) (is.below b lt))
       (subst (λ z. z ≤ k) (sym here) le);
   own = and_last (λ b. least_of (set least k f) (least_of (set least k f) b) ≡ least_of (set least k f) b) k
-      (λ b lt. ap (λ z. least_of (set least k f) z) (before b lt) ∙ before (least_of least b) (omega (arith, lt, is.below b lt)) ∙ is.own b lt ∙ sym (before b lt))
+      (λ b lt. ap (λ z. least_of (set least k f) z) (before b lt) ∙ before (least_of least b) (omega (arith, lt, is.below b lt))
+      ∙ is.own b lt ∙ sym (before b lt))
       (ap (λ z. least_of (set least k f) z) here ∙ own ∙ sym here);
   taken_alike = and_last (λ b. slice_index_or taken (least_of (set least k f) b) false ≡ slice_index_or taken b false) k
       (λ b lt. ap (λ z. slice_index_or taken z false) (before b lt) ∙ is.taken_alike b lt)
@@ -191,7 +195,8 @@ none_parted old taken other alike wide none = record {
 }
 
 -- so it is where the list of the first ones is as new
-pub as_new : (n : ℕ) → n ≡ 256 → (old : List ℕ) (taken : List Bool) → IsAlike old → SplitBefore old taken (replicate {A = Option ℕ} n None) old 0
+pub as_new : (n : ℕ) → n ≡ 256 → (old : List ℕ) (taken : List Bool) → IsAlike old →
+    SplitBefore old taken (replicate {A = Option ℕ} n None) old 0
 as_new n long old taken alike = none_parted old taken (replicate n None) alike (length-replicate n None ∙ long) (none_there n)
 
 -- at the end all bytes are

@@ -1,5 +1,6 @@
 -- A part's sets are no more than those of all rules, and the part that is the whole has all of them.
-use Rattle.std.proofs.Common.{◌≡◌, ◌≢◌, inl, inr, ⊎_elim, ◌↔◌, ℕ, zero, suc, ◌+◌, ◌-◌, ◌<◌, ◌≤◌, List, [], length, Some, slice_get, slice_index_or, sym, ap, ◌∙◌, arith}
+use Rattle.std.proofs.Common.{◌≡◌, ◌≢◌, inl, inr, ⊎_elim, ◌↔◌, ℕ, zero, suc, ◌+◌, ◌-◌, ◌<◌, ◌≤◌, List, [], length, Some, slice_get}
+use Rattle.std.proofs.Common.{slice_index_or, sym, ap, ◌∙◌, arith}
 use Rattle.std.proofs.lemmas.Option.{slice_get-get_or}
 use Rattle.names.specs.Bytes.{are_bytes}
 use Rattle.names.specs.declared.permissions.Permission.{Permission}
@@ -37,7 +38,8 @@ no_more_sets rules first last n h = (
   record {
     prefixes_of_names = h.1.prefixes_of_names;
     some_live = λ k d lt none. h.1.some_live k d lt (none_of_part rules first last (slice_index_or h.0 k d) none);
-    different = λ i j lt within same. h.1.different i j lt within (same_of_part rules first last (slice_index_or h.0 i []) (slice_index_or h.0 j []) same);
+    different = λ i j lt within same. h.1.different i j lt within (same_of_part rules first last (slice_index_or h.0 i [])
+        (slice_index_or h.0 j []) same);
   },
   h.2,
 )
@@ -45,7 +47,8 @@ no_more_sets rules first last n h = (
 module _ (after : LiveAfterByte) (by_steps : LeftFirst) (rules : List RuleValue) (slashes : BeginWithSlashes rules) where
   -- too many pairs are too many sets
   pub too_many : (first middle last : ℕ) (a b : Automaton) (fault : CompileFault) → first ≤ middle → middle ≤ last →
-      IsAutomatonOfPart rules first middle a → IsAutomatonOfPart rules middle last b → IsProductFault a b fault → IsCompileFault rules fault
+      IsAutomatonOfPart rules first middle a → IsAutomatonOfPart rules middle last b → IsProductFault a b fault →
+      IsCompileFault rules fault
   too_many first middle last a b TooManyStates low high one other h =
       let pairs : List Pair = h.0 in
       let are : ArePairs a b pairs = h.1 in
@@ -67,15 +70,18 @@ module _ (after : LiveAfterByte) (by_steps : LeftFirst) (rules : List RuleValue)
               (λ name. name)
               (λ none. absurd (live k (omega (arith, lt, w.1)) (none_of_part rules first last (slice_index_or w.0 k []) none)))
               (prefix_or_none after by_steps rules slashes (slice_index_or w.0 k []) (w.2 k (omega (arith, lt, w.1))).0));
-          some_live = all_of (λ x. ¬ (NoneLive rules x)) w.0 (λ k lt none. live k (omega (arith, lt, w.1)) (none_of_part rules first last (slice_index_or w.0 k []) none));
+          some_live = all_of (λ x. ¬ (NoneLive rules x)) w.0
+              (λ k lt none. live k (omega (arith, lt, w.1)) (none_of_part rules first last (slice_index_or w.0 k []) none));
           different = λ i j lt within same.
               let x : List ℕ = slice_index_or w.0 i [] in
               let y : List ℕ = slice_index_or w.0 j [] in
               let near : i < length pairs - 1 = omega (arith, lt, within, w.1) in
               let far : j < length pairs - 1 = omega (arith, within, w.1) in
               let part : SameIn rules first last x y = same_of_part rules first last x y same in
-              let left : state_after a x ≡ state_after a y = (one.one_each x y (w.2 i near).0 (w.2 j far).0).1 (same_first rules first middle last x y high part) in
-              let right : state_after b x ≡ state_after b y = (other.one_each x y (w.2 i near).0 (w.2 j far).0).1 (same_second rules first middle last x y low part) in
+              let left : state_after a x ≡ state_after a y = (one.one_each x y (w.2 i near).0 (w.2 j far).0).1
+              (same_first rules first middle last x y high part) in
+              let right : state_after b x ≡ state_after b y = (other.one_each x y (w.2 i near).0 (w.2 j far).0).1
+              (same_second rules first middle last x y low part) in
               are.distinct (1 + i) (1 + j) (pair (state_after a y) (state_after b y)) (omega (arith, lt))
               ((w.2 i near).1 ∙ ap (λ z. Some (pair z (state_after b x))) left ∙ ap (λ z. Some (pair (state_after a y) z)) right)
               (w.2 j far).1;
@@ -87,7 +93,11 @@ module _ (after : LiveAfterByte) (by_steps : LeftFirst) (rules : List RuleValue)
   module _ (a : Automaton) (is : IsAutomatonOfPart rules 0 (length rules) a) where
     same_whole : (x y : List ℕ) → SameIn rules 0 (length rules) x y ↔ SameSet rules x y
     same_whole x y = (
-      λ same n p. (λ live. (same n p (omega (arith, live.1.0)) live.1.1).0 live, λ live. (same n p (omega (arith, live.1.0)) live.1.1).1 live),
+      λ same n p. (
+        λ live. (same n p (omega (arith, live.1.0)) live.1.1).0 live,
+        λ live.
+            (same n p (omega (arith, live.1.0)) live.1.1).1 live,
+      ),
       λ same. same_of_part rules 0 (length rules) x y same,
     )
 
@@ -135,7 +145,8 @@ module _ (after : LiveAfterByte) (by_steps : LeftFirst) (rules : List RuleValue)
             let inside : j < length prefixes = omega (arith, within) in
             let low : i < j = omega (arith, lt) in
             h.different i j low inside
-            ((state_same (slice_index_or prefixes i []) (slice_index_or prefixes j []) (small i (omega (arith, low, inside))) (small j inside)).0 e)
+            ((state_same (slice_index_or prefixes i []) (slice_index_or prefixes j []) (small i (omega (arith, low, inside)))
+            (small j inside)).0 e)
 
         below : (i : ℕ) → i < length prefixes + 1 → state_of prefixes i < length a.rows
         below zero lt = let there = is.whole.start_there in omega (arith, there)
@@ -143,7 +154,8 @@ module _ (after : LiveAfterByte) (by_steps : LeftFirst) (rules : List RuleValue)
 
     each_met : (prefixes : List (List ℕ)) × AreDifferent rules prefixes × (length prefixes + 1 ≡ length a.rows)
     each_met =
-        let w = collected (λ s x. are_bytes x × (state_after a x ≡ s)) 1 (length a.rows - 1) (λ s le lt. let m = is.met s (omega (arith, le)) (omega (arith, lt, le)) in (m.0, (m.1, m.2))) in
+        let w = collected (λ s x. are_bytes x × (state_after a x ≡ s)) 1 (length a.rows - 1)
+        (λ s le lt. let m = is.met s (omega (arith, le)) (omega (arith, lt, le)) in (m.0, (m.1, m.2))) in
         let live : (i : ℕ) → i < length a.rows - 1 → ¬ (NoneLive rules (slice_index_or w.0 i [])) = λ i lt none.
         let e : 1 + i ≡ 0 = sym (w.2 i lt).1 ∙ (state_dead (slice_index_or w.0 i []) (w.2 i lt).0).1 none in omega (arith, e) in
         let some = is.whole.start_there in (

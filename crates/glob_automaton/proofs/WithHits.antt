@@ -5,7 +5,8 @@ use Rattle.verdicts.specs.declared.record.Record.{Record}
 use Rattle.automata.specs.Automata.{Automaton, IsWhole}
 use Rattle.glob_automaton.specs.inner.Leaves.{AreWithHits, IsWithHits}
 
-pub all_with_hits : (hits : Record) (a : Automaton) (records : List Record) (state : ℕ) → IsWhole a → length a.rows ≤ state → state ≤ length a.rows →
+pub all_with_hits : (hits : Record) (a : Automaton) (records : List Record) (state : ℕ) → IsWhole a → length a.rows ≤ state →
+    state ≤ length a.rows →
     AreWithHits hits a records state → IsWithHits hits a (record a { records = records })
 all_with_hits hits a records state whole all within are = record {
   whole = record {

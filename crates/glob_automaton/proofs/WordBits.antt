@@ -1,5 +1,6 @@
 -- Bits of words that are joined and moved.
-use Rattle.std.proofs.Common.{◌≡◌, ℕ, zero, suc, ◌+◌, ◌-◌, ◌*◌, ◌/◌, ◌%◌, ◌^◌, ◌<◌, ◌≤◌, ◌==◌, false, w64, ◌||◌, ⊎_elim, max, bit_or, refl, sym, ap, ◌∙◌, arith}
+use Rattle.std.proofs.Common.{◌≡◌, ℕ, zero, suc, ◌+◌, ◌-◌, ◌*◌, ◌/◌, ◌%◌, ◌^◌, ◌<◌, ◌≤◌, ◌==◌, false, w64, ◌||◌, ⊎_elim, max, bit_or, refl}
+use Rattle.std.proofs.Common.{sym, ap, ◌∙◌, arith}
 use Rattle.std.specs.Int.{bit_at, trailing_zeros}
 use Rattle.std.proofs.Math.Nat.{div-add-mod, div-le_self, mod-lt, mul_comm}
 use Rattle.std.proofs.lemmas.Bool.{cases_lt}
@@ -40,7 +41,8 @@ bit_from word from i le = ap (bit_at word) (omega (arith, le)) ∙ sym (bits_dow
 
 -- where nothing is left of a word moved down, no bit from there on is set
 pub none_from : (word from i : ℕ) → word / 2 ^ from ≡ 0 → from ≤ i → is_bit word i ≡ false
-none_from word from i nothing le = ap (λ z. z == 1) (bit_from word from i le ∙ ap (λ z. bit_at z (i - from)) nothing ∙ bit_at-zero (i - from))
+none_from word from i nothing le = ap (λ z. z == 1) (bit_from word from i le ∙ ap (λ z. bit_at z (i - from)) nothing
+    ∙ bit_at-zero (i - from))
 
 -- else the first one is the lowest bit of what is left
 pub next_from : (word from : ℕ) → word < 2 ^ 64 → 0 < word / 2 ^ from → IsNextBit word from (from + trailing_zeros w64 (word / 2 ^ from))

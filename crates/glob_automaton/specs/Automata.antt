@@ -14,7 +14,8 @@ use Rattle.glob_automaton.specs.Sets.{SameSet, NoneLive, IsCount, AreMoreThan}
 -- empty set, whether or not a prefix has it. For every list of bytes it leads to the least hits.
 pub record IsAutomatonOf (rules : List RuleValue) (a : Automaton) : Type 0 where
   pub whole : IsWhole a
-  pub least : (bytes : List ℕ) → are_bytes bytes → (r : Record) × (slice_get a.records (state_after a bytes) ≡ Some r) × IsLeastRecord rules bytes r
+  pub least : (bytes : List ℕ) → are_bytes bytes → (r : Record) × (slice_get a.records (state_after a bytes) ≡ Some r)
+      × IsLeastRecord rules bytes r
   pub one_each : (x y : List ℕ) → are_bytes x → are_bytes y → (state_after a x ≡ state_after a y) ↔ SameSet rules x y
   pub dead : (bytes : List ℕ) → are_bytes bytes → (state_after a bytes ≡ 0) ↔ NoneLive rules bytes
   pub hits_nothing : slice_get a.records 0 ≡ Some no_hits

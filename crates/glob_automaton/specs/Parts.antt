@@ -27,13 +27,15 @@ HitsIn rules first last kind p name n = (first < n) × (n ≤ last) × Hits rule
 
 abbrev pub IsLeastIn : List RuleValue → ℕ → ℕ → List ℕ → Record → Type 0
 IsLeastIn rules first last name r = (p : Permission) →
-    IsLeastOrNone (HitsIn rules first last Allow p name) (hits_of r p).allow × IsLeastOrNone (HitsIn rules first last Deny p name) (hits_of r p).deny
+    IsLeastOrNone (HitsIn rules first last Allow p name) (hits_of r p).allow × IsLeastOrNone (HitsIn rules first last Deny p name)
+    (hits_of r p).deny
 
 -- no two of these prefixes of names have the same set of places of these rules, and none has the empty one
 pub record AreDifferentIn (rules : List RuleValue) (first last : ℕ) (prefixes : List (List ℕ)) : Type 0 where
   pub prefixes_of_names : All IsPrefixOfName prefixes
   pub some_live : All (λ bytes. ¬ (NoneIn rules first last bytes)) prefixes
-  pub different : (i j : ℕ) → i < j → j < length prefixes → ¬ (SameIn rules first last (slice_index_or prefixes i []) (slice_index_or prefixes j []))
+  pub different : (i j : ℕ) → i < j → j < length prefixes →
+      ¬ (SameIn rules first last (slice_index_or prefixes i []) (slice_index_or prefixes j []))
 
 -- there are more than n
 abbrev pub AreMoreThanIn : List RuleValue → ℕ → ℕ → ℕ → Type 0
@@ -43,7 +45,8 @@ AreMoreThanIn rules first last n = (prefixes : List (List ℕ)) × AreDifferentI
 -- every list of bytes it leads to the least of their hits.
 pub record IsAutomatonOfPart (rules : List RuleValue) (first last : ℕ) (a : Automaton) : Type 0 where
   pub whole : IsWhole a
-  pub least : (bytes : List ℕ) → are_bytes bytes → (r : Record) × (slice_get a.records (state_after a bytes) ≡ Some r) × IsLeastIn rules first last bytes r
+  pub least : (bytes : List ℕ) → are_bytes bytes → (r : Record) × (slice_get a.records (state_after a bytes) ≡ Some r)
+      × IsLeastIn rules first last bytes r
   pub one_each : (x y : List ℕ) → are_bytes x → are_bytes y → (state_after a x ≡ state_after a y) ↔ SameIn rules first last x y
   pub dead : (bytes : List ℕ) → are_bytes bytes → (state_after a bytes ≡ 0) ↔ NoneIn rules first last bytes
   pub hits_nothing : slice_get a.records 0 ≡ Some no_hits

@@ -1,5 +1,6 @@
 //! The subset construction: a state for each set of places that is live after some bytes.
-ghost use Rattle.std.specs.Prelude.{◌≡◌, ◌↔◌, ◌-◌, ◌<◌, ◌≤◌, ◌++◌, true, ◌∷◌, [], IfOk, IfErr, IsTrue, OnOk, Contains, length, map, slice_index_or};
+ghost use Rattle.std.specs.Prelude.{◌≡◌, ◌↔◌, ◌-◌, ◌<◌, ◌≤◌, ◌++◌, true, ◌∷◌, [], IfOk, IfErr, IsTrue, OnOk, Contains, length, map};
+ghost use Rattle.std.specs.Prelude.{slice_index_or};
 ghost use Rattle.glob_automaton.specs.inner.Alike.{AreAlike, AreLike, AreNamed};
 ghost use Rattle.automata.specs.Automata.{most_sets};
 ghost use Rattle.glob_automaton.specs.inner.Building.{ArePlaces, IsStartOf, IsStepOf, IsRecordOf, IsBuilt, IsBuildFault};
@@ -90,8 +91,10 @@ fn add_states(
     requires chart { IsPartOfChart chart.now }
     requires one { length chart.now.rules.items ≡ 1 }
     requires gathering { IsGathering chart.now gathering.old }
-    requires none { AreStates chart.now (lists_of sets.old) states.old.ranges.items states.old.firsts.items states.old.records.items states.old.start 0 }
-    ensures ok { OnOk result (IsBuilt chart.now (tables states.new.ranges.items states.new.firsts.items states.new.records.items states.new.start)) }
+    requires none { AreStates chart.now (lists_of sets.old) states.old.ranges.items states.old.firsts.items states.old.records.items
+        states.old.start 0 }
+    ensures ok { OnOk result
+        (IsBuilt chart.now (tables states.new.ranges.items states.new.firsts.items states.new.records.items states.new.start)) }
     ensures rows { OnOk result (AreRows states.new.ranges.items states.new.firsts.items) }
     ensures err { IfErr result (IsBuildFault chart.now) }
 {

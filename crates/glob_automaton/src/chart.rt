@@ -193,7 +193,8 @@ impl Chart {
     // Draws a place that takes one byte.
     fn draw_one(&mut self, takes: Label, behind: usize) -> Result<usize, AllocError>
         requires { IsReady self.old behind }
-        ensures drawn { IfOk result (λ start. (set : ByteSet) → IsKnown self.old takes → TakesSet self.old takes set → IsDrawn self.old self.new (one set) behind start) }
+        ensures drawn { IfOk result (λ start. (set : ByteSet) → IsKnown self.old takes → TakesSet self.old takes set →
+            IsDrawn self.old self.new (one set) behind start) }
         ensures classes { self.new.classes ≡ self.old.classes }
     {
         let place = self.places.len();
@@ -204,7 +205,8 @@ impl Chart {
     // Draws a place that takes any number of bytes.
     fn draw_run(&mut self, takes: Label, behind: usize) -> Result<usize, AllocError>
         requires { IsReady self.old behind }
-        ensures drawn { IfOk result (λ start. (set : ByteSet) → IsKnown self.old takes → TakesSet self.old takes set → IsDrawn self.old self.new (run set) behind start) }
+        ensures drawn { IfOk result (λ start. (set : ByteSet) → IsKnown self.old takes → TakesSet self.old takes set →
+            IsDrawn self.old self.new (run set) behind start) }
         ensures classes { self.new.classes ≡ self.old.classes }
     {
         let place = self.places.len();

@@ -53,7 +53,8 @@ impl Leaves {
         requires built { AreBuilt self.old }
         requires slash { IsTrue (begins_with_slash (rule_value rule.now).items) }
         ensures built { OnOk result (AreBuilt self.new) }
-        ensures ok { IfOk result (λ dfa. (rules : List RuleValue) (before : ℕ) → number ≡ before + 1 → slice_get rules before ≡ Some (rule_value rule.now) →
+        ensures ok { IfOk result (λ dfa. (rules : List RuleValue) (before : ℕ) → number ≡ before + 1 → slice_get rules before
+            ≡ Some (rule_value rule.now) →
             IsAutomatonOfPart rules before (before + 1) dfa) }
         ensures err { IfErr result (λ fault. (rules : List RuleValue) (before : ℕ) → slice_get rules before ≡ Some (rule_value rule.now) →
             IsCompileFault rules fault) }

@@ -14,7 +14,8 @@ use verdicts::records_are_their_hits;
 /// The product of the automata of two adjacent parts of the rules is the automaton of both parts together.
 pub fn parts_make_a_part()
     ensures { (rules : List RuleValue) (first middle last : ℕ) (a b c : Automaton) → first ≤ middle → middle ≤ last →
-        IsAutomatonOfPart rules first middle a → IsAutomatonOfPart rules middle last b → IsProduct a b c → IsAutomatonOfPart rules first last c }
+        IsAutomatonOfPart rules first middle a → IsAutomatonOfPart rules middle last b → IsProduct a b c →
+        IsAutomatonOfPart rules first last c }
 {
     records_are_their_hits();
 }
@@ -22,8 +23,10 @@ pub fn parts_make_a_part()
 /// A part of the rules never has more sets than all rules. So if a product has too many states, all rules have too many sets.
 pub fn parts_are_no_more()
     ensures sets { (rules : List RuleValue) (first last n : ℕ) → AreMoreThanIn rules first last n → AreMoreThan n rules }
-    ensures products { (rules : List RuleValue) (first middle last : ℕ) (a b : Automaton) (fault : CompileFault) → BeginWithSlashes rules → first ≤ middle →
-        middle ≤ last → IsAutomatonOfPart rules first middle a → IsAutomatonOfPart rules middle last b → IsProductFault a b fault → IsCompileFault rules fault }
+    ensures products { (rules : List RuleValue) (first middle last : ℕ) (a b : Automaton) (fault : CompileFault) → BeginWithSlashes rules →
+        first ≤ middle →
+        middle ≤ last → IsAutomatonOfPart rules first middle a → IsAutomatonOfPart rules middle last b → IsProductFault a b fault →
+        IsCompileFault rules fault }
 {
     live_places_go_on();
     live_is_left_first();
@@ -31,7 +34,8 @@ pub fn parts_are_no_more()
 
 /// The automaton of the part that is all rules is the automaton of the rules.
 pub fn whole_parts_are_automata()
-    ensures { (rules : List RuleValue) (a : Automaton) → BeginWithSlashes rules → IsAutomatonOfPart rules 0 (length rules) a → IsAutomatonOf rules a }
+    ensures { (rules : List RuleValue) (a : Automaton) → BeginWithSlashes rules → IsAutomatonOfPart rules 0 (length rules) a →
+        IsAutomatonOf rules a }
 {
     live_places_go_on();
     live_is_left_first();

@@ -1,5 +1,6 @@
 //! Places as bits of words.
-ghost use Rattle.std.specs.Prelude.{◌≡◌, ◌↔◌, ◌⊎◌, ◌+◌, ◌*◌, ◌^◌, ◌/◌, ◌%◌, ◌<◌, ◌≤◌, ◌||◌, ◌==◌, ℕ, [], true, false, length, IfOk, IfSome, None, OnOk, Contains, slice_index_or};
+ghost use Rattle.std.specs.Prelude.{◌≡◌, ◌↔◌, ◌⊎◌, ◌+◌, ◌*◌, ◌^◌, ◌/◌, ◌%◌, ◌<◌, ◌≤◌, ◌||◌, ◌==◌, ℕ, [], true, false, length, IfOk};
+ghost use Rattle.std.specs.Prelude.{IfSome, None, OnOk, Contains, slice_index_or};
 ghost use Rattle.glob_automaton.specs.inner.Ascending.{IsAscending};
 ghost use Rattle.glob_automaton.specs.inner.PlaceBits.{has_from, has_place, is_bit, AreWithin, IsNextBit};
 
@@ -140,7 +141,8 @@ fn push_word(places: &mut Vec<usize>, index: usize, word: u64) -> Result<(), All
     requires sorted { IsAscending places.old.items }
     requires below { (q : ℕ) → Contains places.old.items q → q < 64 * index }
     ensures sorted { OnOk result (IsAscending places.new.items) }
-    ensures places { OnOk result ((q : ℕ) → Contains places.new.items q ↔ (Contains places.old.items q ⊎ ((q / 64 ≡ index) × (is_bit word (q % 64) ≡ true)))) }
+    ensures places { OnOk result ((q : ℕ) → Contains places.new.items q
+        ↔ (Contains places.old.items q ⊎ ((q / 64 ≡ index) × (is_bit word (q % 64) ≡ true)))) }
 {
     let mut from = 0;
     while let Some(bit) = next_bit(word, from) {

@@ -50,5 +50,14 @@ chosen g steps verdict told zero false there gone m v t =
 chosen g steps verdict told (suc n) false there gone m v t =
     let some : ¬ (HasNone g.missing) = λ none. let nothing = zero_of_none g.missing none in absurd (omega (arith, m, nothing)) in
     let more : (suc n == 0) ≡ false = ne_eqb (suc n) 0 (λ e. absurd (omega (arith, e))) in
-    let no_rule : verdict ≡ 3 = v ∙ ap (λ b. if b then 1 else 3) more in
-    (NoRule g.missing, (gone refl, some, refl), λ i. record { steps = steps; verdict = no_rule i; rule = gone refl i; missing = (t ∙ m) i })
+    let no_rule : verdict ≡ 3 = v ∙ ap (λ b. if b then 1 else 3) more in (
+      NoRule g.missing,
+      (gone refl, some, refl),
+      λ i. record {
+        steps = steps;
+        verdict = no_rule i;
+        rule =
+            gone refl i;
+        missing = (t ∙ m) i;
+      },
+    )

@@ -1,5 +1,6 @@
 -- How the items of a canonical text are cut: into spans of which none is reported.
-use Rattle.std.proofs.Common.{◌≡◌, ℕ, ◌+◌, ◌-◌, ◌==◌, Bool, true, false, ◌&&◌, List, [], ◌∷◌, ◌++◌, map, length, Option, None, refl, sym, ap, ◌∙◌, subst, if◌then◌else◌}
+use Rattle.std.proofs.Common.{◌≡◌, ℕ, ◌+◌, ◌-◌, ◌==◌, Bool, true, false, ◌&&◌, List, [], ◌∷◌, ◌++◌, map, length, Option, None, refl, sym}
+use Rattle.std.proofs.Common.{ap, ◌∙◌, subst, if◌then◌else◌}
 use Rattle.std.specs.Prelude.{codes}
 use Rattle.std.proofs.lemmas.Bool.{and_right}
 use Rattle.std.proofs.lemmas.List.{append-nil}
@@ -19,7 +20,8 @@ use Rattle.import_cut.specs.declared.span.Span.{Span}
 use Rattle.import_cut.specs.declared.span.SpanKind.{SpanKind}
 use Rattle.import_cut.specs.declared.span.SpanKind.TheVariants.{Kept, Blank}
 use Rattle.import_cut.specs.CutStates.{CutState, at_start, pass, put, enter, opened, closed, put_item}
-use Rattle.import_cut.specs.Cutting.{chosen_head, outer_head, chosen_close, chosen_rule, outer_item, chosen_item, plain_item, is_chosen, is_rule, cut_item, cut_items, rest_kind}
+use Rattle.import_cut.specs.Cutting.{chosen_head, outer_head, chosen_close, chosen_rule, outer_item, chosen_item, plain_item, is_chosen}
+use Rattle.import_cut.specs.Cutting.{is_rule, cut_item, cut_items, rest_kind}
 use Rattle.import_cut.specs.PartSpans.{head_kind, rule_kind}
 use Rattle.profile_variables.specs.Variables.{Variable}
 use Rattle.subject_rules.specs.declared.subject.Subject.{Subject}
@@ -49,7 +51,8 @@ module _ (chosen : Subject) (phase : Phase) (depth : ℕ) where
   putting : (kind : SpanKind) (s : CutState) → IsUntold kind → IsCut chosen phase depth s → IsCut chosen phase depth (put kind s)
   putting kind s fine g = at (s.from == s.at)
     where
-      at : (b : Bool) → IsCut chosen phase depth (if b then s else record s { from = s.at; spans = s.spans ++ (record { start = s.from; end = s.at; kind = kind } ∷ []) })
+      at : (b : Bool) → IsCut chosen phase depth
+          (if b then s else record s { from = s.at; spans = s.spans ++ (record { start = s.from; end = s.at; kind = kind } ∷ []) })
       at true = g
       at false = record {
         subject = g.subject;
@@ -57,11 +60,13 @@ module _ (chosen : Subject) (phase : Phase) (depth : ℕ) where
         depth = g.depth;
         change = g.change;
         hat = g.hat;
-        untold = each_append (λ (span : Span). IsUntold span.kind) s.spans (record { start = s.from; end = s.at; kind = kind } ∷ []) g.untold (fine, tt);
+        untold = each_append (λ (span : Span). IsUntold span.kind) s.spans (record { start = s.from; end = s.at; kind = kind } ∷ [])
+            g.untold (fine, tt);
       }
 
   -- one part that is put
-  part_put : (kind : SpanKind) (count : ℕ) (s : CutState) → IsUntold kind → IsCut chosen phase depth s → IsCut chosen phase depth (put kind (pass count s))
+  part_put : (kind : SpanKind) (count : ℕ) (s : CutState) → IsUntold kind → IsCut chosen phase depth s →
+      IsCut chosen phase depth (put kind (pass count s))
   part_put kind count s fine g = putting kind (pass count s) fine (passing count s g)
 
 -- ---- items
@@ -70,20 +75,26 @@ module _ (chosen : Subject) (phase : Phase) (depth : ℕ) where
 abbrev in_phase : Phase → RuleReading → ItemValue → CutState → CutState
 in_phase phase reading item s = if is_chosen phase && is_rule item.kind then chosen_rule reading item s else plain_item phase item s
 
-there : (chosen : Subject) (phase : Phase) (depth : ℕ) (reading : RuleReading) (item : ItemValue) (s : CutState) → IsCut chosen phase depth s
+there : (chosen : Subject) (phase : Phase) (depth : ℕ) (reading : RuleReading) (item : ItemValue) (s : CutState) →
+    IsCut chosen phase depth s
     → cut_item reading item s ≡ in_phase phase reading item s
 there chosen phase depth reading item s g = ap (λ (p : Phase). in_phase p reading item s) g.phase
 
-blank_put : (phase : Phase) (chosen : Subject) (depth : ℕ) (reading : RuleReading) (bytes : List ℕ) (s : CutState) → IsCut chosen phase depth s
-    → (put Blank (pass (length bytes) s) ≡ in_phase phase reading (blank_item bytes) s) → IsCut chosen phase depth (cut_item reading (blank_item bytes) s)
+blank_put : (phase : Phase) (chosen : Subject) (depth : ℕ) (reading : RuleReading) (bytes : List ℕ) (s : CutState) →
+    IsCut chosen phase depth s
+    → (put Blank (pass (length bytes) s) ≡ in_phase phase reading (blank_item bytes) s) →
+    IsCut chosen phase depth (cut_item reading (blank_item bytes) s)
 blank_put phase chosen depth reading bytes s g e =
-    subst (IsCut chosen phase depth) (e ∙ sym (there chosen phase depth reading (blank_item bytes) s g)) (part_put chosen phase depth Blank (length bytes) s tt g)
+    subst (IsCut chosen phase depth) (e ∙ sym (there chosen phase depth reading (blank_item bytes) s g))
+    (part_put chosen phase depth Blank (length bytes) s tt g)
 
-blank_within : (chosen : Subject) (reading : RuleReading) (bytes : List ℕ) (s : CutState) → IsCut chosen Chosen 1 s → IsCut chosen Chosen 1 (cut_item reading (blank_item bytes) s)
+blank_within : (chosen : Subject) (reading : RuleReading) (bytes : List ℕ) (s : CutState) → IsCut chosen Chosen 1 s →
+    IsCut chosen Chosen 1 (cut_item reading (blank_item bytes) s)
 unfolding plain_item chosen_item
 blank_within chosen reading bytes s g = blank_put Chosen chosen 1 reading bytes s g refl
 
-blank_behind : (chosen : Subject) (reading : RuleReading) (bytes : List ℕ) (s : CutState) → IsCut chosen Outer 0 s → IsCut chosen Outer 0 (cut_item reading (blank_item bytes) s)
+blank_behind : (chosen : Subject) (reading : RuleReading) (bytes : List ℕ) (s : CutState) → IsCut chosen Outer 0 s →
+    IsCut chosen Outer 0 (cut_item reading (blank_item bytes) s)
 unfolding plain_item outer_item
 blank_behind chosen reading bytes s g = blank_put Outer chosen 0 reading bytes s g refl
 
@@ -94,17 +105,28 @@ abbrev pub first_choice : Subject → Choice
 first_choice chosen = record { subject = chosen; profile = 0; outermost = 0 }
 
 -- a span can be put before or after the profile is opened
-commutes : (kind : SpanKind) (count : ℕ) (s : CutState) → put kind (pass count (opened (enter Chosen s))) ≡ opened (enter Chosen (put kind (pass count s)))
+commutes : (kind : SpanKind) (count : ℕ) (s : CutState) → put kind (pass count (opened (enter Chosen s)))
+    ≡ opened (enter Chosen (put kind (pass count s)))
 commutes kind count s = at (s.from == s.at + count)
   where
     at : (b : Bool)
-        → (if b then pass count (opened (enter Chosen s)) else record (pass count (opened (enter Chosen s))) { from = s.at + count; spans = s.spans ++ (record { start = s.from; end = s.at + count; kind = kind } ∷ []) })
-        ≡ opened (enter Chosen (if b then pass count s else record (pass count s) { from = s.at + count; spans = s.spans ++ (record { start = s.from; end = s.at + count; kind = kind } ∷ []) }))
+        → (if b then pass count (opened (enter Chosen s)) else record (pass count (opened (enter Chosen s))) {
+          from = s.at + count;
+          spans =
+              s.spans ++ (record { start = s.from; end = s.at + count; kind = kind } ∷ []);
+        })
+        ≡ opened (enter Chosen (if b then pass count s else record (pass count s) {
+          from = s.at + count;
+          spans =
+              s.spans ++ (record { start = s.from; end = s.at + count; kind = kind } ∷ []);
+        }))
     at true = refl
     at false = refl
 
-head_put : (chosen : Subject) (parts : List PartValue) (s : CutState) → Each (λ (p : PartValue). IsUntold (head_kind chosen p.kind p.bytes)) parts
-    → IsCut chosen Chosen 1 (opened (enter Chosen s)) → IsCut chosen Chosen 1 (chosen_head (record { kind = items.Profile; parts = parts }) s)
+head_put : (chosen : Subject) (parts : List PartValue) (s : CutState) →
+    Each (λ (p : PartValue). IsUntold (head_kind chosen p.kind p.bytes)) parts
+    → IsCut chosen Chosen 1 (opened (enter Chosen s)) →
+    IsCut chosen Chosen 1 (chosen_head (record { kind = items.Profile; parts = parts }) s)
 unfolding chosen_head
 head_put chosen [] s fine g = g
 head_put chosen (p ∷ parts) s fine g =
@@ -115,7 +137,8 @@ head_put chosen (p ∷ parts) s fine g =
     (head_put chosen parts (put kind (pass count s)) fine.1
     (subst (IsCut chosen Chosen 1) (commutes kind count s) (part_put chosen Chosen 1 kind count (opened (enter Chosen s)) here g)))
 
-head_cut : (chosen : Subject) (reading : RuleReading) (name : List ℕ) → IsCut chosen Chosen 1 (cut_item reading (head_item name) (at_start (first_choice chosen)))
+head_cut : (chosen : Subject) (reading : RuleReading) (name : List ℕ) →
+    IsCut chosen Chosen 1 (cut_item reading (head_item name) (at_start (first_choice chosen)))
 unfolding plain_item outer_item outer_head
 head_cut chosen reading name =
     head_put chosen (head_item name).parts (at_start (first_choice chosen)) (tt, (tt, (tt, (tt, (tt, tt)))))
@@ -133,7 +156,8 @@ if_stays P true one other e h = h
 if_stays P false one other e h = absurd cc
 
 -- what stays doesn't depend on what it would be reported as
-as_it_stays : (P : CutState → Type 0) (b : Bool) (one left other : CutState) → b ≡ true → P (if b then one else left) → P (if b then one else other)
+as_it_stays : (P : CutState → Type 0) (b : Bool) (one left other : CutState) → b ≡ true → P (if b then one else left) →
+    P (if b then one else other)
 as_it_stays P true one left other e h = h
 as_it_stays P false one left other e h = absurd cc
 
@@ -148,24 +172,43 @@ rule_put chosen r (p ∷ parts) s some fine g =
     as_it_stays (IsCut chosen Chosen 1) (has_some r.perms) _ _ _ some
     (rule_put chosen r parts (put kind (pass (length p.bytes) s)) some fine.1 (part_put chosen Chosen 1 kind (length p.bytes) s here g))
 
-rule_cut : (chosen : Subject) (r : RuleValue) (s : CutState) → IsImported r → IsCut chosen Chosen 1 s → IsCut chosen Chosen 1 (cut_item (plain_reading r) (rule_item r) s)
+rule_cut : (chosen : Subject) (r : RuleValue) (s : CutState) → IsImported r → IsCut chosen Chosen 1 s →
+    IsCut chosen Chosen 1 (cut_item (plain_reading r) (rule_item r) s)
 rule_cut chosen r s h g =
     subst (IsCut chosen Chosen 1) (sym (there chosen Chosen 1 (plain_reading r) (rule_item r) s g))
     (rule_put chosen r (rule_item r).parts s h.perms (untold_parts chosen r r.kind) g)
 
 -- ---- the closing brace
 
-close_cut : (chosen : Subject) (reading : RuleReading) (s : CutState) → IsCut chosen Chosen 1 s → IsCut chosen Outer 0 (cut_item reading close_item s)
+close_cut : (chosen : Subject) (reading : RuleReading) (s : CutState) → IsCut chosen Chosen 1 s →
+    IsCut chosen Outer 0 (cut_item reading close_item s)
 unfolding plain_item chosen_item chosen_close
 close_cut chosen reading s g =
     let less : (closed s).depth ≡ 0 = ap (λ (n : ℕ). n - 1) g.depth in
-    let before : IsCut chosen Chosen 0 (closed s) = record { subject = g.subject; phase = g.phase; depth = less; change = g.change; hat = g.hat; untold = g.untold } in
+    let before : IsCut chosen Chosen 0 (closed s) = record {
+      subject = g.subject;
+      phase = g.phase;
+      depth = less;
+      change = g.change;
+      hat =
+          g.hat;
+      untold = g.untold;
+    } in
     let behind : IsCut chosen Chosen 0 (put_item Kept close_item (closed s)) =
     putting chosen Chosen 0 Kept (pass 1 (closed s)) tt (passing chosen Chosen 0 1 (closed s) before) in
     let outer : IsCut chosen Outer 0 (enter Outer (put_item Kept close_item (closed s))) =
-    record { subject = behind.subject; phase = refl; depth = behind.depth; change = behind.change; hat = behind.hat; untold = behind.untold } in
+    record {
+      subject = behind.subject;
+      phase = refl;
+      depth = behind.depth;
+      change = behind.change;
+      hat = behind.hat;
+      untold =
+          behind.untold;
+    } in
     subst (IsCut chosen Outer 0)
-    (ap (λ (n : ℕ). enter (if n == 0 then Outer else Skipping (record { what = whats.Parent; floor = 0 })) (put_item Kept close_item (closed s))) (sym less) ∙ sym (there chosen Chosen 1 reading close_item s g)) outer
+    (ap (λ (n : ℕ). enter (if n == 0 then Outer else Skipping (record { what = whats.Parent; floor = 0 }))
+    (put_item Kept close_item (closed s))) (sym less) ∙ sym (there chosen Chosen 1 reading close_item s g)) outer
 
 -- ---- all items
 
@@ -179,7 +222,8 @@ module _ (variables : List Variable) (chosen : Subject) where
 
   rule_next : (r : RuleValue) (s : CutState) → IsImported r → IsCut chosen Chosen 1 s → IsCut chosen Chosen 1 (behind (rule_item r) s)
   rule_next r s h g =
-      subst (λ (reading : RuleReading). IsCut chosen Chosen 1 (cut_item reading (rule_item r) s)) (sym (is_told variables chosen r h)) (rule_cut chosen r s h g)
+      subst (λ (reading : RuleReading). IsCut chosen Chosen 1 (cut_item reading (rule_item r) s)) (sym (is_told variables chosen r h))
+      (rule_cut chosen r s h g)
 
   inner_cut : (rules : List RuleValue) (s : CutState) → Each IsImported rules → IsCut chosen Chosen 1 s
       → IsCut chosen Outer 0 (cut_items (item_reading variables chosen) (inner_items rules) s)
@@ -200,24 +244,30 @@ module _ (variables : List Variable) (chosen : Subject) where
 
   no_rule : (item : ItemValue) (s : CutState) → is_rule item.kind ≡ false → rules_at variables item s ≡ []
   no_rule item s e =
-      ap (λ (b : Bool). if b then record { place = s.at; rule = subject_rule variables item.parts } ∷ [] else []) (and_right (is_chosen s.phase) (is_rule item.kind) e)
+      ap (λ (b : Bool). if b then record { place = s.at; rule = subject_rule variables item.parts } ∷ [] else [])
+      (and_right (is_chosen s.phase) (is_rule item.kind) e)
 
-  own_rule : (r : RuleValue) (s : CutState) → IsImported r → IsCut chosen Chosen 1 s → rules_at variables (rule_item r) s ≡ record { place = s.at; rule = plain_rule r } ∷ []
+  own_rule : (r : RuleValue) (s : CutState) → IsImported r → IsCut chosen Chosen 1 s → rules_at variables (rule_item r) s
+      ≡ record { place = s.at; rule = plain_rule r } ∷ []
   own_rule r s h g =
-      ap (λ (p : Phase). if is_chosen p && true then record { place = s.at; rule = subject_rule variables (rule_item r).parts } ∷ [] else []) g.phase
+      ap (λ (p : Phase). if is_chosen p && true then record { place = s.at; rule = subject_rule variables (rule_item r).parts } ∷ []
+      else []) g.phase
       ∙ ap (λ (rule : SubjectRule). record { place = s.at; rule = rule } ∷ []) (says_itself variables r h)
 
-  itself : (place : ℕ) (r : RuleValue) (others : List PlacedRule) → IsImported r → values (record { place = place; rule = plain_rule r } ∷ others) ≡ r ∷ values others
+  itself : (place : ℕ) (r : RuleValue) (others : List PlacedRule) → IsImported r →
+      values (record { place = place; rule = plain_rule r } ∷ others) ≡ r ∷ values others
   itself place r others h =
-      ap (λ (b : Bool). map (λ (v : PlacedValue). v.value) (map (λ value. record { place = place; value = value }) (if b then map (with_path (plain_rule r)) (r.items ∷ []) else [])
-      ++ restated_rules chosen others)) h.perms
+      ap (λ (b : Bool). map (λ (v : PlacedValue). v.value) (map (λ value. record { place = place; value = value })
+      (if b then map (with_path (plain_rule r)) (r.items ∷ []) else []) ++ restated_rules chosen others)) h.perms
 
-  inner_rules : (rules : List RuleValue) (s : CutState) → Each IsImported rules → IsCut chosen Chosen 1 s → values (rules_in variables chosen (inner_items rules) s) ≡ rules
+  inner_rules : (rules : List RuleValue) (s : CutState) → Each IsImported rules → IsCut chosen Chosen 1 s →
+      values (rules_in variables chosen (inner_items rules) s) ≡ rules
   inner_rules [] s h g =
       let blank = blank_item (codes "\n") in
       let one = behind blank s in
       let two = behind close_item one in
-      ap (λ (l : List PlacedRule). values (l ++ (rules_at variables close_item one ++ (rules_at variables blank two ++ [])))) (no_rule blank s refl)
+      ap (λ (l : List PlacedRule). values (l ++ (rules_at variables close_item one ++ (rules_at variables blank two ++ []))))
+      (no_rule blank s refl)
       ∙ ap (λ (l : List PlacedRule). values (l ++ (rules_at variables blank two ++ []))) (no_rule close_item one refl)
       ∙ ap (λ (l : List PlacedRule). values (l ++ [])) (no_rule blank two refl)
   inner_rules (r ∷ rules) s h g =

@@ -1,5 +1,6 @@
 -- The rules of an imported profile, and its name.
-use Rattle.std.proofs.Common.{◌≡◌, ◌≤◌, ℕ, Bool, true, false, ◌&&◌, ◌==◌, List, [], ◌∷◌, map, length, Ok, Err, Option, Some, None, refl, sym, ◌∙◌, subst, if◌then◌else◌, ⊎_elim}
+use Rattle.std.proofs.Common.{◌≡◌, ◌≤◌, ℕ, Bool, true, false, ◌&&◌, ◌==◌, List, [], ◌∷◌, map, length, Ok, Err, Option, Some, None, refl}
+use Rattle.std.proofs.Common.{sym, ◌∙◌, subst, if◌then◌else◌, ⊎_elim}
 use Rattle.std.specs.Prelude.{codes, nat_le, slice_get, option_map}
 use Rattle.std.specs.List.{list_all}
 use Rattle.std.proofs.lemmas.Bool.{and_parts}
@@ -32,7 +33,8 @@ use Rattle.profile_import.specs.declared.options.ImportOptions.{ImportOptions}
 use Rattle.profile_import.specs.AddedRules.{queries, change_of_profile, change_of_hat, added_rules}
 use Rattle.profile_import.specs.Faults.{which, too_many_rules, not_exact}
 use Rattle.profile_import.specs.FileRules.{PlacedRule, path_as, rule_text, subject_rule, item_reading, rules_at, rules_in}
-use Rattle.profile_import.specs.Imports.{ImportValue, Imports, Outcome, first_change, strict_outcome, counted_outcome, chosen_number, choice_of, head_outcome, items_outcome, read_outcome}
+use Rattle.profile_import.specs.Imports.{ImportValue, Imports, Outcome, first_change, strict_outcome, counted_outcome, chosen_number}
+use Rattle.profile_import.specs.Imports.{choice_of, head_outcome, items_outcome, read_outcome}
 use Rattle.profile_import.specs.Restated.{PlacedValue, cut_for, all_rules, restated_at, restated_rules}
 use Rattle.import_again.proofs.Lists.{each_append, each_made, each_mapped}
 use Rattle.import_again.proofs.Names.{all_named, named_at}
@@ -64,7 +66,8 @@ as_settle text paths h = at (length paths == 0)
     at false = h
 
 -- the rule with each of its paths
-with_each : (place : ℕ) (rule : SubjectRule) (paths : List (List Token)) → has_some (restated_perms rule.perms (shape_of rule).has_target) ≡ true → AreSettled paths
+with_each : (place : ℕ) (rule : SubjectRule) (paths : List (List Token)) → has_some (restated_perms rule.perms (shape_of rule).has_target)
+    ≡ true → AreSettled paths
     → Each (λ (v : PlacedValue). IsImported v.value) (map (λ value. record { place = place; value = value }) (map (with_path rule) paths))
 with_each place rule [] some h = tt
 with_each place rule (path ∷ paths) some h =
@@ -76,9 +79,11 @@ if_restated : (chosen : Subject) (r : PlacedRule) → HasPaths r → Each (λ (v
 if_restated chosen r h = at (is_restated chosen (shape_of r.rule)) refl
   where
     at : (b : Bool) → is_restated chosen (shape_of r.rule) ≡ b
-        → Each (λ (v : PlacedValue). IsImported v.value) (map (λ value. record { place = r.place; value = value }) (if b then map (with_path r.rule) (restated_paths r.rule.path) else []))
+        → Each (λ (v : PlacedValue). IsImported v.value) (map (λ value. record { place = r.place; value = value })
+        (if b then map (with_path r.rule) (restated_paths r.rule.path) else []))
     at true e =
-        let some = (and_parts (applies_to r.rule.applies_to chosen && (shape_of r.rule).is_read) (has_some (restated_perms r.rule.perms (shape_of r.rule).has_target)) e).1 in
+        let some = (and_parts (applies_to r.rule.applies_to chosen && (shape_of r.rule).is_read)
+        (has_some (restated_perms r.rule.perms (shape_of r.rule).has_target)) e).1 in
         with_each r.place r.rule (restated_paths r.rule.path) some h
     at false e = tt
 
@@ -91,11 +96,13 @@ at_item variables item s = at (is_chosen_rule item s)
     at true = let text = rule_text variables item.parts in (as_settle text (imported_paths text) (imported_settle text), tt)
     at false = tt
 
-in_items : (variables : List Variable) (chosen : Subject) (items : List ItemValue) (s : CutState) → Each HasPaths (rules_in variables chosen items s)
+in_items : (variables : List Variable) (chosen : Subject) (items : List ItemValue) (s : CutState) →
+    Each HasPaths (rules_in variables chosen items s)
 in_items variables chosen [] s = tt
 in_items variables chosen (item ∷ items) s =
     let next = cut_item (item_reading variables chosen item) item s in
-    each_append HasPaths (rules_at variables item s) (rules_in variables chosen items next) (at_item variables item s) (in_items variables chosen items next)
+    each_append HasPaths (rules_at variables item s) (rules_in variables chosen items next) (at_item variables item s)
+    (in_items variables chosen items next)
 
 -- the rules that AppArmor adds also have paths converted from their texts
 queried : (place : ℕ) → Each HasPaths (queries place)
@@ -109,19 +116,22 @@ hat_changed place = imported_settle (codes "/proc/[0-9]*/attr/{,apparmor/}curren
 
 in_added : (change hat : Option ℕ) → Each HasPaths (added_rules change hat)
 in_added None None = tt
-in_added (Some change) None = each_append HasPaths (queries change) (change_of_profile change ∷ []) (queried change) (profile_changed change, tt)
+in_added (Some change) None = each_append HasPaths (queries change) (change_of_profile change ∷ []) (queried change)
+    (profile_changed change, tt)
 in_added None (Some hat) = each_append HasPaths (queries hat) (change_of_hat hat ∷ []) (queried hat) (hat_changed hat, tt)
 in_added (Some change) (Some hat) =
     let first = if nat_le change hat then change else hat in
-    each_append HasPaths (queries first) (change_of_profile change ∷ change_of_hat hat ∷ []) (queried first) (profile_changed change, (hat_changed hat, tt))
+    each_append HasPaths (queries first) (change_of_profile change ∷ change_of_hat hat ∷ []) (queried first)
+    (profile_changed change, (hat_changed hat, tt))
 
 all_imported : (variables : List Variable) (choice : Choice) (items : List ItemValue)
     → Each (λ (v : PlacedValue). IsImported v.value) (restated_rules choice.subject (all_rules variables choice items))
 all_imported variables choice items =
     let end = cut_for variables choice items in
-    each_made HasPaths (λ (v : PlacedValue). IsImported v.value) (restated_at choice.subject) (all_rules variables choice items) (if_restated choice.subject)
-    (each_append HasPaths (rules_in variables choice.subject items (at_start choice)) (added_rules end.changes_profile end.has_hat)
-    (in_items variables choice.subject items (at_start choice)) (in_added end.changes_profile end.has_hat))
+    each_made HasPaths (λ (v : PlacedValue). IsImported v.value) (restated_at choice.subject) (all_rules variables choice items)
+    (if_restated choice.subject) (each_append HasPaths (rules_in variables choice.subject items (at_start choice))
+    (added_rules end.changes_profile end.has_hat) (in_items variables choice.subject items (at_start choice))
+    (in_added end.changes_profile end.has_hat))
 
 -- ---- outcomes
 
@@ -158,10 +168,12 @@ where_counted strict value (Some rule) = Err (too_many_rules rule.place)
 where_counted strict value None = strict_outcome strict value
 
 of_counted : (strict : Bool) (name : List ℕ) (spans : List Span) (rules : List PlacedValue) (value : ImportValue)
-    → can_be_said name ≡ true → Each (λ (v : PlacedValue). IsImported v.value) rules → Ok value ≡ counted_outcome strict name spans rules → IsImportedProfile value.profile
+    → can_be_said name ≡ true → Each (λ (v : PlacedValue). IsImported v.value) rules → Ok value ≡ counted_outcome strict name spans rules →
+    IsImportedProfile value.profile
 of_counted strict name spans rules value said h e = at (slice_get rules max_rules) refl e
   where
-    at : (o : Option PlacedValue) → slice_get rules max_rules ≡ o → Ok value ≡ where_counted strict (made name spans rules) o → IsImportedProfile value.profile
+    at : (o : Option PlacedValue) → slice_get rules max_rules ≡ o → Ok value ≡ where_counted strict (made name spans rules) o →
+        IsImportedProfile value.profile
     at (Some rule) is e = absurd cc
     at None is e =
         subst (λ (v : ImportValue). IsImportedProfile v.profile) (sym (of_strict strict (made name spans rules) value e)) (record {
@@ -170,19 +182,23 @@ of_counted strict name spans rules value said h e = at (slice_get rules max_rule
           few = subst (λ n. n ≤ max_rules) (sym (length-map rules (λ (r : PlacedValue). r.value))) (few_rules rules is);
         })
 
-of_head : (options : ImportOptions) (s : ScopeState) (items : List ItemValue) (number : ℕ) (value : ImportValue) (o : Option Head) → slice_get s.profiles number ≡ o
+of_head : (options : ImportOptions) (s : ScopeState) (items : List ItemValue) (number : ℕ) (value : ImportValue) (o : Option Head) →
+    slice_get s.profiles number ≡ o
     → AreNamed s.profiles → Ok value ≡ head_outcome options s items number o → IsImportedProfile value.profile
 of_head options s items number value None is named e = absurd cc
 of_head options s items number value (Some head) is named e =
     let choice = choice_of options head number in
     let variables = variables_within s.declared head.name in
-    of_counted options.strict head.name (cut_for variables choice items).spans (restated_rules choice.subject (all_rules variables choice items)) value (named_at s.profiles number head is named) (all_imported variables choice items) e
+    of_counted options.strict head.name (cut_for variables choice items).spans
+    (restated_rules choice.subject (all_rules variables choice items)) value (named_at s.profiles number head is named)
+    (all_imported variables choice items) e
 
 abbrev pub where_chosen : ImportOptions → ScopeState → List ItemValue → Option ℕ → Outcome
 where_chosen options s items None = Err (which (map (λ head. head.name) s.profiles))
 where_chosen options s items (Some number) = head_outcome options s items number (slice_get s.profiles number)
 
-of_items : (options : ImportOptions) (s : ScopeState) (items : List ItemValue) (value : ImportValue) → AreNamed s.profiles → Ok value ≡ items_outcome options s items
+of_items : (options : ImportOptions) (s : ScopeState) (items : List ItemValue) (value : ImportValue) → AreNamed s.profiles →
+    Ok value ≡ items_outcome options s items
     → IsImportedProfile value.profile
 of_items options s items value named e = at (chosen_number (option_map (λ name. name.now) options.profile) s.profiles) e
   where
@@ -190,7 +206,8 @@ of_items options s items value named e = at (chosen_number (option_map (λ name.
     at None e = absurd cc
     at (Some number) e = of_head options s items number value (slice_get s.profiles number) refl named e
 
-pub profile_imported : (options : ImportOptions) (text : List ℕ) (value : ImportValue) → Imports options text (Ok value) → IsImportedProfile value.profile
+pub profile_imported : (options : ImportOptions) (text : List ℕ) (value : ImportValue) → Imports options text (Ok value) →
+    IsImportedProfile value.profile
 profile_imported options text value i = at i.fault i.end i.first i.is
   where
     at : (fault : Option scopes.Fault) (end : Option Stop) → FirstFault (scopes.at_start options.defines.now) i.items fault
@@ -198,4 +215,5 @@ profile_imported options text value i = at i.fault i.end i.first i.is
     at (Some fault) end first e = absurd cc
     at None (Some stop) first e = absurd cc
     at None None first e =
-        of_items options (behind_all (scopes.at_start options.defines.now) i.items) i.items value (all_named (scopes.at_start options.defines.now) i.items first tt) e
+        of_items options (behind_all (scopes.at_start options.defines.now) i.items) i.items value
+        (all_named (scopes.at_start options.defines.now) i.items first tt) e

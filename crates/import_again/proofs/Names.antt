@@ -1,5 +1,6 @@
 -- Names that can be said in a canonical text, and the heads of a text that have them.
-use Rattle.std.proofs.Common.{◌≡◌, ℕ, zero, suc, ◌-◌, Bool, true, false, not, ◌&&◌, ◌==◌, nat_eq, List, [], ◌∷◌, length, drop, Option, Some, None, refl, sym, ap, ◌∙◌, subst, arith}
+use Rattle.std.proofs.Common.{◌≡◌, ℕ, zero, suc, ◌-◌, Bool, true, false, not, ◌&&◌, ◌==◌, nat_eq, List, [], ◌∷◌, length, drop, Option}
+use Rattle.std.proofs.Common.{Some, None, refl, sym, ap, ◌∙◌, subst, arith}
 use Rattle.std.specs.Prelude.{codes, slice_get}
 use Rattle.std.specs.Cmp.Lexicographic.{pointwise}
 use Rattle.std.specs.List.{ends_with}
@@ -38,11 +39,14 @@ no_stop s all end (none_left t) e = refl
 no_stop s all end (at_head t item others fault h) e = absurd cc
 no_stop s all end (at_path t item others q fault h g) e = absurd cc
 no_stop s all end (later t item others last h a r) e =
-    ap (λ (o : Option Fault). elim o [ None ↦ head_stop (behind t item) others | Some fault ↦ Some fault ]) h ∙ no_stop (behind t item) others last r e
+    ap (λ (o : Option Fault). elim o [ None ↦ head_stop (behind t item) others | Some fault ↦ Some fault ]) h
+    ∙ no_stop (behind t item) others last r e
 
 -- if no fault is found, each head has a name that can be said
-pub all_named : (s : ScopeState) (all : List ItemValue) → FirstFault s all None → AreNamed s.profiles → AreNamed (behind_all s all).profiles
-all_named s all first h = subst (λ (t : ScopeState). AreNamed t.profiles) (last_is_behind s all (no_stop s all None first refl)) (named_last s all h)
+pub all_named : (s : ScopeState) (all : List ItemValue) → FirstFault s all None → AreNamed s.profiles →
+    AreNamed (behind_all s all).profiles
+all_named s all first h = subst (λ (t : ScopeState). AreNamed t.profiles) (last_is_behind s all (no_stop s all None first refl))
+    (named_last s all h)
 
 pub named_at : (heads : List Head) (n : ℕ) (head : Head) → slice_get heads n ≡ Some head → AreNamed heads → can_be_said head.name ≡ true
 named_at [] n head e h = absurd cc

@@ -1,5 +1,6 @@
 -- What was imported is imported as itself.
-use Rattle.std.proofs.Common.{◌≡◌, ◌⊎◌, ◌≤◌, ℕ, Bool, true, false, ◌&&◌, List, [], ◌∷◌, map, length, Ok, Option, Some, None, refl, sym, ap, ◌∙◌, subst, inl, inr, if◌then◌else◌}
+use Rattle.std.proofs.Common.{◌≡◌, ◌⊎◌, ◌≤◌, ℕ, Bool, true, false, ◌&&◌, List, [], ◌∷◌, map, length, Ok, Option, Some, None, refl, sym, ap}
+use Rattle.std.proofs.Common.{◌∙◌, subst, inl, inr, if◌then◌else◌}
 use Rattle.std.specs.Prelude.{nat_le, bytes_eq, option_map}
 use Rattle.std.specs.List.{list_all, list_any}
 use Rattle.std.proofs.lemmas.Bool.{and_parts, and_from, le-leb}
@@ -21,7 +22,8 @@ use Rattle.import_scope.specs.FirstFaults.{FirstFault, variables_within}
 use Rattle.import_scope.specs.Scopes.{ScopeState, at_start, behind_all}
 use Rattle.import_scope.specs.declared.assigned.Define.{Define}
 use Rattle.profile_import.specs.declared.options.ImportOptions.{ImportOptions}
-use Rattle.profile_import.specs.Imports.{ImportValue, Imports, only_one, chosen_number, changes_something, first_change, strict_outcome, chosen_outcome, items_outcome}
+use Rattle.profile_import.specs.Imports.{ImportValue, Imports, only_one, chosen_number, changes_something, first_change, strict_outcome}
+use Rattle.profile_import.specs.Imports.{chosen_outcome, items_outcome}
 use Rattle.profile_import.specs.Restated.{PlacedValue, cut_for, all_rules, restated_rules}
 use Rattle.import_again.specs.Untold.{IsUntold}
 use Rattle.import_again.proofs.Names.{no_backslash}
@@ -35,15 +37,18 @@ use Rattle.import_again.proofs.ScopesAgain.{head_of, outside, faultless, all_beh
 rules_readable : (rules : List RuleValue) → Each IsImported rules → list_all is_rule rules ≡ true
 rules_readable [] h = refl
 rules_readable (r ∷ rules) h =
-    and_from (is_rule r) (list_all is_rule rules) (and_from (list_any (has r.perms) all_permissions) (is_path r.items) h.0.perms h.0.path) (rules_readable rules h.1)
+    and_from (is_rule r) (list_all is_rule rules) (and_from (list_any (has r.perms) all_permissions) (is_path r.items) h.0.perms h.0.path)
+    (rules_readable rules h.1)
 
 readable : (p : ProfileValue) → IsImportedProfile p → is_profile p ≡ true
 readable p h =
     and_from (is_name p.name && nat_le (length p.rules) max_rules) (list_all is_rule p.rules)
-    (and_from (is_name p.name) (nat_le (length p.rules) max_rules) (and_parts (is_name p.name) _ h.name).0 (le-leb (length p.rules) max_rules h.few))
+    (and_from (is_name p.name) (nat_le (length p.rules) max_rules) (and_parts (is_name p.name) _ h.name).0
+    (le-leb (length p.rules) max_rules h.few))
     (rules_readable p.rules h.rules)
 
-rules_quotable : (rules : List RuleValue) → Each IsImported rules → Each (λ (r : RuleValue). ends_with_backslash (path_text r.items) ≡ false) rules
+rules_quotable : (rules : List RuleValue) → Each IsImported rules →
+    Each (λ (r : RuleValue). ends_with_backslash (path_text r.items) ≡ false) rules
 rules_quotable [] h = tt
 rules_quotable (r ∷ rules) h = (can_be_quoted r h.0, rules_quotable rules h.1)
 
@@ -71,9 +76,11 @@ itself : (name : List ℕ) → bytes_eq name name ≡ true
 itself name = (bytes_eq-Decides name name).1 refl
 
 -- the only profile is chosen
-is_chosen : (asked : Option (List ℕ)) (name : List ℕ) → (asked ≡ None) ⊎ (asked ≡ Some name) → chosen_number asked (head_of name ∷ []) ≡ Some 0
+is_chosen : (asked : Option (List ℕ)) (name : List ℕ) → (asked ≡ None) ⊎ (asked ≡ Some name) →
+    chosen_number asked (head_of name ∷ []) ≡ Some 0
 is_chosen asked name (inl e) = ap (λ o. chosen_number o (head_of name ∷ [])) e
-is_chosen asked name (inr e) = ap (λ o. chosen_number o (head_of name ∷ [])) e ∙ ap (λ (b : Bool). only_one (if b then 0 ∷ [] else [])) (itself name)
+is_chosen asked name (inr e) = ap (λ o. chosen_number o (head_of name ∷ [])) e ∙ ap (λ (b : Bool). only_one (if b then 0 ∷ [] else []))
+    (itself name)
 
 module _ (p : ProfileValue) (h : IsImportedProfile p) (again : ImportOptions) where
   abbrev own_spans : List Span
@@ -94,10 +101,15 @@ module _ (p : ProfileValue) (h : IsImportedProfile p) (again : ImportOptions) wh
   few : length placed ≤ max_rules
   few = subst (λ n. n ≤ max_rules) (sym (sym (length-map placed (λ (v : PlacedValue). v.value)) ∙ ap length same_rules)) h.few
 
-  own_outcome : chosen_outcome again.strict (variables_within [] p.name) (first_choice again.subject) p.name (canonical_items p) ≡ Ok own_value
+  own_outcome : chosen_outcome again.strict (variables_within [] p.name) (first_choice again.subject) p.name (canonical_items p)
+      ≡ Ok own_value
   own_outcome =
       ap (where_counted again.strict (made p.name own_spans placed)) (slice_get_past placed max_rules few)
-      ∙ ap (λ (rules : List RuleValue). strict_outcome again.strict (record { profile = record { name = p.name; rules = rules }; spans = own_spans })) same_rules
+      ∙ ap (λ (rules : List RuleValue). strict_outcome again.strict (record {
+        profile = record { name = p.name; rules = rules };
+        spans =
+            own_spans;
+      })) same_rules
       ∙ stays_strict again.strict own_value (unchanged own_spans untold)
 
   pub own_import : again.defines.now ≡ []

@@ -1,10 +1,12 @@
 -- A text in which no variable opens is unchanged by putting variables in place.
-use Rattle.std.proofs.Common.{◌≡◌, ◌≤◌, ◌-◌, ℕ, Bool, true, false, cond, ◌&&◌, ◌==◌, List, [], ◌∷◌, ◌++◌, length, Some, None, refl, sym, ap, ap₂, ◌∙◌, subst, ⊎_elim, append_assoc}
+use Rattle.std.proofs.Common.{◌≡◌, ◌≤◌, ◌-◌, ℕ, Bool, true, false, cond, ◌&&◌, ◌==◌, List, [], ◌∷◌, ◌++◌, length, Some, None, refl, sym}
+use Rattle.std.proofs.Common.{ap, ap₂, ◌∙◌, subst, ⊎_elim, append_assoc}
 use Rattle.std.specs.List.{flat_map}
 use Rattle.std.proofs.lemmas.Bool.{or_parts, cases_eq, ne_eqb}
 use Rattle.std.proofs.lemmas.List.{append-nil}
 use Rattle.profile_variables.specs.PathTexts.{IsSubstituted, text_of}
-use Rattle.profile_variables.specs.Pieces.{Text, Piece, byte, escaped, use_of, written, closed_name, used_name, escape, first_piece, pieces_behind, pieces}
+use Rattle.profile_variables.specs.Pieces.{Text, Piece, byte, escaped, use_of, written, closed_name, used_name, escape, first_piece}
+use Rattle.profile_variables.specs.Pieces.{pieces_behind, pieces}
 use Rattle.profile_variables.specs.Variables.{Variable, Known, list_at, most_bytes}
 use Rattle.profile_variables.proofs.PieceLaws.{written_again}
 use Rattle.profile_variables.proofs.PieceSteps.{at_first, plain_first}
@@ -18,16 +20,19 @@ AreBytes (escaped b ∷ more) = AreBytes more
 AreBytes (use_of name ∷ more) = ⊥
 
 -- such pieces are put in place as they are written
-as_written : (known : Known) (so_far : Text) (more : List Piece) → AreBytes more → text_of known so_far more ≡ Some (so_far ++ flat_map written more)
+as_written : (known : Known) (so_far : Text) (more : List Piece) → AreBytes more → text_of known so_far more
+    ≡ Some (so_far ++ flat_map written more)
 as_written known so_far [] h = ap (λ (t : Text). Some t) (sym (append-nil so_far))
 as_written known so_far (byte b ∷ more) h =
     as_written known (so_far ++ (b ∷ [])) more h ∙ ap (λ (t : Text). Some t) (append_assoc so_far (b ∷ []) (flat_map written more))
 as_written known so_far (escaped b ∷ more) h =
-    as_written known (so_far ++ (92 ∷ b ∷ [])) more h ∙ ap (λ (t : Text). Some t) (append_assoc so_far (92 ∷ b ∷ []) (flat_map written more))
+    as_written known (so_far ++ (92 ∷ b ∷ [])) more h ∙ ap (λ (t : Text). Some t)
+    (append_assoc so_far (92 ∷ b ∷ []) (flat_map written more))
 as_written known so_far (use_of name ∷ more) h = absurd h
 
 -- the pieces of a text that begins with this byte
-begun : (b : ℕ) (bytes : Text) (p : Piece) → first_piece b bytes ≡ p → AreBytes (p ∷ pieces_behind (length (written p) - 1) bytes) → AreBytes (pieces_behind 0 (b ∷ bytes))
+begun : (b : ℕ) (bytes : Text) (p : Piece) → first_piece b bytes ≡ p → AreBytes (p ∷ pieces_behind (length (written p) - 1) bytes) →
+    AreBytes (pieces_behind 0 (b ∷ bytes))
 unfolding pieces_behind
 begun b bytes p e h = subst (λ (q : Piece). AreBytes (q ∷ pieces_behind (length (written q) - 1) bytes)) (sym e) h
 
@@ -55,20 +60,25 @@ bytes_alone false at (b ∷ bytes) h =
     (λ no_escape. ⊎_elim
     (λ is.
     let behind : opens_from false true bytes ≡ false = subst (λ (x : ℕ). opens_from (x == 92) (x == 64) bytes ≡ false) is rest in
-    begun b bytes (byte 64) (ap (λ (x : ℕ). first_piece x bytes) is ∙ at_first bytes None (no_use bytes behind)) (bytes_alone false true bytes behind))
+    begun b bytes (byte 64) (ap (λ (x : ℕ). first_piece x bytes) is ∙ at_first bytes None (no_use bytes behind))
+    (bytes_alone false true bytes behind))
     (λ no_at.
-    let behind : opens_from false false bytes ≡ false = ap₂ (λ (x y : Bool). opens_from x y bytes) (sym (ne_eqb b 92 no_escape)) (sym (ne_eqb b 64 no_at)) ∙ rest in
+    let behind : opens_from false false bytes ≡ false = ap₂ (λ (x y : Bool). opens_from x y bytes) (sym (ne_eqb b 92 no_escape))
+    (sym (ne_eqb b 64 no_at)) ∙ rest in
     begun b bytes (byte b) (plain_first b bytes no_escape no_at) (bytes_alone false false bytes behind))
     (cases_eq b 64))
     (cases_eq b 92)
   where
-    behind_backslash : (bytes : Text) → AreBytes (pieces_behind 1 bytes) → AreBytes (escape bytes ∷ pieces_behind (length (written (escape bytes)) - 1) bytes)
+    behind_backslash : (bytes : Text) → AreBytes (pieces_behind 1 bytes) →
+        AreBytes (escape bytes ∷ pieces_behind (length (written (escape bytes)) - 1) bytes)
     behind_backslash [] g = tt
     behind_backslash (c ∷ more) g = g
 
-pub is_itself : (variables : List Variable) (text : Text) → opens_variable text ≡ false → length text ≤ most_bytes → IsSubstituted variables text text
+pub is_itself : (variables : List Variable) (text : Text) → opens_variable text ≡ false → length text ≤ most_bytes →
+    IsSubstituted variables text text
 is_itself variables text h short = record {
   levels = 0;
-  is = as_written (list_at 0 variables) [] (pieces text) (bytes_alone false false text h) ∙ ap (λ (t : Text). Some t) (written_again 0 text);
+  is = as_written (list_at 0 variables) [] (pieces text) (bytes_alone false false text h) ∙ ap (λ (t : Text). Some t)
+      (written_again 0 text);
   short = short;
 }

@@ -1,5 +1,6 @@
 -- A rule as it is written in a canonical text, read as one of a flattened text.
-use Rattle.std.proofs.Common.{◌≡◌, ◌≤◌, ℕ, ◌-◌, true, false, not, List, [], ◌∷◌, ◌++◌, length, take, Option, Some, None, refl, sym, ap, ◌∙◌, subst, arith}
+use Rattle.std.proofs.Common.{◌≡◌, ◌≤◌, ℕ, ◌-◌, true, false, not, List, [], ◌∷◌, ◌++◌, length, take, Option, Some, None, refl, sym, ap}
+use Rattle.std.proofs.Common.{◌∙◌, subst, arith}
 use Rattle.std.specs.Prelude.{codes, nat_eq}
 use Rattle.std.specs.List.{ends_with}
 use Rattle.std.specs.Str.{bytes_eq}
@@ -65,10 +66,12 @@ settles r h =
 pub can_be_quoted : (r : RuleValue) → IsImported r → ends_with_backslash (path_text r.items) ≡ false
 can_be_quoted r h = no_backslash (path_text r.items) (settles r h).ends
 
-pub own_text : (variables : List Variable) (r : RuleValue) → IsImported r → IsSubstituted variables (content (in_quotes (path_text r.items))) (path_text r.items)
+pub own_text : (variables : List Variable) (r : RuleValue) → IsImported r →
+    IsSubstituted variables (content (in_quotes (path_text r.items))) (path_text r.items)
 own_text variables r h =
     let s = settles r h in
-    subst (λ (t : List ℕ). IsSubstituted variables t (path_text r.items)) (sym (quoted_content (path_text r.items))) (is_itself variables (path_text r.items) s.plain s.short)
+    subst (λ (t : List ℕ). IsSubstituted variables t (path_text r.items)) (sym (quoted_content (path_text r.items)))
+    (is_itself variables (path_text r.items) s.plain s.short)
 
 -- ---- what the rule says
 
@@ -96,7 +99,8 @@ no_target : (r : RuleValue) (kind : RuleKind) → target_of (rule_item (record r
 no_target r Allow = refl
 no_target r Deny = refl
 
-path_there : (r : RuleValue) (kind : RuleKind) → path_of (rule_item (record r { kind = kind })).parts ≡ Some (content (in_quotes (path_text r.items)))
+path_there : (r : RuleValue) (kind : RuleKind) → path_of (rule_item (record r { kind = kind })).parts
+    ≡ Some (content (in_quotes (path_text r.items)))
 path_there r Allow = refl
 path_there r Deny = refl
 
@@ -109,8 +113,16 @@ pub says_itself : (variables : List Variable) (r : RuleValue) → IsImported r �
 says_itself variables r h =
     let all = (rule_item r).parts in
     let path : path_as (rule_text variables all) (imported_paths (rule_text variables all)) ≡ read (r.items ∷ []) =
-    ap (λ (t : List ℕ). path_as t (imported_paths t)) (text_is variables r h) ∙ ap (path_as (path_text r.items)) (imported_as_it_is r.items h.path h.settled) in
-    λ i. record { kind = kind_is r r.kind i; applies_to = for_all r r.kind i; perms = perms_are r r.kind i; target = no_target r r.kind i; path = path i }
+    ap (λ (t : List ℕ). path_as t (imported_paths t)) (text_is variables r h) ∙ ap (path_as (path_text r.items))
+    (imported_as_it_is r.items h.path h.settled) in
+    λ i. record {
+      kind = kind_is r r.kind i;
+      applies_to = for_all r r.kind i;
+      perms = perms_are r r.kind i;
+      target =
+          no_target r r.kind i;
+      path = path i;
+    }
 
 -- ---- how it is reported
 
@@ -129,10 +141,18 @@ one_each r h =
     ap (λ (t : List ℕ). not (bytes_eq (one_slash t) t)) (quoted_content (path_text r.items)) ∙ ap not (settles r h).one
 
 marks_are : (r : RuleValue) (kind : RuleKind) → IsImported r → marks_of false (rule_item (record r { kind = kind })).parts ≡ plain_marks r
-marks_are r Allow h = λ i. record { letters = letters_are r Allow i; slashes = one_each r h i; pattern = false; link = false; binds = false }
+marks_are r Allow h = λ i. record {
+  letters = letters_are r Allow i;
+  slashes = one_each r h i;
+  pattern = false;
+  link =
+      false;
+  binds = false;
+}
 marks_are r Deny h = λ i. record { letters = letters_are r Deny i; slashes = one_each r h i; pattern = false; link = false; binds = false }
 
-pub is_told : (variables : List Variable) (chosen : Subject) (r : RuleValue) → IsImported r → item_reading variables chosen (rule_item r) ≡ plain_reading r
+pub is_told : (variables : List Variable) (chosen : Subject) (r : RuleValue) → IsImported r → item_reading variables chosen (rule_item r)
+    ≡ plain_reading r
 is_told variables chosen r h =
     ap (λ (rule : SubjectRule). reading_of variables chosen rule (rule_item r).parts) (says_itself variables r h)
     ∙ ap (λ (m : Marks). record { shape = plain_shape r; marks = m }) (marks_are r r.kind h)

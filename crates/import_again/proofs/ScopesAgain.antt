@@ -26,24 +26,29 @@ outside head before = record { declared = []; profiles = head ∷ []; within = [
 
 -- ---- within the profile
 
-answered_as : (head : Head) (before : ℕ) (r : RuleValue) (kind : RuleKind) → IsImported r → IsAnswered (question_of items.Rule (inside head before) (rule_item (record r { kind = kind })).parts)
+answered_as : (head : Head) (before : ℕ) (r : RuleValue) (kind : RuleKind) → IsImported r →
+    IsAnswered (question_of items.Rule (inside head before) (rule_item (record r { kind = kind })).parts)
 answered_as head before r Allow h = (path_text r.items, own_text (variables_within [] head.name) r h)
 answered_as head before r Deny h = (path_text r.items, own_text (variables_within [] head.name) r h)
 
-inner_faultless : (head : Head) (rules : List RuleValue) (before : ℕ) → Each IsImported rules → FirstFault (inside head before) (inner_items rules) None
+inner_faultless : (head : Head) (rules : List RuleValue) (before : ℕ) → Each IsImported rules → FirstFault (inside head before)
+    (inner_items rules) None
 inner_faultless head [] before h =
     later _ _ _ None refl tt (later _ _ _ None refl tt (later _ _ _ None refl tt (none_left _)))
 inner_faultless head (r ∷ rules) before h =
     later _ _ _ None refl tt (later _ _ _ None refl (answered_as head _ r r.kind h.0) (inner_faultless head rules _ h.1))
 
-inner_behind : (head : Head) (rules : List RuleValue) (before : ℕ) → (end : ℕ) × (behind_all (inside head before) (inner_items rules) ≡ outside head end)
+inner_behind : (head : Head) (rules : List RuleValue) (before : ℕ) →
+    (end : ℕ) × (behind_all (inside head before) (inner_items rules) ≡ outside head end)
 inner_behind head [] before = (_, refl)
 inner_behind head (r ∷ rules) before = inner_behind head rules _
 
 -- ---- the whole text
 
-head_behind : (name : List ℕ) → behind (at_start []) (head_item name) ≡ inside (head_of name) (0 + length (bytes_of_parts (head_item name).parts))
-head_behind name = ap (λ (own : List ℕ). inside (head_within None 0 false own) (0 + length (bytes_of_parts (head_item name).parts))) (quoted_content name)
+head_behind : (name : List ℕ) → behind (at_start []) (head_item name) ≡ inside (head_of name)
+    (0 + length (bytes_of_parts (head_item name).parts))
+head_behind name = ap (λ (own : List ℕ). inside (head_within None 0 false own) (0 + length (bytes_of_parts (head_item name).parts)))
+    (quoted_content name)
 
 if_said : (b : Bool) (fault : Fault) → b ≡ true → (if b then None else Some fault) ≡ None
 if_said true fault h = refl
@@ -52,10 +57,12 @@ if_said false fault h = absurd cc
 named : (name : List ℕ) → can_be_said name ≡ true → head_fault items.Profile (at_start []) (head_item name).parts ≡ None
 named name h = if_said (can_be_said (content (in_quotes name))) _ (ap can_be_said (quoted_content name) ∙ h)
 
-pub faultless : (p : ProfileValue) → can_be_said p.name ≡ true → Each IsImported p.rules → FirstFault (at_start []) (canonical_items p) None
+pub faultless : (p : ProfileValue) → can_be_said p.name ≡ true → Each IsImported p.rules →
+    FirstFault (at_start []) (canonical_items p) None
 faultless p said h =
     later (at_start []) (head_item p.name) (inner_items p.rules) None (named p.name said) tt
-    (subst (λ (s : ScopeState). FirstFault s (inner_items p.rules) None) (sym (head_behind p.name)) (inner_faultless (head_of p.name) p.rules _ h))
+    (subst (λ (s : ScopeState). FirstFault s (inner_items p.rules) None) (sym (head_behind p.name))
+    (inner_faultless (head_of p.name) p.rules _ h))
 
 pub all_behind : (p : ProfileValue) → (end : ℕ) × (behind_all (at_start []) (canonical_items p) ≡ outside (head_of p.name) end)
 all_behind p =

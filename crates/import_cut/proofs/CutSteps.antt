@@ -1,6 +1,7 @@
 -- What each step of cutting preserves: the spans cover the bytes so far except for a run that goes on, blank ones are blank, and
 -- any property of a list of spans that a further span preserves.
-use Rattle.std.proofs.Common.{◌≡◌, ℕ, ◌+◌, ◌≤◌, ◌<◌, ◌==◌, Bool, true, false, cond, List, [], ◌∷◌, ◌++◌, length, drop, refl, sym, ap, ◌∙◌, subst, append_assoc, true≢false, arith}
+use Rattle.std.proofs.Common.{◌≡◌, ℕ, ◌+◌, ◌≤◌, ◌<◌, ◌==◌, Bool, true, false, cond, List, [], ◌∷◌, ◌++◌, length, drop, refl, sym, ap, ◌∙◌}
+use Rattle.std.proofs.Common.{subst, append_assoc, true≢false, arith}
 use Rattle.std.proofs.lemmas.Bool.{eqb-true, eqb-false, and_parts}
 use Rattle.std.proofs.lemmas.List.{append-nil, length-append}
 use Rattle.std.proofs.Math.Seq.{drop-append_seam}
@@ -28,9 +29,12 @@ use Rattle.import_cut.specs.declared.span.SpanKind.{SpanKind}
 use Rattle.import_cut.specs.declared.span.SpanKind.TheVariants.{Kept, Blank}
 use Rattle.import_cut.specs.declared.telling.PartTelling.{PartTelling}
 use Rattle.import_cut.specs.declared.telling.PartTelling.TheVariants.{Plain, OfHead, OfRule}
-use Rattle.import_cut.specs.PartSpans.{told, plain_kind, head_kind, rule_kind, part_kind, statement_whats, statement_effect, changes_profile}
+use Rattle.import_cut.specs.PartSpans.{told, plain_kind, head_kind, rule_kind, part_kind, statement_whats, statement_effect}
+use Rattle.import_cut.specs.PartSpans.{changes_profile}
 use Rattle.import_cut.specs.CutStates.{CutState, pass, put, enter, opened, closed, with_hat, with_change, passed, put_item, put_parts}
-use Rattle.import_cut.specs.Cutting.{run_kind, behind_run, start_run, marked, chosen_head, outer_head, run_head, child_head, run_close, chosen_close, statement_item, chosen_rule, outer_item, run_item, chosen_item, plain_item, is_rule, is_chosen, is_chosen_rule, cut_item}
+use Rattle.import_cut.specs.Cutting.{run_kind, behind_run, start_run, marked, chosen_head, outer_head, run_head, child_head, run_close}
+use Rattle.import_cut.specs.Cutting.{chosen_close, statement_item, chosen_rule, outer_item, run_item, chosen_item, plain_item, is_rule}
+use Rattle.import_cut.specs.Cutting.{is_chosen, is_chosen_rule, cut_item}
 use Rattle.import_cut.specs.Spans.{Covers, IsRight}
 use Rattle.import_cut.proofs.SpanLists.{one_more, covers_more, each_more, right_more, right_last}
 
@@ -47,7 +51,8 @@ head_blank chosen _ bytes e = absurd cc
 rule_blank : (chosen : Subject) (reading : RuleReading) (kind : PartKind) → rule_kind chosen reading kind ≡ Blank → kind ≡ kinds.Blank
 rule_blank chosen reading kind e = at (length (part_whats reading.marks kind) == 0) e
   where
-    at : (b : Bool) → cond b (plain_kind kind) (told (part_whats reading.marks kind) (part_effect chosen reading.shape kind)) ≡ Blank → kind ≡ kinds.Blank
+    at : (b : Bool) → cond b (plain_kind kind) (told (part_whats reading.marks kind) (part_effect chosen reading.shape kind)) ≡ Blank →
+        kind ≡ kinds.Blank
     at true e = plain_blank kind e
     at false e = absurd cc
 
@@ -59,7 +64,8 @@ part_blank (OfRule reading) chosen p e = rule_blank chosen reading p.kind e
 -- ---- what is kept
 
 -- After these bytes, with the spans up to one of them; blank ones are blank if B.
-pub record Fine (B : Type 0) (Q : List Span → Type 0) (c : Choice) (before : List ℕ) (of : Choice) (place from : ℕ) (spans : List Span) : Type 0 where
+pub record Fine (B : Type 0) (Q : List Span → Type 0) (c : Choice) (before : List ℕ) (of : Choice) (place from : ℕ)
+    (spans : List Span) : Type 0 where
   pub choice : of ≡ c
   pub at : place ≡ length before
   pub covers : Covers spans 0 from
@@ -78,14 +84,17 @@ Settled s = is_skipping s.phase ≡ false → s.from ≡ s.at
 pub put_settles : (kind : SpanKind) (s : CutState) → (put kind s).from ≡ (put kind s).at
 put_settles kind s = at (s.from == s.at) refl
   where
-    at : (b : Bool) → (s.from == s.at) ≡ b → (cond b s (record s { from = s.at; spans = one_more s.from s.at kind s.spans })).from ≡ (cond b s (record s { from = s.at; spans = one_more s.from s.at kind s.spans })).at
+    at : (b : Bool) → (s.from == s.at) ≡ b → (cond b s (record s { from = s.at; spans = one_more s.from s.at kind s.spans })).from
+        ≡ (cond b s (record s { from = s.at; spans = one_more s.from s.at kind s.spans })).at
     at true e = eqb-true s.from s.at e
     at false e = refl
 
-pub parts_settle : (telling : PartTelling) (parts : List PartValue) (s : CutState) → s.from ≡ s.at → (put_parts telling parts s).from ≡ (put_parts telling parts s).at
+pub parts_settle : (telling : PartTelling) (parts : List PartValue) (s : CutState) → s.from ≡ s.at → (put_parts telling parts s).from
+    ≡ (put_parts telling parts s).at
 parts_settle telling [] s e = e
 parts_settle telling (p ∷ parts) s e =
-    parts_settle telling parts (put (part_kind telling s.choice.subject p) (pass (length p.bytes) s)) (put_settles (part_kind telling s.choice.subject p) (pass (length p.bytes) s))
+    parts_settle telling parts (put (part_kind telling s.choice.subject p) (pass (length p.bytes) s))
+    (put_settles (part_kind telling s.choice.subject p) (pass (length p.bytes) s))
 
 chosen_settles : (phase : Phase) → is_chosen phase ≡ true → is_skipping phase ≡ false
 chosen_settles Chosen e = refl
@@ -94,7 +103,8 @@ chosen_settles _ e = absurd cc
 pub settled_there : (item : ItemValue) (s : CutState) → is_chosen_rule item s ≡ true → Settled s → s.from ≡ s.at
 settled_there item s e settled = settled (chosen_settles s.phase (and_parts (is_chosen s.phase) (is_rule item.kind) e).0)
 
-module _ (B : Type 0) (Q : List Span → Type 0) (grow : (spans : List Span) (span : Span) → Q spans → Q (spans ++ (span ∷ []))) (c : Choice) where
+module _ (B : Type 0) (Q : List Span → Type 0) (grow : (spans : List Span) (span : Span) → Q spans → Q (spans ++ (span ∷ [])))
+    (c : Choice) where
   abbrev pub Is : List ℕ → CutState → Type 0
   Is before s = Fine B Q c before s.choice s.at s.from s.spans
 
@@ -126,7 +136,8 @@ module _ (B : Type 0) (Q : List Span → Type 0) (grow : (spans : List Span) (sp
             at = f.at;
             covers = covers_more s.spans 0 s.from s.at kind f.covers less;
             fits = omega arith;
-            right = λ b. each_more (IsRight before) s.spans (record { start = s.from; end = s.at; kind = kind }) (f.right b) (right_last before s.from s.at kind f.at (blank b));
+            right = λ b. each_more (IsRight before) s.spans (record { start = s.from; end = s.at; kind = kind }) (f.right b)
+                (right_last before s.from s.at kind f.at (blank b));
             more = grow s.spans (record { start = s.from; end = s.at; kind = kind }) f.more;
           }
 
@@ -136,13 +147,17 @@ module _ (B : Type 0) (Q : List Span → Type 0) (grow : (spans : List Span) (sp
   putting_parts before telling (p ∷ parts) s whole e f =
       let kind = part_kind telling s.choice.subject p in
       let next = putting (before ++ p.bytes) kind (pass (length p.bytes) s) (passing before p.bytes s f)
-      (λ b is. ap (λ n. is_blank false (drop n (before ++ p.bytes))) (e ∙ f.at) ∙ ap (is_blank false) (drop-append_seam before p.bytes) ∙ (whole b).0.blank (part_blank telling s.choice.subject p is)) in
-      let all = putting_parts (before ++ p.bytes) telling parts (put kind (pass (length p.bytes) s)) (λ b. (whole b).1) (put_settles kind (pass (length p.bytes) s)) next in
-      subst (λ (x : List ℕ). Is x (put_parts telling parts (put kind (pass (length p.bytes) s)))) (append_assoc before p.bytes (bytes_of_parts parts)) all
+      (λ b is. ap (λ n. is_blank false (drop n (before ++ p.bytes))) (e ∙ f.at) ∙ ap (is_blank false) (drop-append_seam before p.bytes)
+      ∙ (whole b).0.blank (part_blank telling s.choice.subject p is)) in
+      let all = putting_parts (before ++ p.bytes) telling parts (put kind (pass (length p.bytes) s)) (λ b. (whole b).1)
+      (put_settles kind (pass (length p.bytes) s)) next in
+      subst (λ (x : List ℕ). Is x (put_parts telling parts (put kind (pass (length p.bytes) s))))
+      (append_assoc before p.bytes (bytes_of_parts parts)) all
 
   -- ---- items that are one span, or a part of one
 
-  pub item_passes : (before : List ℕ) (item : ItemValue) (s : CutState) → Is before s → Is (before ++ bytes_of_parts item.parts) (passed item s)
+  pub item_passes : (before : List ℕ) (item : ItemValue) (s : CutState) → Is before s →
+      Is (before ++ bytes_of_parts item.parts) (passed item s)
   item_passes before item s f = passing before (bytes_of_parts item.parts) s f
 
   pub item_is_put : (before : List ℕ) (kind : SpanKind) (item : ItemValue) (s : CutState) → (kind ≡ Blank → ⊥) → Is before s
@@ -153,14 +168,16 @@ module _ (B : Type 0) (Q : List Span → Type 0) (grow : (spans : List Span) (sp
   abbrev pub Good : List ℕ → CutState → Type 0
   Good before s = Is before s × Settled s
 
-  runs_start : (before : List ℕ) (what : What) (item : ItemValue) (s : CutState) → Is before s → Good (before ++ bytes_of_parts item.parts) (start_run what item s)
+  runs_start : (before : List ℕ) (what : What) (item : ItemValue) (s : CutState) → Is before s → Good (before ++ bytes_of_parts item.parts)
+      (start_run what item s)
   unfolding start_run
   runs_start before what item s f =
       (item_passes before item (opened (enter (Skipping (record { what = what; floor = s.depth })) s)) f, λ e. absurd cc)
 
   -- ---- heads
 
-  marks_stay : (before : List ℕ) (kind : ItemKind) (s : CutState) → s.from ≡ s.at → Is before s → Is before (marked kind s) × ((marked kind s).from ≡ (marked kind s).at)
+  marks_stay : (before : List ℕ) (kind : ItemKind) (s : CutState) → s.from ≡ s.at → Is before s → Is before (marked kind s)
+      × ((marked kind s).from ≡ (marked kind s).at)
   marks_stay before items.Hat s e f = (f, e)
   marks_stay before _ s e f = (f, e)
 
@@ -181,18 +198,21 @@ module _ (B : Type 0) (Q : List Span → Type 0) (grow : (spans : List Span) (sp
       at true word = chosen_heads before item s whole e f
       at false word = runs_start before word item s f
 
-  run_heads : (before : List ℕ) (what : What) (item : ItemValue) (s : CutState) → (B → IsItem item) → is_skipping s.phase ≡ true → Is before s
+  run_heads : (before : List ℕ) (what : What) (item : ItemValue) (s : CutState) → (B → IsItem item) → is_skipping s.phase ≡ true →
+      Is before s
       → Good (before ++ bytes_of_parts item.parts) (run_head what item s)
   unfolding run_head
   run_heads before what item s whole skips f = at (s.heads == s.choice.profile)
     where
-      at : (b : Bool) → Good (before ++ bytes_of_parts item.parts) (cond b (chosen_head item (put (run_kind s.choice.subject what) s)) (passed item (opened s)))
+      at : (b : Bool) → Good (before ++ bytes_of_parts item.parts) (cond b (chosen_head item (put (run_kind s.choice.subject what) s))
+          (passed item (opened s)))
       at true =
           chosen_heads before item (put (run_kind s.choice.subject what) s) whole (put_settles (run_kind s.choice.subject what) s)
           (putting before (run_kind s.choice.subject what) s f (λ b e. absurd cc))
       at false = (item_passes before item (opened s) f, λ e. absurd (true≢false (sym skips ∙ e)))
 
-  child_heads : (before : List ℕ) (what : What) (item : ItemValue) (s : CutState) → Is before s → Good (before ++ bytes_of_parts item.parts) (child_head what item s)
+  child_heads : (before : List ℕ) (what : What) (item : ItemValue) (s : CutState) → Is before s →
+      Good (before ++ bytes_of_parts item.parts) (child_head what item s)
   unfolding child_head
   child_heads before what item s f = runs_start before what item (with_hat s) f
 
@@ -203,43 +223,61 @@ module _ (B : Type 0) (Q : List Span → Type 0) (grow : (spans : List Span) (sp
   unfolding run_close
   run_closes before run item s skips f = at ((closed s).depth == run.floor)
     where
-      at : (b : Bool) → Good (before ++ bytes_of_parts item.parts) (cond b (enter (behind_run run.floor) (put_item (run_kind s.choice.subject run.what) item (closed s))) (passed item (closed s)))
+      at : (b : Bool) → Good (before ++ bytes_of_parts item.parts)
+          (cond b (enter (behind_run run.floor) (put_item (run_kind s.choice.subject run.what) item (closed s))) (passed item (closed s)))
       at true = (
         item_is_put before (run_kind s.choice.subject run.what) item (closed s) (λ e. absurd cc) f,
         λ _. put_settles (run_kind s.choice.subject run.what) (passed item (closed s)),
       )
       at false = (item_passes before item (closed s) f, λ e. absurd (true≢false (sym skips ∙ e)))
 
-  chosen_closes : (before : List ℕ) (item : ItemValue) (s : CutState) → Is before s → Good (before ++ bytes_of_parts item.parts) (chosen_close item s)
+  chosen_closes : (before : List ℕ) (item : ItemValue) (s : CutState) → Is before s → Good (before ++ bytes_of_parts item.parts)
+      (chosen_close item s)
   unfolding chosen_close
-  chosen_closes before item s f = (item_is_put before Kept item (closed s) (λ e. absurd cc) f, λ _. put_settles Kept (passed item (closed s)))
+  chosen_closes before item s f = (
+    item_is_put before Kept item (closed s) (λ e. absurd cc) f,
+    λ _. put_settles Kept
+        (passed item (closed s)),
+  )
 
   -- ---- statements and rules
 
-  statements_go : (before : List ℕ) (item : ItemValue) (s : CutState) → Is before s → Good (before ++ bytes_of_parts item.parts) (statement_item item s)
+  statements_go : (before : List ℕ) (item : ItemValue) (s : CutState) → Is before s → Good (before ++ bytes_of_parts item.parts)
+      (statement_item item s)
   unfolding statement_item
-  statements_go before item s f = at (changes_profile (statement_whats item.parts)) (told (statement_whats item.parts) (statement_effect s.choice.subject (statement_whats item.parts))) (λ e. absurd cc)
+  statements_go before item s f = at (changes_profile (statement_whats item.parts))
+      (told (statement_whats item.parts) (statement_effect s.choice.subject (statement_whats item.parts))) (λ e. absurd cc)
     where
-      at : (b : Bool) (kind : SpanKind) → (kind ≡ Blank → ⊥) → Good (before ++ bytes_of_parts item.parts) (put_item kind item (cond b (with_change s) s))
+      at : (b : Bool) (kind : SpanKind) → (kind ≡ Blank → ⊥) → Good (before ++ bytes_of_parts item.parts)
+          (put_item kind item (cond b (with_change s) s))
       at true kind other = (item_is_put before kind item (with_change s) other f, λ _. put_settles kind (passed item (with_change s)))
       at false kind other = (item_is_put before kind item s other f, λ _. put_settles kind (passed item s))
 
-  pub rules_go : (before : List ℕ) (reading : RuleReading) (item : ItemValue) (s : CutState) → (B → IsItem item) → s.from ≡ s.at → Is before s
+  pub rules_go : (before : List ℕ) (reading : RuleReading) (item : ItemValue) (s : CutState) → (B → IsItem item) →
+      s.from ≡ s.at → Is before s
       → Good (before ++ bytes_of_parts item.parts) (chosen_rule reading item s)
   unfolding chosen_rule
-  rules_go before reading item s whole e f = at (is_restated s.choice.subject reading.shape) (told (rule_whats reading.marks item.parts) (effect s.choice.subject reading.shape)) (λ e. absurd cc)
+  rules_go before reading item s whole e f = at (is_restated s.choice.subject reading.shape)
+      (told (rule_whats reading.marks item.parts) (effect s.choice.subject reading.shape)) (λ e. absurd cc)
     where
-      at : (b : Bool) (kind : SpanKind) → (kind ≡ Blank → ⊥) → Good (before ++ bytes_of_parts item.parts) (cond b (put_parts (OfRule reading) item.parts s) (put_item kind item s))
-      at true kind other = (putting_parts before (OfRule reading) item.parts s (λ b. (whole b).parts) e f, λ _. parts_settle (OfRule reading) item.parts s e)
+      at : (b : Bool) (kind : SpanKind) → (kind ≡ Blank → ⊥) → Good (before ++ bytes_of_parts item.parts)
+          (cond b (put_parts (OfRule reading) item.parts s) (put_item kind item s))
+      at true kind other = (
+        putting_parts before (OfRule reading) item.parts s (λ b. (whole b).parts) e f,
+        λ _. parts_settle
+            (OfRule reading) item.parts s e,
+      )
       at false kind other = (item_is_put before kind item s other f, λ _. put_settles kind (passed item s))
 
   -- ---- items
 
   blanks_go : (before : List ℕ) (item : ItemValue) (s : CutState) → (B → IsItem item) → s.from ≡ s.at → Is before s
       → Good (before ++ bytes_of_parts item.parts) (put_parts Plain item.parts s)
-  blanks_go before item s whole e f = (putting_parts before Plain item.parts s (λ b. (whole b).parts) e f, λ _. parts_settle Plain item.parts s e)
+  blanks_go before item s whole e f =
+      (putting_parts before Plain item.parts s (λ b. (whole b).parts) e f, λ _. parts_settle Plain item.parts s e)
 
-  kept_go : (before : List ℕ) (item : ItemValue) (s : CutState) → Is before s → Good (before ++ bytes_of_parts item.parts) (put_item Kept item s)
+  kept_go : (before : List ℕ) (item : ItemValue) (s : CutState) → Is before s → Good (before ++ bytes_of_parts item.parts)
+      (put_item Kept item s)
   kept_go before item s f = (item_is_put before Kept item s (λ e. absurd cc) f, λ _. put_settles Kept (passed item s))
 
   outer_items : (kind : ItemKind) (before : List ℕ) (item : ItemValue) (s : CutState) → (B → IsItem item) → s.from ≡ s.at → Is before s
@@ -251,7 +289,8 @@ module _ (B : Type 0) (Q : List Span → Type 0) (grow : (spans : List Span) (sp
   outer_items items.Hat before item s whole e f = outer_heads before item s whole e f
   outer_items _ before item s whole e f = kept_go before item s f
 
-  run_items : (run : Run) (kind : ItemKind) (before : List ℕ) (item : ItemValue) (s : CutState) → (B → IsItem item) → is_skipping s.phase ≡ true → Is before s
+  run_items : (run : Run) (kind : ItemKind) (before : List ℕ) (item : ItemValue) (s : CutState) → (B → IsItem item) →
+      is_skipping s.phase ≡ true → Is before s
       → Good (before ++ bytes_of_parts item.parts) (run_item run kind item s)
   unfolding run_item
   run_items run items.Profile before item s whole skips f = run_heads before run.what item s whole skips f
@@ -280,6 +319,7 @@ module _ (B : Type 0) (Q : List Span → Type 0) (grow : (spans : List Span) (sp
       → Good (before ++ bytes_of_parts item.parts) (cut_item reading item s)
   items_go before reading item s whole g = at (is_chosen_rule item s) refl
     where
-      at : (b : Bool) → is_chosen_rule item s ≡ b → Good (before ++ bytes_of_parts item.parts) (cond b (chosen_rule reading item s) (plain_item s.phase item s))
+      at : (b : Bool) → is_chosen_rule item s ≡ b → Good (before ++ bytes_of_parts item.parts)
+          (cond b (chosen_rule reading item s) (plain_item s.phase item s))
       at true e = rules_go before reading item s whole (settled_there item s e g.1) g.0
       at false e = plain_items s.phase before item s whole refl g

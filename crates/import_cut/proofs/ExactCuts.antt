@@ -20,7 +20,8 @@ items_then : (reading : ItemValue → RuleReading) (items others : List ItemValu
 items_then reading [] others s = refl
 items_then reading (item ∷ items) others s = items_then reading items others (cut_item (reading item) item s)
 
-module _ (R : Change → Type 0) (exact : R Exact) (reading : ItemValue → RuleReading) (choice : Choice) (before after : List ItemValue) (item : ItemValue) (read : IsReadRule reading choice before item) where
+module _ (R : Change → Type 0) (exact : R Exact) (reading : ItemValue → RuleReading) (choice : Choice) (before after : List ItemValue)
+    (item : ItemValue) (read : IsReadRule reading choice before item) where
   abbrev Goal : Type 0
   Goal = R (change choice.subject choice.subject (reading item).shape)
 
@@ -38,19 +39,22 @@ module _ (R : Change → Type 0) (exact : R Exact) (reading : ItemValue → Rule
 
   -- before the rule nothing is known of what is reported
   good_there : Good ⊥ (λ _. Unit {0}) (λ _ _ _. tt) choice ([] ++ bytes_of_items before) there
-  good_there = all_go ⊥ (λ _. Unit {0}) (λ _ _ _. tt) choice reading before [] (at_start choice) (λ none. absurd none) (start_is_good ⊥ (λ _. Unit {0}) (λ _ _ _. tt) choice tt)
+  good_there = all_go ⊥ (λ _. Unit {0}) (λ _ _ _. tt) choice reading before [] (at_start choice) (λ none. absurd none)
+      (start_is_good ⊥ (λ _. Unit {0}) (λ _ _ _. tt) choice tt)
 
   told_here : Q behind.spans
   told_here h =
       let same : behind ≡ chosen_rule (reading item) item there =
       ap (λ (b : Bool). cond b (chosen_rule (reading item) item there) (plain_item there.phase item there)) read.chosen in
       let settled = settled_there item there read.chosen good_there.1 in
-      let told = rule_told R (reading item) item there exact read.written read.reads settled (subst (λ (t : CutState). Tells R t.spans) same h) in
+      let told = rule_told R (reading item) item there exact read.written read.reads settled
+      (subst (λ (t : CutState). Tells R t.spans) same h) in
       subst (λ (c : Choice). R (change c.subject c.subject (reading item).shape)) good_there.0.choice told
 
   good_behind : Good ⊥ Q grow choice (([] ++ bytes_of_items before) ++ bytes_of_parts item.parts) behind
   good_behind =
-      let next = items_go ⊥ (λ _. Unit {0}) (λ _ _ _. tt) choice ([] ++ bytes_of_items before) (reading item) item there (λ none. absurd none) good_there in
+      let next = items_go ⊥ (λ _. Unit {0}) (λ _ _ _. tt) choice ([] ++ bytes_of_items before) (reading item) item there
+      (λ none. absurd none) good_there in
       let f = next.0 in
       (record { choice = f.choice; at = f.at; covers = f.covers; fits = f.fits; right = f.right; more = told_here }, next.1)
 

@@ -19,7 +19,8 @@ one_more from at kind spans = spans ++ (record { start = from; end = at; kind = 
 
 pub covers_more : (spans : List Span) (a b at : ℕ) (kind : SpanKind) → Covers spans a b → b < at → Covers (one_more b at kind spans) a at
 covers_more spans a b at kind (stops place) less = goes_on (record { start = place; end = at; kind = kind }) [] at less (stops at)
-covers_more spans a b at kind (goes_on span others end here more) less = goes_on span (one_more end at kind others) at here (covers_more others span.end end at kind more less)
+covers_more spans a b at kind (goes_on span others end here more) less = goes_on span (one_more end at kind others) at here
+    (covers_more others span.end end at kind more less)
 
 pub each_more : {A : Type 0} (P : A → Type 0) (xs : List A) (x : A) → Each P xs → P x → Each P (xs ++ (x ∷ []))
 each_more P [] x h g = (g, tt)

@@ -1,5 +1,6 @@
 -- What a rule changes for the chosen subject is reported of some span.
-use Rattle.std.proofs.Common.{◌≡◌, ◌<◌, ◌==◌, Bool, true, false, not, ◌&&◌, ◌||◌, cond, List, [], ◌∷◌, ◌++◌, length, Option, Some, None, is_some, find, inl, inr, refl, sym, ap, ◌∙◌, subst, true≢false, arith}
+use Rattle.std.proofs.Common.{◌≡◌, ◌<◌, ◌==◌, Bool, true, false, not, ◌&&◌, ◌||◌, cond, List, [], ◌∷◌, ◌++◌, length, Option, Some, None}
+use Rattle.std.proofs.Common.{is_some, find, inl, inr, refl, sym, ap, ◌∙◌, subst, true≢false, arith}
 use Rattle.std.proofs.lemmas.Bool.{eqb-true, and_parts, cases_Bool}
 use Rattle.std.proofs.lemmas.List.{length-append}
 use Rattle.std.specs.Prelude.{option_map}
@@ -13,7 +14,8 @@ use Rattle.flat_text.specs.Laws.{IsPart, IsItem}
 use Rattle.flat_text.specs.Parts.{PartValue, ItemValue, bytes_of_parts}
 use Rattle.flat_rules.specs.declared.marks.Marks.{Marks}
 use Rattle.flat_rules.specs.RuleParts.{if_so, rule_whats}
-use Rattle.flat_rules.specs.RuleWords.{first_bytes, has_part, is_arrow_part, is_link, is_permissions, letters_in, may_bind_link, perms_of_rule, target_of, target_text}
+use Rattle.flat_rules.specs.RuleWords.{first_bytes, has_part, is_arrow_part, is_link, is_permissions, letters_in, may_bind_link}
+use Rattle.flat_rules.specs.RuleWords.{perms_of_rule, target_of, target_text}
 use Rattle.import_account.specs.declared.what.What.TheVariants as whats
 use Rattle.subject_rules.specs.declared.effect.Change.{Change}
 use Rattle.subject_rules.specs.declared.effect.Change.TheVariants.{Exact}
@@ -59,7 +61,11 @@ bound parts e = at (may_bind_link parts) refl e
   where
     at : (b : Bool) → may_bind_link parts ≡ b → is_some (cond b (option_map target_text (first_bytes is_arrow_part parts)) None) ≡ true
         → (may_bind_link parts ≡ true) × (has_part is_arrow_part parts ≡ true)
-    at true is e = (is, some_part is_arrow_part parts (some_mapped (λ (p : PartValue). p.bytes) (find (λ p. is_arrow_part p.kind) parts) (some_mapped target_text (first_bytes is_arrow_part parts) e)))
+    at true is e = (
+      is,
+      some_part is_arrow_part parts (some_mapped (λ (p : PartValue). p.bytes) (find (λ p. is_arrow_part p.kind) parts)
+          (some_mapped target_text (first_bytes is_arrow_part parts) e)),
+    )
     at false is e = absurd cc
 
 -- the change that is reported for an arrow that binds a target
@@ -68,8 +74,9 @@ arrow_told : (chosen : Subject) (reading : RuleReading) → reading.marks.link �
 arrow_told chosen reading no_link binds = at reading.marks.link reading.marks.binds no_link binds
   where
     at : (link binds : Bool) → link ≡ false → binds ≡ true
-        → change_told (cond (length (if_so (not link && binds) whats.Link ++ if_so (not link && not binds) whats.Target) == 0) (plain_kind kinds.Arrow)
-        (told (if_so (not link && binds) whats.Link ++ if_so (not link && not binds) whats.Target) (effect chosen (for_everybody reading.shape))))
+        → change_told (cond (length (if_so (not link && binds) whats.Link ++ if_so (not link && not binds) whats.Target) == 0)
+        (plain_kind kinds.Arrow) (told (if_so (not link && binds) whats.Link ++ if_so (not link && not binds) whats.Target)
+        (effect chosen (for_everybody reading.shape))))
         ≡ change chosen chosen (for_everybody reading.shape)
     at false true no_link binds = refl
     at true binds no_link is = absurd cc
@@ -81,10 +88,12 @@ arrow_told chosen reading no_link binds = at reading.marks.link reading.marks.bi
 stays : (chosen : Subject) (shape : RuleShape) → is_restated chosen shape ≡ true →
     (change chosen chosen (for_everybody shape) ≡ change chosen chosen shape)
     × (loses_link shape ≡ false → change chosen chosen shape ≡ Exact)
-stays chosen shape e = at (applies_to shape.applies_to chosen) shape.is_read (has_some (restated_perms shape.perms shape.has_target)) (loses_link shape) (left_out_change chosen (for_everybody shape)) (left_out_change chosen shape) e
+stays chosen shape e = at (applies_to shape.applies_to chosen) shape.is_read (has_some (restated_perms shape.perms shape.has_target))
+    (loses_link shape) (left_out_change chosen (for_everybody shape)) (left_out_change chosen shape) e
   where
     at : (a r l link : Bool) (m n : Change) → (a && r && l) ≡ true
-        → (cond (true && r && l) (cond link (lost shape.kind) Exact) m ≡ cond (a && r && l) (cond (not a) (gained shape.kind) (cond link (lost shape.kind) Exact)) n)
+        → (cond (true && r && l) (cond link (lost shape.kind) Exact) m ≡ cond (a && r && l)
+        (cond (not a) (gained shape.kind) (cond link (lost shape.kind) Exact)) n)
         × (link ≡ false → cond (a && r && l) (cond (not a) (gained shape.kind) (cond link (lost shape.kind) Exact)) n ≡ Exact)
     at true true true true m n e = (refl, λ f. absurd (true≢false f))
     at true true true false m n e = (refl, λ f. refl)
@@ -96,7 +105,8 @@ stays chosen shape e = at (applies_to shape.applies_to chosen) shape.is_read (ha
 no_link_stays : (perms : Perms) (parts : List PartValue) → perms ≡ perms_of_rule parts → has_part is_link parts ≡ true
     → has_some (restated_perms perms true) ≡ false
 no_link_stays perms parts is there =
-    let only_link : perms ≡ only Link = is ∙ first (has_part is_link parts) (cond (has_part is_permissions parts) (letters_in parts).perms (set_of (λ p. true))) there in
+    let only_link : perms ≡ only Link = is ∙ first (has_part is_link parts) (cond (has_part is_permissions parts) (letters_in parts).perms
+    (set_of (λ p. true))) there in
     ap (λ (p : Perms). has_some (restated_perms p true)) only_link
   where
     first : (b : Bool) (others : Perms) → b ≡ true → cond b (only Link) others ≡ only Link
@@ -121,14 +131,17 @@ module _ (R : Change → Type 0) where
     where
       at : (b : Bool) → Tells (cond b s (record s { from = s.at; spans = one_more s.from s.at kind s.spans })).spans → Tells s.spans
       at true h = h
-      at false h = (each_before (λ (span : Span). R (change_told span.kind)) s.spans (record { start = s.from; end = s.at; kind = kind }) h).0
+      at false h = (each_before (λ (span : Span). R (change_told span.kind)) s.spans
+          (record { start = s.from; end = s.at; kind = kind }) h).0
 
   put_told : (kind : SpanKind) (s : CutState) → (s.from ≡ s.at → ⊥) → Tells (put kind s).spans → R (change_told kind)
   put_told kind s some h = at (s.from == s.at) refl h
     where
-      at : (b : Bool) → (s.from == s.at) ≡ b → Tells (cond b s (record s { from = s.at; spans = one_more s.from s.at kind s.spans })).spans → R (change_told kind)
+      at : (b : Bool) → (s.from == s.at) ≡ b →
+          Tells (cond b s (record s { from = s.at; spans = one_more s.from s.at kind s.spans })).spans → R (change_told kind)
       at true e h = absurd (some (eqb-true s.from s.at e))
-      at false e h = (each_before (λ (span : Span). R (change_told span.kind)) s.spans (record { start = s.from; end = s.at; kind = kind }) h).1
+      at false e h = (each_before (λ (span : Span). R (change_told span.kind)) s.spans
+          (record { start = s.from; end = s.at; kind = kind }) h).1
 
   parts_before : (telling : PartTelling) (parts : List PartValue) (s : CutState) → Tells (put_parts telling parts s).spans → Tells s.spans
   parts_before telling [] s h = h
@@ -150,11 +163,13 @@ module _ (R : Change → Type 0) where
   arrow_in chosen reading (p ∷ parts) s is e whole there h =
       let kind = part_kind (OfRule reading) s.choice.subject p in
       let next = put kind (pass (length p.bytes) s) in
-      at (is_arrow_part p.kind) refl there (λ later. arrow_in chosen reading parts next (ap (λ c. c.subject) (put_keeps kind (pass (length p.bytes) s)) ∙ is)
+      at (is_arrow_part p.kind) refl there
+      (λ later. arrow_in chosen reading parts next (ap (λ c. c.subject) (put_keeps kind (pass (length p.bytes) s)) ∙ is)
       (put_settles kind (pass (length p.bytes) s)) whole.1 later h)
     where
       at : (b : Bool) → is_arrow_part p.kind ≡ b → (b || has_part is_arrow_part parts) ≡ true
-          → (has_part is_arrow_part parts ≡ true → R (change_told (rule_kind chosen reading kinds.Arrow))) → R (change_told (rule_kind chosen reading kinds.Arrow))
+          → (has_part is_arrow_part parts ≡ true → R (change_told (rule_kind chosen reading kinds.Arrow))) →
+          R (change_told (rule_kind chosen reading kinds.Arrow))
       at true arrow there others =
           let less = whole.0.some in
           let kind = part_kind (OfRule reading) s.choice.subject p in
@@ -166,13 +181,15 @@ module _ (R : Change → Type 0) where
 
   -- ---- rules
 
-  pub rule_told : (reading : RuleReading) (item : ItemValue) (s : CutState) → R Exact → IsItem item → IsReadingOf item.parts reading → s.from ≡ s.at
+  pub rule_told : (reading : RuleReading) (item : ItemValue) (s : CutState) → R Exact → IsItem item → IsReadingOf item.parts reading →
+      s.from ≡ s.at
       → Tells (chosen_rule reading item s).spans → R (change s.choice.subject s.choice.subject reading.shape)
   unfolding chosen_rule
   rule_told reading item s exact whole reads e h = at (is_restated s.choice.subject reading.shape) refl h
     where
       at : (b : Bool) → is_restated s.choice.subject reading.shape ≡ b
-          → Tells (cond b (put_parts (OfRule reading) item.parts s) (put_item (told (rule_whats reading.marks item.parts) (effect s.choice.subject reading.shape)) item s)).spans
+          → Tells (cond b (put_parts (OfRule reading) item.parts s)
+          (put_item (told (rule_whats reading.marks item.parts) (effect s.choice.subject reading.shape)) item s)).spans
           → R (change s.choice.subject s.choice.subject reading.shape)
       at true stay h = elim (cases_Bool (loses_link reading.shape)) [
         | inr keeps ↦ subst R (sym ((stays s.choice.subject reading.shape stay).1 keeps)) exact
@@ -182,8 +199,10 @@ module _ (R : Change → Type 0) where
             let binds : reading.marks.binds ≡ true = ap (λ (m : Marks). m.binds) reads.marks ∙ arrow.0 in
             let left : has_some (restated_perms reading.shape.perms true) ≡ true =
             subst (λ (b : Bool). has_some (restated_perms reading.shape.perms b) ≡ true) both.0
-            (and_parts (applies_to reading.shape.applies_to s.choice.subject && reading.shape.is_read) (has_some (restated_perms reading.shape.perms reading.shape.has_target)) stay).1 in
-            let no_link : reading.marks.link ≡ false = ap (λ (m : Marks). m.link) reads.marks ∙ elim (cases_Bool (has_part is_link item.parts)) [
+            (and_parts (applies_to reading.shape.applies_to s.choice.subject && reading.shape.is_read)
+            (has_some (restated_perms reading.shape.perms reading.shape.has_target)) stay).1 in
+            let no_link : reading.marks.link ≡ false = ap (λ (m : Marks). m.link) reads.marks
+            ∙ elim (cases_Bool (has_part is_link item.parts)) [
               | inl link ↦ absurd (true≢false (sym left ∙ no_link_stays reading.shape.perms item.parts reads.perms link))
               | inr none ↦ none
             ] in
@@ -192,4 +211,5 @@ module _ (R : Change → Type 0) where
       ]
       at false stay h =
           let some = item_bytes item.parts whole.some whole.parts in
-          put_told (told (rule_whats reading.marks item.parts) (effect s.choice.subject reading.shape)) (passed item s) (λ same. omega (arith, some, e, same)) h
+          put_told (told (rule_whats reading.marks item.parts) (effect s.choice.subject reading.shape)) (passed item s)
+          (λ same. omega (arith, some, e, same)) h

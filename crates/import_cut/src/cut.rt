@@ -1,7 +1,10 @@
 //! The items of a text, cut into spans one by one.
 ghost use Rattle.std.specs.Prelude.{◌≡◌, ◌≤◌, ◌+◌, ◌^◌, ◌++◌, ◌∷◌, [], IfOk, OnErr, true, false};
-ghost use Rattle.import_cut.specs.CutStates.{at_start, pass, put, enter, opened, closed, with_hat, with_change, passed, put_item, put_parts};
-ghost use Rattle.import_cut.specs.Cutting.{run_effect, run_kind, behind_run, start_run, chosen_head, outer_head, run_head, child_head, run_close, chosen_close, statement_item, outer_item, run_item, chosen_item, plain_item, is_chosen, is_chosen_rule, cut_item, finished};
+ghost use Rattle.import_cut.specs.CutStates.{at_start, pass, put, enter, opened, closed, with_hat, with_change, passed, put_item};
+ghost use Rattle.import_cut.specs.CutStates.{put_parts};
+ghost use Rattle.import_cut.specs.Cutting.{run_effect, run_kind, behind_run, start_run, chosen_head, outer_head, run_head, child_head};
+ghost use Rattle.import_cut.specs.Cutting.{run_close, chosen_close, statement_item, outer_item, run_item, chosen_item, plain_item};
+ghost use Rattle.import_cut.specs.Cutting.{is_chosen, is_chosen_rule, cut_item, finished};
 ghost use Rattle.import_cut.specs.declared.reading.RuleReading.{RuleReading};
 
 use crate::reading::{Choice, RuleReading};

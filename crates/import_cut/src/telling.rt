@@ -1,6 +1,7 @@
 //! What becomes of a single part, and what is reported of statements.
 ghost use Rattle.std.specs.Prelude.{◌≡◌, ◌++◌, ◌∷◌, [], IfOk};
-ghost use Rattle.import_cut.specs.PartSpans.{told, added_effect, what_of_statement, statement_part_whats, statement_whats, changes_profile, statement_effect, plain_kind, head_kind, rule_kind, part_kind};
+ghost use Rattle.import_cut.specs.PartSpans.{told, added_effect, what_of_statement, statement_part_whats, statement_whats};
+ghost use Rattle.import_cut.specs.PartSpans.{changes_profile, statement_effect, plain_kind, head_kind, rule_kind, part_kind};
 ghost use Rattle.flat_rules.specs.RuleParts.{no_effect};
 
 use crate::mode::mode_of_flags;

@@ -27,8 +27,10 @@ module _ (P : PlacedRule → Type 0) (each : (place : ℕ) (perms : Perms) (path
 
   pub of_each_added : (change hat : Option ℕ) → Each P (added_rules change hat)
   of_each_added None None = tt
-  of_each_added (Some change) None = each_of_both P (queries change) (change_of_profile change ∷ []) (of_queries change) (of_change change, tt)
+  of_each_added (Some change) None = each_of_both P (queries change) (change_of_profile change ∷ []) (of_queries change)
+      (of_change change, tt)
   of_each_added None (Some hat) = each_of_both P (queries hat) (change_of_hat hat ∷ []) (of_queries hat) (of_hat hat, tt)
   of_each_added (Some change) (Some hat) =
       let first = cond (nat_le change hat) change hat in
-      each_of_both P (queries first) (change_of_profile change ∷ change_of_hat hat ∷ []) (of_queries first) (of_change change, (of_hat hat, tt))
+      each_of_both P (queries first) (change_of_profile change ∷ change_of_hat hat ∷ []) (of_queries first)
+      (of_change change, (of_hat hat, tt))

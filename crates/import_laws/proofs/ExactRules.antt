@@ -64,23 +64,32 @@ module _ (R : Change → Type 0) (exact : R Exact) (variables : List Variable) (
         (subst (λ (x : List ItemValue). Tells R (cut_of reading choice x).spans) (sym (append_assoc before (item ∷ []) items)) h) in
         each_of_both IsTold (rules_at variables item s) (rules_in variables choice.subject items (cut_item (reading item) item s))
         (here (is_chosen_rule item s) refl)
-        (subst (λ (t : CutState). Each IsTold (rules_in variables choice.subject items t)) (one_then reading before item (at_start choice)) later)
+        (subst (λ (t : CutState). Each IsTold (rules_in variables choice.subject items t))
+        (one_then reading before item (at_start choice)) later)
       where
         here : (b : Bool) → is_chosen_rule item (cut_items reading before (at_start choice)) ≡ b
-            → Each IsTold (cond b (record { place = (cut_items reading before (at_start choice)).at; rule = subject_rule variables item.parts } ∷ []) [])
+            → Each IsTold (cond b (record {
+              place = (cut_items reading before (at_start choice)).at;
+              rule =
+                  subject_rule variables item.parts;
+            } ∷ []) [])
         here true e = (
           subst R (told_change choice.subject choice.subject (shape_of (subject_rule variables item.parts)))
-              (law before items item (record { written = whole.0; chosen = e; reads = record { perms = refl; target = refl; marks = refl } }) h),
+              (law before items item
+              (record { written = whole.0; chosen = e; reads = record { perms = refl; target = refl; marks = refl } }) h),
           tt,
         )
         here false e = tt
 
     added_told : (change_at hat_at : Option ℕ) → Each IsTold (added_rules change_at hat_at)
-    added_told = of_each_added IsTold (λ place perms path. subst R (sym (plain (shape_of (added_at place perms path).rule) refl refl)) exact)
+    added_told = of_each_added IsTold
+        (λ place perms path. subst R (sym (plain (shape_of (added_at place perms path).rule) refl refl)) exact)
 
     pub all_told : (items : List ItemValue) (change_at hat_at : Option ℕ) → Each IsItem items → Tells R (cut_of reading choice items).spans
-        → All (λ rule. R (change choice.subject choice.subject (shape_of rule))) (plain_rules (rules_in variables choice.subject items (at_start choice) ++ added_rules change_at hat_at))
+        → All (λ rule. R (change choice.subject choice.subject (shape_of rule)))
+        (plain_rules (rules_in variables choice.subject items (at_start choice) ++ added_rules change_at hat_at))
     all_told items change_at hat_at whole h =
         all_plain (λ (rule : SubjectRule). R (change choice.subject choice.subject (shape_of rule)))
         (rules_in variables choice.subject items (at_start choice) ++ added_rules change_at hat_at)
-        (each_of_both IsTold (rules_in variables choice.subject items (at_start choice)) (added_rules change_at hat_at) (rules_told [] items whole h) (added_told change_at hat_at))
+        (each_of_both IsTold (rules_in variables choice.subject items (at_start choice)) (added_rules change_at hat_at)
+        (rules_told [] items whole h) (added_told change_at hat_at))

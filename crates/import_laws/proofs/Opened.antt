@@ -13,7 +13,8 @@ use Rattle.rule_profile.specs.Limits.{max_rules}
 use Rattle.profile_import.specs.declared.options.ImportOptions.{ImportOptions}
 use Rattle.profile_import.specs.Faults.{which, too_many_rules, not_exact}
 use Rattle.profile_import.specs.Restated.{PlacedValue, cut_for, all_rules, restated_rules}
-use Rattle.profile_import.specs.Imports.{ImportValue, Outcome, Imports, choice_of, chosen_number, first_change, strict_outcome, head_outcome, read_outcome}
+use Rattle.profile_import.specs.Imports.{ImportValue, Outcome, Imports, choice_of, chosen_number, first_change, strict_outcome}
+use Rattle.profile_import.specs.Imports.{head_outcome, read_outcome}
 
 -- after all items
 abbrev pub end_of : ImportOptions → List ItemValue → ScopeState
@@ -64,11 +65,13 @@ by_strict true made value e = by_change made value (first_change made.spans) e
 abbrev counted : Bool → ImportValue → Option PlacedValue → Outcome
 counted strict made o = elim o [ Some rule ↦ Err (too_many_rules rule.place) | None ↦ strict_outcome strict made ]
 
-by_count : (strict : Bool) (made value : ImportValue) (o : Option PlacedValue) → Ok value ≡ counted strict made o → (o ≡ None) × (value ≡ made)
+by_count : (strict : Bool) (made value : ImportValue) (o : Option PlacedValue) → Ok value ≡ counted strict made o →
+    (o ≡ None) × (value ≡ made)
 by_count strict made value None e = (refl, by_strict strict made value e)
 by_count strict made value (Some rule) e = absurd cc
 
-module _ (options : ImportOptions) (text : List ℕ) (value : ImportValue) (items : List ItemValue) (read : ReadsItems text items None) (faultless : FirstFault (at_start options.defines.now) items None) where
+module _ (options : ImportOptions) (text : List ℕ) (value : ImportValue) (items : List ItemValue) (read : ReadsItems text items None)
+    (faultless : FirstFault (at_start options.defines.now) items None) where
   abbrev s : ScopeState
   s = end_of options items
 
@@ -76,8 +79,20 @@ module _ (options : ImportOptions) (text : List ℕ) (value : ImportValue) (item
       → Ok value ≡ head_outcome options s items number o → Opened options text value
   by_head number chosen None found e = absurd cc
   by_head number chosen (Some head) found e =
-      let both = by_count options.strict (import_of options items number head) value (slice_get (placed_values options items number head) max_rules) e in
-      record { items = items; number = number; head = head; read = read; faultless = faultless; chosen = chosen; found = found; is = both.1; few = both.0 }
+      let both = by_count options.strict (import_of options items number head) value
+      (slice_get (placed_values options items number head) max_rules) e in
+      record {
+        items = items;
+        number = number;
+        head = head;
+        read = read;
+        faultless = faultless;
+        chosen = chosen;
+        found = found;
+        is =
+            both.1;
+        few = both.0;
+      }
 
   abbrev of_number : Option ℕ → Outcome
   of_number o = elim o [
@@ -89,9 +104,10 @@ module _ (options : ImportOptions) (text : List ℕ) (value : ImportValue) (item
   by_number None chosen e = absurd cc
   by_number (Some number) chosen e = by_head number chosen (slice_get s.profiles number) refl e
 
-by_faults : (options : ImportOptions) (text : List ℕ) (value : ImportValue) (items : List ItemValue) (fault : Option scopes.Fault) (end : Option Stop)
-    → ReadsItems text items end → FirstFault (at_start options.defines.now) items fault → Ok value ≡ read_outcome options (length text) items fault end
-    → Opened options text value
+by_faults : (options : ImportOptions) (text : List ℕ) (value : ImportValue) (items : List ItemValue) (fault : Option scopes.Fault)
+    (end : Option Stop)
+    → ReadsItems text items end → FirstFault (at_start options.defines.now) items fault → Ok value ≡ read_outcome options
+    (length text) items fault end → Opened options text value
 by_faults options text value items (Some fault) end read first e = absurd cc
 by_faults options text value items None (Some stop) read first e = absurd cc
 by_faults options text value items None None read first e =

@@ -1,5 +1,6 @@
 -- An imported profile has a name that can be said, and rules that can be read.
-use Rattle.std.proofs.Common.{◌≡◌, ℕ, zero, suc, ◌≤◌, ◌==◌, Bool, true, false, not, ◌&&◌, cond, List, [], ◌∷◌, ◌++◌, map, length, Option, Some, None, refl, ap, ◌∙◌, subst, arith}
+use Rattle.std.proofs.Common.{◌≡◌, ℕ, zero, suc, ◌≤◌, ◌==◌, Bool, true, false, not, ◌&&◌, cond, List, [], ◌∷◌, ◌++◌, map, length, Option}
+use Rattle.std.proofs.Common.{Some, None, refl, ap, ◌∙◌, subst, arith}
 use Rattle.std.specs.Prelude.{slice_get, nat_eq, codes, IsTrue}
 use Rattle.std.specs.List.{list_all, ends_with}
 use Rattle.std.proofs.lemmas.Bool.{and_parts, and_from}
@@ -9,7 +10,8 @@ use Rattle.rule_globs.specs.Tokens.{Token}
 use Rattle.rule_profile.specs.Readable.{is_name, is_path, is_rule}
 use Rattle.flat_text.specs.Parts.{ItemValue}
 use Rattle.subject_rules.specs.declared.subject.Subject.{Subject}
-use Rattle.subject_rules.specs.Restating.{has_some, is_restated, is_read, restated, restated_all, restated_paths, restated_perms, shape_of, with_path}
+use Rattle.subject_rules.specs.Restating.{has_some, is_restated, is_read, restated, restated_all, restated_paths, restated_perms, shape_of}
+use Rattle.subject_rules.specs.Restating.{with_path}
 use Rattle.subject_rules.specs.SubjectRules.{SubjectPath, SubjectRule, read, unread}
 use Rattle.subject_rules.specs.Subjects.{applies_to}
 use Rattle.import_cut.specs.CutStates.{CutState}
@@ -48,7 +50,8 @@ pub names_are_said : (s : ScopeState) (items : List ItemValue) (n : ℕ) (head :
 names_are_said s items n head named first found =
     let last = last_is_behind s items (no_stop s items None first refl) in
     let all = subst (λ (t : ScopeState). AreNamed t.profiles) last (named_last s items named) in
-    (and_parts (is_name head.name) (not (ends_with nat_eq head.name (codes "\\"))) (one_named (behind_all s items).profiles n head all found)).0
+    (and_parts (is_name head.name) (not (ends_with nat_eq head.name (codes "\\")))
+    (one_named (behind_all s items).profiles n head all found)).0
 
 -- ---- how many
 
@@ -82,25 +85,29 @@ module _ (readable : (text : List ℕ) → list_all is_path (imported_paths text
       at true = let text = rule_text variables item.parts in (path_is_good text (imported_paths text) (readable text), tt)
       at false = tt
 
-  rules_good : (variables : List Variable) (chosen : Subject) (items : List ItemValue) (s : CutState) → AreGood (rules_in variables chosen items s)
+  rules_good : (variables : List Variable) (chosen : Subject) (items : List ItemValue) (s : CutState) →
+      AreGood (rules_in variables chosen items s)
   rules_good variables chosen [] s = tt
   rules_good variables chosen (item ∷ items) s =
       let next = cut_item (item_reading variables chosen item) item s in
-      each_of_both (λ r. IsGood r.rule.path) (rules_at variables item s) (rules_in variables chosen items next) (at_good variables item s) (rules_good variables chosen items next)
+      each_of_both (λ r. IsGood r.rule.path) (rules_at variables item s) (rules_in variables chosen items next) (at_good variables item s)
+      (rules_good variables chosen items next)
 
   pub all_good : (variables : List Variable) (chosen : Subject) (items : List ItemValue) (s : CutState) (change hat : Option ℕ)
       → AreGood (rules_in variables chosen items s ++ added_rules change hat)
   all_good variables chosen items s change hat =
-      each_of_both (λ r. IsGood r.rule.path) (rules_in variables chosen items s) (added_rules change hat) (rules_good variables chosen items s)
-      (of_each_added (λ r. IsGood r.rule.path) (λ place perms path. readable path) change hat)
+      each_of_both (λ r. IsGood r.rule.path) (rules_in variables chosen items s) (added_rules change hat)
+      (rules_good variables chosen items s) (of_each_added (λ r. IsGood r.rule.path) (λ place perms path. readable path) change hat)
 
-paths_pass : (rule : SubjectRule) (paths : List (List Token)) → has_some (restated_perms rule.perms (shape_of rule).has_target) ≡ true → list_all is_path paths ≡ true
+paths_pass : (rule : SubjectRule) (paths : List (List Token)) → has_some (restated_perms rule.perms (shape_of rule).has_target) ≡ true →
+    list_all is_path paths ≡ true
     → list_all is_rule (map (with_path rule) paths) ≡ true
 paths_pass rule [] some h = refl
 paths_pass rule (path ∷ paths) some h =
     let both = and_parts (is_path path) (list_all is_path paths) h in
     and_from (is_rule (with_path rule path)) (list_all is_rule (map (with_path rule) paths))
-    (and_from (has_some (restated_perms rule.perms (shape_of rule).has_target)) (is_path path) some both.0) (paths_pass rule paths some both.1)
+    (and_from (has_some (restated_perms rule.perms (shape_of rule).has_target)) (is_path path) some both.0)
+    (paths_pass rule paths some both.1)
 
 good_paths : (path : SubjectPath) → IsGood path → list_all is_path (restated_paths path) ≡ true
 good_paths (read paths) h = h
@@ -109,14 +116,18 @@ good_paths (unread text) h = refl
 restated_pass : (chosen : Subject) (rule : SubjectRule) → IsGood rule.path → list_all is_rule (restated chosen rule) ≡ true
 restated_pass chosen rule good = at (is_restated chosen (shape_of rule)) refl
   where
-    at : (b : Bool) → is_restated chosen (shape_of rule) ≡ b → list_all is_rule (cond b (map (with_path rule) (restated_paths rule.path)) []) ≡ true
+    at : (b : Bool) → is_restated chosen (shape_of rule) ≡ b →
+        list_all is_rule (cond b (map (with_path rule) (restated_paths rule.path)) []) ≡ true
     at true e =
-        let some = (and_parts (applies_to rule.applies_to chosen && is_read rule.path) (has_some (restated_perms rule.perms (shape_of rule).has_target)) e).1 in
+        let some = (and_parts (applies_to rule.applies_to chosen && is_read rule.path)
+        (has_some (restated_perms rule.perms (shape_of rule).has_target)) e).1 in
         paths_pass rule (restated_paths rule.path) some (good_paths rule.path good)
     at false e = refl
 
-pub rules_pass : (chosen : Subject) (rules : List PlacedRule) → AreGood rules → list_all is_rule (restated_all chosen (plain_rules rules)) ≡ true
+pub rules_pass : (chosen : Subject) (rules : List PlacedRule) → AreGood rules → list_all is_rule (restated_all chosen (plain_rules rules))
+    ≡ true
 rules_pass chosen [] good = refl
 rules_pass chosen (r ∷ rules) good =
     list_all-append is_rule (restated chosen r.rule) (restated_all chosen (plain_rules rules))
-    ∙ and_from (list_all is_rule (restated chosen r.rule)) (list_all is_rule (restated_all chosen (plain_rules rules))) (restated_pass chosen r.rule good.0) (rules_pass chosen rules good.1)
+    ∙ and_from (list_all is_rule (restated chosen r.rule)) (list_all is_rule (restated_all chosen (plain_rules rules)))
+    (restated_pass chosen r.rule good.0) (rules_pass chosen rules good.1)

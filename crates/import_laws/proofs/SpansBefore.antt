@@ -21,7 +21,9 @@ use Rattle.import_cut.specs.declared.span.SpanKind.{SpanKind}
 use Rattle.import_cut.specs.declared.span.SpanKind.TheVariants.{Kept}
 use Rattle.import_cut.specs.PartSpans.{told, plain_kind, head_kind, rule_kind, statement_whats, statement_effect, changes_profile}
 use Rattle.import_cut.specs.CutStates.{CutState, pass, put, enter, opened, closed, with_hat, with_change, passed, put_item}
-use Rattle.import_cut.specs.Cutting.{run_kind, behind_run, start_run, marked, chosen_head, outer_head, run_head, child_head, run_close, chosen_close, statement_item, chosen_rule, outer_item, run_item, chosen_item, plain_item, is_chosen_rule, cut_item, cut_items, rest_kind, finished}
+use Rattle.import_cut.specs.Cutting.{run_kind, behind_run, start_run, marked, chosen_head, outer_head, run_head, child_head, run_close}
+use Rattle.import_cut.specs.Cutting.{chosen_close, statement_item, chosen_rule, outer_item, run_item, chosen_item, plain_item}
+use Rattle.import_cut.specs.Cutting.{is_chosen_rule, cut_item, cut_items, rest_kind, finished}
 use Rattle.import_cut.specs.ReadRules.{change_told}
 
 -- parts that each are a span, of the kind that this says
@@ -60,7 +62,8 @@ module _ (R : Change → Type 0) where
   Tells spans = Each (λ (span : Span). R (change_told span.kind)) spans
 
   last_told : (kind : SpanKind) (s : CutState) → Tells (one_more kind s).spans → Tells s.spans × R (change_told kind)
-  last_told kind s h = each_before (λ (span : Span). R (change_told span.kind)) s.spans (record { start = s.from; end = s.at; kind = kind }) h
+  last_told kind s h = each_before (λ (span : Span). R (change_told span.kind)) s.spans
+      (record { start = s.from; end = s.at; kind = kind }) h
 
   pub before_put : (kind : SpanKind) (s : CutState) → Tells (put kind s).spans → Tells s.spans
   before_put kind s = put_cases (λ t. Tells t.spans → Tells s.spans) kind s (λ h. h) (λ h. (last_told kind s h).0)
@@ -72,7 +75,8 @@ module _ (R : Change → Type 0) where
       at true e h = absurd (some (eqb-true s.from s.at e))
       at false e h = (last_told kind s h).1
 
-  pub before_parts : (kind : Subject → PartValue → SpanKind) (parts : List PartValue) (s : CutState) → Tells (put_each kind parts s).spans → Tells s.spans
+  pub before_parts : (kind : Subject → PartValue → SpanKind) (parts : List PartValue) (s : CutState) →
+      Tells (put_each kind parts s).spans → Tells s.spans
   before_parts kind [] s h = h
   before_parts kind (p ∷ parts) s h =
       let this = kind s.choice.subject p in
@@ -91,7 +95,8 @@ module _ (R : Change → Type 0) where
 
   before_chosen_head : (item : ItemValue) (s : CutState) → Tells (chosen_head item s).spans → Tells s.spans
   unfolding chosen_head
-  before_chosen_head item s h = before_marked item.kind s (before_parts head_part item.parts (opened (enter Chosen (marked item.kind s))) h)
+  before_chosen_head item s h =
+      before_marked item.kind s (before_parts head_part item.parts (opened (enter Chosen (marked item.kind s))) h)
 
   before_outer_head : (item : ItemValue) (s : CutState) → Tells (outer_head item s).spans → Tells s.spans
   unfolding outer_head
@@ -105,7 +110,8 @@ module _ (R : Change → Type 0) where
   unfolding run_head
   before_run_head what item s h = at (s.heads == s.choice.profile) h
     where
-      at : (b : Bool) → Tells (cond b (chosen_head item (put (run_kind s.choice.subject what) s)) (passed item (opened s))).spans → Tells s.spans
+      at : (b : Bool) → Tells (cond b (chosen_head item (put (run_kind s.choice.subject what) s)) (passed item (opened s))).spans →
+          Tells s.spans
       at true h = before_put (run_kind s.choice.subject what) s (before_chosen_head item (put (run_kind s.choice.subject what) s) h)
       at false h = h
 
@@ -119,7 +125,8 @@ module _ (R : Change → Type 0) where
   unfolding run_close
   before_run_close run item s h = at ((closed s).depth == run.floor) h
     where
-      at : (b : Bool) → Tells (cond b (enter (behind_run run.floor) (put_item (run_kind s.choice.subject run.what) item (closed s))) (passed item (closed s))).spans → Tells s.spans
+      at : (b : Bool) → Tells (cond b (enter (behind_run run.floor) (put_item (run_kind s.choice.subject run.what) item (closed s)))
+          (passed item (closed s))).spans → Tells s.spans
       at true h = before_put (run_kind s.choice.subject run.what) (passed item (closed s)) h
       at false h = h
 
@@ -129,7 +136,8 @@ module _ (R : Change → Type 0) where
 
   before_statement : (item : ItemValue) (s : CutState) → Tells (statement_item item s).spans → Tells s.spans
   unfolding statement_item
-  before_statement item s h = at (changes_profile (statement_whats item.parts)) (told (statement_whats item.parts) (statement_effect s.choice.subject (statement_whats item.parts))) h
+  before_statement item s h = at (changes_profile (statement_whats item.parts))
+      (told (statement_whats item.parts) (statement_effect s.choice.subject (statement_whats item.parts))) h
     where
       at : (b : Bool) (kind : SpanKind) → Tells (put_item kind item (cond b (with_change s) s)).spans → Tells s.spans
       at true kind h = before_put kind (passed item (with_change s)) h
@@ -137,9 +145,11 @@ module _ (R : Change → Type 0) where
 
   before_rule : (reading : RuleReading) (item : ItemValue) (s : CutState) → Tells (chosen_rule reading item s).spans → Tells s.spans
   unfolding chosen_rule
-  before_rule reading item s h = at (is_restated s.choice.subject reading.shape) (told (rule_whats reading.marks item.parts) (effect s.choice.subject reading.shape)) h
+  before_rule reading item s h = at (is_restated s.choice.subject reading.shape)
+      (told (rule_whats reading.marks item.parts) (effect s.choice.subject reading.shape)) h
     where
-      at : (b : Bool) (kind : SpanKind) → Tells (cond b (put_each (rule_part reading) item.parts s) (put_item kind item s)).spans → Tells s.spans
+      at : (b : Bool) (kind : SpanKind) → Tells (cond b (put_each (rule_part reading) item.parts s) (put_item kind item s)).spans →
+          Tells s.spans
       at true kind h = before_parts (rule_part reading) item.parts s h
       at false kind h = before_put kind (passed item s) h
 
@@ -153,7 +163,8 @@ module _ (R : Change → Type 0) where
   before_outer items.Hat item s h = before_outer_head item s h
   before_outer _ item s h = before_put Kept (passed item s) h
 
-  before_run_item : (run : Run) (kind : ItemKind) (item : ItemValue) (s : CutState) → Tells (run_item run kind item s).spans → Tells s.spans
+  before_run_item : (run : Run) (kind : ItemKind) (item : ItemValue) (s : CutState) → Tells (run_item run kind item s).spans →
+      Tells s.spans
   unfolding run_item
   before_run_item run items.Profile item s h = before_run_head run.what item s h
   before_run_item run items.Hat item s h = before_run_head run.what item s h
@@ -182,11 +193,14 @@ module _ (R : Change → Type 0) where
       at true h = before_rule reading item s h
       at false h = before_plain s.phase item s h
 
-  before_items : (reading : ItemValue → RuleReading) (items : List ItemValue) (s : CutState) → Tells (cut_items reading items s).spans → Tells s.spans
+  before_items : (reading : ItemValue → RuleReading) (items : List ItemValue) (s : CutState) → Tells (cut_items reading items s).spans →
+      Tells s.spans
   before_items reading [] s h = h
-  before_items reading (item ∷ items) s h = before_item (reading item) item s (before_items reading items (cut_item (reading item) item s) h)
+  before_items reading (item ∷ items) s h = before_item (reading item) item s
+      (before_items reading items (cut_item (reading item) item s) h)
 
-  pub before_end : (reading : ItemValue → RuleReading) (items : List ItemValue) (s : CutState) → Tells (finished (cut_items reading items s)).spans → Tells s.spans
+  pub before_end : (reading : ItemValue → RuleReading) (items : List ItemValue) (s : CutState) →
+      Tells (finished (cut_items reading items s)).spans → Tells s.spans
   before_end reading items s h =
       let t = cut_items reading items s in
       before_items reading items s (before_put (rest_kind t.choice.subject t.phase) t h)

@@ -1,5 +1,6 @@
 -- What holds of the changes that are reported for all spans holds of that of the chosen profile's mode.
-use Rattle.std.proofs.Common.{◌≡◌, ℕ, suc, ◌+◌, ◌-◌, ◌≤◌, ◌==◌, Bool, true, false, ◌&&◌, cond, List, [], ◌∷◌, length, refl, sym, ap, ap₂, ◌∙◌, subst, arith}
+use Rattle.std.proofs.Common.{◌≡◌, ℕ, suc, ◌+◌, ◌-◌, ◌≤◌, ◌==◌, Bool, true, false, ◌&&◌, cond, List, [], ◌∷◌, length, refl, sym, ap, ap₂}
+use Rattle.std.proofs.Common.{◌∙◌, subst, arith}
 use Rattle.std.proofs.lemmas.Bool.{eqb-true}
 use Rattle.rule_globs.specs.Each.{Each}
 use Rattle.flat_text.specs.declared.part.PartKind.{PartKind}
@@ -26,7 +27,9 @@ use Rattle.import_cut.specs.declared.span.SpanKind.TheVariants.{Kept}
 use Rattle.import_cut.specs.Modes.{more_permissive, part_mode, mode_with_parts, mode_of_head}
 use Rattle.import_cut.specs.PartSpans.{told, head_kind, statement_whats, statement_effect, changes_profile}
 use Rattle.import_cut.specs.CutStates.{CutState, at_start, pass, put, enter, opened, closed, with_change, passed, put_item}
-use Rattle.import_cut.specs.Cutting.{run_kind, behind_run, start_run, marked, chosen_head, outer_head, run_head, run_close, statement_item, chosen_rule, outer_item, run_item, plain_item, is_chosen, is_rule, cut_item, cut_items, cut_of, finished}
+use Rattle.import_cut.specs.Cutting.{run_kind, behind_run, start_run, marked, chosen_head, outer_head, run_head, run_close, statement_item}
+use Rattle.import_cut.specs.Cutting.{chosen_rule, outer_item, run_item, plain_item, is_chosen, is_rule, cut_item, cut_items, cut_of}
+use Rattle.import_cut.specs.Cutting.{finished}
 use Rattle.import_cut.specs.ReadRules.{change_told}
 use Rattle.import_laws.specs.Imported.{mode_from, opens_profile}
 use Rattle.import_laws.proofs.SpansBefore.{Tells, before_end, before_parts, head_part, plain_part, put_cases, put_each, put_is_told}
@@ -41,7 +44,8 @@ marked_fits _ s fits = fits
 -- ---- flags
 
 module _ (R : Change → Type 0) (exact : R Exact) where
-  part_told : (chosen : Subject) (kind : PartKind) (bytes : List ℕ) → R (change_told (head_kind chosen kind bytes)) → R (mode_change (part_mode kind bytes))
+  part_told : (chosen : Subject) (kind : PartKind) (bytes : List ℕ) → R (change_told (head_kind chosen kind bytes)) →
+      R (mode_change (part_mode kind bytes))
   part_told chosen kinds.Flags bytes h = h
   part_told chosen _ bytes h = exact
 
@@ -64,7 +68,8 @@ module _ (R : Change → Type 0) (exact : R Exact) where
       parts_told parts (put kind now) (more_permissive mode (part_mode p.kind p.bytes)) whole.1 (put_fits kind now more)
       (both_told mode (part_mode p.kind p.bytes) e (part_told s.choice.subject p.kind p.bytes here)) h
 
-  head_told : (item : ItemValue) (s : CutState) → IsItem item → s.from ≤ s.at → Tells R (chosen_head item s).spans → R (mode_change (mode_of_head item.parts))
+  head_told : (item : ItemValue) (s : CutState) → IsItem item → s.from ≤ s.at → Tells R (chosen_head item s).spans →
+      R (mode_change (mode_of_head item.parts))
   unfolding chosen_head
   head_told item s whole fits h =
       parts_told item.parts (opened (enter Chosen (marked item.kind s))) Enforcing whole.parts (marked_fits item.kind s fits) exact h
@@ -102,7 +107,8 @@ module _ (R : Change → Type 0) (exact : R Exact) (c : Choice) where
   putting heads kind s f =
       put_cases (λ t. Is heads t) kind s f (record { choice = f.choice; heads_are = f.heads_are; fits = omega arith; before = f.before })
 
-  putting_parts : (heads : ℕ) (each : Subject → PartValue → SpanKind) (parts : List PartValue) (s : CutState) → Is heads s → Is heads (put_each each parts s)
+  putting_parts : (heads : ℕ) (each : Subject → PartValue → SpanKind) (parts : List PartValue) (s : CutState) → Is heads s →
+      Is heads (put_each each parts s)
   putting_parts heads each [] s f = f
   putting_parts heads each (p ∷ parts) s f =
       let kind = each s.choice.subject p in
@@ -118,7 +124,8 @@ module _ (R : Change → Type 0) (exact : R Exact) (c : Choice) where
   Step heads item true false t = Is (suc heads) t
   Step heads item true true t = Tells R t.spans → R (mode_change (mode_of_head item.parts))
 
-  run_starts : (heads : ℕ) (begun : What) (item : ItemValue) (s : CutState) → s.depth ≡ 0 → Is heads s → Is (suc heads) (start_run begun item s)
+  run_starts : (heads : ℕ) (begun : What) (item : ItemValue) (s : CutState) → s.depth ≡ 0 → Is heads s →
+      Is (suc heads) (start_run begun item s)
   unfolding start_run
   run_starts heads _ item s outer f =
       let fits = f.fits in
@@ -128,10 +135,12 @@ module _ (R : Change → Type 0) (exact : R Exact) (c : Choice) where
   same_test : (heads : ℕ) (s : CutState) → Is heads s → (s.heads == s.choice.profile) ≡ (heads == c.profile)
   same_test heads s f = ap₂ (λ (n m : ℕ). n == m) f.heads_are (ap (λ (x : Choice). x.profile) f.choice)
 
-  outer_heads : (heads : ℕ) (item : ItemValue) (s : CutState) → IsItem item → s.depth ≡ 0 → Is heads s → Step heads item true (heads == c.profile) (outer_head item s)
+  outer_heads : (heads : ℕ) (item : ItemValue) (s : CutState) → IsItem item → s.depth ≡ 0 → Is heads s →
+      Step heads item true (heads == c.profile) (outer_head item s)
   unfolding outer_head
   outer_heads heads item s whole outer f =
-      subst (λ (b : Bool). Step heads item true b (cond (s.heads == s.choice.profile) (chosen_head item s) (start_run (cond (s.heads == s.choice.outermost) whats.Parent whats.Profile) item s)))
+      subst (λ (b : Bool). Step heads item true b (cond (s.heads == s.choice.profile) (chosen_head item s)
+      (start_run (cond (s.heads == s.choice.outermost) whats.Parent whats.Profile) item s)))
       (same_test heads s f) (at (s.heads == s.choice.profile) (cond (s.heads == s.choice.outermost) whats.Parent whats.Profile))
     where
       at : (b : Bool) (begun : What) → Step heads item true b (cond b (chosen_head item s) (start_run begun item s))
@@ -143,7 +152,8 @@ module _ (R : Change → Type 0) (exact : R Exact) (c : Choice) where
   unfolding run_head
   run_heads heads run item s whole is f =
       let kind = run_kind s.choice.subject run.what in
-      subst (λ (b : Bool). Step heads item true b (cond (s.heads == s.choice.profile) (chosen_head item (put kind s)) (passed item (opened s))))
+      subst (λ (b : Bool). Step heads item true b (cond (s.heads == s.choice.profile) (chosen_head item (put kind s))
+      (passed item (opened s))))
       (same_test heads s f) (at (s.heads == s.choice.profile) kind)
     where
       at : (b : Bool) (kind : SpanKind) → Step heads item true b (cond b (chosen_head item (put kind s)) (passed item (opened s)))
@@ -159,7 +169,8 @@ module _ (R : Change → Type 0) (exact : R Exact) (c : Choice) where
             before = subst (λ (p : Phase). IsBefore p (s.depth + 1)) (sym is) floor;
           }
 
-  run_closes : (heads : ℕ) (run : Run) (item : ItemValue) (s : CutState) → s.phase ≡ Skipping run → Is heads s → Is heads (run_close run item s)
+  run_closes : (heads : ℕ) (run : Run) (item : ItemValue) (s : CutState) → s.phase ≡ Skipping run → Is heads s →
+      Is heads (run_close run item s)
   unfolding run_close
   run_closes heads run item s is f = at ((closed s).depth == run.floor) refl (run_kind s.choice.subject run.what)
     where
@@ -168,7 +179,8 @@ module _ (R : Change → Type 0) (exact : R Exact) (c : Choice) where
       at true e kind =
           let fits = f.fits in
           let floor : run.floor ≡ 0 = subst (λ (p : Phase). IsBefore p s.depth) is f.before in
-          let outer : IsBefore (behind_run run.floor) (s.depth - 1) = behind_is_outer run.floor (s.depth - 1) floor (eqb-true (s.depth - 1) run.floor e ∙ floor) in
+          let outer : IsBefore (behind_run run.floor) (s.depth - 1) = behind_is_outer run.floor (s.depth - 1) floor
+          (eqb-true (s.depth - 1) run.floor e ∙ floor) in
           put_cases (λ t. Is heads (enter (behind_run run.floor) t)) kind (passed item (closed s))
           (record { choice = f.choice; heads_are = f.heads_are; fits = omega (arith, fits); before = outer })
           (record { choice = f.choice; heads_are = f.heads_are; fits = omega arith; before = outer })
@@ -184,10 +196,12 @@ module _ (R : Change → Type 0) (exact : R Exact) (c : Choice) where
 
   statements_go : (heads : ℕ) (item : ItemValue) (s : CutState) → Is heads s → Is heads (statement_item item s)
   unfolding statement_item
-  statements_go heads item s f = at (changes_profile (statement_whats item.parts)) (told (statement_whats item.parts) (statement_effect s.choice.subject (statement_whats item.parts)))
+  statements_go heads item s f = at (changes_profile (statement_whats item.parts))
+      (told (statement_whats item.parts) (statement_effect s.choice.subject (statement_whats item.parts)))
     where
       at : (b : Bool) (kind : SpanKind) → Is heads (put_item kind item (cond b (with_change s) s))
-      at true kind = putting_item heads kind item (with_change s) (record { choice = f.choice; heads_are = f.heads_are; fits = f.fits; before = f.before })
+      at true kind = putting_item heads kind item (with_change s)
+          (record { choice = f.choice; heads_are = f.heads_are; fits = f.fits; before = f.before })
       at false kind = putting_item heads kind item s f
 
   outer_steps : (kind : ItemKind) (heads : ℕ) (item : ItemValue) (s : CutState) → IsItem item → s.depth ≡ 0 → Is heads s
@@ -199,7 +213,8 @@ module _ (R : Change → Type 0) (exact : R Exact) (c : Choice) where
   outer_steps items.Hat heads item s whole outer f = outer_heads heads item s whole outer f
   outer_steps _ heads item s whole outer f = putting_item heads Kept item s f
 
-  run_steps : (run : Run) (kind : ItemKind) (heads : ℕ) (item : ItemValue) (s : CutState) → IsItem item → s.phase ≡ Skipping run → Is heads s
+  run_steps : (run : Run) (kind : ItemKind) (heads : ℕ) (item : ItemValue) (s : CutState) → IsItem item →
+      s.phase ≡ Skipping run → Is heads s
       → Step heads item (opens_profile kind) (heads == c.profile) (run_item run kind item s)
   unfolding run_item
   run_steps run items.Profile heads item s whole is f = run_heads heads run item s whole is f
@@ -210,14 +225,16 @@ module _ (R : Change → Type 0) (exact : R Exact) (c : Choice) where
   plain_steps : (phase : Phase) (heads : ℕ) (item : ItemValue) (s : CutState) → IsItem item → s.phase ≡ phase → Is heads s
       → Step heads item (opens_profile item.kind) (heads == c.profile) (plain_item phase item s)
   unfolding plain_item
-  plain_steps Outer heads item s whole is f = outer_steps item.kind heads item s whole (subst (λ (p : Phase). IsBefore p s.depth) is f.before) f
+  plain_steps Outer heads item s whole is f = outer_steps item.kind heads item s whole
+      (subst (λ (p : Phase). IsBefore p s.depth) is f.before) f
   plain_steps (Skipping run) heads item s whole is f = run_steps run item.kind heads item s whole is f
   plain_steps Chosen heads item s whole is f = absurd (subst (λ (p : Phase). IsBefore p s.depth) is f.before)
 
   item_steps : (reading : RuleReading) (heads : ℕ) (item : ItemValue) (s : CutState) → IsItem item → Is heads s
       → Step heads item (opens_profile item.kind) (heads == c.profile) (cut_item reading item s)
   item_steps reading heads item s whole f =
-      subst (λ (b : Bool). Step heads item (opens_profile item.kind) (heads == c.profile) (cond b (chosen_rule reading item s) (plain_item s.phase item s)))
+      subst (λ (b : Bool). Step heads item (opens_profile item.kind) (heads == c.profile)
+      (cond b (chosen_rule reading item s) (plain_item s.phase item s)))
       (sym (not_chosen s.phase s.depth (is_rule item.kind) f.before)) (plain_steps s.phase heads item s whole refl f)
 
   from_here : (reading : ItemValue → RuleReading) (items : List ItemValue) (heads : ℕ) (s : CutState) → Each IsItem items → Is heads s
@@ -229,7 +246,8 @@ module _ (R : Change → Type 0) (exact : R Exact) (c : Choice) where
     where
       at : (opens is : Bool) → Step heads item opens is (cut_item (reading item) item s)
           → ((next : ℕ) → Is next (cut_item (reading item) item s) → R (mode_change (mode_from c.profile next items)))
-          → R (mode_change (cond opens (cond is (mode_of_head item.parts) (mode_from c.profile (suc heads) items)) (mode_from c.profile heads items)))
+          → R (mode_change (cond opens (cond is (mode_of_head item.parts) (mode_from c.profile (suc heads) items))
+          (mode_from c.profile heads items)))
       at false is g others = others heads g
       at true false g others = others (suc heads) g
       at true true g others = g (before_end R reading items (cut_item (reading item) item s) h)

@@ -31,17 +31,21 @@ abbrev pub plain_rules : List PlacedRule → List SubjectRule
 plain_rules rules = map (λ r. r.rule) rules
 
 -- This is the import of the text, and these are the chosen profile's rules, including those that AppArmor adds, and its mode.
-pub record IsImported (options : ImportOptions) (text : List ℕ) (value : ImportValue) (rules : List SubjectRule) (mode : Mode) : Type 0 where
+pub record IsImported (options : ImportOptions) (text : List ℕ) (value : ImportValue) (rules : List SubjectRule)
+    (mode : Mode) : Type 0 where
   pub items : List ItemValue
   pub number : ℕ
   pub head : Head
   pub read : ReadsItems text items None
   pub faultless : FirstFault (at_start options.defines.now) items None
-  pub chosen : chosen_number (option_map (λ name. name.now) options.profile) (behind_all (at_start options.defines.now) items).profiles ≡ Some number
+  pub chosen : chosen_number (option_map (λ name. name.now) options.profile) (behind_all (at_start options.defines.now) items).profiles
+      ≡ Some number
   pub found : slice_get (behind_all (at_start options.defines.now) items).profiles number ≡ Some head
   pub name : value.profile.name ≡ head.name
   pub spans : value.spans
-      ≡ (cut_for (variables_within (behind_all (at_start options.defines.now) items).declared head.name) (choice_of options head number) items).spans
+      ≡ (cut_for (variables_within (behind_all (at_start options.defines.now) items).declared head.name)
+      (choice_of options head number) items).spans
   pub rules_are : rules
-      ≡ plain_rules (all_rules (variables_within (behind_all (at_start options.defines.now) items).declared head.name) (choice_of options head number) items)
+      ≡ plain_rules (all_rules (variables_within (behind_all (at_start options.defines.now) items).declared head.name)
+      (choice_of options head number) items)
   pub mode_is : mode ≡ mode_from number 0 items

@@ -21,9 +21,11 @@ length-after_last bytes =
 pub place_behind_feed : (text : List ℕ) (i : ℕ) → i < length text → is_line_feed (get_or text i 0) ≡ true
     → place_at text (i + 1) ≡ place_of ((place_at text i).line + 1) 1
 place_behind_feed text i within here =
-    let line : count_by is_line_feed (take (i + 1) text) ≡ count_by is_line_feed (take i text) + 1 = count_by_more_yes is_line_feed text i 0 within here in
+    let line : count_by is_line_feed (take (i + 1) text) ≡ count_by is_line_feed (take i text) + 1 =
+    count_by_more_yes is_line_feed text i 0 within here in
     let back : i + 1 - 1 ≡ i = omega arith in
-    let none : suffix_len (λ b. not (is_line_feed b)) (take (i + 1) text) ≡ 0 = suffix_len-take_no (λ b. not (is_line_feed b)) text (i + 1) 0 (omega arith) (omega arith) (rw back (ap not here)) in
+    let none : suffix_len (λ b. not (is_line_feed b)) (take (i + 1) text) ≡ 0 = suffix_len-take_no (λ b. not (is_line_feed b)) text
+    (i + 1) 0 (omega arith) (omega arith) (rw back (ap not here)) in
     let column : length (after_last is_line_feed (take (i + 1) text)) ≡ 0 = length-after_last (take (i + 1) text) ∙ none in
     rw (line, column)
 
@@ -31,14 +33,19 @@ place_behind_feed text i within here =
 pub place_behind_other : (text : List ℕ) (i : ℕ) → i < length text → is_line_feed (get_or text i 0) ≡ false
     → place_at text (i + 1) ≡ place_of (place_at text i).line ((place_at text i).column + 1)
 place_behind_other text i within here =
-    let line : count_by is_line_feed (take (i + 1) text) ≡ count_by is_line_feed (take i text) = count_by_more_no is_line_feed text i 0 within here in
+    let line : count_by is_line_feed (take (i + 1) text) ≡ count_by is_line_feed (take i text) =
+    count_by_more_no is_line_feed text i 0 within here in
     let back : i + 1 - 1 ≡ i = omega arith in
-    let more : suffix_len (λ b. not (is_line_feed b)) (take (i + 1) text) ≡ 1 + suffix_len (λ b. not (is_line_feed b)) (take (i + 1 - 1) text) = suffix_len-take_yes (λ b. not (is_line_feed b)) text (i + 1) 0 (omega arith) (omega arith) (rw back (ap not here)) in
-    let column : length (after_last is_line_feed (take (i + 1) text)) ≡ length (after_last is_line_feed (take i text)) + 1 = omega (arith, length-after_last (take (i + 1) text), length-after_last (take i text), rw back at more) in
+    let more : suffix_len (λ b. not (is_line_feed b)) (take (i + 1) text) ≡ 1 + suffix_len (λ b. not (is_line_feed b))
+    (take (i + 1 - 1) text) = suffix_len-take_yes (λ b. not (is_line_feed b)) text (i + 1) 0 (omega arith) (omega arith)
+    (rw back (ap not here)) in
+    let column : length (after_last is_line_feed (take (i + 1) text)) ≡ length (after_last is_line_feed (take i text)) + 1 =
+    omega (arith, length-after_last (take (i + 1) text), length-after_last (take i text), rw back at more) in
     rw (line, column)
 
 -- a byte of a part with this start and end is a byte of the text
-pub stands_in_text : (text : List ℕ) (start end i : ℕ) → end ≤ length text → i < length (take (end - start) (drop start text)) → start + i < length text
+pub stands_in_text : (text : List ℕ) (start end i : ℕ) → end ≤ length text → i < length (take (end - start) (drop start text)) →
+    start + i < length text
 stands_in_text text start end i within inside =
     omega (arith, length-take (end - start) (drop start text), length-drop start text)
 
@@ -52,7 +59,8 @@ pub place_behind_feed_of_part : (text : List ℕ) (start end i : ℕ) (place : P
     → i < length (take (end - start) (drop start text)) → get_or (take (end - start) (drop start text)) i 0 ≡ 10
     → place_of (place.line + 1) 1 ≡ place_at text (start + (i + 1))
 place_behind_feed_of_part text start end i place here within inside feed =
-    let byte : is_line_feed (get_or text (start + i) 0) ≡ true = ap is_line_feed (sym (byte_of_part text start end i within inside) ∙ feed) in
+    let byte : is_line_feed (get_or text (start + i) 0) ≡ true =
+    ap is_line_feed (sym (byte_of_part text start end i within inside) ∙ feed) in
     let next : start + (i + 1) ≡ start + i + 1 = omega arith in
     rw (next, place_behind_feed text (start + i) (stands_in_text text start end i within inside) byte, here)
 
@@ -60,6 +68,7 @@ pub place_behind_other_of_part : (text : List ℕ) (start end i : ℕ) (place : 
     → i < length (take (end - start) (drop start text)) → get_or (take (end - start) (drop start text)) i 0 ≢ 10
     → place_of place.line (place.column + 1) ≡ place_at text (start + (i + 1))
 place_behind_other_of_part text start end i place here within inside other =
-    let byte : is_line_feed (get_or text (start + i) 0) ≡ false = ne_eqb (get_or text (start + i) 0) 10 (λ feed. other (byte_of_part text start end i within inside ∙ feed)) in
+    let byte : is_line_feed (get_or text (start + i) 0) ≡ false = ne_eqb (get_or text (start + i) 0) 10
+    (λ feed. other (byte_of_part text start end i within inside ∙ feed)) in
     let next : start + (i + 1) ≡ start + i + 1 = omega arith in
     rw (next, place_behind_other text (start + i) (stands_in_text text start end i within inside) byte, here)

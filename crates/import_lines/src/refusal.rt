@@ -27,7 +27,8 @@ pub fn refusal_text(
     names: &[&[u8]],
 ) -> Result<Vec<u8>, NoMemory>
     ensures { IfOk result (λ text. text.items
-        ≡ refusal_text line.entry.number line.entry.place (option_map (λ word. word.now) line.entry.word) (map (λ name. name.now) names.now)) }
+        ≡ refusal_text line.entry.number line.entry.place (option_map (λ word. word.now) line.entry.word)
+        (map (λ name. name.now) names.now)) }
 {
     let mut text = front(alloc, line.number)?;
     put_at(&mut text, alloc, line.place)?;

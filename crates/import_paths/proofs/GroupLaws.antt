@@ -1,5 +1,6 @@
 -- The tokens of items determine whether groups are choices, and the paths that the items are led to.
-use Rattle.std.proofs.Common.{◌≡◌, ℕ, zero, suc, ◌-◌, ◌<◌, Bool, true, false, not, ◌&&◌, ◌==◌, IsTrue, List, [], ◌∷◌, ◌++◌, length, Vec, Global, if◌then◌else◌, refl, sym, ap, subst, ◌∙◌, append_assoc, append-nil, arith}
+use Rattle.std.proofs.Common.{◌≡◌, ℕ, zero, suc, ◌-◌, ◌<◌, Bool, true, false, not, ◌&&◌, ◌==◌, IsTrue, List, [], ◌∷◌, ◌++◌, length, Vec}
+use Rattle.std.proofs.Common.{Global, if◌then◌else◌, refl, sym, ap, subst, ◌∙◌, append_assoc, append-nil, arith}
 use Rattle.std.specs.Prelude.{nat_le, ◌||◌}
 use Rattle.std.specs.List.{list_all}
 use Rattle.std.proofs.lemmas.Bool.{and_parts}
@@ -10,7 +11,8 @@ use Rattle.rule_globs.specs.declared.items.ByteRange.{ByteRange}
 use Rattle.rule_globs.specs.declared.items.Item.{Item, Item-F, out-Item, out-roll-Item, fold-roll-Item}
 use Rattle.rule_globs.specs.declared.items.Item.TheVariants as v
 use Rattle.rule_globs.specs.declared.items.Item.TheVariants.{rolls-Byte, rolls-AnyByte, rolls-Class, rolls-Stars, rolls-Group}
-use Rattle.rule_globs.proofs.TokenItems.{EachWithin, item_induction, alternatives_row, tokens-Byte, tokens-AnyByte, tokens-Class, tokens-Stars, tokens-Group, full-Group}
+use Rattle.rule_globs.proofs.TokenItems.{EachWithin, item_induction, alternatives_row, tokens-Byte, tokens-AnyByte, tokens-Class}
+use Rattle.rule_globs.proofs.TokenItems.{tokens-Stars, tokens-Group, full-Group}
 use Rattle.rule_profile.specs.Readable.{is_path}
 use Rattle.path_leads.specs.Choices.{node_chooses, chooses, all_choose}
 use Rattle.path_leads.specs.Leads.{group_leads, slash_leads, front_leads, leads, led}
@@ -61,7 +63,8 @@ with_comma a all false two c h = and_assoc a all c ∙ ap (λ b. (a && all) && (
 two_or_more : (n : ℕ) → nat_le 2 (suc (suc n)) ≡ true
 two_or_more n = grind (arith, nat_tests)
 
-alternatives_tell : (list : List (Vec Item Global)) → EachWithin TellsChoice list → (comma : Bool) (opened : List Bool) (rest : List Token) →
+alternatives_tell : (list : List (Vec Item Global)) → EachWithin TellsChoice list → (comma : Bool) (opened : List Bool)
+    (rest : List Token) →
     choose_from (comma ∷ opened) (alternatives_row list ++ (closing ∷ rest))
     ≡ (list_all (λ items. all_choose items.items) list && ((comma || nat_le 2 (length list)) && choose_from opened rest))
 alternatives_tell [] each comma opened rest = no_more comma (choose_from opened rest)
@@ -72,15 +75,16 @@ alternatives_tell (a ∷ second ∷ others) each comma opened rest =
     ap (choose_from (comma ∷ opened)) (append_assoc (tokens_of a.items) (between ∷ more) (closing ∷ rest))
     ∙ items_tell a.items each.0 (comma ∷ opened) (between ∷ (more ++ (closing ∷ rest)))
     ∙ ap (λ b. all_choose a.items && b) (alternatives_tell (second ∷ others) each.1 true opened rest)
-    ∙ with_comma (all_choose a.items) (list_all (λ items. all_choose items.items) (second ∷ others)) comma (nat_le 2 (suc (suc (length others))))
-    (choose_from opened rest) (two_or_more (length others))
+    ∙ with_comma (all_choose a.items) (list_all (λ items. all_choose items.items) (second ∷ others)) comma
+    (nat_le 2 (suc (suc (length others)))) (choose_from opened rest) (two_or_more (length others))
 
 in_turn : (two all c : Bool) → (all && ((false || two) && c)) ≡ ((two && all) && c)
 in_turn true all c = refl
 in_turn false true c = refl
 in_turn false false c = refl
 
-group_tells : (alternatives : Vec (Vec Item Global) Global) → EachWithin TellsChoice alternatives.items → TellsChoice (v.Group alternatives)
+group_tells : (alternatives : Vec (Vec Item Global) Global) → EachWithin TellsChoice alternatives.items →
+    TellsChoice (v.Group alternatives)
 group_tells alternatives each opened rest =
     let all = list_all (λ (items : Vec Item Global). all_choose items.items) alternatives.items in
     ap (λ row. choose_from opened (row ++ rest)) (tokens-Group alternatives)
@@ -91,10 +95,14 @@ group_tells alternatives each opened rest =
 
 item_tells : (item : Item) → TellsChoice item
 item_tells = item_induction TellsChoice
-    (λ b. one_tells (v.Byte b) (byte b) (tokens-Byte b) (ap chooses (sym (rolls-Byte b)) ∙ fold-roll-Item Bool node_chooses (Item-F.Byte b)) (λ opened rest. refl))
-    (one_tells v.AnyByte any_byte tokens-AnyByte (ap chooses (sym rolls-AnyByte) ∙ fold-roll-Item Bool node_chooses Item-F.AnyByte) (λ opened rest. refl))
-    (λ c. one_tells (v.Class c) (bracket c.negated c.ranges) (tokens-Class c) (ap chooses (sym (rolls-Class c)) ∙ fold-roll-Item Bool node_chooses (Item-F.Class c)) (λ opened rest. refl))
-    (λ s. one_tells (v.Stars s) (stars s.crosses_slashes s.strict) (tokens-Stars s) (ap chooses (sym (rolls-Stars s)) ∙ fold-roll-Item Bool node_chooses (Item-F.Stars s)) (λ opened rest. refl))
+    (λ b. one_tells (v.Byte b) (byte b) (tokens-Byte b) (ap chooses (sym (rolls-Byte b)) ∙ fold-roll-Item Bool node_chooses
+    (Item-F.Byte b)) (λ opened rest. refl))
+    (one_tells v.AnyByte any_byte tokens-AnyByte (ap chooses (sym rolls-AnyByte) ∙ fold-roll-Item Bool node_chooses Item-F.AnyByte)
+    (λ opened rest. refl))
+    (λ c. one_tells (v.Class c) (bracket c.negated c.ranges) (tokens-Class c) (ap chooses (sym (rolls-Class c))
+    ∙ fold-roll-Item Bool node_chooses (Item-F.Class c)) (λ opened rest. refl))
+    (λ s. one_tells (v.Stars s) (stars s.crosses_slashes s.strict) (tokens-Stars s) (ap chooses (sym (rolls-Stars s))
+    ∙ fold-roll-Item Bool node_chooses (Item-F.Stars s)) (λ opened rest. refl))
     group_tells
 
 each_tells : (items : List Item) → Each TellsChoice items
@@ -122,12 +130,14 @@ fronts_append [] ys parts = refl
 fronts_append (t ∷ xs) ys parts = ap (in_front t) (fronts_append xs ys parts)
 
 fronts_first : (xs first : List Token) (others : List (List Token)) (follow : List Token) →
-    all_in_front xs (record { alternatives = first ∷ others; follow = follow }) ≡ record { alternatives = (xs ++ first) ∷ others; follow = follow }
+    all_in_front xs (record { alternatives = first ∷ others; follow = follow })
+    ≡ record { alternatives = (xs ++ first) ∷ others; follow = follow }
 fronts_first [] first others follow = refl
 fronts_first (t ∷ xs) first others follow = ap (in_front t) (fronts_first xs first others follow)
 
 abbrev GivesParts : Item → Type 0
-GivesParts item = (depth : ℕ) (rest : List Token) → parts_from depth (tokens item ++ rest) ≡ all_in_front (tokens item) (parts_from depth rest)
+GivesParts item = (depth : ℕ) (rest : List Token) → parts_from depth (tokens item ++ rest) ≡ all_in_front (tokens item)
+    (parts_from depth rest)
 
 one_gives : (item : Item) (t : Token) → tokens item ≡ t ∷ [] →
     ((depth : ℕ) (rest : List Token) → parts_from depth (t ∷ rest) ≡ in_front t (parts_from depth rest)) → GivesParts item
@@ -173,7 +183,8 @@ at_closing depth rest =
 
 -- the rest of a group within a group
 alternatives_give : (list : List (Vec Item Global)) → EachWithin GivesParts list → (depth : ℕ) (rest : List Token) →
-    parts_from (suc depth) (alternatives_row list ++ (closing ∷ rest)) ≡ all_in_front (alternatives_row list ++ closing ∷ []) (parts_from depth rest)
+    parts_from (suc depth) (alternatives_row list ++ (closing ∷ rest)) ≡ all_in_front (alternatives_row list ++ closing ∷ [])
+    (parts_from depth rest)
 alternatives_give [] each depth rest = at_closing depth rest
 alternatives_give (a ∷ []) each depth rest =
     items_give a.items each.0 (suc depth) (closing ∷ rest)
@@ -225,7 +236,8 @@ row_parts (a ∷ second ∷ others) rest some =
 -- ---- leads
 
 abbrev TellsLeads : Item → Type 0
-TellsLeads item = (follow : List Item) → IsTrue (all_full (item ∷ follow)) → leads_from (tokens item ++ tokens_of follow) ≡ leads (item ∷ follow)
+TellsLeads item = (follow : List Item) → IsTrue (all_full (item ∷ follow)) → leads_from (tokens item ++ tokens_of follow)
+    ≡ leads (item ∷ follow)
 
 -- the same of an item by its variant
 by_variant : (item : Item) (x : Item-F Item) → out-Item item ≡ x →
@@ -244,7 +256,8 @@ group_told : (alternatives : Vec (Vec Item Global) Global) (follow : List Item) 
     leads_from (tokens (v.Group alternatives) ++ tokens_of follow) ≡ group_leads (parts_of alternatives.items) (tokens_of follow)
 group_told alternatives follow full =
     let parts = and_parts (is_full (v.Group alternatives)) (all_full follow) full in
-    let within = and_parts (not (length alternatives.items == 0)) (list_all (λ items. all_full items.items) alternatives.items) (sym (full-Group alternatives) ∙ parts.0) in
+    let within = and_parts (not (length alternatives.items == 0)) (list_all (λ items. all_full items.items) alternatives.items)
+    (sym (full-Group alternatives) ∙ parts.0) in
     let few : 0 < length alternatives.items = grind (arith, nat_tests, within.0) in
     ap (λ row. leads_from (row ++ tokens_of follow)) (tokens-Group alternatives)
     ∙ ap leads_from (group_row alternatives.items (tokens_of follow))
@@ -252,11 +265,16 @@ group_told alternatives follow full =
 
 item_leads : (item : Item) → TellsLeads item
 item_leads = item_induction TellsLeads
-    (λ b. by_variant (v.Byte b) (Item-F.Byte b) (ap out-Item (sym (rolls-Byte b)) ∙ out-roll-Item (Item-F.Byte b)) (λ follow full. one_leads (v.Byte b) (byte b) (tokens-Byte b) (λ rest. refl) follow))
-    (by_variant v.AnyByte Item-F.AnyByte (ap out-Item (sym rolls-AnyByte) ∙ out-roll-Item Item-F.AnyByte) (λ follow full. one_leads v.AnyByte any_byte tokens-AnyByte (λ rest. refl) follow))
-    (λ c. by_variant (v.Class c) (Item-F.Class c) (ap out-Item (sym (rolls-Class c)) ∙ out-roll-Item (Item-F.Class c)) (λ follow full. one_leads (v.Class c) (bracket c.negated c.ranges) (tokens-Class c) (λ rest. refl) follow))
-    (λ s. by_variant (v.Stars s) (Item-F.Stars s) (ap out-Item (sym (rolls-Stars s)) ∙ out-roll-Item (Item-F.Stars s)) (λ follow full. one_leads (v.Stars s) (stars s.crosses_slashes s.strict) (tokens-Stars s) (λ rest. refl) follow))
-    (λ alternatives each. by_variant (v.Group alternatives) (Item-F.Group alternatives) (ap out-Item (sym (rolls-Group alternatives)) ∙ out-roll-Item (Item-F.Group alternatives)) (λ follow full. group_told alternatives follow full))
+    (λ b. by_variant (v.Byte b) (Item-F.Byte b) (ap out-Item (sym (rolls-Byte b)) ∙ out-roll-Item (Item-F.Byte b))
+    (λ follow full. one_leads (v.Byte b) (byte b) (tokens-Byte b) (λ rest. refl) follow))
+    (by_variant v.AnyByte Item-F.AnyByte (ap out-Item (sym rolls-AnyByte) ∙ out-roll-Item Item-F.AnyByte)
+    (λ follow full. one_leads v.AnyByte any_byte tokens-AnyByte (λ rest. refl) follow))
+    (λ c. by_variant (v.Class c) (Item-F.Class c) (ap out-Item (sym (rolls-Class c)) ∙ out-roll-Item (Item-F.Class c))
+    (λ follow full. one_leads (v.Class c) (bracket c.negated c.ranges) (tokens-Class c) (λ rest. refl) follow))
+    (λ s. by_variant (v.Stars s) (Item-F.Stars s) (ap out-Item (sym (rolls-Stars s)) ∙ out-roll-Item (Item-F.Stars s))
+    (λ follow full. one_leads (v.Stars s) (stars s.crosses_slashes s.strict) (tokens-Stars s) (λ rest. refl) follow))
+    (λ alternatives each. by_variant (v.Group alternatives) (Item-F.Group alternatives) (ap out-Item (sym (rolls-Group alternatives))
+    ∙ out-roll-Item (Item-F.Group alternatives)) (λ follow full. group_told alternatives follow full))
 
 leads_told : (items : List Item) → IsTrue (all_full items) → leads_from (tokens_of items) ≡ leads items
 leads_told [] full = refl

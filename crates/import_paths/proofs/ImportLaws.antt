@@ -1,5 +1,6 @@
 -- The laws of imported paths.
-use Rattle.std.proofs.Common.{◌≡◌, ◌≢◌, ◌↔◌, ℕ, Bool, true, false, ◌&&◌, List, [], ◌∷◌, map, Option, Some, None, if◌then◌else◌, refl, sym, ap, subst, ◌∙◌}
+use Rattle.std.proofs.Common.{◌≡◌, ◌≢◌, ◌↔◌, ℕ, Bool, true, false, ◌&&◌, List, [], ◌∷◌, map, Option, Some, None, if◌then◌else◌, refl, sym}
+use Rattle.std.proofs.Common.{ap, subst, ◌∙◌}
 use Rattle.std.specs.List.{list_all}
 use Rattle.std.specs.Str.{bytes_eq}
 use Rattle.std.proofs.lemmas.Bool.{and_parts, and_from}
@@ -28,14 +29,16 @@ abbrev Paths : Type 0
 Paths = List (List Token)
 
 -- of paths that pass a test or are none
-if_passed : (test : List Token → Bool) (b : Bool) (paths : Paths) → (b ≡ true → list_all test paths ≡ true) → list_all test (if b then paths else []) ≡ true
+if_passed : (test : List Token → Bool) (b : Bool) (paths : Paths) → (b ≡ true → list_all test paths ≡ true) →
+    list_all test (if b then paths else []) ≡ true
 if_passed test true paths h = h refl
 if_passed test false paths h = refl
 
 led_pass : (path : List Token) → list_all is_path (led_from path) ≡ true
 led_pass path = if_passed is_path (list_all is_path (leads_from path)) (leads_from path) (λ h. h)
 
-of_text : (test : List Token → Bool) → ((path : List Token) → list_all test (settled_leads path) ≡ true) → (text : List ℕ) → list_all test (imported_paths text) ≡ true
+of_text : (test : List Token → Bool) → ((path : List Token) → list_all test (settled_leads path) ≡ true) → (text : List ℕ) →
+    list_all test (imported_paths text) ≡ true
 of_text test h text =
     let P : Option (List Token) → Type 0 = λ o. list_all test (leads_of_read o) ≡ true in
     let read : P (text_tokens (one_slash text)) = elim (text_tokens (one_slash text)) as P [ None ↦ refl | Some path ↦ h path ] in
@@ -66,9 +69,11 @@ by_items path name made some =
     let pattern : meaning_of made.items ≡ pattern_of path = same_pattern made.items made.full ∙ ap pattern_of made.tokens in
     let more : led made.items ≢ [] = λ e. some (same ∙ e) in
     subst (λ g. Takes g name ↔ Takes (alt_all (map pattern_of (led_from path))) name) pattern
-    (subst (λ paths. Takes (meaning_of made.items) name ↔ Takes (alt_all (map pattern_of paths)) name) (sym same) (led_same made.items made.full more name))
+    (subst (λ paths. Takes (meaning_of made.items) name ↔ Takes (alt_all (map pattern_of paths)) name) (sym same)
+    (led_same made.items made.full more name))
 
-only_if : (path : List Token) (name : List ℕ) (b : Bool) (paths : Paths) → (paths ≢ [] → TakesTheSame path paths name) → (if b then paths else []) ≢ [] →
+only_if : (path : List Token) (name : List ℕ) (b : Bool) (paths : Paths) → (paths ≢ [] → TakesTheSame path paths name) →
+    (if b then paths else []) ≢ [] →
     TakesTheSame path (if b then paths else []) name
 only_if path name true paths h some = h some
 only_if path name false paths h some = absurd (some refl)
@@ -105,13 +110,16 @@ own_lead (closing ∷ path) h = absurd cc
 own_led : (path : List Token) → is_path path ≡ true → led_from path ≡ path ∷ []
 own_led path h =
     let one : list_all is_path (path ∷ []) ≡ true = and_from (is_path path) true h refl in
-    ap (λ paths. if list_all is_path paths then paths else []) (own_lead path (path_parts path h).0) ∙ if_true (list_all is_path (path ∷ [])) (path ∷ []) one
+    ap (λ paths. if list_all is_path paths then paths else []) (own_lead path (path_parts path h).0)
+    ∙ if_true (list_all is_path (path ∷ [])) (path ∷ []) one
 
-own_settled : (path : List Token) → is_path path ≡ true → is_settled path ≡ true → groups_choose path ≡ true → settled_leads path ≡ path ∷ []
+own_settled : (path : List Token) → is_path path ≡ true → is_settled path ≡ true → groups_choose path ≡ true →
+    settled_leads path ≡ path ∷ []
 own_settled path h settled choose =
     let one : list_all is_settled (path ∷ []) ≡ true = and_from (is_settled path) true settled refl in
     ap (λ paths. if groups_choose path && list_all is_settled paths then paths else []) (own_led path h)
-    ∙ if_true (groups_choose path && list_all is_settled (path ∷ [])) (path ∷ []) (and_from (groups_choose path) (list_all is_settled (path ∷ [])) choose one)
+    ∙ if_true (groups_choose path && list_all is_settled (path ∷ [])) (path ∷ [])
+    (and_from (groups_choose path) (list_all is_settled (path ∷ [])) choose one)
 
 -- A settled path is imported as it is.
 pub imported_as_it_is : (path : List Token) → is_path path ≡ true → is_settled path ≡ true → imported_paths (path_text path) ≡ path ∷ []

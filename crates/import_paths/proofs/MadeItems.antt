@@ -1,5 +1,6 @@
 -- Tokens that may stand as they do are those of some items, each of whose groups has an alternative.
-use Rattle.std.proofs.Common.{◌≡◌, ℕ, zero, suc, ◌+◌, ◌-◌, ◌<◌, ◌≤◌, Bool, true, false, not, ◌&&◌, ◌==◌, IsTrue, List, [], ◌∷◌, ◌++◌, length, Vec, Global, refl, sym, ap, ◌∙◌, append_assoc, append-nil, length-append, arith}
+use Rattle.std.proofs.Common.{◌≡◌, ℕ, zero, suc, ◌+◌, ◌-◌, ◌<◌, ◌≤◌, Bool, true, false, not, ◌&&◌, ◌==◌, IsTrue, List, [], ◌∷◌, ◌++◌}
+use Rattle.std.proofs.Common.{length, Vec, Global, refl, sym, ap, ◌∙◌, append_assoc, append-nil, length-append, arith}
 use Rattle.std.specs.Prelude.{nat_lt}
 use Rattle.std.specs.List.{list_all}
 use Rattle.std.proofs.lemmas.Bool.{and_parts, and_from}
@@ -10,7 +11,8 @@ use Rattle.rule_globs.specs.declared.items.Class.{Class}
 use Rattle.rule_globs.specs.declared.items.Stars.{Stars}
 use Rattle.rule_globs.specs.declared.items.Item.{Item}
 use Rattle.rule_globs.specs.declared.items.Item.TheVariants as v
-use Rattle.rule_globs.proofs.TokenItems.{alternatives_row, tokens-Byte, tokens-AnyByte, tokens-Class, tokens-Stars, tokens-Group, full-Byte, full-AnyByte, full-Class, full-Stars, full-Group}
+use Rattle.rule_globs.proofs.TokenItems.{alternatives_row, tokens-Byte, tokens-AnyByte, tokens-Class, tokens-Stars, tokens-Group}
+use Rattle.rule_globs.proofs.TokenItems.{full-Byte, full-AnyByte, full-Class, full-Stars, full-Group}
 use Rattle.rule_profile.specs.PathTokens.{is_plain_slash}
 use Rattle.rule_profile.specs.Readable.{is_token, are_tokens}
 use Rattle.path_leads.proofs.Ends.{some_tokens}
@@ -59,13 +61,15 @@ some_items (item ∷ items) = omega (arith, some_tokens item, some_items items, 
 
 few_here : (here : List Item) (groups : List OpenGroup) → length here ≤ length (printed here groups)
 few_here here [] = some_items here
-few_here here (group ∷ groups) = omega (arith, some_items here, length-append (tokens_of here) (further group.0 ++ (closing ∷ printed group.1 groups)))
+few_here here (group ∷ groups) =
+    omega (arith, some_items here, length-append (tokens_of here) (further group.0 ++ (closing ∷ printed group.1 groups)))
 
 few_further : (others : List (Vec Item Global)) → length others ≤ length (further others)
 few_further [] = omega arith
 few_further (a ∷ others) = omega (arith, few_further others, length-append (tokens_of a.items) (further others))
 
-few_alternatives : (here : List Item) (group : OpenGroup) (groups : List OpenGroup) → length group.0 + 1 ≤ length (printed here (group ∷ groups))
+few_alternatives : (here : List Item) (group : OpenGroup) (groups : List OpenGroup) →
+    length group.0 + 1 ≤ length (printed here (group ∷ groups))
 few_alternatives here group groups =
     omega (
       arith,
@@ -80,7 +84,8 @@ one_more : (item : Item) (here : List Item) (groups : List OpenGroup) → printe
 one_more item here [] = refl
 one_more item here (group ∷ groups) = append_assoc (tokens item) (tokens_of here) (further group.0 ++ (closing ∷ printed group.1 groups))
 
-plain_made : (item : Item) (t : Token) (row : List Token) (depth : ℕ) → tokens item ≡ t ∷ [] → is_full item ≡ true → Made row depth → Made (t ∷ row) depth
+plain_made : (item : Item) (t : Token) (row : List Token) (depth : ℕ) → tokens item ≡ t ∷ [] → is_full item ≡ true → Made row depth →
+    Made (t ∷ row) depth
 plain_made item t row depth et ef m = record {
   here = item ∷ m.here;
   groups = m.groups;
@@ -100,7 +105,8 @@ closing_made row depth m = record {
   whole = and_from (all_full m.here) (list_all whole_group m.groups) m.full m.whole;
 }
 
-between_made : (row : List Token) (depth : ℕ) (here : List Item) (groups : List OpenGroup) → printed here groups ≡ row → length groups ≡ suc depth →
+between_made : (row : List Token) (depth : ℕ) (here : List Item) (groups : List OpenGroup) → printed here groups ≡ row →
+    length groups ≡ suc depth →
     all_full here ≡ true → list_all whole_group groups ≡ true → length row ≤ 1024 → Made (between ∷ row) (suc depth)
 between_made row depth here [] prints deep full whole few = absurd (omega arith)
 between_made row depth here (group ∷ groups) prints deep full whole few =
@@ -126,14 +132,18 @@ some_length : (n : ℕ) → not (suc n == 0) ≡ true
 some_length n = grind (arith, nat_tests)
 
 group_prints : (a : Vec Item Global) (others : List (Vec Item Global)) (alternatives : Vec (Vec Item Global) Global) (rest : List Token) →
-    alternatives.items ≡ a ∷ others → tokens (v.Group alternatives) ++ rest ≡ opening ∷ (tokens_of a.items ++ (further others ++ (closing ∷ rest)))
+    alternatives.items ≡ a ∷ others → tokens (v.Group alternatives) ++ rest
+    ≡ opening ∷ (tokens_of a.items ++ (further others ++ (closing ∷ rest)))
 group_prints a others alternatives rest e =
     let row : tokens (v.Group alternatives) ≡ opening ∷ ((tokens_of a.items ++ further others) ++ closing ∷ []) =
-    tokens-Group alternatives ∙ ap (λ l. opening ∷ (alternatives_row l ++ closing ∷ [])) e ∙ ap (λ l. opening ∷ (l ++ closing ∷ [])) (as_row a others) in
+    tokens-Group alternatives ∙ ap (λ l. opening ∷ (alternatives_row l ++ closing ∷ [])) e ∙ ap (λ l. opening ∷ (l ++ closing ∷ []))
+    (as_row a others) in
     ap (λ l. l ++ rest) row
-    ∙ ap (λ l. opening ∷ l) (append_assoc (tokens_of a.items ++ further others) (closing ∷ []) rest ∙ append_assoc (tokens_of a.items) (further others) (closing ∷ rest))
+    ∙ ap (λ l. opening ∷ l) (append_assoc (tokens_of a.items ++ further others) (closing ∷ []) rest ∙ append_assoc (tokens_of a.items)
+    (further others) (closing ∷ rest))
 
-opening_made : (row : List Token) (depth : ℕ) (here : List Item) (groups : List OpenGroup) → printed here groups ≡ row → length groups ≡ suc depth →
+opening_made : (row : List Token) (depth : ℕ) (here : List Item) (groups : List OpenGroup) → printed here groups ≡ row →
+    length groups ≡ suc depth →
     all_full here ≡ true → list_all whole_group groups ≡ true → length row ≤ 1024 → Made (opening ∷ row) depth
 opening_made row depth here [] prints deep full whole few = absurd (omega arith)
 opening_made row depth here (group ∷ groups) prints deep full whole few =
@@ -148,7 +158,8 @@ opening_made row depth here (group ∷ groups) prints deep full whole few =
     record {
       here = v.Group alternatives ∷ group.1;
       groups = groups;
-      prints = one_more (v.Group alternatives) group.1 groups ∙ group_prints a group.0 alternatives (printed group.1 groups) (refl {A = List (Vec Item Global)}) ∙ ap (λ x. opening ∷ x) prints;
+      prints = one_more (v.Group alternatives) group.1 groups ∙ group_prints a group.0 alternatives (printed group.1 groups)
+          (refl {A = List (Vec Item Global)}) ∙ ap (λ x. opening ∷ x) prints;
       deep = omega arith;
       full = and_from _ _ is g.1;
       whole = w.1;
@@ -205,7 +216,8 @@ pub record ItemsOf (row : List Token) : Type 0 where
   pub tokens : tokens_of items ≡ row
   pub full : IsTrue (all_full items)
 
-at_the_end : (row : List Token) (here : List Item) (groups : List OpenGroup) → printed here groups ≡ row → length groups ≡ 0 → all_full here ≡ true → ItemsOf row
+at_the_end : (row : List Token) (here : List Item) (groups : List OpenGroup) → printed here groups ≡ row → length groups ≡ 0 →
+    all_full here ≡ true → ItemsOf row
 at_the_end row here [] prints deep full = record { items = here; tokens = prints; full = full }
 at_the_end row here (group ∷ groups) prints deep full = absurd (omega arith)
 

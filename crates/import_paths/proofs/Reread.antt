@@ -1,5 +1,6 @@
 -- The canonical text of a path that can be read is read as that path, and what a text is read as may stand as it does.
-use Rattle.std.proofs.Common.{◌≡◌, ℕ, suc, ◌≤◌, Bool, true, false, List, [], ◌∷◌, ◌++◌, length, map, Some, None, Ok, Err, Option, Result, refl, sym, ap, subst, ◌∙◌, arith, ◌==◌, if◌then◌else◌}
+use Rattle.std.proofs.Common.{◌≡◌, ℕ, suc, ◌≤◌, Bool, true, false, List, [], ◌∷◌, ◌++◌, length, map, Some, None, Ok, Err, Option, Result}
+use Rattle.std.proofs.Common.{refl, sym, ap, subst, ◌∙◌, arith, ◌==◌, if◌then◌else◌}
 use Rattle.std.specs.Prelude.{codes}
 use Rattle.std.proofs.lemmas.Bool.{eqb-true}
 use Rattle.rule_globs.specs.Tokens.{Token, byte, any_byte, bracket, stars, opening, between, closing}
@@ -15,7 +16,8 @@ use Rattle.rule_reader.proofs.AgainPaths.{path_again}
 use Rattle.rule_reader.proofs.AgainWords.{quote_regrouped}
 use Rattle.rule_reader.proofs.ReadStands.{read_stands}
 use Rattle.rule_reader.proofs.TakePaths.{tokens_take}
-use Rattle.rule_writer.proofs.CanonItems.{canonical_item, canonical_path, canonical_path_valid, canonical_path_means, items_print, path_parts}
+use Rattle.rule_writer.proofs.CanonItems.{canonical_item, canonical_path, canonical_path_valid, canonical_path_means, items_print}
+use Rattle.rule_writer.proofs.CanonItems.{path_parts}
 use Rattle.import_paths.specs.Settled.{path_text}
 
 abbrev Taken : Type 0
@@ -34,21 +36,25 @@ left_of (Ok x) = x.1
 left_of (Err fault) = []
 
 -- what was read goes on to the closing quote, which is the last byte
-quote_left : (row path : List Token) (left : List ℕ) → (literal (codes "\"") left >>= λ rest. Ok (taken row rest)) ≡ Ok (taken path []) → whole_tokens (Ok (taken row left)) ≡ Some path
+quote_left : (row path : List Token) (left : List ℕ) → (literal (codes "\"") left >>= λ rest. Ok (taken row rest)) ≡ Ok (taken path []) →
+    whole_tokens (Ok (taken row left)) ≡ Some path
 quote_left row path [] e = absurd cc
 quote_left row path (b ∷ []) e =
-    elim (b == 34) as (λ t. ((if t then Ok [] else syntax (b ∷ [])) >>= λ rest. Ok (taken row rest)) ≡ Ok (taken path []) → Some row ≡ Some path) [
+    elim (b == 34) as (λ t. ((if t then Ok [] else syntax (b ∷ [])) >>= λ rest. Ok (taken row rest)) ≡ Ok (taken path []) →
+    Some row ≡ Some path) [
       | true ↦ λ e. ap front_of e
       | false ↦ λ e. absurd cc
     ] e
 quote_left row path (b ∷ c ∷ left) e =
-    elim (b == 34) as (λ t. ((if t then Ok (c ∷ left) else syntax (b ∷ c ∷ left)) >>= λ rest. Ok (taken row rest)) ≡ Ok (taken path []) → whole_tokens (Ok (taken row (b ∷ c ∷ left))) ≡ Some path) [
+    elim (b == 34) as (λ t. ((if t then Ok (c ∷ left) else syntax (b ∷ c ∷ left)) >>= λ rest. Ok (taken row rest)) ≡ Ok (taken path []) →
+    whole_tokens (Ok (taken row (b ∷ c ∷ left))) ≡ Some path) [
       | true ↦ λ e. absurd (let no : c ∷ left ≡ [] = ap left_of e in cc)
       | false ↦ λ e. absurd cc
     ] e
 
 -- a path in quotes is read as the text between them
-quoted_as_text : (text : List ℕ) → begins is_slash text ≡ true → path_at (34 ∷ (text ++ 34 ∷ [])) ≡ (tokens_at true 1024 [] false (text ++ 34 ∷ []) >>= λ path. literal (codes "\"") path.1 >>= λ rest. Ok (taken path.0 rest))
+quoted_as_text : (text : List ℕ) → begins is_slash text ≡ true → path_at (34 ∷ (text ++ 34 ∷ []))
+    ≡ (tokens_at true 1024 [] false (text ++ 34 ∷ []) >>= λ path. literal (codes "\"") path.1 >>= λ rest. Ok (taken path.0 rest))
 unfolding path_at path_in
 quoted_as_text [] h = absurd cc
 quoted_as_text (b ∷ text) h = rw h refl
@@ -63,7 +69,8 @@ text_begins (opening ∷ path) h = absurd cc
 text_begins (between ∷ path) h = absurd cc
 text_begins (closing ∷ path) h = absurd cc
 
-as_whole : (z : Result Taken _) (path : List Token) → (z >>= λ path. literal (codes "\"") path.1 >>= λ rest. Ok (taken path.0 rest)) ≡ Ok (taken path []) → whole_tokens z ≡ Some path
+as_whole : (z : Result Taken _) (path : List Token) → (z >>= λ path. literal (codes "\"") path.1 >>= λ rest. Ok (taken path.0 rest))
+    ≡ Ok (taken path []) → whole_tokens z ≡ Some path
 as_whole (Ok x) path e = quote_left x.0 path x.1 e
 as_whole (Err fault) path e = absurd cc
 
@@ -75,7 +82,8 @@ text_again path h =
     ∙ ap (λ x. path_at (34 ∷ x)) (sym (quote_regrouped (print_items (map canonical_item path)) []))
     ∙ path_again (canonical_path path) [] (canonical_path_valid path h) tt
     ∙ ap (λ row. Ok (taken row [])) (canonical_path_means path h) in
-    as_whole (tokens_at true 1024 [] false (text ++ 34 ∷ [])) path (sym (quoted_as_text text (text_begins path (path_parts path h).0)) ∙ written)
+    as_whole (tokens_at true 1024 [] false (text ++ 34 ∷ [])) path (sym (quoted_as_text text (text_begins path (path_parts path h).0))
+    ∙ written)
 
 -- ---- what a text is read as
 

@@ -35,5 +35,6 @@ pub fn imported_paths_take_the_same()
 /// brought to.
 pub fn settled_paths_are_imported_as_they_are()
     ensures again { (text : List ℕ) → All (λ path. imported_paths (path_text path) ≡ path ∷ []) (imported_paths text) }
-    ensures settled { (path : List Token) → IsTrue (is_path path) → IsTrue (is_settled path) → imported_paths (path_text path) ≡ path ∷ [] }
+    ensures settled { (path : List Token) → IsTrue (is_path path) → IsTrue (is_settled path) →
+        imported_paths (path_text path) ≡ path ∷ [] }
 {}

@@ -1,5 +1,6 @@
 -- What items with correct declarations and names leave as it was.
-use Rattle.std.proofs.Common.{◌≡◌, ℕ, ◌+◌, ◌<◌, ◌==◌, Bool, true, false, not, cond, List, [], ◌∷◌, ◌++◌, length, Option, Some, None, refl, sym, ap, ◌∙◌, append_assoc, arith}
+use Rattle.std.proofs.Common.{◌≡◌, ℕ, ◌+◌, ◌<◌, ◌==◌, Bool, true, false, not, cond, List, [], ◌∷◌, ◌++◌, length, Option, Some, None, refl}
+use Rattle.std.proofs.Common.{sym, ap, ◌∙◌, append_assoc, arith}
 use Rattle.std.specs.Prelude.{◌||◌, IsTrue}
 use Rattle.std.proofs.lemmas.List.{append-nil, length-append}
 use Rattle.std.proofs.lemmas.Bool.Decides.{nat_tests}
@@ -24,21 +25,29 @@ pub extends_both : (s t u : ScopeState) → Extends s t → Extends t u → Exte
 extends_both s t u a b = record {
   more = a.more ++ b.more;
   profiles = b.profiles ∙ ap (λ (x : List Head). x ++ b.more) a.profiles ∙ append_assoc s.profiles a.more b.more;
-  declared = λ h. b.declared (let n : length t.profiles ≡ length s.profiles + length a.more = ap length a.profiles ∙ length-append s.profiles a.more in omega (arith, n, h)) ∙ a.declared h;
+  declared = λ h. b.declared (let n : length t.profiles ≡ length s.profiles + length a.more = ap length a.profiles
+      ∙ length-append s.profiles a.more in omega (arith, n, h)) ∙ a.declared h;
 }
 
 not_zero : (n : ℕ) → 0 < n → (n == 0) ≡ false
 not_zero n h = grind (arith, nat_tests)
 
-none_begun : (heads : List Head) (rest : Bool) (fault : Fault) → cond (not (length heads == 0) || rest) (Some fault) None ≡ None → 0 < length heads → ⊥
+none_begun : (heads : List Head) (rest : Bool) (fault : Fault) → cond (not (length heads == 0) || rest) (Some fault) None ≡ None →
+    0 < length heads → ⊥
 none_begun heads rest fault e h = at (length heads == 0) (not_zero (length heads) h) e
   where
     at : (b : Bool) → b ≡ false → cond (not b || rest) (Some fault) None ≡ None → ⊥
     at true is e = absurd cc
     at false is e = absurd cc
 
-pub extends_changed : (kind : ItemKind) (s : ScopeState) (parts : List PartValue) → head_fault kind s parts ≡ None → Extends s (changed kind s parts)
-extends_changed items.Assignment s parts e = record { more = []; profiles = sym (append-nil s.profiles); declared = λ h. absurd (none_begun s.profiles _ _ e h) }
+pub extends_changed : (kind : ItemKind) (s : ScopeState) (parts : List PartValue) → head_fault kind s parts ≡ None →
+    Extends s (changed kind s parts)
+extends_changed items.Assignment s parts e = record {
+  more = [];
+  profiles = sym (append-nil s.profiles);
+  declared =
+      λ h. absurd (none_begun s.profiles _ _ e h);
+}
 extends_changed items.Profile s parts e = record { more = _; profiles = refl; declared = λ h. refl }
 extends_changed items.Hat s parts e = record { more = _; profiles = refl; declared = λ h. refl }
 extends_changed items.Close s parts e = record { more = []; profiles = sym (append-nil s.profiles); declared = λ h. refl }
@@ -57,8 +66,10 @@ last_at s item others o = elim o [ None ↦ last_state (behind s item) others | 
 pub extends_last : (s : ScopeState) (all : List ItemValue) → Extends s (last_state s all)
 extends_last s [] = extends_itself s
 extends_last s (item ∷ others) =
-    elim (head_fault item.kind s item.parts) as (λ (o : Option Fault). head_fault item.kind s item.parts ≡ o → Extends s (last_at s item others o)) [
-      | None ↦ λ e. extends_both s (behind s item) (last_state (behind s item) others) (extends_behind s item e) (extends_last (behind s item) others)
+    elim (head_fault item.kind s item.parts) as (λ (o : Option Fault). head_fault item.kind s item.parts ≡ o →
+    Extends s (last_at s item others o)) [
+      | None ↦ λ e. extends_both s (behind s item) (last_state (behind s item) others) (extends_behind s item e)
+          (extends_last (behind s item) others)
       | Some fault ↦ λ e. extends_itself s
     ] refl
 
@@ -89,7 +100,8 @@ is_named : (b : Bool) (fault : Fault) → cond b None (Some fault) ≡ None → 
 is_named true fault e = refl
 is_named false fault e = absurd cc
 
-named_changed : (kind : ItemKind) (s : ScopeState) (parts : List PartValue) → head_fault kind s parts ≡ None → AreNamed s.profiles → AreNamed (changed kind s parts).profiles
+named_changed : (kind : ItemKind) (s : ScopeState) (parts : List PartValue) → head_fault kind s parts ≡ None → AreNamed s.profiles →
+    AreNamed (changed kind s parts).profiles
 named_changed items.Assignment s parts e h = h
 named_changed items.Profile s parts e h = one_more s.profiles _ h (is_named (can_be_said (full_name (innermost s) (own_name parts))) _ e)
 named_changed items.Hat s parts e h = one_more s.profiles _ h (is_named (can_be_said (full_name (innermost s) (own_name parts))) _ e)
@@ -101,7 +113,8 @@ named_changed items.Rule s parts e h = h
 pub named_last : (s : ScopeState) (all : List ItemValue) → AreNamed s.profiles → AreNamed (last_state s all).profiles
 named_last s [] h = h
 named_last s (item ∷ others) h =
-    elim (head_fault item.kind s item.parts) as (λ (o : Option Fault). head_fault item.kind s item.parts ≡ o → AreNamed (last_at s item others o).profiles) [
+    elim (head_fault item.kind s item.parts) as (λ (o : Option Fault). head_fault item.kind s item.parts ≡ o →
+    AreNamed (last_at s item others o).profiles) [
       | None ↦ λ e. named_last (behind s item) others (named_changed item.kind s item.parts e h)
       | Some fault ↦ λ e. h
     ] refl

@@ -9,7 +9,8 @@ use Rattle.import_scope.specs.FirstFaults.{Question, question_of, IsAnswered, Is
 use Rattle.import_scope.specs.Scopes.{ScopeState, Fault, in_path, behind, head_fault}
 
 -- an item doesn't have faults of both sorts
-apart : (kind : ItemKind) (s : ScopeState) (parts : List PartValue) (fault : Fault) (q : Question) → head_fault kind s parts ≡ Some fault → question_of kind s parts ≡ Some q → ⊥
+apart : (kind : ItemKind) (s : ScopeState) (parts : List PartValue) (fault : Fault) (q : Question) → head_fault kind s parts ≡ Some fault →
+    question_of kind s parts ≡ Some q → ⊥
 apart items.Assignment s parts fault q e f = absurd cc
 apart items.Profile s parts fault q e f = absurd cc
 apart items.Hat s parts fault q e f = absurd cc
@@ -26,21 +27,28 @@ answered_or_not o q fault e f a =
 one_path_fault : (q other : Question) (fault last : Fault) → q ≡ other → IsPathFault q fault → IsPathFault other last → fault ≡ last
 one_path_fault q other fault last e a b =
     let c : IsPathFault q last = subst (λ (x : Question). IsPathFault x last) (sym e) b in
-    a.told ∙ ap (λ (p : Problem). record { kind = in_path p; place = q.place }) (one_path_problem q.variables q.path a.problem c.problem a.has c.has) ∙ sym c.told
+    a.told ∙ ap (λ (p : Problem). record { kind = in_path p; place = q.place })
+    (one_path_problem q.variables q.path a.problem c.problem a.has c.has) ∙ sym c.told
 
-pub one_fault : (s : ScopeState) (all : List ItemValue) (one other : Option Fault) → FirstFault s all one → FirstFault s all other → one ≡ other
+pub one_fault : (s : ScopeState) (all : List ItemValue) (one other : Option Fault) → FirstFault s all one →
+    FirstFault s all other → one ≡ other
 one_fault s all one other (none_left t) (none_left u) = refl
 one_fault s all one other (at_head t item others fault e) (at_head u item_2 others_2 fault_2 f) = cc
-one_fault s all one other (at_head t item others fault e) (at_path u item_2 others_2 q fault_2 f g) = absurd (apart item.kind t item.parts fault q e f)
+one_fault s all one other (at_head t item others fault e) (at_path u item_2 others_2 q fault_2 f g) =
+    absurd (apart item.kind t item.parts fault q e f)
 one_fault s all one other (at_head t item others fault e) (later u item_2 others_2 end f g h) = absurd cc
-one_fault s all one other (at_path t item others q fault e f) (at_head u item_2 others_2 fault_2 g) = absurd (apart item.kind t item.parts fault_2 q g e)
+one_fault s all one other (at_path t item others q fault e f) (at_head u item_2 others_2 fault_2 g) =
+    absurd (apart item.kind t item.parts fault_2 q g e)
 one_fault s all one other (at_path t item others q fault e f) (at_path u item_2 others_2 q_2 fault_2 g h) =
     let same : q ≡ q_2 = cc in
     ap (λ (x : Fault). Some x) (one_path_fault q q_2 fault fault_2 same f h)
-one_fault s all one other (at_path t item others q fault e f) (later u item_2 others_2 end g h r) = absurd (answered_or_not (question_of item.kind t item.parts) q fault e f h)
+one_fault s all one other (at_path t item others q fault e f) (later u item_2 others_2 end g h r) =
+    absurd (answered_or_not (question_of item.kind t item.parts) q fault e f h)
 one_fault s all one other (later t item others end e f r) (at_head u item_2 others_2 fault_2 g) = absurd cc
-one_fault s all one other (later t item others end e f r) (at_path u item_2 others_2 q_2 fault_2 g h) = absurd (answered_or_not (question_of item.kind t item.parts) q_2 fault_2 g h f)
-one_fault s all one other (later t item others end e f r) (later u item_2 others_2 end_2 g h r_2) = one_fault (behind t item) others end end_2 r r_2
+one_fault s all one other (later t item others end e f r) (at_path u item_2 others_2 q_2 fault_2 g h) =
+    absurd (answered_or_not (question_of item.kind t item.parts) q_2 fault_2 g h f)
+one_fault s all one other (later t item others end e f r) (later u item_2 others_2 end_2 g h r_2) =
+    one_fault (behind t item) others end end_2 r r_2
 
 -- an item has a path with a fault, or it has none
 abbrev Answered : Option Question → Type 0

@@ -12,7 +12,8 @@ last_of_reversed : (ys : List ℕ) → slice_get (reverse ys) (length (reverse y
 last_of_reversed [] = refl
 last_of_reversed (y ∷ ys) =
     let cut : reverse (y ∷ ys) ≡ reverse ys ++ y ∷ [] = reverse-append (y ∷ []) ys in
-    let count : length (reverse ys ++ y ∷ []) - 1 ≡ length (reverse ys) = let h = length-append (reverse ys) (y ∷ []) in omega (arith, h) in
+    let count : length (reverse ys ++ y ∷ []) - 1 ≡ length (reverse ys) = let h = length-append (reverse ys) (y ∷ []) in
+    omega (arith, h) in
     ap (λ (zs : List ℕ). slice_get zs (length zs - 1)) cut ∙ ap (slice_get (reverse ys ++ y ∷ [])) count ∙ last_there (reverse ys) y
 
 pub last_is_innermost : (xs : List ℕ) → slice_get xs (length xs - 1) ≡ first_number (reverse xs)

@@ -1,5 +1,6 @@
 -- The pass over the heads and the pass over the paths find the first fault.
-use Rattle.std.proofs.Common.{◌≡◌, ℕ, zero, suc, ◌+◌, ◌<◌, List, [], ◌∷◌, ◌++◌, length, map, drop, get_or, Option, Some, None, refl, sym, ap, ap₂, ◌∙◌, subst, ◌⊎◌, inl, inr, ⊎_elim, arith}
+use Rattle.std.proofs.Common.{◌≡◌, ℕ, zero, suc, ◌+◌, ◌<◌, List, [], ◌∷◌, ◌++◌, length, map, drop, get_or, Option, Some, None, refl, sym}
+use Rattle.std.proofs.Common.{ap, ap₂, ◌∙◌, subst, ◌⊎◌, inl, inr, ⊎_elim, arith}
 use Rattle.std.specs.Prelude.{slice_get, option_and_then, option_map}
 use Rattle.std.proofs.lemmas.List.{drop_more}
 use Rattle.std.proofs.lemmas.Option.{slice_get_within}
@@ -10,7 +11,8 @@ use Rattle.flat_rules.specs.RuleWords.{content, first_bytes, is_path}
 use Rattle.profile_variables.specs.Variables.{Variable}
 use Rattle.profile_variables.proofs.Places.{first_of_two}
 use Rattle.import_scope.specs.declared.outline.Asked.{Asked}
-use Rattle.import_scope.specs.FirstFaults.{Question, variables_within, question_of, IsAnswered, IsPathFault, FirstFault, none_left, at_head, at_path, later}
+use Rattle.import_scope.specs.FirstFaults.{Question, variables_within, question_of, IsAnswered, IsPathFault, FirstFault, none_left}
+use Rattle.import_scope.specs.FirstFaults.{at_head, at_path, later}
 use Rattle.import_scope.specs.ItemWords.{bytes_before}
 use Rattle.import_scope.specs.Scopes.{ScopeState, Head, Fault, first_number, behind, head_fault}
 use Rattle.import_scope.specs.inner.Outlines.{AskedValue, asked_value, asks, last_state, head_stop, all_asked}
@@ -23,14 +25,18 @@ module _ (variables : List Variable) (profiles : List Head) (asked : List Asked)
   cut : map asked_value (drop i asked) ≡ asked_value (get_or asked i d) ∷ map asked_value (drop (i + 1) asked)
   cut = ap (map asked_value) (drop_more asked i d low)
 
-  pub fault_here : (fault : Fault) → IsPathFault (question_at variables profiles (asked_value (get_or asked i d))) fault → FirstProblem variables profiles (map asked_value (drop i asked)) (Some fault)
+  pub fault_here : (fault : Fault) → IsPathFault (question_at variables profiles (asked_value (get_or asked i d))) fault →
+      FirstProblem variables profiles (map asked_value (drop i asked)) (Some fault)
   fault_here fault h =
-      subst (λ (x : List AskedValue). FirstProblem variables profiles x (Some fault)) (sym cut) (here (asked_value (get_or asked i d)) (map asked_value (drop (i + 1) asked)) fault h)
+      subst (λ (x : List AskedValue). FirstProblem variables profiles x (Some fault)) (sym cut)
+      (here (asked_value (get_or asked i d)) (map asked_value (drop (i + 1) asked)) fault h)
 
-  pub answered_here : (end : Option Fault) → IsAnswered (Some (question_at variables profiles (asked_value (get_or asked i d)))) → FirstProblem variables profiles (map asked_value (drop (i + 1) asked)) end
+  pub answered_here : (end : Option Fault) → IsAnswered (Some (question_at variables profiles (asked_value (get_or asked i d)))) →
+      FirstProblem variables profiles (map asked_value (drop (i + 1) asked)) end
       → FirstProblem variables profiles (map asked_value (drop i asked)) end
   answered_here end h r =
-      subst (λ (x : List AskedValue). FirstProblem variables profiles x end) (sym cut) (further (asked_value (get_or asked i d)) (map asked_value (drop (i + 1) asked)) end h r)
+      subst (λ (x : List AskedValue). FirstProblem variables profiles x end) (sym cut)
+      (further (asked_value (get_or asked i d)) (map asked_value (drop (i + 1) asked)) end h r)
 
 -- ---- what the first pass notes is what is asked of the items
 
@@ -79,21 +85,43 @@ module _ (s f : ScopeState) (goes_on : Extends s f) where
       → option_list (question_with parts (Some head)) ≡ map (question_at f.declared f.profiles) (asked_at parts (Some n) (Some head))
   same_question parts n head e = at (first_bytes is_path parts)
     where
-      at : (o : Option (List ℕ)) → option_list (option_map (λ bytes. record { variables = variables_within s.declared head.name; path = content bytes; place = s.before + bytes_before is_path parts }) o)
-          ≡ map (question_at f.declared f.profiles) (elim o [ None ↦ [] | Some bytes ↦ record { profile = n; path = content bytes; place = s.before + bytes_before is_path parts } ∷ [] ])
+      at : (o : Option (List ℕ)) →
+          option_list (option_map (λ bytes. record {
+            variables = variables_within s.declared head.name;
+            path = content bytes;
+            place =
+                s.before + bytes_before is_path parts;
+          }) o)
+          ≡ map (question_at f.declared f.profiles)
+          (elim o [
+            | None ↦ []
+            | Some bytes ↦ record {
+              profile = n;
+              path = content bytes;
+              place =
+                  s.before + bytes_before is_path parts;
+            } ∷ []
+          ])
       at None = refl
-      at (Some bytes) = ap₂ (λ (d : List Variable) (name : List ℕ). record { variables = variables_within d name; path = content bytes; place = s.before + bytes_before is_path parts } ∷ []) (sym (variables_stay n head e)) (sym (name_stays n head e))
+      at (Some bytes) = ap₂ (λ (d : List Variable) (name : List ℕ). record {
+        variables = variables_within d name;
+        path = content bytes;
+        place = s.before + bytes_before is_path parts;
+      } ∷ []) (sym (variables_stay n head e)) (sym (name_stays n head e))
 
   at_number : (parts : List PartValue) (number : Option ℕ)
-      → option_list (question_with parts (option_and_then (λ n. slice_get s.profiles n) number)) ≡ map (question_at f.declared f.profiles) (asked_at parts number (option_and_then (λ n. slice_get s.profiles n) number))
+      → option_list (question_with parts (option_and_then (λ n. slice_get s.profiles n) number)) ≡ map (question_at f.declared f.profiles)
+      (asked_at parts number (option_and_then (λ n. slice_get s.profiles n) number))
   at_number parts None = refl
   at_number parts (Some n) =
-      elim (slice_get s.profiles n) as (λ (o : Option Head). slice_get s.profiles n ≡ o → option_list (question_with parts o) ≡ map (question_at f.declared f.profiles) (asked_at parts (Some n) o)) [
+      elim (slice_get s.profiles n) as (λ (o : Option Head). slice_get s.profiles n ≡ o → option_list (question_with parts o)
+      ≡ map (question_at f.declared f.profiles) (asked_at parts (Some n) o)) [
         | None ↦ λ e. refl
         | Some head ↦ λ e. same_question parts n head e
       ] refl
 
-  pub questions_are : (kind : ItemKind) (parts : List PartValue) → option_list (question_of kind s parts) ≡ map (question_at f.declared f.profiles) (asks kind s parts)
+  pub questions_are : (kind : ItemKind) (parts : List PartValue) → option_list (question_of kind s parts)
+      ≡ map (question_at f.declared f.profiles) (asks kind s parts)
   questions_are items.Assignment parts = refl
   questions_are items.Profile parts = refl
   questions_are items.Hat parts = refl
@@ -107,14 +135,18 @@ module _ (s f : ScopeState) (goes_on : Extends s f) where
 -- the item's path has the first fault, or it has none and the others have the first
 abbrev Cut : List Variable → List Head → Option Question → List AskedValue → Option Fault → Type 0
 Cut variables profiles o rest end =
-    ((q : Question) × (fault : Fault) × (o ≡ Some q) × (end ≡ Some fault) × IsPathFault q fault) ⊎ (IsAnswered o × FirstProblem variables profiles rest end)
+    ((q : Question) × (fault : Fault) × (o ≡ Some q) × (end ≡ Some fault) × IsPathFault q fault)
+    ⊎ (IsAnswered o × FirstProblem variables profiles rest end)
 
 module _ (variables : List Variable) (profiles : List Head) where
-  one_asked : (a : AskedValue) (q : Question) (rest : List AskedValue) (end : Option Fault) → q ≡ question_at variables profiles a → FirstProblem variables profiles (a ∷ rest) end → Cut variables profiles (Some q) rest end
+  one_asked : (a : AskedValue) (q : Question) (rest : List AskedValue) (end : Option Fault) → q ≡ question_at variables profiles a →
+      FirstProblem variables profiles (a ∷ rest) end → Cut variables profiles (Some q) rest end
   one_asked a q rest end e (here b others fault h) = inl (q, fault, refl, refl, subst (λ (x : Question). IsPathFault x fault) (sym e) h)
   one_asked a q rest end e (further b others last h r) = inr (subst (λ (x : Question). IsAnswered (Some x)) (sym e) h, r)
 
-  cut_asked : (o : Option Question) (first rest : List AskedValue) (end : Option Fault) → option_list o ≡ map (question_at variables profiles) first → FirstProblem variables profiles (first ++ rest) end → Cut variables profiles o rest end
+  cut_asked : (o : Option Question) (first rest : List AskedValue) (end : Option Fault) → option_list o
+      ≡ map (question_at variables profiles) first → FirstProblem variables profiles (first ++ rest) end →
+      Cut variables profiles o rest end
   cut_asked None [] rest end e h = inr (tt, h)
   cut_asked (Some q) [] rest end e h = absurd cc
   cut_asked None (a ∷ first) rest end e h = absurd cc
@@ -127,10 +159,12 @@ asked_up_to s item others o = elim o [ None ↦ asks item.kind s item.parts ++ a
 abbrev stop_of : ScopeState → ItemValue → List ItemValue → Option Fault → Option Fault
 stop_of s item others o = elim o [ None ↦ head_stop (behind s item) others | Some fault ↦ Some fault ]
 
-nothing_asked : (variables : List Variable) (profiles : List Head) (end : Option Fault) → FirstProblem variables profiles [] end → end ≡ None
+nothing_asked : (variables : List Variable) (profiles : List Head) (end : Option Fault) → FirstProblem variables profiles [] end →
+    end ≡ None
 nothing_asked variables profiles end all_answered = refl
 
-pub both_passes : (s : ScopeState) (all : List ItemValue) (end : Option Fault) → FirstProblem (last_state s all).declared (last_state s all).profiles (all_asked s all) end → FirstFault s all (first_of_two end (head_stop s all))
+pub both_passes : (s : ScopeState) (all : List ItemValue) (end : Option Fault) → FirstProblem (last_state s all).declared
+    (last_state s all).profiles (all_asked s all) end → FirstFault s all (first_of_two end (head_stop s all))
 both_passes s [] end h = subst (λ (x : Option Fault). FirstFault s [] (first_of_two x None)) (sym (nothing_asked _ _ end h)) (none_left s)
 both_passes s (item ∷ others) end h =
     elim (head_fault item.kind s item.parts) as (λ (o : Option Fault). head_fault item.kind s item.parts ≡ o
@@ -140,9 +174,13 @@ both_passes s (item ∷ others) end h =
           let f = last_state (behind s item) others in
           let on = extends_both s (behind s item) f (extends_behind s item e) (extends_last (behind s item) others) in
           ⊎_elim
-          (λ p. subst (λ (x : Option Fault). FirstFault s (item ∷ others) (first_of_two x (head_stop (behind s item) others))) (sym p.3) (at_path s item others p.0 p.1 p.2 p.4))
-          (λ a. later s item others (first_of_two end (head_stop (behind s item) others)) e a.0 (both_passes (behind s item) others end a.1))
-          (cut_asked f.declared f.profiles (question_of item.kind s item.parts) (asks item.kind s item.parts) (all_asked (behind s item) others) end (questions_are s f on item.kind item.parts) h)
+          (λ p. subst (λ (x : Option Fault). FirstFault s (item ∷ others) (first_of_two x (head_stop (behind s item) others))) (sym p.3)
+          (at_path s item others p.0 p.1 p.2 p.4))
+          (λ a. later s item others (first_of_two end (head_stop (behind s item) others)) e a.0
+          (both_passes (behind s item) others end a.1))
+          (cut_asked f.declared f.profiles (question_of item.kind s item.parts) (asks item.kind s item.parts)
+          (all_asked (behind s item) others) end (questions_are s f on item.kind item.parts) h)
       | Some fault ↦ λ e h.
-          subst (λ (x : Option Fault). FirstFault s (item ∷ others) (first_of_two x (Some fault))) (sym (nothing_asked _ _ end h)) (at_head s item others fault e)
+          subst (λ (x : Option Fault). FirstFault s (item ∷ others) (first_of_two x (Some fault))) (sym (nothing_asked _ _ end h))
+          (at_head s item others fault e)
     ] refl h

@@ -1,5 +1,6 @@
 -- What a flattened text has declared and opened so far (apparmor.d(5), "Variables" and "Format"), item by item.
-use Rattle.std.specs.Prelude.{ℕ, ◌+◌, ◌==◌, List, [], ◌∷◌, ◌++◌, length, drop, codes, bytes_eq, slice_get, not, ◌||◌, Option, Some, None, option_and_then, Bool, true, false, if◌then◌else◌, ◌&&◌, nat_eq}
+use Rattle.std.specs.Prelude.{ℕ, ◌+◌, ◌==◌, List, [], ◌∷◌, ◌++◌, length, drop, codes, bytes_eq, slice_get, not, ◌||◌, Option, Some, None}
+use Rattle.std.specs.Prelude.{option_and_then, Bool, true, false, if◌then◌else◌, ◌&&◌, nat_eq}
 use Rattle.std.specs.List.{list_any, ends_with}
 use Rattle.rule_profile.specs.Readable.{is_name}
 use Rattle.flat_text.specs.declared.part.ItemKind.{ItemKind}
@@ -60,11 +61,13 @@ with_values (v ∷ variables) name values =
 abbrev pub with_defines : List Variable → List Define → List Variable
 with_defines variables [] = variables
 with_defines variables (d ∷ defines) =
-    with_defines (if is_declared variables d.name.now then with_values variables d.name.now (d.value.now ∷ []) else with_variable variables d.name.now (d.value.now ∷ [])) defines
+    with_defines (if is_declared variables d.name.now then with_values variables d.name.now (d.value.now ∷ []) else with_variable variables
+    d.name.now (d.value.now ∷ [])) defines
 
 abbrev pub assigned : ScopeState → List PartValue → ScopeState
 assigned s parts = record {
-  declared = if is_adding parts then with_values s.declared (assigned_name parts) (assigned_values parts) else with_variable s.declared (assigned_name parts) (assigned_values parts);
+  declared = if is_adding parts then with_values s.declared (assigned_name parts) (assigned_values parts) else with_variable s.declared
+      (assigned_name parts) (assigned_values parts);
   profiles = s.profiles;
   within = s.within;
   before = s.before;
@@ -79,7 +82,8 @@ is_assigned_wrongly s adding name =
 
 abbrev pub assignment_fault : ScopeState → List PartValue → Option Fault
 assignment_fault s parts =
-    if is_assigned_wrongly s (is_adding parts) (assigned_name parts) then Some (record { kind = declared_wrongly; place = s.before }) else None
+    if is_assigned_wrongly s (is_adding parts) (assigned_name parts) then Some (record { kind = declared_wrongly; place = s.before })
+    else None
 
 -- ---- profiles
 

@@ -53,7 +53,8 @@ impl<'a> Seen<'a> {
         number: usize,
     ) -> Result<(), AllocError>
         ensures profile { OnOk result (self.new.profile ≡ number) }
-        ensures lists { OnOk result ((variables : List DeclaredVariable) → self.old.lists ≡ variables_within variables (name_at profiles.now self.old.profile) → self.new.lists ≡ variables_within variables (name_at profiles.now number)) }
+        ensures lists { OnOk result ((variables : List DeclaredVariable) → self.old.lists ≡ variables_within variables
+            (name_at profiles.now self.old.profile) → self.new.lists ≡ variables_within variables (name_at profiles.now number)) }
     {
         if self.profile == number {
             return Ok(());
@@ -75,7 +76,9 @@ fn fault_of<'a>(
     asked: Asked<'a>,
 ) -> Result<Option<ScopeFault>, AllocError>
     ensures lists { lists.new ≡ lists.old }
-    ensures fault { IfOk result (λ fault. Answers (record { variables = lists.old; path = asked.entry.path.now; place = asked.entry.place }) (option_map fault_value fault)) }
+    ensures fault { IfOk result
+        (λ fault. Answers (record { variables = lists.old; path = asked.entry.path.now; place = asked.entry.place })
+        (option_map fault_value fault)) }
 {
     let kind = match lists.substitute(alloc, asked.path) {
         Ok(_) => return Ok(None),

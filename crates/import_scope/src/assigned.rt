@@ -69,7 +69,8 @@ impl<'t> Model for Assignments<'t> {
 
     ghost view = { λ a. a.variables.items };
 
-    ghost invariant = { λ a. (name : List ℕ) → get_by (λ key. slice_cmp nat_cmp name key.items) a.places ≡ place_of a.variables.items name };
+    ghost invariant = { λ a. (name : List ℕ) → get_by (λ key. slice_cmp nat_cmp name key.items) a.places
+        ≡ place_of a.variables.items name };
 }
 
 impl<'t> Assignments<'t> {

@@ -7,5 +7,6 @@ ghost use Rattle.import_scope.specs.FirstFaults.{FirstFault};
 /// Items have one first fault or none, and not both.
 pub fn texts_have_one_first_fault()
     ensures some { (s : ScopeState) (items : List ItemValue) → (end : Option Fault) × FirstFault s items end }
-    ensures one { (s : ScopeState) (items : List ItemValue) (one other : Option Fault) → FirstFault s items one → FirstFault s items other → one ≡ other }
+    ensures one { (s : ScopeState) (items : List ItemValue) (one other : Option Fault) → FirstFault s items one →
+        FirstFault s items other → one ≡ other }
 {}

@@ -2,7 +2,8 @@
 ghost use Rattle.std.specs.Prelude.{◌≡◌, ◌++◌, [], reverse, IfOk, OnOk, OnErr, option_map, length};
 ghost use Rattle.std.specs.Option.{option_copied};
 ghost use Rattle.flat_text.specs.Parts.{bytes_of_parts};
-ghost use Rattle.import_scope.specs.Scopes.{ScopeState, at_start, innermost, is_assigned_wrongly, assignment_fault, name_fault, can_be_said, assigned, opened, closed, behind, head_fault};
+ghost use Rattle.import_scope.specs.Scopes.{ScopeState, at_start, innermost, is_assigned_wrongly, assignment_fault, name_fault};
+ghost use Rattle.import_scope.specs.Scopes.{can_be_said, assigned, opened, closed, behind, head_fault};
 ghost use Rattle.import_scope.specs.Told.{fault_value};
 ghost use Rattle.import_scope.specs.inner.Outlines.{state_of, asked_of, asked_path, asks, Steps, last_state, head_stop, all_asked};
 
@@ -76,7 +77,8 @@ impl<'t> Outline<'t> {
     }
 
     fn assign(&mut self, alloc: Global, parts: &[Part<'t>]) -> Result<(), ScopeFailure>
-        ensures steps { Steps result (assignment_fault (state_of self.old) parts.now) (state_of self.old) (state_of self.new) (assigned (state_of self.old) parts.now) }
+        ensures steps { Steps result (assignment_fault (state_of self.old) parts.now) (state_of self.old) (state_of self.new)
+            (assigned (state_of self.old) parts.now) }
         ensures asked { asked_of self.new ≡ asked_of self.old }
     {
         let name = assigned_name(parts);
@@ -102,7 +104,8 @@ impl<'t> Outline<'t> {
         is_hat: bool,
         parts: &[Part<'t>],
     ) -> Result<(), ScopeFailure>
-        ensures steps { Steps result (name_fault (state_of self.old) parts.now) (state_of self.old) (state_of self.new) (opened (state_of self.old) is_hat parts.now) }
+        ensures steps { Steps result (name_fault (state_of self.old) parts.now) (state_of self.old) (state_of self.new)
+            (opened (state_of self.old) is_hat parts.now) }
         ensures asked { asked_of self.new ≡ asked_of self.old }
     {
         let number = self.profiles.len();
@@ -154,7 +157,8 @@ impl<'t> Outline<'t> {
 
     /// Goes past an item that has no fault of a declaration or of a name.
     fn item(&mut self, alloc: Global, item: &Item<'t>) -> Result<(), ScopeFailure>
-        ensures steps { Steps result (head_fault item.now.kind (state_of self.old) item.now.parts) (state_of self.old) (state_of self.new) (behind (state_of self.old) item.now) }
+        ensures steps { Steps result (head_fault item.now.kind (state_of self.old) item.now.parts) (state_of self.old) (state_of self.new)
+            (behind (state_of self.old) item.now) }
         ensures asked { OnOk result (asked_of self.new ≡ asked_of self.old ++ asks item.now.kind (state_of self.old) item.now.parts) }
         ensures same { OnErr result (asked_of self.new ≡ asked_of self.old) }
     {

@@ -9,10 +9,12 @@ use Rattle.row_keeper.specs.Keeping as keeper
 use Rattle.event_core.specs.Machine.{Machine, with_keeper}
 use Rattle.event_core.specs.Lawful.{IsTested}
 
-pub tests : (m : Machine) (change : Change) (told : Result ℕ Errno) → keeper.IsTested m.capacity m.keeper change told → IsTested m change told
+pub tests : (m : Machine) (change : Change) (told : Result ℕ Errno) → keeper.IsTested m.capacity m.keeper change told →
+    IsTested m change told
 tests m change (Ok count) ((new, (plan, (shut, planned, encodes), is)), long) = (
   (None, with_keeper m (opening m.keeper change plan), (plan, shut, planned, encodes, refl)),
   λ after (other, shut', planned', encodes', is').
-      ap (λ (x : Machine). length (left_of x.keeper.pending)) is' ∙ long (opening m.keeper change other) (other, (shut', planned', encodes'), refl),
+      ap (λ (x : Machine). length (left_of x.keeper.pending)) is' ∙ long (opening m.keeper change other)
+      (other, (shut', planned', encodes'), refl),
 )
 tests m change (Err errno) told = told

@@ -14,7 +14,8 @@ abbrev pub Passes : Machine → List Event → List Event → List (ℕ × Answe
 Passes from [] taken answers to = (taken ≡ []) × (answers ≡ []) × (to ≡ from)
 Passes from (event ∷ events) taken answers to =
     ((told : Option Answer) × (between : Machine) × (rest : List Event) × (later : List (ℕ × Answer))
-    × Takes from event told between × Passes between events rest later to × (taken ≡ event ∷ rest) × (answers ≡ told_by event told ++ later))
+    × Takes from event told between × Passes between events rest later to × (taken ≡ event ∷ rest)
+    × (answers ≡ told_by event told ++ later))
     ⊎ (¬ (IsLawful from event) × Passes from events taken answers to)
 
 -- One of these events makes the session give this answer, by a legal step, after the events before it were taken and gave the

@@ -1,6 +1,7 @@
 //! The machine's steps, one for each kind of event.
 ghost use Rattle.std.specs.Prelude.{◌≡◌, map};
-ghost use Rattle.event_core.specs.Machine.Event.{begin, read_policy, read_count, read_cell, check_count, answer, open_change, set_cell, close_change, publish};
+ghost use Rattle.event_core.specs.Machine.Event.{begin, read_policy, read_count, read_cell, check_count, answer, open_change, set_cell};
+ghost use Rattle.event_core.specs.Machine.Event.{close_change, publish};
 ghost use Rattle.mediation.specs.PolicyChanges.{deed_of};
 ghost use Rattle.interleaving_core.specs.Parts.{machine_of};
 ghost use Rattle.interleaving_core.specs.inner.Stepping.{IsStep, silent_of};
@@ -26,7 +27,8 @@ impl Core {
         path: &[u8],
         ask: Perms,
     ) -> Result<Option<Answer>, StepFault>
-        ensures { IsStep (machine_of self.old) (begin session record { profile = profile.now; path = path.now; ask = ask }) result (machine_of self.new) }
+        ensures { IsStep (machine_of self.old) (begin session record { profile = profile.now; path = path.now; ask = ask }) result
+            (machine_of self.new) }
     {
         steps_keep_rule();
         silent(self.sessions.begin(session, profile, path, ask))

@@ -26,13 +26,16 @@ one_reach changes version path ask t u one other at there is are =
 
 module _ (profile path : List ℕ) (ask : Perms) (changes : List Change) (deeds : List Deed) where
   pub not_failed : (v : Verdict) (n tree policy : ℕ) (errno : Errno)
-      → Justified profile path ask changes deeds (Judged v n tree policy) → Justified profile path ask changes deeds (Failed errno tree) → ⊥
+      → Justified profile path ask changes deeds (Judged v n tree policy) → Justified profile path ask changes deeds (Failed errno tree) →
+      ⊥
   not_failed v n tree policy errno (t, file, judge, at, is, published, says) (u, there, are) =
       err_is_ok errno file (one_reach changes tree path ask u t (Err errno) (Ok file) there at are is)
 
   pub one_verdict : (v w : Verdict) (n m tree policy : ℕ)
-      → Justified profile path ask changes deeds (Judged v n tree policy) → Justified profile path ask changes deeds (Judged w m tree policy) → (v ≡ w) × (n ≡ m)
-  one_verdict v w n m tree policy (t, file, judge, at, is, published, (node_is, verdict_is)) (u, found, other, there, are, too, (other_node_is, other_verdict_is)) =
+      → Justified profile path ask changes deeds (Judged v n tree policy) → Justified profile path ask changes deeds
+      (Judged w m tree policy) → (v ≡ w) × (n ≡ m)
+  one_verdict v w n m tree policy (t, file, judge, at, is, published, (node_is, verdict_is))
+      (u, found, other, there, are, too, (other_node_is, other_verdict_is)) =
       let same : file ≡ found = ok_inj file found (one_reach changes tree path ask t u (Ok file) (Ok found) at there is are) in
       let alike : judge ≡ other = some_inj judge other (sym published.1 ∙ too.1) in (
         sym verdict_is ∙ (λ i. verdict_by (alike i) (same i).name ask) ∙ other_verdict_is,

@@ -10,13 +10,16 @@ ghost use Rattle.justification.specs.declared.answer.Answer.TheVariants.{Judged,
 
 /// In one tree a file is reached, or it isn't, whatever the policy.
 pub fn judged_is_not_failed()
-    ensures { (profile path : List ℕ) (ask : Perms) (changes : List Change) (deeds : List Deed) (v : Verdict) (n tree policy : ℕ) (errno : Errno) →
-        Justified profile path ask changes deeds (Judged v n tree policy) → Justified profile path ask changes deeds (Failed errno tree) → ⊥ }
+    ensures { (profile path : List ℕ) (ask : Perms) (changes : List Change) (deeds : List Deed) (v : Verdict) (n tree policy : ℕ)
+        (errno : Errno) →
+        Justified profile path ask changes deeds (Judged v n tree policy) → Justified profile path ask changes deeds (Failed errno tree) →
+        ⊥ }
 {}
 
 /// At one version of the tree and one of the policy, an open has one verdict, on one file.
 pub fn one_verdict_is_justified()
     ensures { (profile path : List ℕ) (ask : Perms) (changes : List Change) (deeds : List Deed) (v w : Verdict) (n m tree policy : ℕ) →
-        Justified profile path ask changes deeds (Judged v n tree policy) → Justified profile path ask changes deeds (Judged w m tree policy)
+        Justified profile path ask changes deeds (Judged v n tree policy) → Justified profile path ask changes deeds
+        (Judged w m tree policy)
         → (v ≡ w) × (n ≡ m) }
 {}

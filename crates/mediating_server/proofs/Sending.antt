@@ -33,7 +33,8 @@ module _ (I O : RattleType) (input : IsSend I) (output : IsSend O) where
   pub scene_sync : (name : Lifetime) (life : Lft) → IsSync (scene.the_row (record { mir = name; lft = life }) I O)
   scene_sync name life = search (sendable, desk_sync, boxes.crosses) depth 40 fits 20000
 
-pub worker_send : (M : RattleType) (g : row.Ghosts M.Denot) → IsSend M → (name : Lifetime) (life : Lft) → IsSend (worker.the_row (record { mir = name; lft = life }) M g)
+pub worker_send : (M : RattleType) (g : row.Ghosts M.Denot) → IsSend M → (name : Lifetime) (life : Lft) →
+    IsSend (worker.the_row (record { mir = name; lft = life }) M g)
 worker_send M g send name life = search (sendable, session_send, guard_sync, boxes.crosses) depth 40 fits 20000
 
 -- a closure that captures three values may go to a thread where all of them may
@@ -41,5 +42,6 @@ module _ (i : ℕ) (layout : Ty) (kept : Kept) (name : Sym) where
   pub of_three : (A B C : RattleType) → IsSend A → IsSend B → IsSend C → IsSend (param i (arg layout kept (TupleAt name (A ∷ B ∷ C ∷ []))))
   of_three A B C a b c =
       let Ts : List RattleType = A ∷ B ∷ C ∷ [] in
-      let whole : IsSend (TupleAt name Ts) = declared_send (type_at name Ts) (as_row_send (row_field A) a, (as_row_send (row_field B) b, (as_row_send (row_field C) c, tt))) in
+      let whole : IsSend (TupleAt name Ts) = declared_send (type_at name Ts)
+      (as_row_send (row_field A) a, (as_row_send (row_field B) b, (as_row_send (row_field C) c, tt))) in
       param_send i (arg layout kept (TupleAt name Ts)) (arg_send layout kept (TupleAt name Ts) whole)

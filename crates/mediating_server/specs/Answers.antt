@@ -11,7 +11,8 @@ use Rattle.trace_script.specs.AnswerText.{answered_text}
 
 -- an answer, with the name that was judged; a guard is never busy
 abbrev pub told_text : List ℕ → Answer → List ℕ
-told_text name (Judged verdict node tree policy) = answered_text (judged (record { name = name; node = node; verdict = verdict }) tree policy)
+told_text name (Judged verdict node tree policy) =
+    answered_text (judged (record { name = name; node = node; verdict = verdict }) tree policy)
 told_text name (Failed errno tree) = answered_text (failed errno tree)
 told_text name (NoProfile policy) = answered_text (no_profile policy)
 told_text name (Busy began ended) = []
@@ -20,4 +21,5 @@ told_text name NoEntry = codes "no entry"
 -- these bytes are an answer that is right for all changes of tree and policy that the session has seen
 abbrev pub TellsRightly : Sitting → List ℕ → Perms → List ℕ → Type 0
 TellsRightly now path ask bytes =
-    (answer : Answer) × Justified now.profile path ask now.walk.view.seen now.reading.seen answer × (bytes ≡ line (told_text now.judged answer))
+    (answer : Answer) × Justified now.profile path ask now.walk.view.seen now.reading.seen answer
+    × (bytes ≡ line (told_text now.judged answer))

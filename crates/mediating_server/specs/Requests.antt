@@ -18,7 +18,8 @@ request_value (Change words) = changing (change_words words)
 
 -- `open PATH PERMS`
 abbrev pub open_of : List (List ℕ) → Option Asked
-open_of (word ∷ path ∷ letters ∷ []) = if bytes_eq (codes "open") word then option_map (λ ask. opening path ask) (perms_of letters) else None
+open_of (word ∷ path ∷ letters ∷ []) = if bytes_eq (codes "open") word then option_map (λ ask. opening path ask)
+    (perms_of letters) else None
 open_of _ = None
 
 abbrev pub asked_by : LineKind → List (List ℕ) → Option Asked

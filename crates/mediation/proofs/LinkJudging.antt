@@ -25,10 +25,12 @@ err_is_ok : {X Y : Type 0} (e : Y) (x : X) → Err e ≡ Ok x → ⊥
 err_is_ok e x h = absurd (cc h)
 
 -- what a plain tree makes of a change is what its tree makes of it
-applied : (plain : Plain) (old new : List ℕ) (u : Tree) → outcome plain (Link old new) ≡ Ok u → apply (tree_of plain) (has_room plain.capacity (tree_of plain)) (Link old new) ≡ Ok u
+applied : (plain : Plain) (old new : List ℕ) (u : Tree) → outcome plain (Link old new) ≡ Ok u →
+    apply (tree_of plain) (has_room plain.capacity (tree_of plain)) (Link old new) ≡ Ok u
 applied plain old new u h = by (nat_lt (length plain.history) max_changes) h
   where
-    by : (few : Bool) → (if few then apply (tree_of plain) (has_room plain.capacity (tree_of plain)) (Link old new) else Err EOVERFLOW) ≡ Ok u
+    by : (few : Bool) → (if few then apply (tree_of plain) (has_room plain.capacity (tree_of plain)) (Link old new) else Err EOVERFLOW)
+        ≡ Ok u
         → apply (tree_of plain) (has_room plain.capacity (tree_of plain)) (Link old new) ≡ Ok u
     by true is = is
     by false is = absurd (err_is_ok EOVERFLOW u is)
@@ -45,14 +47,20 @@ LinksAreFound = (t u : Tree) (room : Bool) (old new : List ℕ) → WellFormed t
     × (judged_name u (Held to) ≡ named_place t new)
 
 -- what the look reported is the answer
-pub link_comes : LinksAreFound → (plain : Plain) (judge : Judge) (old new : List ℕ) (r : Result JudgedLink Errno) → WellFormed (tree_of plain)
+pub link_comes : LinksAreFound → (plain : Plain) (judge : Judge) (old new : List ℕ) (r : Result JudgedLink Errno) →
+    WellFormed (tree_of plain)
     → path_fault old ≡ None → path_fault new ≡ None → IsOk (outcome plain (Link old new))
     → judged_by_name judge (tree_of plain) old (named_place (tree_of plain) new) ≡ r → link_judged plain judge old new ≡ r
 link_comes found plain judge old new r well good_old good_new ok told =
     let (u, is) = accepted_tree (outcome plain (Link old new)) ok in
-    let (from, to, leads, leads_new, same, named) = found (tree_of plain) u (has_room plain.capacity (tree_of plain)) old new well (applied plain old new u is) in
-    ap (λ (a : Result (List ℕ) Errno). and_then a (λ o. and_then (path_of new) (λ n. and_then (outcome plain (Link o n)) (λ v. judged_by_name judge (tree_of plain) o (name_at v n))))) (path_good old good_old)
-    ∙ ap (λ (a : Result (List ℕ) Errno). and_then a (λ n. and_then (outcome plain (Link old n)) (λ v. judged_by_name judge (tree_of plain) old (name_at v n)))) (path_good new good_new)
+    let (from, to, leads, leads_new, same, named) = found (tree_of plain) u (has_room plain.capacity (tree_of plain)) old new well
+    (applied plain old new u is) in
+    ap (λ (a : Result (List ℕ) Errno). and_then a
+    (λ o. and_then (path_of new)
+    (λ n. and_then (outcome plain (Link o n)) (λ v. judged_by_name judge (tree_of plain) o (name_at v n))))) (path_good old good_old)
+    ∙ ap (λ (a : Result (List ℕ) Errno). and_then a
+    (λ n. and_then (outcome plain (Link old n)) (λ v. judged_by_name judge (tree_of plain) old (name_at v n))))
+    (path_good new good_new)
     ∙ ap (λ (a : Changed). and_then a (λ v. judged_by_name judge (tree_of plain) old (name_at v new))) is
     ∙ ap (judged_by_name judge (tree_of plain) old) (ap (λ (w : Walked). and_then w (judged_name u)) leads_new ∙ named)
     ∙ told
@@ -66,7 +74,8 @@ new_of (Link old new) = new
 new_of _ = []
 
 -- the same, for the paths as checked (a and b) and as taken out of the change again (c and d), and for the tree as it was left
-pub link_told : LinksAreFound → (plain left : Plain) (judge : Judge) (old new a b c d : List ℕ) (r : Result JudgedLink Errno) → WellFormed (tree_of plain)
+pub link_told : LinksAreFound → (plain left : Plain) (judge : Judge) (old new a b c d : List ℕ) (r : Result JudgedLink Errno) →
+    WellFormed (tree_of plain)
     → left ≡ plain → a ≡ old → path_fault a ≡ None → b ≡ new → path_fault b ≡ None → Link a b ≡ Link c d → IsOk (outcome plain (Link a b))
     → judged_by_name judge (tree_of left) c (named_place (tree_of left) d) ≡ r → link_judged plain judge old new ≡ r
 link_told found plain left judge old new a b c d r well same is_old good_old is_new good_new is ok told =

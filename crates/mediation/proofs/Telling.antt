@@ -34,8 +34,10 @@ pub table_tells : ((r : Record) (ask : Perms) (v : Verdict) → IsTold r ask v �
 table_tells one t name r is ask v h = one r ask v h ∙ ap (λ o. told (unwrap_or o no_hits) ask) (sym is)
 
 -- a table of rules says what they say
-pub table_as_rules : ((r : Record) (ask : Perms) → IsTold r ask (told r ask)) → (rules : List RuleValue) (t : Table) (name : List ℕ) (ask : Perms) (r : Record)
-    → TellsVerdicts rules t → are_bytes name → record_after t name ≡ Some r → verdict_by (by_table t) name ask ≡ verdict_by (by_rules rules) name ask
+pub table_as_rules : ((r : Record) (ask : Perms) → IsTold r ask (told r ask)) → (rules : List RuleValue) (t : Table) (name : List ℕ)
+    (ask : Perms) (r : Record)
+    → TellsVerdicts rules t → are_bytes name → record_after t name ≡ Some r → verdict_by (by_table t) name ask
+    ≡ verdict_by (by_rules rules) name ask
 table_as_rules some rules t name ask r tells bytes is =
     ap (λ o. told (unwrap_or o no_hits) ask) is ∙ tells name r ask (told r ask) bytes is (some r ask)
 

@@ -1,5 +1,6 @@
 -- The verdict computed from a record is one that `IsTold` allows.
-use Rattle.std.proofs.Common.{◌≡◌, ◌≢◌, ◌==◌, ◌&&◌, ◌||◌, ◌↔◌, ◌⊎◌, ⊎_elim, inl, inr, ℕ, ◌≤◌, nat_lt, Bool, true, false, List, [], ◌∷◌, IsTrue, refl, sym, ap, ◌∙◌, subst, arith, eq-eqb, true≢false}
+use Rattle.std.proofs.Common.{◌≡◌, ◌≢◌, ◌==◌, ◌&&◌, ◌||◌, ◌↔◌, ◌⊎◌, ⊎_elim, inl, inr, ℕ, ◌≤◌, nat_lt, Bool, true, false, List, [], ◌∷◌}
+use Rattle.std.proofs.Common.{IsTrue, refl, sym, ap, ◌∙◌, subst, arith, eq-eqb, true≢false}
 use Rattle.std.specs.Prelude.{if◌then◌else◌}
 use Rattle.std.specs.List.{list_any}
 use Rattle.std.proofs.lemmas.Bool.{and_parts, and_from, eqb-true, ltb-true, ltb-false}
@@ -90,8 +91,10 @@ module _ (r : Record) (ask : Perms) where
       under : (least : ℕ) → IsLesser (deny q) rest least → IsNotBelow rest p → IsNotBelow least p
       under least of (some, below) = let (least_some, least_below) = of.below_other some in (least_some, omega (arith, below, least_below))
 
-      by : (IsOf p ps → IsNotBelow rest p) → (p ≡ q) ⊎ IsOf p ps → (b : Bool) → has ask q ≡ b → IsNotBelow (if b then lesser (deny q) rest else rest) p
-      by further (inl e) true h = let P : Permission → Type 0 = λ x. IsNotBelow (lesser (deny x) rest) p in subst P e ((is_lesser (deny p) rest).below_one some)
+      by : (IsOf p ps → IsNotBelow rest p) → (p ≡ q) ⊎ IsOf p ps → (b : Bool) → has ask q ≡ b →
+          IsNotBelow (if b then lesser (deny q) rest else rest) p
+      by further (inl e) true h = let P : Permission → Type 0 = λ x. IsNotBelow (lesser (deny x) rest) p in
+          subst P e ((is_lesser (deny p) rest).below_one some)
       by further (inl e) false h = absurd (true≢false (sym asked ∙ ap (has ask) e ∙ h))
       by further (inr more) true h = under (lesser (deny q) rest) (is_lesser (deny q) rest) (further more)
       by further (inr more) false h = further more
@@ -118,11 +121,13 @@ module _ (r : Record) (ask : Perms) where
         λ h. is ∙ and_from _ _ h.0 (eq-eqb _ 0 h.1),
       )
 
-  by_missing : (some : Bool) → list_any (has missing) all_permissions ≡ some → NothingToldDenied r ask → IsTold r ask (if some then NoRule missing else Allowed)
+  by_missing : (some : Bool) → list_any (has missing) all_permissions ≡ some → NothingToldDenied r ask →
+      IsTold r ask (if some then NoRule missing else Allowed)
   by_missing true e nothing = (nothing, one_found (has missing) e, missing_is)
   by_missing false e nothing = (nothing, λ p h. true≢false (sym ((missing_is p).1 h) ∙ none_found (has missing) e p))
 
-  by_least : (none : Bool) → (least == 0) ≡ none → IsTold r ask (if none then (if list_any (has missing) all_permissions then NoRule missing else Allowed) else Denied least)
+  by_least : (none : Bool) → (least == 0) ≡ none →
+      IsTold r ask (if none then (if list_any (has missing) all_permissions then NoRule missing else Allowed) else Denied least)
   by_least true e = by_missing (list_any (has missing) all_permissions) refl (λ n h. (above n h).0 (eqb-true least 0 e))
   by_least false e = (least_denies (λ zero. true≢false (sym (eq-eqb least 0 zero) ∙ e)), λ m h. (above m h).1)
 

@@ -23,7 +23,8 @@ name_opened (no_profile policy) = []
 -- an answer to a judged link; the name is the new entry's
 abbrev pub link_answered : List ℕ → LinkAnswer → LinkAnswered
 link_answered name (link.Linked node tree policy) = linking.made (record { name = name; node = node; verdict = Fine }) tree policy
-link_answered name (link.NotAllowed verdict node tree policy) = linking.not_allowed (record { name = name; node = node; verdict = verdict }) tree policy
+link_answered name (link.NotAllowed verdict node tree policy) =
+    linking.not_allowed (record { name = name; node = node; verdict = verdict }) tree policy
 link_answered name (link.Failed errno tree) = linking.failed errno tree
 link_answered name (link.NoProfile policy) = linking.no_profile policy
 

@@ -66,4 +66,5 @@ pub data Answered : Type 0 where
 
 abbrev pub answered_by : Tree → ℕ → ℕ → List ℕ → Perms → Option Judge → Answered
 answered_by t tree policy text ask None = no_profile policy
-answered_by t tree policy text ask (Some judge) = elim (opened t judge text ask) [ Ok j ↦ judged j tree policy | Err errno ↦ failed errno tree ]
+answered_by t tree policy text ask (Some judge) =
+    elim (opened t judge text ask) [ Ok j ↦ judged j tree policy | Err errno ↦ failed errno tree ]

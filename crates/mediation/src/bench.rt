@@ -5,7 +5,8 @@ ghost use Rattle.glob_automaton.specs.Sets.{AreMoreThan};
 ghost use Rattle.matcher.specs.Making.{IsMakeFault};
 ghost use Rattle.mediation.specs.Answers.{answered, name_opened, link_answered, name_linked};
 ghost use Rattle.mediation.specs.Deeds.{published_rules, removed};
-ghost use Rattle.mediation.specs.History.{History, MayChangePolicy, with_change, with_deed, tree_version, policy_version, open_answer, link_answer, after_link};
+ghost use Rattle.mediation.specs.History.{History, MayChangePolicy, with_change, with_deed, tree_version, policy_version, open_answer};
+ghost use Rattle.mediation.specs.History.{link_answer, after_link};
 ghost use Rattle.mediation.specs.Linking.{IsMade};
 ghost use Rattle.directory_tree.specs.Plain.{outcome, Refused};
 ghost use Rattle.rule_profile.specs.Profile.{profile_value};
@@ -38,7 +39,8 @@ pub trait Bench {
     /// Judges the file that a path leads to by a published profile.
     fn open(&mut self, profile: &[u8], path: &[u8], ask: Perms) -> Result<Answer, NoMemory>
         ensures history { history self.new ≡ history self.old }
-        ensures ok { IfOk result (λ answer. answered (judged_name self.new) answer ≡ open_answer (history self.old) profile.now path.now ask) }
+        ensures ok { IfOk result (λ answer. answered (judged_name self.new) answer ≡ open_answer (history self.old)
+            profile.now path.now ask) }
         ensures name { OnOk result (judged_name self.new ≡ name_opened (open_answer (history self.old) profile.now path.now ask)) }
         ensures err { OnErr result (judged_name self.new ≡ []) }
         ensures spares { spares_memory → IsOk result };

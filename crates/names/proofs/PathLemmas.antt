@@ -1,5 +1,6 @@
 -- The components of a text, taken one by one from its front.
-use Rattle.std.proofs.Common.{ℕ, ◌≡◌, ◌<◌, ◌≤◌, ◌+◌, ◌-◌, Bool, true, false, List, [], ◌∷◌, ◌++◌, length, filter, not, drop, get_or, arith, sym, ap, refl, ◌∙◌, cond, take_all, suc, inl, inr}
+use Rattle.std.proofs.Common.{ℕ, ◌≡◌, ◌<◌, ◌≤◌, ◌+◌, ◌-◌, Bool, true, false, List, [], ◌∷◌, ◌++◌, length, filter, not, drop, get_or, arith}
+use Rattle.std.proofs.Common.{sym, ap, refl, ◌∙◌, cond, take_all, suc, inl, inr}
 use Rattle.std.specs.List.{slice_split, onto_first, prefix_len, position_or_len, before_first, after_first}
 use Rattle.std.proofs.lemmas.Bool.{cases_lt, ne_eqb, false≢true}
 use Rattle.std.proofs.lemmas.List.{drop_more, drop_all, length-drop, get_or-drop, length-take-le, length-take, length-append, append-nil}
@@ -37,7 +38,9 @@ pub past_slashes : (xs : List ℕ) → prefix_len is_slash xs < length xs → co
 past_slashes [] h = absurd (omega arith)
 past_slashes (x ∷ xs) h = by (past_slashes xs) (is_slash x) refl h
   where
-    by : (prefix_len is_slash xs < length xs → components xs ≡ components (drop (prefix_len is_slash xs) xs)) → (b : Bool) → is_slash x ≡ b → cond b (1 + prefix_len is_slash xs) 0 < length (x ∷ xs) → components (x ∷ xs) ≡ components (drop (cond b (1 + prefix_len is_slash xs) 0) (x ∷ xs))
+    by : (prefix_len is_slash xs < length xs → components xs ≡ components (drop (prefix_len is_slash xs) xs)) → (b : Bool) →
+        is_slash x ≡ b → cond b (1 + prefix_len is_slash xs) 0 < length (x ∷ xs) → components (x ∷ xs)
+        ≡ components (drop (cond b (1 + prefix_len is_slash xs) 0) (x ∷ xs))
     by rest true e l =
         let next : suc (prefix_len is_slash xs) ≡ 1 + prefix_len is_slash xs = omega arith in
         past_slash x xs e (omega arith) ∙ rest (omega arith) ∙ ap (λ k. components (drop k (x ∷ xs))) next
@@ -51,7 +54,8 @@ slashes_alone (x ∷ []) some all =
     ap (λ ps. closed (non_empty ps) (ends_with_slash (x ∷ []))) (slice_split-cons_yes is_slash x [] e) ∙ ap (closed []) e
 slashes_alone (x ∷ y ∷ ys) some all = by (slashes_alone (y ∷ ys) (omega arith)) (is_slash x) refl all
   where
-    by : (length (y ∷ ys) ≤ prefix_len is_slash (y ∷ ys) → components (y ∷ ys) ≡ (46 ∷ []) ∷ []) → (b : Bool) → is_slash x ≡ b → length (x ∷ y ∷ ys) ≤ cond b (1 + prefix_len is_slash (y ∷ ys)) 0 → components (x ∷ y ∷ ys) ≡ (46 ∷ []) ∷ []
+    by : (length (y ∷ ys) ≤ prefix_len is_slash (y ∷ ys) → components (y ∷ ys) ≡ (46 ∷ []) ∷ []) → (b : Bool) → is_slash x ≡ b →
+        length (x ∷ y ∷ ys) ≤ cond b (1 + prefix_len is_slash (y ∷ ys)) 0 → components (x ∷ y ∷ ys) ≡ (46 ∷ []) ∷ []
     by rest true e l = past_slash x (y ∷ ys) e (omega arith) ∙ rest (omega arith)
     by rest false e l = absurd (omega arith)
 
@@ -76,7 +80,12 @@ one_more x xs some rest = by (is_slash x) refl
         let parts = ap (λ ps. length (non_empty ps)) (slice_split-cons_no is_slash x xs e) in
         let more = onto_more x (slice_split is_slash xs) in
         let ends = ap (λ b. length (closed [] b)) (ends_alike (x ∷ xs) 1 (omega arith)) in
-        omega (arith, length-append (non_empty (slice_split is_slash xs)) (closed [] (ends_with_slash xs)), length-append (non_empty (slice_split is_slash (x ∷ xs))) (closed [] (ends_with_slash (x ∷ xs))))
+        omega (
+          arith,
+          length-append (non_empty (slice_split is_slash xs)) (closed [] (ends_with_slash xs)),
+          length-append
+              (non_empty (slice_split is_slash (x ∷ xs))) (closed [] (ends_with_slash (x ∷ xs))),
+        )
 
 -- a text has no more components than bytes
 pub components_few : (xs : List ℕ) → length (components xs) ≤ length xs
@@ -108,7 +117,8 @@ module _ (xs : List ℕ) where
       let long = length-take-le n xs (omega arith) in
       let after = slice_split is_slash (after_first is_slash xs) in
       let here = ap non_empty (slice_split_first is_slash xs 0 h) ∙ kept front after (omega arith) in
-      let there = ap (slice_split is_slash) (drop_more xs n 0 h) ∙ slice_split-cons_yes is_slash (get_or xs n 0) (drop (n + 1) xs) (passes_at_first is_slash xs 0 h) in
+      let there = ap (slice_split is_slash) (drop_more xs n 0 h) ∙ slice_split-cons_yes is_slash (get_or xs n 0) (drop (n + 1) xs)
+      (passes_at_first is_slash xs 0 h) in
       ap (λ ps. closed ps (ends_with_slash xs)) here
       ∙ ap (λ b. front ∷ closed (non_empty after) b) (sym (ends_alike xs n h))
       ∙ ap (λ ps. front ∷ closed (non_empty ps) (ends_with_slash (drop n xs))) (sym there)
@@ -148,13 +158,16 @@ module _ (xs : List ℕ) where
           ap (λ k. get_or rest k 0) start ∙ get_or-drop (prefix_len is_slash xs) xs 0 0 ∙ ap (λ k. get_or xs k 0) (omega arith) in
           false≢true (sym none ∙ ap is_slash (sym same) ∙ slash)
 
-  pub step_at_part : (front left : List ℕ) → front ≡ before_first is_slash rest → left ≡ drop (position_or_len is_slash rest) rest → 0 < length front → components xs ≡ front ∷ components left
+  pub step_at_part : (front left : List ℕ) → front ≡ before_first is_slash rest → left ≡ drop (position_or_len is_slash rest) rest →
+      0 < length front → components xs ≡ front ∷ components left
   step_at_part front left e f some =
       let size : length (before_first is_slash rest) ≤ length rest = omega (arith, length-take (position_or_len is_slash rest) rest) in
       let more : 0 < length rest = omega (arith, ap length e) in
-      past_slashes xs (omega (arith, long)) ∙ first_component rest (runs_on more) ∙ ap (λ l. l ∷ components (drop (position_or_len is_slash rest) rest)) (sym e) ∙ ap (λ l. front ∷ components l) (sym f)
+      past_slashes xs (omega (arith, long)) ∙ first_component rest (runs_on more)
+      ∙ ap (λ l. l ∷ components (drop (position_or_len is_slash rest) rest)) (sym e) ∙ ap (λ l. front ∷ components l) (sym f)
 
-  pub step_at_end : (front left : List ℕ) → front ≡ before_first is_slash rest → left ≡ drop (position_or_len is_slash rest) rest → length front ≡ 0 → 0 < length xs → components xs ≡ (46 ∷ []) ∷ components left
+  pub step_at_end : (front left : List ℕ) → front ≡ before_first is_slash rest → left ≡ drop (position_or_len is_slash rest) rest →
+      length front ≡ 0 → 0 < length xs → components xs ≡ (46 ∷ []) ∷ components left
   step_at_end front left e f none some = elim (cases_lt 0 (length rest)) [ inl h ↦ absurd (more h) | inr h ↦ slashes h ]
     where
       more : 0 < length rest → ⊥

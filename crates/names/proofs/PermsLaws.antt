@@ -29,7 +29,8 @@ one_found test h = let some = Any-from_list_any test all_permissions h in (some.
 
 -- where none is found, this one doesn't pass
 pub none_found : (test : Permission → Bool) → list_any test all_permissions ≡ false → (p : Permission) → test p ≡ false
-none_found test h p = ⊎_elim (λ is. let never : true ≡ false = sym (found test p is) ∙ h in let e : ⊥ = cc (never) in absurd e) (λ f. f) (cases_Bool (test p))
+none_found test h p = ⊎_elim (λ is. let never : true ≡ false = sym (found test p is) ∙ h in let e : ⊥ = cc (never) in absurd e) (λ f. f)
+    (cases_Bool (test p))
 
 -- the computed form of `Shares`
 pub shares_by_any : (s t : Perms) → IsTrue (list_any (λ p. has s p && has t p) all_permissions) ↔ Shares s t

@@ -1,5 +1,6 @@
 -- Sets of permissions that are gathered by a test, one permission after the other.
-use Rattle.std.proofs.Common.{◌≡◌, ◌≢◌, ◌+◌, ◌<◌, ◌≤◌, ◌==◌, ◌||◌, ◌⊎◌, ⊎_elim, inl, inr, ℕ, nat_lt, Bool, true, false, slice_index_or, refl, sym, ap, ◌∙◌, subst, arith, eq-eqb}
+use Rattle.std.proofs.Common.{◌≡◌, ◌≢◌, ◌+◌, ◌<◌, ◌≤◌, ◌==◌, ◌||◌, ◌⊎◌, ⊎_elim, inl, inr, ℕ, nat_lt, Bool, true, false, slice_index_or}
+use Rattle.std.proofs.Common.{refl, sym, ap, ◌∙◌, subst, arith, eq-eqb}
 use Rattle.std.proofs.lemmas.Bool.{cases_Bool, eqb-true, ltb-true, ltb-false}
 use Rattle.names.specs.declared.permissions.Permission.{Permission}
 use Rattle.names.specs.declared.permissions.Permission.TheVariants.{Read, Write, Link, Lock, Map}
@@ -15,7 +16,8 @@ same_perms s t h =
 
 -- one more permission is in the set, and no other
 with_itself : (s : Perms) (q : Permission) → has (with_permission s q) q ≡ true
-with_itself s q = has-set_of (λ r. has s r || (letter r == letter q)) q ∙ ap (λ (b : Bool). has s q || b) (eq-eqb (letter q) (letter q) refl) ∙ or_true (has s q)
+with_itself s q = has-set_of (λ r. has s r || (letter r == letter q)) q ∙ ap (λ (b : Bool). has s q || b)
+    (eq-eqb (letter q) (letter q) refl) ∙ or_true (has s q)
   where
     or_true : (a : Bool) → (a || true) ≡ true
     or_true true = refl
@@ -24,7 +26,8 @@ with_itself s q = has-set_of (λ r. has s r || (letter r == letter q)) q ∙ ap 
 with_another : (s : Perms) (q p : Permission) → p ≢ q → has (with_permission s q) p ≡ has s p
 with_another s q p other =
     has-set_of (λ r. has s r || (letter r == letter q)) p
-    ∙ ap (λ (b : Bool). has s p || b) (⊎_elim (λ is. absurd (other (same_letter p q (eqb-true (letter p) (letter q) is)))) (λ f. f) (cases_Bool (letter p == letter q)))
+    ∙ ap (λ (b : Bool). has s p || b) (⊎_elim (λ is. absurd (other (same_letter p q (eqb-true (letter p) (letter q) is)))) (λ f. f)
+    (cases_Bool (letter p == letter q)))
     ∙ or_false (has s p)
   where
     or_false : (a : Bool) → (a || false) ≡ a
@@ -40,7 +43,8 @@ module _ (test : Permission → Bool) where
   IsPassedBefore i s = ((p : Permission) → index p < i → has s p ≡ test p) × ((p : Permission) → i ≤ index p → has s p ≡ false)
 
   -- after the last permission it is the set of all that pass
-  pub passed-all : ((p : Permission) → index p < permission_count) → (i : ℕ) (s : Perms) → permission_count ≤ i → IsPassedBefore i s → s ≡ set_of test
+  pub passed-all : ((p : Permission) → index p < permission_count) → (i : ℕ) (s : Perms) → permission_count ≤ i → IsPassedBefore i s →
+      s ≡ set_of test
   passed-all below i s le before =
       same_perms s (set_of test) (λ p. before.0 p (omega (arith, le, below p)) ∙ sym (has-set_of test p))
 
@@ -53,7 +57,8 @@ module _ (test : Permission → Bool) where
     here i q p at too = sym (there q p) ∙ ap (λ (k : ℕ). slice_index_or all_permissions k p) (at ∙ sym too) ∙ there p p
 
     -- the one at i passes, and joins the set
-    pub passed-more : (i : ℕ) (q : Permission) (s : Perms) → index q ≡ i → test q ≡ true → IsPassedBefore i s → IsPassedBefore (i + 1) (with_permission s q)
+    pub passed-more : (i : ℕ) (q : Permission) (s : Perms) → index q ≡ i → test q ≡ true → IsPassedBefore i s →
+        IsPassedBefore (i + 1) (with_permission s q)
     passed-more i q s at passes before = (
       λ p low. ⊎_elim
           (λ lower. with_another s q p (elsewhere i q p at (λ e. omega (arith, lower, e))) ∙ before.0 p lower)

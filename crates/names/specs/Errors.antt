@@ -3,7 +3,8 @@
 use Rattle.std.specs.Prelude.{ℕ, List, ◌++◌, codes}
 use Rattle.std.specs.Fmt.{decimal}
 use Rattle.names.specs.declared.errors.Errno.{Errno}
-use Rattle.names.specs.declared.errors.Errno.TheVariants.{EPERM, ENOENT, ENOMEM, EBUSY, EEXIST, ENOTDIR, EISDIR, EINVAL, ENOSPC, ENAMETOOLONG, ENOTEMPTY, ELOOP, EOVERFLOW}
+use Rattle.names.specs.declared.errors.Errno.TheVariants.{EPERM, ENOENT, ENOMEM, EBUSY, EEXIST, ENOTDIR, EISDIR, EINVAL, ENOSPC}
+use Rattle.names.specs.declared.errors.Errno.TheVariants.{ENAMETOOLONG, ENOTEMPTY, ELOOP, EOVERFLOW}
 
 abbrev pub errno_number : Errno → ℕ
 errno_number EPERM = 1

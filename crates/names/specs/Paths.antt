@@ -1,5 +1,6 @@
 -- Paths, the tests that a path must pass, and the components that a walk takes (path_resolution(7)).
-use Rattle.std.specs.Prelude.{◌≡◌, ℕ, ◌<◌, ◌≤◌, ◌≢◌, ◌-◌, Bool, List, [], ◌∷◌, ◌++◌, length, filter, nat_lt, not, ◌==◌, slice_index, All, Option, Some, None, if◌then◌else◌}
+use Rattle.std.specs.Prelude.{◌≡◌, ℕ, ◌<◌, ◌≤◌, ◌≢◌, ◌-◌, Bool, List, [], ◌∷◌, ◌++◌, length, filter, nat_lt, not, ◌==◌, slice_index, All}
+use Rattle.std.specs.Prelude.{Option, Some, None, if◌then◌else◌}
 use Rattle.std.specs.List.{list_any, slice_split}
 use Rattle.names.specs.declared.errors.Errno.{Errno}
 use Rattle.names.specs.declared.errors.Errno.TheVariants.{ENOENT, EINVAL, ENAMETOOLONG}

@@ -1,6 +1,7 @@
 ghost use Rattle.std.specs.Prelude.{◌≡◌, ◌<◌, ◌↔◌, ◌&&◌, ◌∷◌, [], not, false, Some, IsTrue};
 ghost use Rattle.names.specs.declared.permissions.Permission.{Permission};
-ghost use Rattle.names.specs.Permissions.{letter, index, permission_count, permission_of, has, set_of, with_permission, perms_of, letters, Shares};
+ghost use Rattle.names.specs.Permissions.{letter, index, permission_count, permission_of, has, set_of, with_permission, perms_of, letters};
+ghost use Rattle.names.specs.Permissions.{Shares};
 
 use std::fmt;
 

@@ -13,9 +13,11 @@ use Rattle.walk_words.specs.Words.{ReadsOn}
 use Rattle.open_session.specs.Steps.{ReadsCell, CellReads}
 
 -- one reading more at the end
-one_more : (capacity : ℕ) (cells : List ℕ) (count : ℕ) (a b c : Session) → CellReads capacity cells count a b → ReadsCell capacity cells b c → CellReads capacity cells (suc count) a c
+one_more : (capacity : ℕ) (cells : List ℕ) (count : ℕ) (a b c : Session) → CellReads capacity cells count a b →
+    ReadsCell capacity cells b c → CellReads capacity cells (suc count) a c
 one_more capacity cells zero a b c is step = (c, subst (λ (s : Session). ReadsCell capacity cells s c) is step, refl)
-one_more capacity cells (suc count) a b c (between, first, rest) step = (between, first, one_more capacity cells count between b c rest step)
+one_more capacity cells (suc count) a b c (between, first, rest) step =
+    (between, first, one_more capacity cells count between b c rest step)
 
 abbrev pub with_reads : WalkerView → List Cell → WalkerView
 with_reads w reads = record { seen = w.seen; count_reads = w.count_reads; noted = w.noted; last = w.last; reads = reads }
@@ -28,13 +30,15 @@ pub reads_on : (capacity : ℕ) (cells name : List ℕ) (p : Policed) (w : Walke
     → length cells ≡ row_length capacity → w.noted % 2 ≡ 0 → IsSound p.call → slice_get cells place ≡ Some word
     → ReadsOn cells more (record { place = place; word = word } ∷ w.reads)
     → MayDo capacity p.call (with_reads w (more ++ record { place = place; word = word } ∷ w.reads)) next
-    → CellReads capacity cells (suc (length more)) (standing name p w (Some place)) (standing name p (with_reads w (more ++ record { place = place; word = word } ∷ w.reads)) next)
+    → CellReads capacity cells (suc (length more)) (standing name p w (Some place))
+    (standing name p (with_reads w (more ++ record { place = place; word = word } ∷ w.reads)) next)
 reads_on capacity cells name p w place word [] next long even sound stands on may =
     (standing name p (reading w record { place = place; word = word }) next, (p, w, place, word, next, refl, stands, may, refl), refl)
 reads_on capacity cells name p w place word (read ∷ more) next long even sound stands on may =
     let known : List Cell = record { place = place; word = word } ∷ w.reads in
     let before : WalkerView = with_reads w (more ++ known) in
-    let within : read.place < row_length capacity = subst (λ (n : ℕ). read.place < n) long (slice_get_within cells read.place read.word on.0) in
+    let within : read.place < row_length capacity = subst (λ (n : ℕ). read.place < n) long
+    (slice_get_within cells read.place read.word on.0) in
     one_more capacity cells (suc (length more)) (standing name p w (Some place)) (standing name p before (Some read.place)) _
     (reads_on capacity cells name p w place word more (Some read.place) long even sound stands on.2 (even, sound, within, on.1))
     (p, before, read.place, read.word, next, refl, on.0, may, refl)

@@ -10,7 +10,8 @@ use Rattle.open_session.specs.declared.walk.Next.{Next}
 use Rattle.open_session.specs.declared.walk.Next.TheVariants as next
 use Rattle.open_session.specs.inner.Standing.{IsRightNext, next_of}
 
-pub may_do : (capacity : ℕ) (room : List ℕ) (call : machine.Call) (w : WalkerView) (n : Next) → IsRightNext capacity room call w n → MayDo capacity call w (next_of n)
+pub may_do : (capacity : ℕ) (room : List ℕ) (call : machine.Call) (w : WalkerView) (n : Next) → IsRightNext capacity room call w n →
+    MayDo capacity call w (next_of n)
 may_do capacity room call w (next.Read place) right = right
 may_do capacity room call w next.Disturbed right = inl right
 may_do capacity room call w (next.Reached file) right = inr (Ok (reached_of room file), right.2)

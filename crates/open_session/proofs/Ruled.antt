@@ -15,13 +15,15 @@ use Rattle.event_core.proofs.Ruled.{fits_at}
 use Rattle.open_session.specs.Seen.{SawTree, SeesTree}
 
 -- what was read under an even count that is unchanged agrees with the row as it is
-saw : (m : Machine) (w : WalkerView) → FitsWalker m.keeper w → (count_of m.keeper % 2 ≡ 0 → EncodesChanges m.capacity m.keeper.cells m.keeper.history)
+saw : (m : Machine) (w : WalkerView) → FitsWalker m.keeper w →
+    (count_of m.keeper % 2 ≡ 0 → EncodesChanges m.capacity m.keeper.cells m.keeper.history)
     → SawTree m.capacity (ending w (count_of m.keeper) m.keeper.history)
 saw m w fits encodes (even, same) =
     let tree = encodes (ap (λ (n : ℕ). n % 2) same ∙ even) in
     (m.keeper.cells, tree.0, (fits.still even (sym same)).1, tree_after_well m.capacity m.keeper.history tree.0 tree.1, tree.2)
 
-sees_at : (m : Machine) (stage : Stage) → FitsWalker m.keeper (view_of stage) → (count_of m.keeper % 2 ≡ 0 → EncodesChanges m.capacity m.keeper.cells m.keeper.history)
+sees_at : (m : Machine) (stage : Stage) → FitsWalker m.keeper (view_of stage) →
+    (count_of m.keeper % 2 ≡ 0 → EncodesChanges m.capacity m.keeper.cells m.keeper.history)
     → SeesTree m.capacity m.keeper stage
 sees_at m resting fits encodes = tt
 sees_at m (begun call) fits encodes = tt

@@ -24,21 +24,34 @@ pub if_err_map : {A E : Type 0} {P Q : E → Type 0} (r : Result A E) → IfErr 
 if_err_map (Ok x) p f = tt
 if_err_map (Err e) p f = f e p
 
-pub walk_stands : (capacity : ℕ) (room : List ℕ) (s : Stage) (w : Walk) → at.Walking w ≡ s → IsStanding capacity room s → IsWalk capacity room w
+pub walk_stands : (capacity : ℕ) (room : List ℕ) (s : Stage) (w : Walk) → at.Walking w ≡ s → IsStanding capacity room s →
+    IsWalk capacity room w
 walk_stands capacity room s w is stands = subst (λ (t : Stage). IsStanding capacity room t) (sym is) stands
 
 -- a walk that was begun is the step of reading the count
-pub begun_count : (capacity : ℕ) (room name : List ℕ) (own : Policed) (s : Stage) (k : KeeperView) (w : Walk) → at.Policed own ≡ s → IsWalk capacity room w → w.policed ≡ own
-    → walker_of w ≡ beginning newcomer (count_of k) k.history → ReadsCount capacity k record { name = name; stage = stage_of s } record { name = name; stage = walking_of w }
+pub begun_count : (capacity : ℕ) (room name : List ℕ) (own : Policed) (s : Stage) (k : KeeperView) (w : Walk) → at.Policed own ≡ s →
+    IsWalk capacity room w → w.policed ≡ own
+    → walker_of w ≡ beginning newcomer (count_of k) k.history → ReadsCount capacity k record { name = name; stage = stage_of s }
+    record { name = name; stage = walking_of w }
 begun_count capacity room name own s k w is stands policed begun =
     let may : MayDo capacity (call_of own.call) (beginning newcomer (count_of k) k.history) (next_of w.next) =
     subst (λ (v : WalkerView). MayDo capacity (call_of own.call) v (next_of w.next)) begun
     (subst (λ (p : Policed). MayDo capacity (call_of p.call) (walker_of w) (next_of w.next)) policed
-    (may_do capacity room (call_of w.policed.call) (walker_of w) w.next stands.right)) in
-    (policed_of own, next_of w.next, ap stage_of (sym is), may, λ i. record { name = name; stage = walking (policed_of (policed i)) (begun i) (next_of w.next) })
+    (may_do capacity room (call_of w.policed.call) (walker_of w) w.next stands.right)) in (
+      policed_of own,
+      next_of w.next,
+      ap stage_of (sym is),
+      may,
+      λ i. record {
+        name = name;
+        stage = walking (policed_of (policed i))
+            (begun i) (next_of w.next);
+      },
+    )
 
 -- readings from a session that has another name
 pub carried : (row : ℕ × List ℕ) (capacity : ℕ) (cells : List ℕ) (count : ℕ) (a b c : machine.Session) → row ≡ (capacity, cells) → a ≡ b
     → CellReads row.0 row.1 count a c → CellReads capacity cells count b c
 carried row capacity cells count a b c row_is same reads =
-    subst (λ (x : machine.Session). CellReads capacity cells count x c) same (subst (λ (r : ℕ × List ℕ). CellReads r.0 r.1 count a c) row_is reads)
+    subst (λ (x : machine.Session). CellReads capacity cells count x c) same
+    (subst (λ (r : ℕ × List ℕ). CellReads r.0 r.1 count a c) row_is reads)

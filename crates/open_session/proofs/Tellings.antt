@@ -30,7 +30,8 @@ still_decides capacity room call w last seen n right none saw even same (inr (in
 pub own_capacity : (capacity : ℕ) (room : List ℕ) (c : Checked) → IsEnded capacity room c → IsEnded c.walk.words.0 room c
 own_capacity capacity room c e = subst (λ (n : ℕ). IsEnded n room c) (sym e.walks.of_row) e
 
-pub told_answers : (capacity : ℕ) (room : List ℕ) (c : Checked) (s : Stage) (told : Told) → at.Checked c ≡ s → IsStanding capacity room s → IsTold c.walk.words.0 room c told
+pub told_answers : (capacity : ℕ) (room : List ℕ) (c : Checked) (s : Stage) (told : Told) → at.Checked c ≡ s → IsStanding capacity room s →
+    IsTold c.walk.words.0 room c told
     → MayAnswer capacity (stage_of s) told.answer (take told.name_length room)
 told_answers capacity room c s told is stands tells =
     let ended : IsEnded capacity room c = subst (λ (t : Stage). IsStanding capacity room t) (sym is) stands in

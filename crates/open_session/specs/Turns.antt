@@ -26,4 +26,5 @@ IsWalked stage = (p : Policed) × (w : WalkerView) × (stage ≡ walking p w Non
 
 -- it answers next
 abbrev pub IsAnswerable : Stage → Type 0
-IsAnswerable stage = ((call : Call) × (version : ℕ) × (stage ≡ unpublished call version)) ⊎ ((p : Policed) × (w : WalkerView) × (stage ≡ checked p w))
+IsAnswerable stage = ((call : Call) × (version : ℕ) × (stage ≡ unpublished call version))
+    ⊎ ((p : Policed) × (w : WalkerView) × (stage ≡ checked p w))

@@ -29,7 +29,8 @@ impl Call {
 
     /// The stage of the call after it has read the policy, or the call as it was if memory is refused.
     pub(crate) fn after_policy(self, policy: &Policy) -> Result<Stage, Call>
-        ensures ok { IfOk result (λ stage. stage_of stage ≡ after_policy (call_of self) (length policy.now) (policy_after policy.now self.profile.items)) }
+        ensures ok { IfOk result (λ stage. stage_of stage ≡ after_policy (call_of self) (length policy.now)
+            (policy_after policy.now self.profile.items)) }
         ensures stands { IfOk result (λ stage. (capacity : ℕ) (room : List ℕ) → IsStanding capacity room stage) }
         ensures err { IfErr result (λ call. call ≡ self) }
     {

@@ -136,7 +136,8 @@ impl Session {
         ensures capacity { self.new.0 ≡ self.old.0 }
         ensures ok { OnOk result (ReadsCell self.old.0 keeper.now.1.cells self.old.1 self.new.1) }
         ensures err { OnErr result (self.new ≡ self.old) }
-        ensures not_now { IfErr result (λ fault. fault ≡ StepFault.NotNow → ¬ (MayStep (ReadsCell self.old.0 keeper.now.1.cells) self.old.1)) }
+        ensures not_now { IfErr result (λ fault. fault ≡ StepFault.NotNow →
+            ¬ (MayStep (ReadsCell self.old.0 keeper.now.1.cells) self.old.1)) }
         ensures turn { IfErr result (λ fault. fault ≡ StepFault.NotNow → ¬ (IsReading self.old.1.stage)) }
     {
         match self.read_cells(keeper, 1, scratch) {

@@ -1,5 +1,6 @@
 -- When a group chooses.
-use Rattle.std.proofs.Common.{◌≡◌, ℕ, ◌≤◌, ◌<◌, Bool, true, false, ◌&&◌, List, [], ◌∷◌, length, map, Vec, Global, refl, sym, ap, ◌∙◌, arith}
+use Rattle.std.proofs.Common.{◌≡◌, ℕ, ◌≤◌, ◌<◌, Bool, true, false, ◌&&◌, List, [], ◌∷◌, length, map, Vec, Global, refl, sym, ap, ◌∙◌}
+use Rattle.std.proofs.Common.{arith}
 use Rattle.std.specs.Prelude.{nat_le}
 use Rattle.std.specs.List.{list_all}
 use Rattle.std.proofs.lemmas.Bool.Decides.{nat_tests}
@@ -24,7 +25,8 @@ some_choose alternatives = nat_le 2 (length alternatives) && list_all (λ items.
 
 some_row : (f : Vec Item Global → Vec Bool Global) → ((v : Vec Item Global) → (f v).items ≡ map chooses v.items) →
     (alternatives : List (Vec Item Global)) →
-    (nat_le 2 (length (map f alternatives)) && list_all (λ items. list_all (λ c. c) items.items) (map f alternatives)) ≡ some_choose alternatives
+    (nat_le 2 (length (map f alternatives)) && list_all (λ items. list_all (λ c. c) items.items) (map f alternatives))
+    ≡ some_choose alternatives
 some_row f same alternatives = cc (length-map alternatives f, all_row f same alternatives)
 
 pub chooses-Group : (alternatives : Vec (Vec Item Global) Global) → chooses (v.Group alternatives) ≡ some_choose alternatives.items
@@ -38,7 +40,8 @@ no_choice alternatives few =
     let none : nat_le 2 (length alternatives) ≡ false = grind (arith, nat_tests) in
     ap (λ x. x && list_all (λ items. all_choose items.items) alternatives) none
 
-pub by_alternatives : (alternatives : List (Vec Item Global)) → 2 ≤ length alternatives → some_choose alternatives ≡ list_all (λ items. all_choose items.items) alternatives
+pub by_alternatives : (alternatives : List (Vec Item Global)) → 2 ≤ length alternatives → some_choose alternatives
+    ≡ list_all (λ items. all_choose items.items) alternatives
 by_alternatives alternatives some =
     let two : nat_le 2 (length alternatives) ≡ true = grind (arith, nat_tests) in
     ap (λ x. x && list_all (λ items. all_choose items.items) alternatives) two

@@ -1,5 +1,6 @@
 -- A group with the tokens of another's alternatives.
-use Rattle.std.proofs.Common.{◌≡◌, ◌<◌, ◌-◌, Bool, true, false, not, ◌&&◌, ◌==◌, if◌then◌else◌, List, [], ◌∷◌, ◌++◌, length, map, take, drop, get_or, Vec, Global, refl, sym, ap, ◌∙◌, append-nil, arith}
+use Rattle.std.proofs.Common.{◌≡◌, ◌<◌, ◌-◌, Bool, true, false, not, ◌&&◌, ◌==◌, if◌then◌else◌, List, [], ◌∷◌, ◌++◌, length, map, take}
+use Rattle.std.proofs.Common.{drop, get_or, Vec, Global, refl, sym, ap, ◌∙◌, append-nil, arith}
 use Rattle.std.proofs.Math.Seq.{take-length}
 use Rattle.std.proofs.lemmas.Bool.{and_parts}
 use Rattle.std.proofs.lemmas.Bool.Decides.{nat_tests}
@@ -26,7 +27,8 @@ pub some_by_fulls : (alternatives : List (Vec Item Global)) →
     some_full alternatives ≡ (not (length (fulls alternatives) == 0) && list_all (λ full. full) (fulls alternatives))
 some_by_fulls alternatives =
     let few : length (fulls alternatives) ≡ length alternatives = length-map alternatives (λ items. all_full items.items) in
-    let all : list_all (λ full. full) (fulls alternatives) ≡ list_all (λ items. all_full items.items) alternatives = list_all-map (λ full. full) (λ items. all_full items.items) alternatives in
+    let all : list_all (λ full. full) (fulls alternatives) ≡ list_all (λ items. all_full items.items) alternatives =
+    list_all-map (λ full. full) (λ items. all_full items.items) alternatives in
     cc
 
 pub same_full : (copies alternatives : Vec (Vec Item Global) Global) → fulls copies.items ≡ fulls alternatives.items →
@@ -72,7 +74,8 @@ pub split_leads : (alternatives : List (Vec Item Global)) (follow : List Token) 
 split_leads alternatives follow none all =
     let made = map (λ alternative. alternative ++ follow) (items_parts alternatives) in
     split_row alternatives follow
-    ∙ sym (ap (λ b. if b then slash_before (items_parts alternatives) follow ∷ [] else if can_be_split (items_parts alternatives) follow then made else []) none
+    ∙ sym (ap (λ b. if b then slash_before (items_parts alternatives) follow ∷ [] else if can_be_split (items_parts alternatives) follow
+    then made else []) none
     ∙ ap (λ b. if b then made else []) all)
 
 -- ---- what a path begins with
@@ -80,7 +83,8 @@ split_leads alternatives follow none all =
 rest_taken : (items : List Item) (first : Item) → take (length (first ∷ items) - 1) items ≡ items
 rest_taken items first = ap (λ n. take n items) (omega arith) ∙ take-length items
 
-pub group_full : (items : List Item) (first : Item) (alternatives : Vec (Vec Item Global) Global) → 0 < length items → first ≡ get_or items 0 first →
+pub group_full : (items : List Item) (first : Item) (alternatives : Vec (Vec Item Global) Global) → 0 < length items →
+    first ≡ get_or items 0 first →
     first ≡ v.Group alternatives → all_full items ≡ true →
     (list_all (λ items. all_full items.items) alternatives.items && all_full (take (length items - 1) (drop 1 items))) ≡ true
 group_full [] first alternatives some e g full = absurd (omega arith)

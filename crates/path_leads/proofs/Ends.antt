@@ -1,9 +1,11 @@
 -- What items begin and end with, by their tokens.
-use Rattle.std.proofs.Common.{◌≡◌, ℕ, suc, ◌-◌, ◌<◌, Bool, false, List, [], ◌∷◌, ◌++◌, length, get_or, Vec, Global, refl, sym, ap, subst, ◌∙◌, append-nil, length-append, arith}
+use Rattle.std.proofs.Common.{◌≡◌, ℕ, suc, ◌-◌, ◌<◌, Bool, false, List, [], ◌∷◌, ◌++◌, length, get_or, Vec, Global, refl, sym, ap, subst}
+use Rattle.std.proofs.Common.{◌∙◌, append-nil, length-append, arith}
 use Rattle.rule_globs.specs.Tokens.{Token, opening, closing, tokens, tokens_of}
 use Rattle.rule_globs.specs.declared.items.Item.{Item}
 use Rattle.rule_globs.specs.declared.items.Item.TheVariants as v
-use Rattle.rule_globs.proofs.TokenItems.{item_induction, alternatives_row, tokens-Byte, tokens-AnyByte, tokens-Class, tokens-Stars, tokens-Group}
+use Rattle.rule_globs.proofs.TokenItems.{item_induction, alternatives_row, tokens-Byte, tokens-AnyByte, tokens-Class, tokens-Stars}
+use Rattle.rule_globs.proofs.TokenItems.{tokens-Group}
 use Rattle.rule_globs.specs.declared.items.Stars.{Stars}
 use Rattle.rule_profile.specs.PathTokens.{is_plain_slash}
 use Rattle.rule_profile.specs.Readable.{is_run, begins_with_slash}
@@ -30,10 +32,12 @@ last_of : (kind : Token → Bool) (first : Item) (items : List Item) (last : Ite
 last_of kind first [] last e =
     ap (ends_with kind) (append-nil (tokens first)) ∙ ap (λ x. ends_with kind (tokens x)) (sym e)
 last_of kind first (second ∷ items) last e =
-    let some : 0 < length (tokens_of (second ∷ items)) = omega (arith, some_tokens second, length-append (tokens second) (tokens_of items)) in
+    let some : 0 < length (tokens_of (second ∷ items)) =
+    omega (arith, some_tokens second, length-append (tokens second) (tokens_of items)) in
     ends-append kind (tokens first) (tokens_of (second ∷ items)) some ∙ last_of kind second items last e
 
-pub ends_as_last : (kind : Token → Bool) (items : List Item) (last : Item) → 0 < length items → last ≡ get_or items (length items - 1) last →
+pub ends_as_last : (kind : Token → Bool) (items : List Item) (last : Item) → 0 < length items →
+    last ≡ get_or items (length items - 1) last →
     ends_with kind (tokens_of items) ≡ ends_with kind (tokens last)
 ends_as_last kind [] last some e = absurd (omega arith)
 ends_as_last kind (first ∷ items) last some e =

@@ -1,5 +1,6 @@
 -- The paths that a path is led to take the names that it takes.
-use Rattle.std.proofs.Common.{◌≡◌, ◌≢◌, ◌↔◌, inl, inr, ⊎_elim, ℕ, ◌<◌, Bool, true, false, not, ◌&&◌, ◌==◌, IsTrue, List, [], ◌∷◌, ◌++◌, length, map, drop, Vec, Global, refl, sym, ap, subst, ◌∙◌, append_assoc, if◌then◌else◌, arith}
+use Rattle.std.proofs.Common.{◌≡◌, ◌≢◌, ◌↔◌, inl, inr, ⊎_elim, ℕ, ◌<◌, Bool, true, false, not, ◌&&◌, ◌==◌, IsTrue, List, [], ◌∷◌, ◌++◌}
+use Rattle.std.proofs.Common.{length, map, drop, Vec, Global, refl, sym, ap, subst, ◌∙◌, append_assoc, if◌then◌else◌, arith}
 use Rattle.std.specs.List.{list_all}
 use Rattle.std.proofs.lemmas.Bool.{and_parts}
 use Rattle.std.proofs.lemmas.Bool.Decides.{nat_tests}
@@ -8,7 +9,8 @@ use Rattle.std.proofs.lemmas.List.Concat.{flat_map-append}
 use Rattle.std.proofs.lemmas.List.Folds.{list_all-append}
 use Rattle.rule_globs.specs.Glob.{Glob, empty, one, cat, none, alt, exactly, is_slash, Takes}
 use Rattle.rule_globs.specs.Meaning.{meaning, meaning_of, alt_all, alternatives_meaning}
-use Rattle.rule_globs.specs.Tokens.{Token, byte, opening, between, closing, with_commas, before, behind_all, pattern_of, tokens, tokens_of, is_full, all_full}
+use Rattle.rule_globs.specs.Tokens.{Token, byte, opening, between, closing, with_commas, before, behind_all, pattern_of, tokens, tokens_of}
+use Rattle.rule_globs.specs.Tokens.{is_full, all_full}
 use Rattle.rule_globs.specs.declared.items.Item.{Item, Item-F, out-Item, out-roll-Item}
 use Rattle.rule_globs.specs.declared.items.Item.TheVariants as v
 use Rattle.rule_globs.specs.declared.items.Item.TheVariants.{rolls-Byte, rolls-AnyByte, rolls-Class, rolls-Stars, rolls-Group}
@@ -17,7 +19,8 @@ use Rattle.rule_globs.proofs.TokenItems.{item_induction, tokens-Byte, tokens-Any
 use Rattle.rule_globs.proofs.TokenLaws.{in_front, in_front-end, items_stand, each_item, same_pattern}
 use Rattle.rule_profile.specs.Readable.{begins_with_slash, begins_with_run, is_path}
 use Rattle.rule_profile.specs.PathTokens.{is_plain_slash}
-use Rattle.path_leads.specs.Leads.{can_be_split, gives_slash, slash_before, stands_alone, group_leads, slash_leads, front_leads, leads, led}
+use Rattle.path_leads.specs.Leads.{can_be_split, gives_slash, slash_before, stands_alone, group_leads, slash_leads, front_leads, leads}
+use Rattle.path_leads.specs.Leads.{led}
 
 -- ---- patterns that take the same names
 
@@ -83,9 +86,11 @@ cat_alt a b c name = (
 meaning-append : (xs ys : List Item) → Same (meaning_of (xs ++ ys)) (cat (meaning_of xs) (meaning_of ys))
 meaning-append [] ys = turned (cat empty (meaning_of ys)) (meaning_of ys) (empty_cat (meaning_of ys))
 meaning-append (x ∷ xs) ys =
-    chained (cat (meaning x) (meaning_of (xs ++ ys))) (cat (meaning x) (cat (meaning_of xs) (meaning_of ys))) (cat (cat (meaning x) (meaning_of xs)) (meaning_of ys))
-    (cat_same (meaning x) (meaning x) (meaning_of (xs ++ ys)) (cat (meaning_of xs) (meaning_of ys)) (same_if (meaning x) (meaning x) refl) (meaning-append xs ys))
-    (turned (cat (cat (meaning x) (meaning_of xs)) (meaning_of ys)) (cat (meaning x) (cat (meaning_of xs) (meaning_of ys))) (cat_assoc (meaning x) (meaning_of xs) (meaning_of ys)))
+    chained (cat (meaning x) (meaning_of (xs ++ ys))) (cat (meaning x) (cat (meaning_of xs) (meaning_of ys)))
+    (cat (cat (meaning x) (meaning_of xs)) (meaning_of ys)) (cat_same (meaning x) (meaning x) (meaning_of (xs ++ ys))
+    (cat (meaning_of xs) (meaning_of ys)) (same_if (meaning x) (meaning x) refl) (meaning-append xs ys))
+    (turned (cat (cat (meaning x) (meaning_of xs)) (meaning_of ys)) (cat (meaning x) (cat (meaning_of xs) (meaning_of ys)))
+    (cat_assoc (meaning x) (meaning_of xs) (meaning_of ys)))
 
 -- ---- a path for each alternative
 
@@ -95,7 +100,8 @@ parts_of alternatives = map (λ items. tokens_of items.items) alternatives
 abbrev all_whole : List (Vec Item Global) → Bool
 all_whole alternatives = list_all (λ items. all_full items.items) alternatives
 
-joined_pattern : (xs ys : List Item) → IsTrue (all_full xs) → IsTrue (all_full ys) → meaning_of (xs ++ ys) ≡ pattern_of (tokens_of xs ++ tokens_of ys)
+joined_pattern : (xs ys : List Item) → IsTrue (all_full xs) → IsTrue (all_full ys) → meaning_of (xs ++ ys)
+    ≡ pattern_of (tokens_of xs ++ tokens_of ys)
 joined_pattern xs ys hx hy =
     same_pattern (xs ++ ys) (list_all-append is_full xs ys ∙ ap (λ b. b && all_full ys) hx ∙ hy)
     ∙ ap pattern_of (flat_map-append tokens xs ys)
@@ -114,7 +120,8 @@ split_same (a ∷ alternatives) follow whole full =
     chained (cat (alt m rest) f) (alt (cat m f) (cat rest f)) (alt one made)
     (alt_cat m rest f)
     (alt_same (cat m f) one (cat rest f) made
-    (chained (cat m f) (meaning_of (a.items ++ follow)) one (turned (meaning_of (a.items ++ follow)) (cat m f) (meaning-append a.items follow))
+    (chained (cat m f) (meaning_of (a.items ++ follow)) one (turned (meaning_of (a.items ++ follow)) (cat m f)
+    (meaning-append a.items follow))
     (same_if (meaning_of (a.items ++ follow)) one (joined_pattern a.items follow parts.0 full)))
     (split_same alternatives follow parts.1 full))
 
@@ -164,8 +171,11 @@ pub slash_row : (items : List Item) → gives_slash (tokens_of items) ≡ true �
     (tokens_of items ≡ byte 47 ∷ tokens_of (drop 1 items)) × (begins_with_run (tokens_of (drop 1 items)) ≡ false)
 slash_row [] h = absurd cc
 slash_row (item ∷ items) h =
-    let is = is_slash_item item (tokens_of items) (slash_first (tokens_of (item ∷ items)) h) in
-    (ap (λ row. row ++ tokens_of items) is.0, not_true (begins_with_run (tokens_of items)) (subst (λ row. gives_slash (row ++ tokens_of items) ≡ true) is.0 h))
+    let is = is_slash_item item (tokens_of items) (slash_first (tokens_of (item ∷ items)) h) in (
+      ap (λ row. row ++ tokens_of items) is.0,
+      not_true (begins_with_run (tokens_of items))
+          (subst (λ row. gives_slash (row ++ tokens_of items) ≡ true) is.0 h),
+    )
 
 -- the alternatives without their slashes
 abbrev bare : List (Vec Item Global) → List (List Item)
@@ -205,7 +215,8 @@ rows_stand first (second ∷ others) rest full =
     ∙ ap (λ b. in_front first (before between b)) (rows_stand second others rest parts.1)
     ∙ in_front-end first ((alt_all (map meaning_of (second ∷ others)), (behind_all rest).here) ∷ (behind_all rest).groups)
 
-row_pattern : (rows : List (List Item)) (follow : List Item) → 0 < length rows → IsTrue (list_all all_full rows) → IsTrue (all_full follow) →
+row_pattern : (rows : List (List Item)) (follow : List Item) → 0 < length rows → IsTrue (list_all all_full rows) →
+    IsTrue (all_full follow) →
     pattern_of (byte 47 ∷ opening ∷ (with_commas (map tokens_of rows) ++ (closing ∷ tokens_of follow)))
     ≡ cat slash (cat (alt_all (map meaning_of rows)) (meaning_of follow))
 row_pattern [] follow some full whole = absurd (omega arith)
@@ -226,7 +237,8 @@ bare_full (a ∷ alternatives) h =
 
 before_same : (alternatives : List (Vec Item Global)) (follow : List Item) → list_all gives_slash (parts_of alternatives) ≡ true →
     0 < length alternatives → IsTrue (all_whole alternatives) → IsTrue (all_full follow) →
-    Same (cat (alternatives_meaning alternatives) (meaning_of follow)) (alt_all (map pattern_of (slash_before (parts_of alternatives) (tokens_of follow) ∷ [])))
+    Same (cat (alternatives_meaning alternatives) (meaning_of follow))
+    (alt_all (map pattern_of (slash_before (parts_of alternatives) (tokens_of follow) ∷ [])))
 before_same alternatives follow h some whole full =
     let f = meaning_of follow in
     let inner = alt_all (map meaning_of (bare alternatives)) in
@@ -238,11 +250,13 @@ before_same alternatives follow h some whole full =
     chained (cat (alternatives_meaning alternatives) f) (cat (cat slash inner) f) (alt path none)
     (cat_same (alternatives_meaning alternatives) (cat slash inner) f f (factor_same alternatives h) (same_if f f refl))
     (chained (cat (cat slash inner) f) (cat slash (cat inner f)) (alt path none) (cat_assoc slash inner f)
-    (chained (cat slash (cat inner f)) path (alt path none) (same_if (cat slash (cat inner f)) path (sym shape)) (turned (alt path none) path (alt_none path))))
+    (chained (cat slash (cat inner f)) path (alt path none) (same_if (cat slash (cat inner f)) path (sym shape))
+    (turned (alt path none) path (alt_none path))))
 
 -- ---- whole paths
 
-chosen : (g : Glob) (b c : Bool) (x y : List (List Token)) → (b ≡ true → Same g (alt_all (map pattern_of x))) → Same g (alt_all (map pattern_of y)) →
+chosen : (g : Glob) (b c : Bool) (x y : List (List Token)) → (b ≡ true → Same g (alt_all (map pattern_of x))) →
+    Same g (alt_all (map pattern_of y)) →
     (if b then x else if c then y else []) ≢ [] → Same g (alt_all (map pattern_of (if b then x else if c then y else [])))
 chosen g true c x y p q some = p refl
 chosen g false true x y p q some = q
@@ -255,17 +269,20 @@ only_if g false x p some = absurd (some refl)
 
 group_same : (alternatives : Vec (Vec Item Global) Global) (follow : List Item) → IsTrue (all_full (v.Group alternatives ∷ follow)) →
     group_leads (parts_of alternatives.items) (tokens_of follow) ≢ [] →
-    Same (meaning_of (v.Group alternatives ∷ follow)) (alt_all (map pattern_of (group_leads (parts_of alternatives.items) (tokens_of follow))))
+    Same (meaning_of (v.Group alternatives ∷ follow))
+    (alt_all (map pattern_of (group_leads (parts_of alternatives.items) (tokens_of follow))))
 group_same alternatives follow full some =
     let parts = and_parts (is_full (v.Group alternatives)) (all_full follow) full in
-    let within = and_parts (not (length alternatives.items == 0)) (all_whole alternatives.items) (sym (full-Group alternatives) ∙ parts.0) in
+    let within = and_parts (not (length alternatives.items == 0)) (all_whole alternatives.items)
+    (sym (full-Group alternatives) ∙ parts.0) in
     let few : 0 < length alternatives.items = grind (arith, nat_tests, within.0) in
     let g = cat (alternatives_meaning alternatives.items) (meaning_of follow) in
     let made = group_leads (parts_of alternatives.items) (tokens_of follow) in
     chained (meaning_of (v.Group alternatives ∷ follow)) g (alt_all (map pattern_of made))
     (same_if (meaning_of (v.Group alternatives ∷ follow)) g (ap (λ m. cat m (meaning_of follow)) (meaning-Group alternatives)))
     (chosen g (list_all gives_slash (parts_of alternatives.items)) (can_be_split (parts_of alternatives.items) (tokens_of follow))
-    (slash_before (parts_of alternatives.items) (tokens_of follow) ∷ []) (map (λ alternative. alternative ++ tokens_of follow) (parts_of alternatives.items))
+    (slash_before (parts_of alternatives.items) (tokens_of follow) ∷ []) (map (λ alternative. alternative ++ tokens_of follow)
+    (parts_of alternatives.items))
     (λ h. before_same alternatives.items follow h few within.1 parts.1)
     (split_same alternatives.items follow within.1 parts.1) some)
 
@@ -274,7 +291,8 @@ slash_same : (items : List Item) → IsTrue (all_full items) → slash_leads (to
 slash_same items full some =
     let p = pattern_of (tokens_of items) in
     only_if (meaning_of items) (begins_with_slash (tokens_of items)) (tokens_of items ∷ [])
-    (chained (meaning_of items) p (alt p none) (same_if (meaning_of items) p (same_pattern items full)) (turned (alt p none) p (alt_none p))) some
+    (chained (meaning_of items) p (alt p none) (same_if (meaning_of items) p (same_pattern items full))
+    (turned (alt p none) p (alt_none p))) some
 
 abbrev LeadsSame : Item → Type 0
 LeadsSame item = (follow : List Item) → IsTrue (all_full (item ∷ follow)) → leads (item ∷ follow) ≢ [] →
@@ -292,13 +310,19 @@ by_variant item x e h follow =
 
 item_same : (item : Item) → LeadsSame item
 item_same = item_induction LeadsSame
-    (λ b. by_variant (v.Byte b) (Item-F.Byte b) (ap out-Item (sym (rolls-Byte b)) ∙ out-roll-Item (Item-F.Byte b)) (λ follow. slash_same (v.Byte b ∷ follow)))
-    (by_variant v.AnyByte Item-F.AnyByte (ap out-Item (sym rolls-AnyByte) ∙ out-roll-Item Item-F.AnyByte) (λ follow. slash_same (v.AnyByte ∷ follow)))
-    (λ c. by_variant (v.Class c) (Item-F.Class c) (ap out-Item (sym (rolls-Class c)) ∙ out-roll-Item (Item-F.Class c)) (λ follow. slash_same (v.Class c ∷ follow)))
-    (λ s. by_variant (v.Stars s) (Item-F.Stars s) (ap out-Item (sym (rolls-Stars s)) ∙ out-roll-Item (Item-F.Stars s)) (λ follow. slash_same (v.Stars s ∷ follow)))
-    (λ alternatives each. by_variant (v.Group alternatives) (Item-F.Group alternatives) (ap out-Item (sym (rolls-Group alternatives)) ∙ out-roll-Item (Item-F.Group alternatives)) (λ follow. group_same alternatives follow))
+    (λ b. by_variant (v.Byte b) (Item-F.Byte b) (ap out-Item (sym (rolls-Byte b)) ∙ out-roll-Item (Item-F.Byte b))
+    (λ follow. slash_same (v.Byte b ∷ follow)))
+    (by_variant v.AnyByte Item-F.AnyByte (ap out-Item (sym rolls-AnyByte) ∙ out-roll-Item Item-F.AnyByte)
+    (λ follow. slash_same (v.AnyByte ∷ follow)))
+    (λ c. by_variant (v.Class c) (Item-F.Class c) (ap out-Item (sym (rolls-Class c)) ∙ out-roll-Item (Item-F.Class c))
+    (λ follow. slash_same (v.Class c ∷ follow)))
+    (λ s. by_variant (v.Stars s) (Item-F.Stars s) (ap out-Item (sym (rolls-Stars s)) ∙ out-roll-Item (Item-F.Stars s))
+    (λ follow. slash_same (v.Stars s ∷ follow)))
+    (λ alternatives each. by_variant (v.Group alternatives) (Item-F.Group alternatives) (ap out-Item (sym (rolls-Group alternatives))
+    ∙ out-roll-Item (Item-F.Group alternatives)) (λ follow. group_same alternatives follow))
 
-leads_same : (items : List Item) → IsTrue (all_full items) → leads items ≢ [] → Same (meaning_of items) (alt_all (map pattern_of (leads items)))
+leads_same : (items : List Item) → IsTrue (all_full items) → leads items ≢ [] →
+    Same (meaning_of items) (alt_all (map pattern_of (leads items)))
 leads_same [] full some = absurd (some refl)
 leads_same (item ∷ follow) full some = item_same item follow full some
 
@@ -306,6 +330,7 @@ leads_some : (items : List Item) → led items ≢ [] → leads items ≢ []
 leads_some items some e = some (ap (λ l. if list_all is_path l then l else []) e)
 
 -- A path takes a name exactly if one of the paths that it is led to does.
-pub led_same : (items : List Item) → IsTrue (all_full items) → led items ≢ [] → Same (meaning_of items) (alt_all (map pattern_of (led items)))
+pub led_same : (items : List Item) → IsTrue (all_full items) → led items ≢ [] →
+    Same (meaning_of items) (alt_all (map pattern_of (led items)))
 led_same items full some =
     only_if (meaning_of items) (list_all is_path (leads items)) (leads items) (leads_same items full (leads_some items some)) some

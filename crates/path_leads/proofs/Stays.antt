@@ -1,12 +1,14 @@
 -- Tokens of items stay where they are allowed to stand: less deep in groups, and with other tokens behind them.
-use Rattle.std.proofs.Common.{◌≡◌, ℕ, suc, ◌-◌, ◌<◌, ◌≤◌, Bool, true, false, ◌&&◌, List, [], ◌∷◌, ◌++◌, length, Vec, Global, refl, sym, ap, subst, ◌∙◌, append_assoc, append-nil, length-append, arith}
+use Rattle.std.proofs.Common.{◌≡◌, ℕ, suc, ◌-◌, ◌<◌, ◌≤◌, Bool, true, false, ◌&&◌, List, [], ◌∷◌, ◌++◌, length, Vec, Global, refl, sym, ap}
+use Rattle.std.proofs.Common.{subst, ◌∙◌, append_assoc, append-nil, length-append, arith}
 use Rattle.std.specs.Prelude.{nat_lt}
 use Rattle.std.proofs.lemmas.Bool.{and_parts}
 use Rattle.std.proofs.lemmas.Bool.Decides.{nat_tests}
 use Rattle.rule_globs.specs.Each.{Each}
 use Rattle.rule_globs.specs.Tokens.{Token, byte, any_byte, bracket, stars, opening, between, closing, tokens, tokens_of}
 use Rattle.rule_globs.specs.declared.items.Item.{Item}
-use Rattle.rule_globs.proofs.TokenItems.{EachWithin, item_induction, alternatives_row, tokens-Byte, tokens-AnyByte, tokens-Class, tokens-Stars, tokens-Group}
+use Rattle.rule_globs.proofs.TokenItems.{EachWithin, item_induction, alternatives_row, tokens-Byte, tokens-AnyByte, tokens-Class}
+use Rattle.rule_globs.proofs.TokenItems.{tokens-Stars, tokens-Group}
 use Rattle.rule_profile.specs.PathTokens.{is_plain_slash, slash_or_end_behind}
 use Rattle.rule_profile.specs.Readable.{is_run, begins_with_run, is_token, are_tokens}
 use Rattle.path_leads.specs.Leads.{ends_with}
@@ -68,13 +70,18 @@ same_strict false crosses b d e ys zs alike = cc (alike.run, alike.slash)
 stars_stay : (crosses strict : Bool) → Stays (stars crosses strict ∷ [])
 stars_stay crosses strict b d e ys zs le alike h =
     let parts = and_parts (is_token b d ys (stars crosses strict)) (are_tokens false d ys) h in
-    record { rest = parts.1; moved = λ q. both (is_token b e zs (stars crosses strict)) (are_tokens false e zs) (same_strict strict crosses b d e ys zs (alike refl) ∙ parts.0) q }
+    record {
+      rest = parts.1;
+      moved = λ q. both (is_token b e zs (stars crosses strict)) (are_tokens false e zs)
+          (same_strict strict crosses b d e ys zs (alike refl) ∙ parts.0) q;
+    }
 
 -- ---- items one after another
 
 two_stay : (xs ws : List Token) → Stays xs → Stays ws → 0 < length ws → Stays (xs ++ ws)
 two_stay xs ws px pw some b d e ys zs le alike h =
-    let first = px b d e (ws ++ ys) (ws ++ zs) le (λ _. head_alike ws ys zs some) (ap (are_tokens b d) (sym (append_assoc xs ws ys)) ∙ h) in
+    let first = px b d e (ws ++ ys) (ws ++ zs) le (λ _. head_alike ws ys zs some)
+    (ap (are_tokens b d) (sym (append_assoc xs ws ys)) ∙ h) in
     let second = pw (slash_after b xs) d e ys zs le (λ r. alike (ends-append is_run xs ws some ∙ r)) first.rest in
     record {
       rest = ap (λ s. are_tokens s d ys) (slash_after-append b xs ws) ∙ second.rest;
@@ -119,14 +126,22 @@ row_stays [] each d e ys zs le h =
     record { rest = sym (at_closing false d ys) ∙ h; moved = λ q. at_closing false e zs ∙ q }
 row_stays (a ∷ []) each d e ys zs le h =
     let row = tokens_of a.items in
-    let stay = items_stay a.items each.0 false (suc d) (suc e) (closing ∷ ys) (closing ∷ zs) (omega arith) (λ _. same_head closing ys zs) h in
-    record { rest = sym (at_closing (slash_after false row) d ys) ∙ stay.rest; moved = λ q. stay.moved (at_closing (slash_after false row) e zs ∙ q) }
+    let stay = items_stay a.items each.0 false (suc d) (suc e) (closing ∷ ys) (closing ∷ zs) (omega arith)
+    (λ _. same_head closing ys zs) h in
+    record {
+      rest = sym (at_closing (slash_after false row) d ys) ∙ stay.rest;
+      moved =
+          λ q. stay.moved (at_closing (slash_after false row) e zs ∙ q);
+    }
 row_stays (a ∷ second ∷ others) each d e ys zs le h =
     let row = tokens_of a.items in
     let more = alternatives_row (second ∷ others) in
-    let stay = items_stay a.items each.0 false (suc d) (suc e) (between ∷ (more ++ (closing ∷ ys))) (between ∷ (more ++ (closing ∷ zs))) (omega arith)
-    (λ _. same_head between (more ++ (closing ∷ ys)) (more ++ (closing ∷ zs))) (ap (are_tokens false (suc d)) (sym (append_assoc row (between ∷ more) (closing ∷ ys))) ∙ h) in
-    let next = row_stays (second ∷ others) each.1 d e ys zs le (sym (at_between (slash_after false row) d (more ++ (closing ∷ ys))) ∙ stay.rest) in
+    let stay = items_stay a.items each.0 false (suc d) (suc e) (between ∷ (more ++ (closing ∷ ys))) (between ∷ (more ++ (closing ∷ zs)))
+    (omega arith)
+    (λ _. same_head between (more ++ (closing ∷ ys)) (more ++ (closing ∷ zs)))
+    (ap (are_tokens false (suc d)) (sym (append_assoc row (between ∷ more) (closing ∷ ys))) ∙ h) in
+    let next = row_stays (second ∷ others) each.1 d e ys zs le (sym (at_between (slash_after false row) d (more ++ (closing ∷ ys)))
+    ∙ stay.rest) in
     record {
       rest = next.rest;
       moved = λ q. ap (are_tokens false (suc e)) (append_assoc row (between ∷ more) (closing ∷ zs))
@@ -140,16 +155,19 @@ group_row : (alternatives : List (Vec Item Global)) (rest : List Token) →
     (opening ∷ (alternatives_row alternatives ++ closing ∷ [])) ++ rest ≡ opening ∷ (alternatives_row alternatives ++ (closing ∷ rest))
 group_row alternatives rest = ap (λ row. opening ∷ row) (append_assoc (alternatives_row alternatives) (closing ∷ []) rest)
 
-group_stays : (alternatives : List (Vec Item Global)) → EachWithin ItemStays alternatives → Stays (opening ∷ (alternatives_row alternatives ++ closing ∷ []))
+group_stays : (alternatives : List (Vec Item Global)) → EachWithin ItemStays alternatives →
+    Stays (opening ∷ (alternatives_row alternatives ++ closing ∷ []))
 group_stays alternatives each b d e ys zs le alike h =
     let row = alternatives_row alternatives in
-    let parts = and_parts (nat_lt d 50) (are_tokens false (suc d) (row ++ (closing ∷ ys))) (ap (are_tokens b d) (sym (group_row alternatives ys)) ∙ h) in
+    let parts = and_parts (nat_lt d 50) (are_tokens false (suc d) (row ++ (closing ∷ ys)))
+    (ap (are_tokens b d) (sym (group_row alternatives ys)) ∙ h) in
     let stay = row_stays alternatives each d e ys zs le parts.1 in
     let last : slash_after false (row ++ closing ∷ []) ≡ false = slash_after-append false row (closing ∷ []) in
     record {
       rest = ap (λ s. are_tokens s d ys) last ∙ stay.rest;
       moved = λ q. ap (are_tokens b e) (group_row alternatives zs)
-          ∙ both (nat_lt e 50) (are_tokens false (suc e) (row ++ (closing ∷ zs))) (less_deep d e le parts.0) (stay.moved (ap (λ s. are_tokens s e zs) (sym last) ∙ q));
+          ∙ both (nat_lt e 50) (are_tokens false (suc e) (row ++ (closing ∷ zs))) (less_deep d e le parts.0)
+          (stay.moved (ap (λ s. are_tokens s e zs) (sym last) ∙ q));
     }
 
 item_stays : (item : Item) → ItemStays item

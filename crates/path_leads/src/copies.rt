@@ -40,8 +40,10 @@ fn copy_of(alloc: Global, item: &Item) -> Result<Item, NoMemory>
 /// A copy of each alternative.
 #[cycle(copy)]
 fn alternatives_copy(alloc: Global, alternatives: &[Vec<Item>]) -> Result<Vec<Vec<Item>>, NoMemory>
-    ensures tokens { IfOk result (λ copies. map (λ items. tokens_of items.items) copies.items ≡ map (λ items. tokens_of items.items) alternatives.now) }
-    ensures full { IfOk result (λ copies. map (λ items. all_full items.items) copies.items ≡ map (λ items. all_full items.items) alternatives.now) }
+    ensures tokens { IfOk result (λ copies. map (λ items. tokens_of items.items) copies.items ≡ map (λ items. tokens_of items.items)
+        alternatives.now) }
+    ensures full { IfOk result (λ copies. map (λ items. all_full items.items) copies.items ≡ map (λ items. all_full items.items)
+        alternatives.now) }
 {
     let mut copies = Vec::new(alloc);
     for items in alternatives {

@@ -10,7 +10,8 @@ ghost use Rattle.path_leads.specs.Leads.{leads, led};
 
 /// Where the items of a path stand as reading leaves them, no path that it is led to is lost for not being readable.
 pub fn no_path_is_lost()
-    ensures { (items : List Item) → IsTrue (all_full items) → IsTrue (are_tokens false 0 (tokens_of items)) → length (tokens_of items) ≤ max_items →
+    ensures { (items : List Item) → IsTrue (all_full items) → IsTrue (are_tokens false 0 (tokens_of items)) →
+        length (tokens_of items) ≤ max_items →
         led items ≡ leads items }
 {}
 

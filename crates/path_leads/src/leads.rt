@@ -48,8 +48,10 @@ fn can_be_split(alternatives: &[Vec<Item>], follow: &[Item]) -> bool
 /// The alternatives without their slashes.
 fn without_slashes(alloc: Global, alternatives: &[Vec<Item>]) -> Result<Vec<Vec<Item>>, NoMemory>
     requires { IsTrue (list_all gives_slash (map (λ items. tokens_of items.items) alternatives.now)) }
-    ensures tokens { IfOk result (λ bare. map (λ items. tokens_of items.items) bare.items ≡ map (drop 1) (map (λ items. tokens_of items.items) alternatives.now)) }
-    ensures full { IfOk result (λ bare. map (λ items. all_full items.items) bare.items ≡ map (λ items. all_full items.items) alternatives.now) }
+    ensures tokens { IfOk result (λ bare. map (λ items. tokens_of items.items) bare.items
+        ≡ map (drop 1) (map (λ items. tokens_of items.items) alternatives.now)) }
+    ensures full { IfOk result (λ bare. map (λ items. all_full items.items) bare.items ≡ map (λ items. all_full items.items)
+        alternatives.now) }
 {
     let mut bare = Vec::new(alloc);
     for items in alternatives {
@@ -71,7 +73,8 @@ fn slash_before(
     requires slashes { IsTrue (list_all gives_slash (map (λ items. tokens_of items.items) alternatives.now)) }
     requires some { 0 < length alternatives.now }
     requires full { IsTrue (list_all (λ items. all_full items.items) alternatives.now && all_full follow.now) }
-    ensures tokens { IfOk result (λ items. tokens_of items.items ≡ slash_before (map (λ items. tokens_of items.items) alternatives.now) (tokens_of follow.now)) }
+    ensures tokens { IfOk result (λ items. tokens_of items.items ≡ slash_before (map (λ items. tokens_of items.items) alternatives.now)
+        (tokens_of follow.now)) }
     ensures full { IfOk result (λ items. IsTrue (all_full items.items)) }
 {
     let mut items = Vec::new(alloc);
@@ -88,7 +91,9 @@ fn slash_before(
 fn put_path(paths: &mut Vec<RulePath>, items: Vec<Item>) -> Result<bool, NoMemory>
     requires { IsTrue (all_full items.items) }
     ensures readable { IfOk result (λ readable. readable ≡ is_path (tokens_of items.items)) }
-    ensures path { IfOk result (λ _. paths.new.items ≡ (if is_path (tokens_of items.items) then paths.old.items ++ tokens_of items.items ∷ [] else paths.old.items)) }
+    ensures path { IfOk result
+        (λ _. paths.new.items ≡ (if is_path (tokens_of items.items) then paths.old.items ++ tokens_of items.items ∷ []
+        else paths.old.items)) }
 {
     let Some(path) = path_of(items) else {
         return Ok(false);
@@ -116,7 +121,8 @@ fn split(
     follow: &[Item],
 ) -> Result<Vec<RulePath>, NoMemory>
     requires { IsTrue (list_all (λ items. all_full items.items) alternatives.now && all_full follow.now) }
-    ensures { IfOk result (λ paths. paths.items ≡ all_readable (map (λ items. tokens_of items.items ++ tokens_of follow.now) alternatives.now)) }
+    ensures { IfOk result
+        (λ paths. paths.items ≡ all_readable (map (λ items. tokens_of items.items ++ tokens_of follow.now) alternatives.now)) }
 {
     let mut paths = Vec::new(alloc);
     for items in alternatives {
@@ -138,7 +144,8 @@ fn group_paths(
 ) -> Result<Vec<RulePath>, NoMemory>
     requires some { 0 < length alternatives.now }
     requires full { IsTrue (list_all (λ items. all_full items.items) alternatives.now && all_full follow.now) }
-    ensures { IfOk result (λ paths. paths.items ≡ all_readable (group_leads (map (λ items. tokens_of items.items) alternatives.now) (tokens_of follow.now))) }
+    ensures { IfOk result (λ paths. paths.items ≡ all_readable (group_leads (map (λ items. tokens_of items.items) alternatives.now)
+        (tokens_of follow.now))) }
 {
     if all_give_slash(alternatives) {
         one_path(alloc, slash_before(alloc, alternatives, follow)?)

@@ -1,5 +1,6 @@
 -- One step of a walk: the text that is left gets a component shorter, or a link's text is put in front of it.
-use Rattle.std.proofs.Common.{◌≡◌, ℕ, zero, suc, ◌<◌, ◌-◌, ◌==◌, ◌≢◌, Bool, true, false, List, [], ◌∷◌, ◌++◌, length, sym, refl, ap, ◌∙◌, subst, arith, ne_eqb}
+use Rattle.std.proofs.Common.{◌≡◌, ℕ, zero, suc, ◌<◌, ◌-◌, ◌==◌, ◌≢◌, Bool, true, false, List, [], ◌∷◌, ◌++◌, length, sym, refl, ap, ◌∙◌}
+use Rattle.std.proofs.Common.{subst, arith, ne_eqb}
 use Rattle.std.specs.Prelude.{if◌then◌else◌, Result, Ok, Err, IfErr}
 use Rattle.std.specs.Result.{IsErrAnd}
 use Rattle.names.specs.declared.errors.Errno.{Errno}
@@ -20,7 +21,8 @@ use Rattle.path_lookup.specs.inner.Steps.{IsDirectory, after_link, start_at}
 use Rattle.path_lookup.proofs.Joined.{some_step, resolve_joined}
 
 -- a fault is one of every question that has the same answer
-pub fault_along : {X : Type 0} (lacks : Type 0) (sees : World → Type 0) (f g : World → Result X Errno) (fault : WalkFault) → ((w : World) → sees w → g w ≡ f w) → IsFault lacks sees f fault → IsFault lacks sees g fault
+pub fault_along : {X : Type 0} (lacks : Type 0) (sees : World → Type 0) (f g : World → Result X Errno) (fault : WalkFault) →
+    ((w : World) → sees w → g w ≡ f w) → IsFault lacks sees f fault → IsFault lacks sees g fault
 fault_along lacks sees f g (Refused errno) same h = λ w seen. same w seen ∙ h w seen
 fault_along lacks sees f g Torn same h = h
 
@@ -32,23 +34,30 @@ passed_on (Err y) e P h p = subst P (sym h) p
 -- no step is left where no text is
 pub ends_here : (rest : List ℕ) → is_last (steps_of rest) ≡ (length rest == 0)
 ends_here [] = refl
-ends_here (b ∷ rest) = some_step (components (b ∷ rest)) (some_component (b ∷ rest) (omega arith)) ∙ sym (ne_eqb (length (b ∷ rest)) 0 (λ e. omega arith))
+ends_here (b ∷ rest) = some_step (components (b ∷ rest)) (some_component (b ∷ rest) (omega arith))
+    ∙ sym (ne_eqb (length (b ∷ rest)) 0 (λ e. omega arith))
 
-after_some : (t : Tree) (last : Last) (links d : ℕ) (xs : List Step) → links ≢ 0 → after_link t last links d xs ≡ resolve t last (links - 1) d xs
+after_some : (t : Tree) (last : Last) (links d : ℕ) (xs : List Step) → links ≢ 0 → after_link t last links d xs
+    ≡ resolve t last (links - 1) d xs
 after_some t last zero d xs h = absurd (h refl)
 after_some t last (suc links) d xs h = let one : links ≡ suc links - 1 = omega arith in ap (λ (n : ℕ). resolve t last n d xs) one
 
-pub after_none : (t : Tree) (last : Last) (links d : ℕ) (xs : List Step) → links ≡ 0 → after_link t last links d xs ≡ after_link t last 0 d xs
+pub after_none : (t : Tree) (last : Last) (links d : ℕ) (xs : List Step) → links ≡ 0 → after_link t last links d xs
+    ≡ after_link t last 0 d xs
 after_none t last links d xs h = ap (λ (n : ℕ). after_link t last n d xs) h
 
 start_node : (text : List ℕ) (s : Spot) → start_of text (node_at s) ≡ node_at (start_at text s)
-start_node text s = elim (begins_with_slash text) as (λ (b : Bool). (if b then root else node_at s) ≡ node_at (if b then Root else s)) [ true ↦ refl | false ↦ refl ]
+start_node text s = elim (begins_with_slash text) as (λ (b : Bool). (if b then root else node_at s) ≡ node_at (if b then Root else s))
+    [ true ↦ refl | false ↦ refl ]
 
 start_directory : (t : Tree) (text : List ℕ) (s : Spot) → IsDirectory t s → IsDirectory t (start_at text s)
-start_directory t text s h = elim (begins_with_slash text) as (λ (b : Bool). IsDirectory t (if b then Root else s)) [ true ↦ refl | false ↦ h ]
+start_directory t text s h = elim (begins_with_slash text) as (λ (b : Bool). IsDirectory t (if b then Root else s))
+    [ true ↦ refl | false ↦ h ]
 
-linked : (t : Tree) (last : Last) (links : ℕ) (s p : Spot) (text rest left : List ℕ) → links ≢ 0 → p ≡ start_at text s → left ≡ text ++ rest → (0 < length rest → begins_with_slash rest ≡ true)
-    → after_link t last links (start_of text (node_at s)) (steps_of text ++ steps_of rest) ≡ resolve t last (links - 1) (node_at p) (steps_of left)
+linked : (t : Tree) (last : Last) (links : ℕ) (s p : Spot) (text rest left : List ℕ) → links ≢ 0 → p ≡ start_at text s →
+    left ≡ text ++ rest → (0 < length rest → begins_with_slash rest ≡ true)
+    → after_link t last links (start_of text (node_at s)) (steps_of text ++ steps_of rest) ≡ resolve t last (links - 1)
+    (node_at p) (steps_of left)
 linked t last links s p text rest left some start joined slash =
     after_some t last links (start_of text (node_at s)) (steps_of text ++ steps_of rest) some
     ∙ sym (resolve_joined t last (links - 1) (start_of text (node_at s)) text rest slash)
@@ -56,8 +65,10 @@ linked t last links s p text rest left some start joined slash =
     ∙ ap (λ (z : List ℕ). resolve t last (links - 1) (node_at p) (steps_of z)) (sym joined)
 
 -- the text of a link was put in front of what is left
-pub followed : (t : Tree) (last : Last) (links : ℕ) (s p link : Spot) (rest before left : List ℕ) (answer : Walked) → links ≢ 0 → before ≡ rest → (0 < length rest → begins_with_slash rest ≡ true) → IsDirectory t s
-    → (text : List ℕ) × (kind_at link ≡ Link text) × (answer ≡ after_link t last links (start_of text (node_at s)) (steps_of text ++ steps_of rest))
+pub followed : (t : Tree) (last : Last) (links : ℕ) (s p link : Spot) (rest before left : List ℕ) (answer : Walked) → links ≢ 0 →
+    before ≡ rest → (0 < length rest → begins_with_slash rest ≡ true) → IsDirectory t s
+    → (text : List ℕ) × (kind_at link ≡ Link text)
+    × (answer ≡ after_link t last links (start_of text (node_at s)) (steps_of text ++ steps_of rest))
     → ((text : List ℕ) → kind_at link ≡ Link text → (left ≡ text ++ before) × (p ≡ start_at text s))
     → (answer ≡ resolve t last (links - 1) (node_at p) (steps_of left)) × IsDirectory t p
 followed t last links s p link rest before left answer some same slash directory (text, kind, is) put =

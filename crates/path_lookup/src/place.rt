@@ -59,8 +59,10 @@ pub fn find_directory<L: Look>(
     ensures keeps { (e : L.Entry) → L.knows look.old e → L.knows look.new e }
     ensures known { IfOk result (L.knows look.new) }
     ensures directory { IfOk result (λ e. (w : World) → L.sees look.new w → shape_of (kind_at (L.means e w)) ≡ kind.Directory) }
-    ensures found { IfOk result (λ e. (w : World) → L.sees look.new w → and_then (walk w.tree Follow text.now) directory_at ≡ Ok (node_at (L.means e w))) }
-    ensures fault { IfErr result (IsFault (L.lacks look.new) (L.sees look.new) (λ w. and_then (walk w.tree Follow text.now) directory_at)) }
+    ensures found { IfOk result (λ e. (w : World) → L.sees look.new w → and_then (walk w.tree Follow text.now) directory_at
+        ≡ Ok (node_at (L.means e w))) }
+    ensures fault { IfErr result (IsFault (L.lacks look.new) (L.sees look.new)
+        (λ w. and_then (walk w.tree Follow text.now) directory_at)) }
 {
     let end = resolve_text(look, text, Last::Follow, scratch)?;
     match look.kind(end)? {

@@ -25,15 +25,18 @@ sees h left seen same = subst (λ (x : Held). SeesBy x.capacity (λ (row : List 
 module _ (h : Held) (seen : SeesHistory h) (change : Change) where
   -- one more change results in the plain tree's outcome
   pub next : tree_after h.capacity (h.history ++ change ∷ []) ≡ outcome (plain_of h) change
-  next = after_more h.capacity 0 root_alone (tree_of (plain_of h)) h.history change (length h.history) (omega arith) (seen.made ∙ ap Ok (sym (tree_is h seen)))
+  next = after_more h.capacity 0 root_alone (tree_of (plain_of h)) h.history change (length h.history) (omega arith)
+      (seen.made ∙ ap Ok (sym (tree_is h seen)))
 
-  pub accepted : (h' : Held) (version : ℕ) → Makes h change h' → version ≡ length h'.history → Accepted (plain_of h) (plain_of h') change version
+  pub accepted : (h' : Held) (version : ℕ) → Makes h change h' → version ≡ length h'.history →
+      Accepted (plain_of h) (plain_of h') change version
   accepted h' version makes is =
       let same : plain_of h' ≡ changed (plain_of h) change = λ i. record { capacity = makes.capacity i; history = makes.history i } in
       let (t, made, encodes) = makes.encodes in
       let after : tree_after h'.capacity h'.history ≡ Ok t = ap (λ (n : ℕ). tree_after n h'.history) makes.capacity ∙ made in (
         same,
-        sym next ∙ (ap (λ (p : Plain). tree_after p.capacity p.history) (sym same) ∙ (after ∙ ap (λ (r : Changed). Ok (tree_in r)) (sym after))),
+        sym next ∙ (ap (λ (p : Plain). tree_after p.capacity p.history) (sym same)
+            ∙ (after ∙ ap (λ (r : Changed). Ok (tree_in r)) (sym after))),
         is,
       )
 
@@ -54,11 +57,13 @@ module _ (h : Held) (seen : SeesHistory h) (change : Change) where
 
   -- the same for the answer of the keeper, which got its row back from a look
   module _ (left : Held) (same : left ≡ h) where
-    pub accepted_where_ok : (h' : Held) (r : Result ℕ Errno) → IfOk r (λ version. Makes left change h' × (version ≡ length h'.history)) → IfOk r (λ version. Accepted (plain_of h) (plain_of h') change version)
+    pub accepted_where_ok : (h' : Held) (r : Result ℕ Errno) → IfOk r (λ version. Makes left change h' × (version ≡ length h'.history)) →
+        IfOk r (λ version. Accepted (plain_of h) (plain_of h') change version)
     accepted_where_ok h' (Ok version) (makes, is) = accepted h' version (subst (λ (x : Held). Makes x change h') same makes) is
     accepted_where_ok h' (Err errno) told = tt
 
-    pub refused_where_err : (h' : Held) (r : Result ℕ Errno) → IfErr r (λ _. h' ≡ left) → IfErr r (Hinders left change) → IfErr r (λ errno. Refused (plain_of h) (plain_of h') change errno)
+    pub refused_where_err : (h' : Held) (r : Result ℕ Errno) → IfErr r (λ _. h' ≡ left) → IfErr r (Hinders left change) →
+        IfErr r (λ errno. Refused (plain_of h) (plain_of h') change errno)
     refused_where_err h' (Ok version) stays told = tt
     refused_where_err h' (Err errno) stays told = refused h' errno (stays ∙ same) (subst (λ (x : Held). Hinders x change errno) same told)
 
@@ -66,6 +71,7 @@ module _ (h : Held) (seen : SeesHistory h) (change : Change) where
     would_where_ok (Ok value) told = would (subst (λ (x : Held). Accepts x change) same told)
     would_where_ok (Err errno) told = tt
 
-    pub would_not_where_err : {T : Type 0} (r : Result T Errno) → IfErr r (Refuses left change) → IfErr r (λ errno. outcome (plain_of h) change ≡ Err errno)
+    pub would_not_where_err : {T : Type 0} (r : Result T Errno) → IfErr r (Refuses left change) →
+        IfErr r (λ errno. outcome (plain_of h) change ≡ Err errno)
     would_not_where_err (Ok value) told = tt
     would_not_where_err (Err errno) told = would_not errno (subst (λ (x : Held). Refuses x change errno) same told)

@@ -107,7 +107,8 @@ CountsRefusals before now answer.NoEntry = now.reading.refused ≡ before.readin
 
 -- the answer to an open while nothing changes, with the name that was judged; it is never busy
 abbrev pub IsAnswer : Answered → List ℕ → Answer → Type 0
-IsAnswer answered name (Judged verdict node tree policy) = answered ≡ judged (record { name = name; node = node; verdict = verdict }) tree policy
+IsAnswer answered name (Judged verdict node tree policy) = answered ≡ judged (record { name = name; node = node; verdict = verdict })
+    tree policy
 IsAnswer answered name (Failed errno tree) = answered ≡ failed errno tree
 IsAnswer answered name (NoProfile policy) = answered ≡ no_profile policy
 IsAnswer answered name (Busy began ended) = ⊥
@@ -119,7 +120,8 @@ IsLetIn before now = (now.reading.entries ≡ before.reading.entries + 1) × (no
 
 -- Why a link isn't answered: the reader wasn't, which is counted; or it was, and memory was refused for a link that would be made.
 abbrev pub IsNoLink : Sitting → Sitting → LinkAnswered → Unanswered → Type 0
-IsNoLink before now answered NoEntry = IsUnanswered before.reading now.reading now.profile × (now.reading.refused ≡ before.reading.refused + 1)
+IsNoLink before now answered NoEntry = IsUnanswered before.reading now.reading now.profile
+    × (now.reading.refused ≡ before.reading.refused + 1)
 IsNoLink before now answered NoMemory = IsLetIn before now × IsMade answered
 
 -- the same where the publisher is at hand: no share of the profile was given, or memory was refused for a link that would be made

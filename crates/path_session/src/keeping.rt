@@ -7,7 +7,8 @@ ghost use Rattle.mediation.specs.History.{open_answer};
 ghost use Rattle.mediation.specs.Opening.{reached};
 ghost use Rattle.justification.specs.Justified.{Justified};
 ghost use Rattle.justification.specs.Versions.{IsTreeAt};
-ghost use Rattle.path_session.specs.Sitting.{IsSameSession, HasReadPolicy, HasVersions, IsNameJudged, IsByPublished, CountsRefusals, IsAnswer};
+ghost use Rattle.path_session.specs.Sitting.{IsSameSession, HasReadPolicy, HasVersions, IsNameJudged, IsByPublished, CountsRefusals};
+ghost use Rattle.path_session.specs.Sitting.{IsAnswer};
 ghost use Rattle.mediation.specs.Deeds.{policy_after};
 ghost use Rattle.path_session.specs.Standing.{plain_of, history_of};
 ghost use Rattle.path_session.specs.inner.Walks.{end_of};
@@ -31,7 +32,8 @@ impl Session {
         ensures meetings { self.new.meetings ≢ self.old.meetings }
         ensures policy_seen { IsPrefix self.old.reading.seen self.new.reading.seen }
         ensures policy_read { HasReadPolicy self.old self.new result }
-        ensures answer { IsAnswer (open_answer (history_of keeper.old self.new.reading.seen) self.old.profile path.now ask) self.new.judged result }
+        ensures answer { IsAnswer (open_answer (history_of keeper.old self.new.reading.seen) self.old.profile path.now ask)
+            self.new.judged result }
         ensures versions { HasVersions self.new result }
         ensures justified { Justified self.old.profile path.now ask keeper.old.history self.new.reading.seen result }
         ensures name { IsNameJudged keeper.old.history path.now ask result self.new.judged }
@@ -66,7 +68,8 @@ impl Session {
     // The walker meets the keeper.
     pub(crate) fn meet(&mut self, keeper: &mut Keeper)
         requires { self.old.walk.table ≡ keeper.old.table }
-        ensures same { IsSameSession self.old self.new × (keeper.new ≡ keeper.old) × (self.new.reading ≡ self.old.reading) × (self.new.judged ≡ self.old.judged) }
+        ensures same { IsSameSession self.old self.new × (keeper.new ≡ keeper.old) × (self.new.reading ≡ self.old.reading)
+            × (self.new.judged ≡ self.old.judged) }
         ensures met { IsPrefix self.old.walk.view.seen keeper.old.history × (self.new.walk.view ≡ met_at keeper.old.history) }
         ensures meetings { self.new.meetings ≢ self.old.meetings }
     {

@@ -49,7 +49,8 @@ impl Session {
             ≡ after_link (history_of keeper.old self.new.reading.seen) old.now new.now
             (link_answer (history_of keeper.old self.new.reading.seen) self.old.profile old.now new.now)) }
         ensures err { IfErr result (λ why. (keeper.new ≡ keeper.old) × (self.new.judged ≡ [])
-            × IsNoLink self.old self.new (link_answer (history_of keeper.old self.new.reading.seen) self.old.profile old.now new.now) why) }
+            × IsNoLink self.old self.new (link_answer (history_of keeper.old self.new.reading.seen) self.old.profile
+            old.now new.now) why) }
     {
         let Ok((published, policy_version)) = self.read_policy() else {
             return Err(Unanswered::NoEntry);
@@ -114,7 +115,8 @@ fn judge_tested<'a>(
     ensures same { keeper.new ≡ keeper.old }
     ensures fits { IfOk result (λ tested. tested.1.name_length ≤ 4095) }
     ensures change { IfOk result (λ tested. (tested.0 ≡ Link old.now new.now) × IsOk (outcome (plain_of keeper.old) tested.0)) }
-    ensures answer { IfOk result (λ tested. link_judged (plain_of keeper.old) (judge_of profile.now) old.now new.now ≡ Ok (link_of room.new tested.1)) }
+    ensures answer { IfOk result (λ tested. link_judged (plain_of keeper.old) (judge_of profile.now) old.now new.now
+        ≡ Ok (link_of room.new tested.1)) }
     ensures fault { IfErr result (λ errno. link_judged (plain_of keeper.old) (judge_of profile.now) old.now new.now ≡ Err errno) }
 {
     plain_trees_are_well_formed();

@@ -4,7 +4,8 @@ ghost use mathlib.Core.List.{IsPrefix};
 ghost use Rattle.mediation.specs.Deeds.{policy_after};
 ghost use Rattle.mediation.specs.Judging.{reached_of};
 ghost use Rattle.justification.specs.Justified.{Justified};
-ghost use Rattle.path_session.specs.Sitting.{IsSameSession, HasSeenMore, HasReadPolicy, HasReadCounts, HasVersions, IsByCounts, IsNameJudged, IsByPublished, CountsRefusals};
+ghost use Rattle.path_session.specs.Sitting.{IsSameSession, HasSeenMore, HasReadPolicy, HasReadCounts, HasVersions, IsByCounts};
+ghost use Rattle.path_session.specs.Sitting.{IsNameJudged, IsByPublished, CountsRefusals};
 ghost use Rattle.path_session.specs.inner.Walks.{HasWalked, WasDisturbed};
 
 use crate::session::Session;

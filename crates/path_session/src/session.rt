@@ -57,7 +57,14 @@ impl Session {
         reader: PolicyReader,
         profile: &[u8],
     ) -> Result<Session, (NoMemory, Walker, PolicyReader)>
-        ensures ok { IfOk result (λ session. session ≡ record { walk = walker; reading = reader; profile = profile.now; judged = []; meetings = 0 }) }
+        ensures ok { IfOk result (λ session. session ≡ record {
+          walk = walker;
+          reading = reader;
+          profile = profile.now;
+          judged =
+              [];
+          meetings = 0;
+        }) }
         ensures err { IfErr result (λ refused. (refused.1 ≡ walker) × (refused.2 ≡ reader)) }
     {
         let Ok(profile) = Vec::from_slice(alloc, profile) else {

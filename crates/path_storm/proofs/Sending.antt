@@ -32,5 +32,6 @@ module _ (M : RattleType) (g : row.Ghosts M.Denot) where
   pub worker_send : IsSend M → IsSend (worker.the_row M g)
   worker_send send = search (sendable, session_send, boxes.crosses) depth 40 fits 20000
 
-  pub scene_sync : (G : RattleType) → IsSend M → IsSync G → (name : Lifetime) (life : Lft) → IsSync (scene.the_row (record { mir = name; lft = life }) M G g)
+  pub scene_sync : (G : RattleType) → IsSend M → IsSync G → (name : Lifetime) (life : Lft) →
+      IsSync (scene.the_row (record { mir = name; lft = life }) M G g)
   scene_sync G send sync name life = search (sendable, guard_sync, profiles_sync, boxes.crosses) depth 40 fits 20000

@@ -27,4 +27,5 @@ AreFull sessions opens all = (vec_len all ≡ sessions) × All (λ own. vec_len 
 -- the report counts the answers of a storm, and those of them that what was made doesn't justify
 pub record IsReportOf (log : StormLog) (report : StormReport) : Type 0 where
   pub answers : report.answers ≡ length (answers_of log.answers.items)
-  pub unjustified : IsCountOfOthers (Justified PROFILE.now FILE.now log.ask log.changes.items (map deed_of log.policy.items)) (answers_of log.answers.items) report.unjustified
+  pub unjustified : IsCountOfOthers (Justified PROFILE.now FILE.now log.ask log.changes.items (map deed_of log.policy.items))
+      (answers_of log.answers.items) report.unjustified

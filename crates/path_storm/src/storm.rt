@@ -28,7 +28,8 @@ pub fn storm_with<M: Row + Send + Sync, R: Threads + Wait + Sync, G: Gate + Sync
     gate: &G,
 ) -> Result<StormReport, StormFault>
     ensures answers { IfOk result (λ report. report.answers ≡ plan.now.sessions * plan.now.opens) }
-    ensures told { IfOk result (λ report. (log : StormLog) × AreFull plan.now.sessions plan.now.opens log.answers × IsReportOf log report) }
+    ensures told { IfOk result (λ report. (log : StormLog) × AreFull plan.now.sessions plan.now.opens log.answers
+        × IsReportOf log report) }
 {
     let log = storm_log(rt, alloc, guard, plan, gate)?;
     log.report(alloc)

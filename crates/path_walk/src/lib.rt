@@ -1,5 +1,6 @@
 //! A directory tree, the walk of a path, the tests of changes, and the tree in plain memory and as a row of words, with the rule
-//! that such a row keeps. Nothing here is its own: the names are those of `directory_tree`, `path_lookup`, `change_checks`, `plain_tree`, `row_rule`,
+//! that such a row keeps. Nothing here is its own: the names are those of `directory_tree`, `path_lookup`, `change_checks`,
+//! `plain_tree`, `row_rule`,
 //! `tree_row`, `row_look` and `row_plan`.
 #![tactic(auto)]
 

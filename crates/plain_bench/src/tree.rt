@@ -55,7 +55,8 @@ pub trait BenchTree {
     ) -> Result<Judged, Errno>
         ensures same { plain self.new ≡ plain self.old }
         ensures fits { IfOk result (λ judged. judged.name_length ≤ 4095) }
-        ensures answer { IfOk result (λ judged. opened (tree_of (plain self.old)) (judge_of profile.now) path.now ask ≡ Ok (judged_of room.new judged)) }
+        ensures answer { IfOk result (λ judged. opened (tree_of (plain self.old)) (judge_of profile.now) path.now ask
+            ≡ Ok (judged_of room.new judged)) }
         ensures fault { IfErr result (λ errno. opened (tree_of (plain self.old)) (judge_of profile.now) path.now ask ≡ Err errno) };
 
     /// Judges a link by its names, as [`mediation::judge_names`] does, or returns the error number.

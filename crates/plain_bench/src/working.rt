@@ -52,7 +52,8 @@ fn judge_tested<'a, T: BenchTree>(
     ensures same { T.plain tree.new ≡ T.plain tree.old }
     ensures fits { IfOk result (λ tested. tested.1.name_length ≤ 4095) }
     ensures change { IfOk result (λ tested. (tested.0 ≡ Link old.now new.now) × IsOk (outcome (T.plain tree.old) tested.0)) }
-    ensures answer { IfOk result (λ tested. link_judged (T.plain tree.old) (judge_of profile.now) old.now new.now ≡ Ok (link_of room.new tested.1)) }
+    ensures answer { IfOk result (λ tested. link_judged (T.plain tree.old) (judge_of profile.now) old.now new.now
+        ≡ Ok (link_of room.new tested.1)) }
     ensures fault { IfErr result (λ errno. link_judged (T.plain tree.old) (judge_of profile.now) old.now new.now ≡ Err errno) }
 {
     plain_trees_are_well_formed();

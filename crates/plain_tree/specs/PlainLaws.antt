@@ -23,11 +23,17 @@ none_is_some x h = subst (λ (o : Option Entry). elim o as (λ _. Type 0) [ None
 found_at : (es : List Entry) (d : ℕ) (c : List ℕ) (e : Entry) → find es d c ≡ Some e → (e.of ≡ d) × (e.component ≡ c)
 found_at [] d c e h = absurd (none_is_some e h)
 found_at (y ∷ es) d c e h =
-    elim (y.of == d) as (λ (a : Bool). (y.of == d) ≡ a → (if a && bytes_eq y.component c then Some y else find es d c) ≡ Some e → (e.of ≡ d) × (e.component ≡ c)) [
-      | true ↦ λ p. elim (bytes_eq y.component c) as (λ (b : Bool). bytes_eq y.component c ≡ b → (if b then Some y else find es d c) ≡ Some e → (e.of ≡ d) × (e.component ≡ c)) [
-        | true ↦ λ q r. (subst (λ (z : Entry). z.of ≡ d) (some_inj y e r) (eqb-true y.of d p), subst (λ (z : Entry). z.component ≡ c) (some_inj y e r) ((bytes_eq-Decides y.component c).0 q))
-        | false ↦ λ q r. found_at es d c e r
-      ] refl
+    elim (y.of == d) as (λ (a : Bool). (y.of == d) ≡ a → (if a && bytes_eq y.component c then Some y else find es d c) ≡ Some e →
+    (e.of ≡ d) × (e.component ≡ c)) [
+      | true ↦ λ p. elim (bytes_eq y.component c) as (λ (b : Bool). bytes_eq y.component c ≡ b → (if b then Some y else find es d c)
+          ≡ Some e → (e.of ≡ d) × (e.component ≡ c)) [
+            | true ↦ λ q r. (
+              subst (λ (z : Entry). z.of ≡ d) (some_inj y e r) (eqb-true y.of d p),
+              subst (λ (z : Entry). z.component ≡ c)
+                  (some_inj y e r) ((bytes_eq-Decides y.component c).0 q),
+            )
+            | false ↦ λ q r. found_at es d c e r
+          ] refl
       | false ↦ λ p r. found_at es d c e r
     ] refl h
 

@@ -140,7 +140,8 @@ impl PlainTree {
     ) -> Result<u64, Errno>
         requires known { knows_in (tree_of self.old) place.now.directory }
         requires fits { (length place.now.component.now ≤ LONGEST_COMPONENT) × FitsNode node.now }
-        requires acts { outcome self.old change.now ≡ Ok (acted (means_in (tree_of self.old)) (tree_of self.old) (act.Make place.now node.now)) }
+        requires acts { outcome self.old change.now
+            ≡ Ok (acted (means_in (tree_of self.old)) (tree_of self.old) (act.Make place.now node.now)) }
         requires tested { IsVacant (means_in (tree_of self.old)) (tree_of self.old) self.old.capacity place.now }
         requires counted { length self.old.history < max_changes }
         ensures ok { IfOk result (λ version. Accepted self.old self.new change.now version) }
@@ -170,7 +171,8 @@ impl PlainTree {
         requires file { knows_in (tree_of self.old) file.now }
         requires known { knows_in (tree_of self.old) place.now.directory }
         requires fits { length place.now.component.now ≤ LONGEST_COMPONENT }
-        requires acts { outcome self.old change.now ≡ Ok (acted (means_in (tree_of self.old)) (tree_of self.old) (act.Link file.now place.now)) }
+        requires acts { outcome self.old change.now
+            ≡ Ok (acted (means_in (tree_of self.old)) (tree_of self.old) (act.Link file.now place.now)) }
         requires tested { IsVacant (means_in (tree_of self.old)) (tree_of self.old) self.old.capacity place.now }
         requires counted { length self.old.history < max_changes }
         ensures ok { IfOk result (λ version. Accepted self.old self.new change.now version) }
@@ -238,7 +240,8 @@ impl PlainTree {
         node: Node,
         next: u64,
     ) -> Result<u64, Errno>
-        requires new { outcome self.old change.now ≡ Ok (with_entry (tree_of self.old) (entry of component.now node.number node.kind) next) }
+        requires new { outcome self.old change.now
+            ≡ Ok (with_entry (tree_of self.old) (entry of component.now node.number node.kind) next) }
         requires free { find (tree_of self.old).entries of component.now ≡ None }
         requires parent { IsSome (stands_at (tree_of self.old) of) }
         requires fresh { is_directory node.kind ≡ true → stands_at (tree_of self.old) node.number ≡ None }

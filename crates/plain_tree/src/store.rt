@@ -1,7 +1,8 @@
 //! The directories of a plain tree, by the numbers of their nodes.
 ghost use Rattle.std.specs.Prelude.{◌≡◌, ◌↔◌, ℕ, List, OnOk, OnErr, IfOk, IsTrue, IsSome, is_some, true};
 ghost use Rattle.std.specs.Option.{option_copied};
-ghost use Rattle.plain_tree.specs.inner.Store.{stored_node, stored_parent, known_parent, moved_parent, Sets, SetsParent, Keeps, Enters, IsOpened, IsLoose, Differ, MakesWay, MovesOver, Shifts, Leaves};
+ghost use Rattle.plain_tree.specs.inner.Store.{stored_node, stored_parent, known_parent, moved_parent, Sets, SetsParent, Keeps, Enters};
+ghost use Rattle.plain_tree.specs.inner.Store.{IsOpened, IsLoose, Differ, MakesWay, MovesOver, Shifts, Leaves};
 ghost use Rattle.directory_tree.specs.Tree.{is_directory};
 
 use crate::directory::{Component, Directory, Node, Parent};
@@ -210,7 +211,8 @@ impl Store {
         requires opened { IsOpened self.old (stored_node self.old of component.now) }
         requires empty { IsLoose self.old (stored_node self.old into name.now) }
         requires differ { Differ (stored_node self.old of component.now) (stored_node self.old into name.now) }
-        ensures ok { IfOk result (λ replaced. Shifts self.old self.new of component.now into name.now × (replaced ≡ is_some (stored_node self.old into name.now))) }
+        ensures ok { IfOk result (λ replaced. Shifts self.old self.new of component.now into name.now
+            × (replaced ≡ is_some (stored_node self.old into name.now))) }
         ensures err { OnErr result (Keeps self.old self.new) }
     {
         let parent = self.moved_parent(alloc, of, component, into, name)?;
@@ -247,7 +249,8 @@ impl Store {
     fn make_way(&mut self, alloc: Global, into: u64, name: &[u8]) -> Result<bool, NoMemory>
         requires parent { IsSome (stored_parent self.old into) }
         requires empty { IsLoose self.old (stored_node self.old into name.now) }
-        ensures ok { IfOk result (λ replaced. MakesWay self.old self.new into name.now × (replaced ≡ is_some (stored_node self.old into name.now))) }
+        ensures ok { IfOk result (λ replaced. MakesWay self.old self.new into name.now
+            × (replaced ≡ is_some (stored_node self.old into name.now))) }
         ensures err { OnErr result (Keeps self.old self.new) }
     {
         let number = match self.node(into, name) {

@@ -18,11 +18,13 @@ chosen variables path found = elim found [
   | inr problem ↦ []
 ]
 
-is_chosen : (variables : List Variable) (path text : List ℕ) (found : Found variables path) → IsSubstituted variables path text → text ≡ chosen variables path found
+is_chosen : (variables : List Variable) (path text : List ℕ) (found : Found variables path) → IsSubstituted variables path text →
+    text ≡ chosen variables path found
 is_chosen variables path text (inl t) is = one_text variables path text t.0 is t.1
 is_chosen variables path text (inr p) is = absurd (text_excludes variables path text p.0 is p.1)
 
-none_chosen : (variables : List Variable) (path : List ℕ) (problem : Problem) (found : Found variables path) → PathProblem variables path problem → [] ≡ chosen variables path found
+none_chosen : (variables : List Variable) (path : List ℕ) (problem : Problem) (found : Found variables path) →
+    PathProblem variables path problem → [] ≡ chosen variables path found
 none_chosen variables path problem (inl t) has = absurd (text_excludes variables path t.0 problem t.1 has)
 none_chosen variables path problem (inr p) has = refl
 
@@ -32,12 +34,14 @@ unfolding expanded
 is_expanded variables path text is = is_chosen variables path text (some_text variables path) is
 
 -- one that has a problem is expanded to nothing
-pub none_expanded : (variables : List Variable) (path : List ℕ) (problem : Problem) → PathProblem variables path problem → [] ≡ expanded variables path
+pub none_expanded : (variables : List Variable) (path : List ℕ) (problem : Problem) → PathProblem variables path problem →
+    [] ≡ expanded variables path
 unfolding expanded
 none_expanded variables path problem has = none_chosen variables path problem (some_text variables path) has
 
 -- one whose fault is reported is expanded to nothing, unless memory ran out
-pub fault_expanded : (variables : List Variable) (path : List ℕ) (fault : ExpandFault) → (fault ≡ NoMemory → ⊥) → Tells (PathProblem variables path) fault → [] ≡ expanded variables path
+pub fault_expanded : (variables : List Variable) (path : List ℕ) (fault : ExpandFault) → (fault ≡ NoMemory → ⊥) →
+    Tells (PathProblem variables path) fault → [] ≡ expanded variables path
 fault_expanded variables path (Undefined name) told has = none_expanded variables path (undefined name.now) has
 fault_expanded variables path (Cycle name) told has = none_expanded variables path (cycle name.now) has
 fault_expanded variables path TooLong told has = none_expanded variables path too_long has

@@ -15,32 +15,39 @@ use Rattle.profile_import.specs.Restated.{PlacedValue, restated_at, restated_rul
 use Rattle.profile_import.specs.inner.Gathering.{placed_value, restated_values}
 
 -- one more that was pushed
-pub pushed_more : {A B : Type 0} (f : A → B) (old : List B) (yielded : List A) (x : A) (now next : List B) → now ≡ old ++ map f yielded → next ≡ now ++ (f x ∷ []) → next ≡ old ++ map f (yielded ++ (x ∷ []))
+pub pushed_more : {A B : Type 0} (f : A → B) (old : List B) (yielded : List A) (x : A) (now next : List B) → now ≡ old ++ map f yielded →
+    next ≡ now ++ (f x ∷ []) → next ≡ old ++ map f (yielded ++ (x ∷ []))
 pushed_more f old yielded x now next e h =
-    h ∙ ap (λ l. l ++ (f x ∷ [])) e ∙ append_assoc old (map f yielded) (f x ∷ []) ∙ ap (λ l. old ++ l) (sym (map-append f yielded (x ∷ [])))
+    h ∙ ap (λ l. l ++ (f x ∷ [])) e ∙ append_assoc old (map f yielded) (f x ∷ []) ∙ ap (λ l. old ++ l)
+    (sym (map-append f yielded (x ∷ [])))
 
 -- ---- restated rules
 
-valued : (place : ℕ) (rule : SubjectRule) (paths : List (List Token)) → map (λ value. record { place = place; value = value }) (map (with_path rule) paths) ≡ map (placed_value place (shape_of rule)) paths
+valued : (place : ℕ) (rule : SubjectRule) (paths : List (List Token)) → map (λ value. record { place = place; value = value })
+    (map (with_path rule) paths) ≡ map (placed_value place (shape_of rule)) paths
 valued place rule [] = refl
 valued place rule (path ∷ paths) = ap (λ l. placed_value place (shape_of rule) path ∷ l) (valued place rule paths)
 
 by_test : (b : Bool) (place : ℕ) (rule : SubjectRule) (paths : List (List Token))
-    → map (λ value. record { place = place; value = value }) (cond b (map (with_path rule) paths) []) ≡ cond b (map (placed_value place (shape_of rule)) paths) []
+    → map (λ value. record { place = place; value = value }) (cond b (map (with_path rule) paths) [])
+    ≡ cond b (map (placed_value place (shape_of rule)) paths) []
 by_test true place rule paths = valued place rule paths
 by_test false place rule paths = refl
 
 -- a rule that is restated, by its shape and its paths
-pub restated_by_shape : (chosen : Subject) (r : PlacedRule) → restated_at chosen r ≡ restated_values r.place chosen (shape_of r.rule) (restated_paths r.rule.path)
+pub restated_by_shape : (chosen : Subject) (r : PlacedRule) → restated_at chosen r ≡ restated_values r.place chosen (shape_of r.rule)
+    (restated_paths r.rule.path)
 restated_by_shape chosen r = by_test (is_restated chosen (shape_of r.rule)) r.place r.rule (restated_paths r.rule.path)
 
 pub restated_one : (chosen : Subject) (r : PlacedRule) → restated_rules chosen (r ∷ []) ≡ restated_at chosen r
 restated_one chosen r = append-nil (restated_at chosen r)
 
-pub restated_two : (chosen : Subject) (r s : PlacedRule) → restated_rules chosen (r ∷ s ∷ []) ≡ restated_at chosen r ++ restated_at chosen s
+pub restated_two : (chosen : Subject) (r s : PlacedRule) → restated_rules chosen (r ∷ s ∷ []) ≡ restated_at chosen r
+    ++ restated_at chosen s
 restated_two chosen r s = ap (λ l. restated_at chosen r ++ l) (restated_one chosen s)
 
-pub restated_both : (chosen : Subject) (rules others : List PlacedRule) → restated_rules chosen (rules ++ others) ≡ restated_rules chosen rules ++ restated_rules chosen others
+pub restated_both : (chosen : Subject) (rules others : List PlacedRule) → restated_rules chosen (rules ++ others)
+    ≡ restated_rules chosen rules ++ restated_rules chosen others
 restated_both chosen rules others = flat_map-append (restated_at chosen) rules others
 
 -- ---- rules that are pushed
@@ -61,7 +68,8 @@ pub one_behind : (chosen : Subject) (rules : List PlacedRule) (r : PlacedRule) (
     → mid ≡ old ++ restated_rules chosen rules → new ≡ mid ++ restated_at chosen r → new ≡ old ++ restated_rules chosen (rules ++ (r ∷ []))
 one_behind chosen rules r old mid new e h =
     h ∙ ap (λ l. l ++ restated_at chosen r) e ∙ append_assoc old (restated_rules chosen rules) (restated_at chosen r)
-    ∙ ap (λ l. old ++ l) (ap (λ l. restated_rules chosen rules ++ l) (sym (restated_one chosen r)) ∙ sym (restated_both chosen rules (r ∷ [])))
+    ∙ ap (λ l. old ++ l) (ap (λ l. restated_rules chosen rules ++ l) (sym (restated_one chosen r))
+    ∙ sym (restated_both chosen rules (r ∷ [])))
 
 pub two_behind : (chosen : Subject) (rules : List PlacedRule) (r s : PlacedRule) (old mid next new : List PlacedValue)
     → mid ≡ old ++ restated_rules chosen rules → next ≡ mid ++ restated_at chosen r → new ≡ next ++ restated_at chosen s
@@ -79,13 +87,15 @@ queried chosen place one other old mid new is is_too e h =
     let first = added_at place (only Read) (codes "/proc/*/attr/apparmor/") in
     let second = added_at place (only Read) (codes "/sys/module/apparmor/parameters/enabled") in
     one_behind chosen (first ∷ []) second old mid new
-    (e ∙ ap (λ (perms : Perms). old ++ restated_at chosen (added_at place perms (codes "/proc/*/attr/apparmor/"))) is ∙ ap (λ l. old ++ l) (sym (restated_one chosen first)))
+    (e ∙ ap (λ (perms : Perms). old ++ restated_at chosen (added_at place perms (codes "/proc/*/attr/apparmor/"))) is ∙ ap (λ l. old ++ l)
+    (sym (restated_one chosen first)))
     (h ∙ ap (λ (perms : Perms). mid ++ restated_at chosen (added_at place perms (codes "/sys/module/apparmor/parameters/enabled"))) is_too)
 
 -- ---- all items
 
 -- what is left to be restated, once the first rules were
-pub rules_step : (chosen : Subject) (first others : List PlacedRule) (now next : List PlacedValue) → next ≡ now ++ restated_rules chosen first
+pub rules_step : (chosen : Subject) (first others : List PlacedRule) (now next : List PlacedValue) →
+    next ≡ now ++ restated_rules chosen first
     → next ++ restated_rules chosen others ≡ now ++ restated_rules chosen (first ++ others)
 rules_step chosen first others now next e =
     ap (λ l. l ++ restated_rules chosen others) e ∙ append_assoc now (restated_rules chosen first) (restated_rules chosen others)

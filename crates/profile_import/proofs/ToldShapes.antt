@@ -1,5 +1,6 @@
 -- A rule that wouldn't be restated anyway, reported as if its path were read: nothing else is reported differently.
-use Rattle.std.proofs.Common.{◌≡◌, ℕ, Bool, true, false, not, ◌&&◌, cond, List, [], ◌∷◌, map, length, Option, Some, None, is_some, refl, sym, ap, ◌∙◌}
+use Rattle.std.proofs.Common.{◌≡◌, ℕ, Bool, true, false, not, ◌&&◌, cond, List, [], ◌∷◌, map, length, Option, Some, None, is_some, refl}
+use Rattle.std.proofs.Common.{sym, ap, ◌∙◌}
 use Rattle.std.specs.Prelude.{option_map}
 use Rattle.std.proofs.Math.Dec.{eqb-suc-zero}
 use Rattle.rule_globs.specs.Tokens.{Token}
@@ -33,7 +34,8 @@ told_is_restated chosen shape = at (applies_to shape.applies_to chosen) shape.is
     at false r l = refl
 
 -- and so is what it changes for a subject
-pub told_change : (chosen subject : Subject) (shape : RuleShape) → change chosen subject (told_shape chosen shape) ≡ change chosen subject shape
+pub told_change : (chosen subject : Subject) (shape : RuleShape) → change chosen subject (told_shape chosen shape)
+    ≡ change chosen subject shape
 told_change chosen subject shape =
     ap (λ (b : Bool). cond b (restated_change subject shape) (left_out_change subject shape)) (told_is_restated chosen shape)
 
@@ -63,23 +65,27 @@ some_kept f (Some x) = refl
 
 -- if it would be restated with its path read, all of its paths are looked at
 pub when_looked : (chosen : Subject) (rule : SubjectRule) (shape : RuleShape) (is : Bool) (paths : List (List Token))
-    → shape.kind ≡ rule.kind → shape.applies_to ≡ rule.applies_to → shape.perms ≡ rule.perms → shape.has_target ≡ is_some rule.target → shape.is_read ≡ true
-    → is ≡ is_restated chosen shape → is ≡ true → paths ≡ restated_paths rule.path → paths ≡ paths_looked_at chosen rule
+    → shape.kind ≡ rule.kind → shape.applies_to ≡ rule.applies_to → shape.perms ≡ rule.perms → shape.has_target ≡ is_some rule.target →
+    shape.is_read ≡ true → is ≡ is_restated chosen shape → is ≡ true → paths ≡ restated_paths rule.path →
+    paths ≡ paths_looked_at chosen rule
 when_looked chosen rule shape is paths kind to perms target whole e stays h =
     let same : shape ≡ record (shape_of rule) { is_read = true } =
     λ i. record { kind = kind i; applies_to = to i; perms = perms i; has_target = target i; is_read = whole i } in
     h ∙ ap (λ (b : Bool). cond b (restated_paths rule.path) []) (sym stays ∙ e ∙ ap (is_restated chosen) same)
 
 -- the text of its path, as code makes it
-text_by : (variables : List Variable) (path : Option (List ℕ)) → text_of_path variables path ≡ elim path [ None ↦ every_file | Some path ↦ expanded variables path ]
+text_by : (variables : List Variable) (path : Option (List ℕ)) → text_of_path variables path
+    ≡ elim path [ None ↦ every_file | Some path ↦ expanded variables path ]
 text_by variables None = refl
 text_by variables (Some path) = refl
 
 as_they_are : (text : List ℕ) (paths : List (List Token)) → paths ≡ restated_paths (path_as text paths)
 as_they_are text [] = refl
-as_they_are text (path ∷ paths) = ap (λ (b : Bool). restated_paths (cond b (unread text) (read (path ∷ paths)))) (sym (eqb-suc-zero (length paths)))
+as_they_are text (path ∷ paths) = ap (λ (b : Bool). restated_paths (cond b (unread text) (read (path ∷ paths))))
+    (sym (eqb-suc-zero (length paths)))
 
-pub paths_of_text : (variables : List Variable) (parts : List PartValue) (path : Option (List ℕ)) (text : List ℕ) (paths : List (List Token))
+pub paths_of_text : (variables : List Variable) (parts : List PartValue) (path : Option (List ℕ)) (text : List ℕ)
+    (paths : List (List Token))
     → path ≡ path_of parts → text ≡ text_of_path variables path → paths ≡ imported_paths text
     → paths ≡ restated_paths (subject_path (rule_text variables parts))
 paths_of_text variables parts path text paths e f h =

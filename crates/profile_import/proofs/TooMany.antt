@@ -36,7 +36,8 @@ too_many_with now later fault h = at (slice_get now max_rules) refl h
     at (Some rule) is e = ap told_of (still_there now later max_rules rule is) ∙ e
 
 -- if what was gathered is too many, all that there is is, too
-pub too_many_before : (now later all : List PlacedValue) (place : ℕ) → now ++ later ≡ all → one_too_many now ≡ Some place → AreTooMany all (too_many_rules place)
+pub too_many_before : (now later all : List PlacedValue) (place : ℕ) → now ++ later ≡ all → one_too_many now ≡ Some place →
+    AreTooMany all (too_many_rules place)
 too_many_before now later all place same e =
     subst (λ (l : List PlacedValue). AreTooMany l (too_many_rules place)) same
     (too_many_with now later (too_many_rules place) (ap (option_map too_many_rules) e))
@@ -47,12 +48,14 @@ counted_by : (fault : ImportFault) (otherwise : Outcome) (o : Option PlacedValue
 counted_by fault otherwise None e = absurd cc
 counted_by fault otherwise (Some rule) e = cc
 
-pub counted_too_many : (strict : Bool) (name : List ℕ) (spans : List Span) (rules : List PlacedValue) (fault : ImportFault) → AreTooMany rules fault
+pub counted_too_many : (strict : Bool) (name : List ℕ) (spans : List Span) (rules : List PlacedValue) (fault : ImportFault) →
+    AreTooMany rules fault
     → Err fault ≡ counted_outcome strict name spans rules
 counted_too_many strict name spans rules fault h = counted_by fault _ (slice_get rules max_rules) h
 
 -- and that of the chosen profile in that case
-pub chosen_too_many : (strict : Bool) (name : List ℕ) (variables : List Variable) (choice : Choice) (items : List ItemValue) (lists : List Variable)
+pub chosen_too_many : (strict : Bool) (name : List ℕ) (variables : List Variable) (choice : Choice) (items : List ItemValue)
+    (lists : List Variable)
     (failure : ImportFailure) → lists ≡ variables
     → Fails (AreTooMany (restated_rules choice.subject (rules_in lists choice.subject items (at_start choice)))) failure
     → Fails (λ fault. Err fault ≡ chosen_outcome strict variables choice name items) failure
@@ -65,4 +68,5 @@ chosen_too_many strict name variables choice items lists (failures.At fault) is 
     let added = added_rules end.changes_profile end.has_hat in
     let here = subst (λ (v : List Variable). AreTooMany (restated_rules chosen (rules_in v chosen items (at_start choice))) value) is h in
     counted_too_many strict name end.spans (restated_rules chosen (all_rules variables choice items)) value
-    (subst (λ (l : List PlacedValue). AreTooMany l value) (sym (restated_both chosen first added)) (too_many_with (restated_rules chosen first) (restated_rules chosen added) value here))
+    (subst (λ (l : List PlacedValue). AreTooMany l value) (sym (restated_both chosen first added))
+    (too_many_with (restated_rules chosen first) (restated_rules chosen added) value here))

@@ -1,5 +1,6 @@
 -- The outcome of an import of a flattened profile text.
-use Rattle.std.specs.Prelude.{◌≡◌, ℕ, suc, List, [], ◌∷◌, length, map, find, not, bytes_eq, slice_get, Result, Ok, Err, Option, Some, None, option_map, Bool, true, false, if◌then◌else◌}
+use Rattle.std.specs.Prelude.{◌≡◌, ℕ, suc, List, [], ◌∷◌, length, map, find, not, bytes_eq, slice_get, Result, Ok, Err, Option, Some, None}
+use Rattle.std.specs.Prelude.{option_map, Bool, true, false, if◌then◌else◌}
 use Rattle.flat_text.specs.Parts.{ItemValue}
 use Rattle.flat_text.specs.Texts.{ReadsItems}
 use Rattle.flat_words.specs.Steps.{Stop}

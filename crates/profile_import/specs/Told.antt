@@ -2,11 +2,13 @@
 use Rattle.std.specs.Prelude.{map, Result, Ok, Err}
 use Rattle.rule_profile.specs.Profile.{profile_value}
 use Rattle.profile_import.specs.declared.fault.ImportFault as told
-use Rattle.profile_import.specs.declared.fault.ImportFault.TheVariants.{Syntax, Include, LeftOut, Permissions, Undefined, Cycle, Declared, Name, TooManyRules, TooLong, Which, NotExact}
+use Rattle.profile_import.specs.declared.fault.ImportFault.TheVariants.{Syntax, Include, LeftOut, Permissions, Undefined, Cycle, Declared}
+use Rattle.profile_import.specs.declared.fault.ImportFault.TheVariants.{Name, TooManyRules, TooLong, Which, NotExact}
 use Rattle.profile_import.specs.declared.fault.ImportFailure.{ImportFailure}
 use Rattle.profile_import.specs.declared.fault.ImportFailure.TheVariants as failures
 use Rattle.profile_import.specs.declared.importing.Imported.{Imported}
-use Rattle.profile_import.specs.Faults.{ImportFault, syntax, include, left_out, permissions, undefined_variable, cyclic_variable, declared, bad_name, too_many_rules, too_long_path, which, not_exact}
+use Rattle.profile_import.specs.Faults.{ImportFault, syntax, include, left_out, permissions, undefined_variable, cyclic_variable, declared}
+use Rattle.profile_import.specs.Faults.{bad_name, too_many_rules, too_long_path, which, not_exact}
 use Rattle.profile_import.specs.Imports.{ImportValue, Outcome}
 
 abbrev pub import_fault_value : told.ImportFault → ImportFault

@@ -9,7 +9,8 @@ ghost use Rattle.import_scope.specs.FirstFaults.{FirstFault, variables_within};
 ghost use Rattle.rule_profile.specs.Readable.{is_rule};
 ghost use Rattle.rule_profile.specs.Rules.{rule_value};
 ghost use Rattle.profile_import.specs.Faults.{scope_fault, stop_fault, which};
-ghost use Rattle.profile_import.specs.Imports.{Imports, changes_something, first_change, counted_outcome, chosen_outcome, items_outcome, read_outcome};
+ghost use Rattle.profile_import.specs.Imports.{Imports, changes_something, first_change, counted_outcome, chosen_outcome, items_outcome};
+ghost use Rattle.profile_import.specs.Imports.{read_outcome};
 ghost use Rattle.profile_import.specs.Told.{Fails, Tells, import_fault_value};
 
 use crate::added::push_added_rules;
@@ -108,7 +109,8 @@ fn import_chosen<'x, 't>(
     items: &'x [Item<'_>],
 ) -> Result<Imported, ImportFailure<'t>>
     requires { IsTrue (can_be_said name.now) }
-    ensures { Tells (λ outcome. outcome ≡ chosen_outcome strict (variables_within scope.now.variables.items name.now) choice name.now items.now) result }
+    ensures { Tells (λ outcome. outcome ≡ chosen_outcome strict (variables_within scope.now.variables.items name.now) choice
+        name.now items.now) result }
 {
     let mut lists = lists_of(alloc, &scope.variables, name)?;
     let (cut, mut rules) = gather(alloc, choice, &mut lists, items)?;

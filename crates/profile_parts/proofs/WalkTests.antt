@@ -1,5 +1,6 @@
 -- The walk over a path's tokens finds out what their tests do.
-use Rattle.std.proofs.Common.{◌≡◌, ℕ, suc, ◌-◌, ◌==◌, List, [], ◌∷◌, length, Option, Some, None, Bool, true, false, not, ◌&&◌, ◌||◌, if◌then◌else◌, refl, sym, ap, ◌∙◌, arith}
+use Rattle.std.proofs.Common.{◌≡◌, ℕ, suc, ◌-◌, ◌==◌, List, [], ◌∷◌, length, Option, Some, None, Bool, true, false, not, ◌&&◌, ◌||◌}
+use Rattle.std.proofs.Common.{if◌then◌else◌, refl, sym, ap, ◌∙◌, arith}
 use Rattle.std.specs.Prelude.{option_and_then, nat_le, nat_lt}
 use Rattle.std.proofs.lemmas.Bool.Decides.{nat_tests}
 use Rattle.std.specs.List.{list_all}
@@ -141,16 +142,22 @@ run_room tokens c wanted depth room ih =
     (no_room (length tokens) room) (some_room (length tokens) room)
 
 run_walk : (tokens : List Token) (crosses_slashes strict : Bool) → Finds tokens → Finds (stars crosses_slashes strict ∷ tokens)
-run_walk tokens crosses_slashes strict ih FirstSlash after_slash depth room = run_room tokens false (behind_run strict after_slash) depth room ih
-run_walk tokens crosses_slashes strict ih NoRun after_slash depth room = run_room tokens false (behind_run strict after_slash) depth room ih
-run_walk tokens crosses_slashes strict ih SlashOrEnd after_slash depth room = run_room tokens false (behind_run strict after_slash) depth room ih
-run_walk tokens crosses_slashes strict ih Other after_slash depth room = run_room tokens false (behind_run strict after_slash) depth room ih
+run_walk tokens crosses_slashes strict ih FirstSlash after_slash depth room =
+    run_room tokens false (behind_run strict after_slash) depth room ih
+run_walk tokens crosses_slashes strict ih NoRun after_slash depth room =
+    run_room tokens false (behind_run strict after_slash) depth room ih
+run_walk tokens crosses_slashes strict ih SlashOrEnd after_slash depth room =
+    run_room tokens false (behind_run strict after_slash) depth room ih
+run_walk tokens crosses_slashes strict ih Other after_slash depth room =
+    run_room tokens false (behind_run strict after_slash) depth room ih
 run_walk tokens crosses_slashes true ih Anything true depth room =
     run_room tokens true SlashOrEnd depth room ih
-    ∙ ap (λ x. nat_le (suc (length tokens)) room && (x && are_tokens false depth tokens)) (sym (ap (λ x. x && slash_or_end_behind tokens) (and_true (not (begins_with_run tokens))) ∙ slash_is_no_run tokens))
+    ∙ ap (λ x. nat_le (suc (length tokens)) room && (x && are_tokens false depth tokens))
+    (sym (ap (λ x. x && slash_or_end_behind tokens) (and_true (not (begins_with_run tokens))) ∙ slash_is_no_run tokens))
 run_walk tokens crosses_slashes true ih Anything false depth room =
     run_room tokens false SlashOrEnd depth room ih
-    ∙ ap (λ x. nat_le (suc (length tokens)) room && ((x && slash_or_end_behind tokens) && are_tokens false depth tokens)) (sym (and_false (not (begins_with_run tokens))))
+    ∙ ap (λ x. nat_le (suc (length tokens)) room && ((x && slash_or_end_behind tokens) && are_tokens false depth tokens))
+    (sym (and_false (not (begins_with_run tokens))))
 run_walk tokens crosses_slashes false ih Anything true depth room = run_room tokens true Other depth room ih
 run_walk tokens crosses_slashes false ih Anything false depth room =
     run_room tokens true NoRun depth room ih
@@ -186,11 +193,13 @@ finds (byte b ∷ tokens) wanted after_slash depth room =
     tested (can_stand b) tokens (passed (place wanted after_slash depth room) (is_slash b) depth) (nat_le (suc (length tokens)) room)
     (can_begin wanted (is_slash b)) (are_tokens (is_slash b) depth tokens)
     (passed_walk tokens wanted after_slash (is_slash b) depth depth room (finds tokens))
-    ∙ ap (λ x. nat_le (suc (length tokens)) room && (x && (can_stand b && are_tokens (is_slash b) depth tokens))) (sym (fits-byte wanted b tokens))
+    ∙ ap (λ x. nat_le (suc (length tokens)) room && (x && (can_stand b && are_tokens (is_slash b) depth tokens)))
+    (sym (fits-byte wanted b tokens))
 finds (any_byte ∷ tokens) wanted after_slash depth room =
     other_walk tokens any_byte wanted after_slash true depth depth room (finds tokens) other-any_byte
 finds (bracket negated ranges ∷ tokens) wanted after_slash depth room =
-    other_walk tokens (bracket negated ranges) wanted after_slash (not (length ranges == 0) && list_all is_range ranges) depth depth room (finds tokens) (other-bracket negated ranges)
+    other_walk tokens (bracket negated ranges) wanted after_slash (not (length ranges == 0) && list_all is_range ranges) depth depth room
+    (finds tokens) (other-bracket negated ranges)
 finds (stars crosses_slashes strict ∷ tokens) wanted after_slash depth room =
     run_walk tokens crosses_slashes strict (finds tokens) wanted after_slash depth room
 finds (opening ∷ tokens) wanted after_slash depth room =

@@ -1,5 +1,6 @@
 -- The walk goes over items one by one, and over alternatives one by one.
-use Rattle.std.proofs.Common.{◌≡◌, ℕ, zero, suc, ◌+◌, ◌<◌, ◌≤◌, List, [], ◌∷◌, ◌++◌, length, map, drop, take, ◌-◌, subst, get_or, length-append, Vec, Global, Option, Some, None, refl, sym, ap, ◌∙◌, add-one, arith}
+use Rattle.std.proofs.Common.{◌≡◌, ℕ, zero, suc, ◌+◌, ◌<◌, ◌≤◌, List, [], ◌∷◌, ◌++◌, length, map, drop, take, ◌-◌, subst, get_or}
+use Rattle.std.proofs.Common.{length-append, Vec, Global, Option, Some, None, refl, sym, ap, ◌∙◌, add-one, arith}
 use Rattle.std.proofs.Math.Seq.{take-length}
 use Rattle.std.specs.Prelude.{option_and_then}
 use Rattle.rule_globs.specs.Tokens.{Token, opening, between, closing, with_commas, tokens, tokens_of}
@@ -58,16 +59,19 @@ rest_here : (part : List Token) (parts : List (List Token)) (p : Place) →
     walk_rest (part ∷ parts) p ≡ option_and_then (walk_rest parts) (option_and_then (walk part) (step between p))
 rest_here part parts p = chained (walk (with_commas (part ∷ parts))) (walk_rest parts) (walk part) (first_part part parts) (step between p)
 
-rest_suc : (alternatives : List (Vec Item Global)) (i : ℕ) (items : Vec Item Global) (p : Place) → i < length alternatives → items ≡ get_or alternatives i items →
+rest_suc : (alternatives : List (Vec Item Global)) (i : ℕ) (items : Vec Item Global) (p : Place) → i < length alternatives →
+    items ≡ get_or alternatives i items →
     walk_rest (parts_of (drop i alternatives)) p
     ≡ option_and_then (walk_rest (parts_of (drop (suc i) alternatives))) (option_and_then (walk (tokens_of items.items)) (step between p))
 rest_suc [] i items p lt e = absurd (omega arith)
 rest_suc (x ∷ alternatives) zero items p lt e =
     rest_here (tokens_of x.items) (parts_of alternatives) p
-    ∙ ap (λ (y : Vec Item Global). option_and_then (walk_rest (parts_of alternatives)) (option_and_then (walk (tokens_of y.items)) (step between p))) (sym e)
+    ∙ ap (λ (y : Vec Item Global). option_and_then (walk_rest (parts_of alternatives))
+    (option_and_then (walk (tokens_of y.items)) (step between p))) (sym e)
 rest_suc (x ∷ alternatives) (suc i) items p lt e = rest_suc alternatives i items p (omega arith) e
 
-pub rest_step : (alternatives : List (Vec Item Global)) (i : ℕ) (items : Vec Item Global) (p : Place) → i < length alternatives → items ≡ get_or alternatives i items →
+pub rest_step : (alternatives : List (Vec Item Global)) (i : ℕ) (items : Vec Item Global) (p : Place) → i < length alternatives →
+    items ≡ get_or alternatives i items →
     walk_rest (parts_of (drop i alternatives)) p
     ≡ option_and_then (walk_rest (parts_of (drop (i + 1) alternatives))) (option_and_then (walk (tokens_of items.items)) (step between p))
 rest_step alternatives i items p lt e = rw add-one (rest_suc alternatives i items p lt e)
@@ -78,8 +82,9 @@ pub group_step : (alternatives : Vec (Vec Item Global) Global) (p : Place) →
     ≡ option_and_then (step closing) (option_and_then (walk (with_commas (parts_of alternatives.items))) (step opening p))
 group_step alternatives p =
     ap (λ row. walk row p) (tokens-Group alternatives)
-    ∙ chained (walk (with_commas (parts_of alternatives.items) ++ closing ∷ [])) (step closing) (walk (with_commas (parts_of alternatives.items)))
-    (λ q. walk-append (with_commas (parts_of alternatives.items)) (closing ∷ []) q ∙ ends_with_closing (walk (with_commas (parts_of alternatives.items)) q))
+    ∙ chained (walk (with_commas (parts_of alternatives.items) ++ closing ∷ [])) (step closing)
+    (walk (with_commas (parts_of alternatives.items))) (λ q. walk-append (with_commas (parts_of alternatives.items)) (closing ∷ []) q
+    ∙ ends_with_closing (walk (with_commas (parts_of alternatives.items)) q))
     (step opening p)
 
 -- those behind the first, as code has them
@@ -89,13 +94,16 @@ others_of alternatives = take (length alternatives - 1) (drop 1 alternatives)
 others_are : (x : Vec Item Global) (alternatives : List (Vec Item Global)) → others_of (x ∷ alternatives) ≡ alternatives
 others_are x alternatives = ap (λ n. take n alternatives) (omega arith) ∙ take-length alternatives
 
-pub all_parts : (alternatives : List (Vec Item Global)) (first : Vec Item Global) (p : Place) → 0 < length alternatives → first ≡ get_or alternatives 0 first →
-    walk (with_commas (parts_of alternatives)) p ≡ option_and_then (walk_rest (parts_of (others_of alternatives))) (walk (tokens_of first.items) p)
+pub all_parts : (alternatives : List (Vec Item Global)) (first : Vec Item Global) (p : Place) → 0 < length alternatives →
+    first ≡ get_or alternatives 0 first →
+    walk (with_commas (parts_of alternatives)) p ≡ option_and_then (walk_rest (parts_of (others_of alternatives)))
+    (walk (tokens_of first.items) p)
 all_parts [] first p lt e = absurd (omega arith)
 all_parts (x ∷ alternatives) first p lt e =
     first_part (tokens_of x.items) (parts_of alternatives) p
     ∙ ap (λ l. option_and_then (walk_rest (parts_of l)) (walk (tokens_of x.items) p)) (sym (others_are x alternatives))
-    ∙ ap (λ (y : Vec Item Global). option_and_then (walk_rest (parts_of (others_of (x ∷ alternatives)))) (walk (tokens_of y.items) p)) (sym e)
+    ∙ ap (λ (y : Vec Item Global). option_and_then (walk_rest (parts_of (others_of (x ∷ alternatives)))) (walk (tokens_of y.items) p))
+    (sym e)
 
 -- ---- how many tokens an alternative has
 
@@ -105,7 +113,8 @@ rest_of_parts x [] = omega arith
 rest_of_parts x (y ∷ alternatives) = omega (arith, length-append (tokens_of x.items) (between ∷ with_commas (parts_of (y ∷ alternatives))))
 
 -- one of those behind the first
-pub length_other : (alternatives : List (Vec Item Global)) (i : ℕ) (items : Vec Item Global) → 0 < length alternatives → i < length (others_of alternatives) → items ≡ get_or (others_of alternatives) i items →
+pub length_other : (alternatives : List (Vec Item Global)) (i : ℕ) (items : Vec Item Global) → 0 < length alternatives →
+    i < length (others_of alternatives) → items ≡ get_or (others_of alternatives) i items →
     length (tokens_of items.items) ≤ length (with_commas (parts_of alternatives))
 length_other [] i items some lt e = absurd (omega arith)
 length_other (x ∷ alternatives) i items some lt e =

@@ -48,7 +48,9 @@ pub told_send : IsSend told.the_row
 told_send = search (sendable, reader.the_field_send, store_sync, boxes.crosses, boxes.send, boxes.sync) depth 40 fits 20000
 
 pub reader_send : IsSend policy_reader.the_row
-reader_send = search (sendable, reader.the_field_send, refusals.the_send, store_sync, boxes.crosses, boxes.send, boxes.sync) depth 40 fits 20000
+reader_send = search (sendable, reader.the_field_send, refusals.the_send, store_sync, boxes.crosses, boxes.send, boxes.sync)
+    depth 40 fits 20000
 
 pub publisher_send : IsSend publisher.the_row
-publisher_send = search (sendable, writer.the_field_send, change_send, store_send, store_sync, boxes.crosses, boxes.send, boxes.sync) depth 40 fits 20000
+publisher_send = search (sendable, writer.the_field_send, change_send, store_send, store_sync, boxes.crosses, boxes.send, boxes.sync)
+    depth 40 fits 20000

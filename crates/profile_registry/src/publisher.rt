@@ -202,7 +202,8 @@ fn give_back(place: &mut Option<StoreWriter>, writer: StoreWriter)
 /// Makes all staged changes visible at once, and returns the version.
 fn publish_staged<R: Wait>(rt: &R, writer: StoreWriter) -> (StoreWriter, Result<u64, NoMemory>)
     requires { length (view writer.desk.place).seen ≡ writer.desk.shown.value.version }
-    ensures ok { IfOk result.1 (λ version. ((view result.0.desk.place).seen ≡ (view writer.desk.place).seen ++ map deed_of (drop writer.behind writer.log.items))
+    ensures ok { IfOk result.1
+        (λ version. ((view result.0.desk.place).seen ≡ (view writer.desk.place).seen ++ map deed_of (drop writer.behind writer.log.items))
         × (version ≡ length (view result.0.desk.place).seen) × (drop result.0.behind result.0.log.items ≡ [])) }
     ensures err { OnErr result.1 (((view result.0.desk.place).seen ≡ (view writer.desk.place).seen)
         × (drop result.0.behind result.0.log.items ≡ drop writer.behind writer.log.items)) }

@@ -122,7 +122,8 @@ fn look_up(
     ensures version { IfOk result.1 (λ found. found.1 ≡ length (view result.0.place).seen) }
     ensures ok { OnOk result.1 ((view result.0.place).entries ≡ (view reader.place).entries + 1) }
     ensures err { OnErr result.1 ((view result.0.place ≡ view reader.place)
-        ⊎ (((view result.0.place).entries ≡ (view reader.place).entries + 1) × IsSome (policy_after (view result.0.place).seen name.now))) }
+        ⊎ (((view result.0.place).entries ≡ (view reader.place).entries + 1)
+        × IsSome (policy_after (view result.0.place).seen name.now))) }
 {
     match reader.enter_as::<Sees>() {
         Ok(reading) => {

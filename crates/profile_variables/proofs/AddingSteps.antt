@@ -10,7 +10,8 @@ pub part_added : (whole now new part rest : Text) → now ++ (part ++ rest) ≡ 
 part_added whole now new part rest is added = ap (λ (x : Text). x ++ rest) added ∙ append_assoc now part rest ∙ is
 
 -- where a part exceeds the limit, the whole does
-pub part_refused : (refusal : Refusal) (old more now part rest : Text) → now ++ (part ++ rest) ≡ old ++ more → Refused refusal now part → Refused refusal old more
+pub part_refused : (refusal : Refusal) (old more now part rest : Text) → now ++ (part ++ rest) ≡ old ++ more → Refused refusal now part →
+    Refused refusal old more
 part_refused Nothing old more now part rest is long =
     let a = length-append now part in
     let b = length-append (now ++ part) rest in

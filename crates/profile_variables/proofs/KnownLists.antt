@@ -1,10 +1,12 @@
 -- What is known, and lists that are found when more is known.
-use Rattle.std.proofs.Common.{◌≡◌, ℕ, zero, suc, ◌+◌, ◌-◌, ◌<◌, Bool, true, false, cond, List, [], ◌∷◌, ◌++◌, length, take, get_or, Option, Some, None, refl, sym, ap, ◌∙◌, subst, arith}
+use Rattle.std.proofs.Common.{◌≡◌, ℕ, zero, suc, ◌+◌, ◌-◌, ◌<◌, Bool, true, false, cond, List, [], ◌∷◌, ◌++◌, length, take, get_or, Option}
+use Rattle.std.proofs.Common.{Some, None, refl, sym, ap, ◌∙◌, subst, arith}
 use Rattle.std.specs.Prelude.{slice_get, is_some, IsSome, bytes_eq, option_and_then, find, unwrap_or}
 use Rattle.std.specs.Option.{option_map}
 use Rattle.std.specs.Cmp.Lexicographic.{bytes_decides}
 use Rattle.profile_variables.specs.Pieces.{Text, Piece, byte, escaped, use_of, pieces, names_in, used_names}
-use Rattle.profile_variables.specs.Variables.{Variable, Known, values_of, fitting, each_with, piece_texts, texts_from, value_texts, list_from, list_of_values, list_at, names_needed}
+use Rattle.profile_variables.specs.Variables.{Variable, Known, values_of, fitting, each_with, piece_texts, texts_from, value_texts}
+use Rattle.profile_variables.specs.Variables.{list_from, list_of_values, list_at, names_needed}
 use Rattle.profile_variables.specs.Problems.{AreListed}
 use Rattle.profile_variables.specs.inner.Known.{place_of}
 use Rattle.profile_variables.specs.inner.Way.{KnowsAll, AreKnown, variable_at}
@@ -15,7 +17,8 @@ use Rattle.profile_variables.proofs.Places.{find_place, find_nothing}
 -- ---- one step that may fail after another
 
 -- both steps gave something
-pub both_steps : {A B : Type 0} (f : A → Option B) (o : Option A) (y : B) → option_and_then f o ≡ Some y → (x : A) × (o ≡ Some x) × (f x ≡ Some y)
+pub both_steps : {A B : Type 0} (f : A → Option B) (o : Option A) (y : B) → option_and_then f o ≡ Some y →
+    (x : A) × (o ≡ Some x) × (f x ≡ Some y)
 both_steps f None y e = absurd cc
 both_steps f (Some x) y e = (x, refl, e)
 
@@ -30,23 +33,30 @@ module _ (old new : Known) (more : KnowsAll old new) where
   piece_more (escaped b) texts e = e
   piece_more (use_of name) texts e = more name texts e
 
-  texts_more : (begun : List Text) (ps : List Piece) (texts : List Text) → texts_from old begun ps ≡ Some texts → texts_from new begun ps ≡ Some texts
+  texts_more : (begun : List Text) (ps : List Piece) (texts : List Text) → texts_from old begun ps ≡ Some texts →
+      texts_from new begun ps ≡ Some texts
   texts_more begun [] texts e = e
   texts_more begun (p ∷ ps) texts e =
-      let a = both_steps (λ choices. option_and_then (λ longer. texts_from old longer ps) (fitting (each_with begun choices))) (piece_texts old p) texts e in
+      let a = both_steps (λ choices. option_and_then (λ longer. texts_from old longer ps) (fitting (each_with begun choices)))
+      (piece_texts old p) texts e in
       let b = both_steps (λ longer. texts_from old longer ps) (fitting (each_with begun a.0)) texts a.2 in
-      and_both (λ choices. option_and_then (λ longer. texts_from new longer ps) (fitting (each_with begun choices))) (piece_texts new p) a.0 texts (piece_more p a.0 a.1)
-      (and_both (λ longer. texts_from new longer ps) (fitting (each_with begun a.0)) b.0 texts b.1 (texts_more b.0 ps texts b.2))
+      and_both (λ choices. option_and_then (λ longer. texts_from new longer ps) (fitting (each_with begun choices))) (piece_texts new p)
+      a.0 texts (piece_more p a.0 a.1) (and_both (λ longer. texts_from new longer ps) (fitting (each_with begun a.0)) b.0 texts b.1
+      (texts_more b.0 ps texts b.2))
 
-  list_more : (begun : List Text) (values : List Text) (list : List Text) → list_from old begun values ≡ Some list → list_from new begun values ≡ Some list
+  list_more : (begun : List Text) (values : List Text) (list : List Text) → list_from old begun values ≡ Some list →
+      list_from new begun values ≡ Some list
   list_more begun [] list e = e
   list_more begun (v ∷ vs) list e =
-      let a = both_steps (λ texts. option_and_then (λ longer. list_from old longer vs) (fitting (begun ++ texts))) (value_texts old v) list e in
+      let a = both_steps (λ texts. option_and_then (λ longer. list_from old longer vs) (fitting (begun ++ texts)))
+      (value_texts old v) list e in
       let b = both_steps (λ longer. list_from old longer vs) (fitting (begun ++ a.0)) list a.2 in
-      and_both (λ texts. option_and_then (λ longer. list_from new longer vs) (fitting (begun ++ texts))) (value_texts new v) a.0 list (texts_more ([] ∷ []) (pieces v) a.0 a.1)
-      (and_both (λ longer. list_from new longer vs) (fitting (begun ++ a.0)) b.0 list b.1 (list_more b.0 vs list b.2))
+      and_both (λ texts. option_and_then (λ longer. list_from new longer vs) (fitting (begun ++ texts))) (value_texts new v) a.0 list
+      (texts_more ([] ∷ []) (pieces v) a.0 a.1) (and_both (λ longer. list_from new longer vs) (fitting (begun ++ a.0)) b.0 list b.1
+      (list_more b.0 vs list b.2))
 
-pub more_listed : (old new : Known) → KnowsAll old new → (values list : List Text) → list_of_values old values ≡ Some list → list_of_values new values ≡ Some list
+pub more_listed : (old new : Known) → KnowsAll old new → (values list : List Text) → list_of_values old values ≡ Some list →
+    list_of_values new values ≡ Some list
 more_listed old new more values list e = list_more old new more [] values list e
 
 -- one more level gives no different list
@@ -62,7 +72,8 @@ pub levels : (variables : List Variable) (k n m : ℕ) → m ≡ k + n → Knows
 levels variables zero n m is name list e = let same : n ≡ m = omega arith in subst (λ j. list_at j variables name ≡ Some list) same e
 levels variables (suc k) n m is name list e =
     let same : suc (k + n) ≡ m = omega arith in
-    subst (λ j. list_at j variables name ≡ Some list) same (one_level variables (k + n) name list (levels variables k n (k + n) refl name list e))
+    subst (λ j. list_at j variables name ≡ Some list) same
+    (one_level variables (k + n) name list (levels variables k n (k + n) refl name list e))
 
 -- ---- what is known of names
 
@@ -79,7 +90,8 @@ the_list None h = absurd cc
 the_list (Some list) h = (list, refl)
 
 -- what is known at some level is listed
-pub are_listed : (variables : List Variable) (known : Known) (n : ℕ) → KnowsAll known (list_at n variables) → (names : List Text) → AreKnown known names → AreListed variables names
+pub are_listed : (variables : List Variable) (known : Known) (n : ℕ) → KnowsAll known (list_at n variables) → (names : List Text) →
+    AreKnown known names → AreListed variables names
 are_listed variables known n right [] h = tt
 are_listed variables known n right (name ∷ names) h =
     let a = the_list (known name) h.0 in ((a.0, (n, right name a.0 a.1)), are_listed variables known n right names h.1)
@@ -106,10 +118,13 @@ agree_known old new more (name ∷ names) h =
     let a = the_list (old name) h.0 in (a.1 ∙ sym (more name a.0 a.1), agree_known old new more names h.1)
 
 module _ (one other : Known) where
-  rest_alike : (begun : List Text) (ps : List Piece) → ((longer : List Text) → texts_from one longer ps ≡ texts_from other longer ps) → (o : Option (List Text))
+  rest_alike : (begun : List Text) (ps : List Piece) → ((longer : List Text) → texts_from one longer ps ≡ texts_from other longer ps) →
+      (o : Option (List Text))
       → option_and_then (λ choices. option_and_then (λ longer. texts_from one longer ps) (fitting (each_with begun choices))) o
       ≡ option_and_then (λ choices. option_and_then (λ longer. texts_from other longer ps) (fitting (each_with begun choices))) o
-  rest_alike begun ps same o = ap (λ (f : List Text → Option (List Text)). option_and_then (λ choices. option_and_then f (fitting (each_with begun choices))) o) (λ i longer. same longer i)
+  rest_alike begun ps same o =
+      ap (λ (f : List Text → Option (List Text)). option_and_then (λ choices. option_and_then f (fitting (each_with begun choices))) o)
+      (λ i longer. same longer i)
 
   texts_alike : (begun : List Text) (ps : List Piece) → Agree one other (names_in ps) → texts_from one begun ps ≡ texts_from other begun ps
   texts_alike begun [] h = refl
@@ -119,13 +134,17 @@ module _ (one other : Known) where
       ap (option_and_then (λ choices. option_and_then (λ longer. texts_from one longer ps) (fitting (each_with begun choices)))) h.0
       ∙ rest_alike begun ps (λ longer. texts_alike longer ps h.1) (other name)
 
-  list_alike : (begun : List Text) (values : List Text) → Agree one other (names_needed values) → list_from one begun values ≡ list_from other begun values
+  list_alike : (begun : List Text) (values : List Text) → Agree one other (names_needed values) → list_from one begun values
+      ≡ list_from other begun values
   list_alike begun [] h = refl
   list_alike begun (v ∷ vs) h =
-      ap (option_and_then (λ texts. option_and_then (λ longer. list_from one longer vs) (fitting (begun ++ texts)))) (texts_alike ([] ∷ []) (pieces v) (agree_front one other (used_names v) (names_needed vs) h))
-      ∙ ap (λ (f : List Text → Option (List Text)). option_and_then (λ texts. option_and_then f (fitting (begun ++ texts))) (value_texts other v)) (λ i longer. list_alike longer vs (agree_back one other (used_names v) (names_needed vs) h) i)
+      ap (option_and_then (λ texts. option_and_then (λ longer. list_from one longer vs) (fitting (begun ++ texts))))
+      (texts_alike ([] ∷ []) (pieces v) (agree_front one other (used_names v) (names_needed vs) h))
+      ∙ ap (λ (f : List Text → Option (List Text)). option_and_then (λ texts. option_and_then f (fitting (begun ++ texts)))
+      (value_texts other v)) (λ i longer. list_alike longer vs (agree_back one other (used_names v) (names_needed vs) h) i)
 
-pub alike : (one other : Known) (values : List Text) → Agree one other (names_needed values) → list_of_values one values ≡ list_of_values other values
+pub alike : (one other : Known) (values : List Text) → Agree one other (names_needed values) → list_of_values one values
+    ≡ list_of_values other values
 alike one other values h = list_alike one other [] values h
 
 -- ---- variables at their places
@@ -133,7 +152,8 @@ alike one other values h = list_alike one other [] values h
 passes : {X : Type 0} (test : X → Bool) (xs : List X) (x : X) → find test xs ≡ Some x → test x ≡ true
 passes test [] x e = absurd cc
 passes test (y ∷ xs) x e =
-    let P : (t : Bool) → test y ≡ t → cond t (Some y) (find test xs) ≡ Some x → test x ≡ true = λ t. elim t as (λ t. test y ≡ t → cond t (Some y) (find test xs) ≡ Some x → test x ≡ true) [
+    let P : (t : Bool) → test y ≡ t → cond t (Some y) (find test xs) ≡ Some x → test x ≡ true =
+    λ t. elim t as (λ t. test y ≡ t → cond t (Some y) (find test xs) ≡ Some x → test x ≡ true) [
       | true ↦ λ h g. let same : y ≡ x = cc in ap test (sym same) ∙ h
       | false ↦ λ h g. passes test xs x g
     ] in
@@ -145,7 +165,8 @@ pub record StandsAt (variables : List Variable) (name : Text) (place : ℕ) : Ty
   pub valued : values_of variables name ≡ Some (variable_at variables place).values
   pub named : (variable_at variables place).name ≡ name
 
-pub stands_at : (variables : List Variable) (name : Text) (place : ℕ) → place_of variables name ≡ Some place → StandsAt variables name place
+pub stands_at : (variables : List Variable) (name : Text) (place : ℕ) → place_of variables name ≡ Some place →
+    StandsAt variables name place
 stands_at variables name place e =
     let found = find_place (λ (v : Variable). bytes_eq v.name name) 0 variables place e in
     let same : place - 0 ≡ place = omega arith in
@@ -156,18 +177,23 @@ stands_at variables name place e =
     record {
       within = within;
       valued = ap (option_map (λ (v : Variable). v.values)) there ∙ ap (λ (v : Variable). Some v.values) is;
-      named = ap (λ (v : Variable). v.name) (sym is) ∙ (bytes_decides at.0.name name).0 (passes (λ (v : Variable). bytes_eq v.name name) variables at.0 there);
+      named = ap (λ (v : Variable). v.name) (sym is) ∙ (bytes_decides at.0.name name).0
+          (passes (λ (v : Variable). bytes_eq v.name name) variables at.0 there);
     }
 
 pub stands_nowhere : (variables : List Variable) (name : Text) → place_of variables name ≡ None → values_of variables name ≡ None
-stands_nowhere variables name e = ap (option_map (λ (v : Variable). v.values)) (find_nothing (λ (v : Variable). bytes_eq v.name name) 0 variables e)
+stands_nowhere variables name e = ap (option_map (λ (v : Variable). v.values))
+    (find_nothing (λ (v : Variable). bytes_eq v.name name) 0 variables e)
 
 -- ---- names known one after another
 
-pub known_and_one : (known : Known) (names : List Text) (name : Text) → AreKnown known names → IsSome (known name) → AreKnown known (names ++ name ∷ [])
+pub known_and_one : (known : Known) (names : List Text) (name : Text) → AreKnown known names → IsSome (known name) →
+    AreKnown known (names ++ name ∷ [])
 known_and_one known [] name h some = (some, tt)
 known_and_one known (n ∷ names) name h some = (h.0, known_and_one known names name h.1 some)
 
-pub known_more : (known : Known) (names : List Text) (i : ℕ) (name : Text) → i < length names → get_or names i name ≡ name → AreKnown known (take i names) → IsSome (known name) → AreKnown known (take (i + 1) names)
+pub known_more : (known : Known) (names : List Text) (i : ℕ) (name : Text) → i < length names → get_or names i name ≡ name →
+    AreKnown known (take i names) → IsSome (known name) → AreKnown known (take (i + 1) names)
 known_more known names i name low is h some =
-    subst (AreKnown known) (ap (λ (x : Text). take i names ++ x ∷ []) (sym is) ∙ sym (take_more names i name low)) (known_and_one known (take i names) name h some)
+    subst (AreKnown known) (ap (λ (x : Text). take i names ++ x ∷ []) (sym is) ∙ sym (take_more names i name low))
+    (known_and_one known (take i names) name h some)

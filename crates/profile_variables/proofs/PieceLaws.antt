@@ -1,11 +1,13 @@
 -- The pieces of a text, written out, are the text.
-use Rattle.std.proofs.Common.{◌≡◌, ℕ, zero, suc, ◌+◌, ◌-◌, Bool, true, false, cond, eqb, [], ◌∷◌, ◌++◌, length, drop, take, Option, Some, None, refl, sym, ap, ◌∙◌, subst, ⊎_elim, append_assoc, arith}
+use Rattle.std.proofs.Common.{◌≡◌, ℕ, zero, suc, ◌+◌, ◌-◌, Bool, true, false, cond, eqb, [], ◌∷◌, ◌++◌, length, drop, take, Option, Some}
+use Rattle.std.proofs.Common.{None, refl, sym, ap, ◌∙◌, subst, ⊎_elim, append_assoc, arith}
 use Rattle.std.specs.Prelude.{◌&&◌}
 use Rattle.std.specs.Char.{is_ascii_alphabetic}
 use Rattle.std.specs.List.{flat_map, prefix_len, take_while}
 use Rattle.std.proofs.lemmas.List.{take-append-drop}
 use Rattle.std.proofs.lemmas.Bool.{eqb-true, cases_eq}
-use Rattle.profile_variables.specs.Pieces.{Text, Piece, use_of, written, begins, is_name_byte, is_close_brace, closed_name, used_name, escape, first_piece, pieces_behind}
+use Rattle.profile_variables.specs.Pieces.{Text, Piece, use_of, written, begins, is_name_byte, is_close_brace, closed_name, used_name}
+use Rattle.profile_variables.specs.Pieces.{escape, first_piece, pieces_behind}
 use Rattle.profile_variables.proofs.PieceSteps.{at_sign, at_first, plain_first, use_length}
 
 both_hold : (a b : Bool) → a && b ≡ true → b ≡ true
@@ -21,8 +23,10 @@ closed_front : (bytes name : Text) → closed_name bytes ≡ Some name → (rest
 closed_front bytes name e =
     let n = prefix_len is_name_byte bytes in
     let test = begins is_ascii_alphabetic bytes && begins is_close_brace (drop n bytes) in
-    let P : (t : Bool) → test ≡ t → cond t (Some (take_while is_name_byte bytes)) None ≡ Some name → (rest : Text) × (bytes ≡ name ++ 125 ∷ rest) =
-    λ t. elim t as (λ t. test ≡ t → cond t (Some (take_while is_name_byte bytes)) None ≡ Some name → (rest : Text) × (bytes ≡ name ++ 125 ∷ rest)) [
+    let P : (t : Bool) → test ≡ t → cond t (Some (take_while is_name_byte bytes)) None ≡ Some name → (rest : Text)
+    × (bytes ≡ name ++ 125 ∷ rest) =
+    λ t. elim t as (λ t. test ≡ t → cond t (Some (take_while is_name_byte bytes)) None ≡ Some name → (rest : Text)
+    × (bytes ≡ name ++ 125 ∷ rest)) [
       | true ↦ λ h g.
           let r = brace (drop n bytes) (both_hold (begins is_ascii_alphabetic bytes) (begins is_close_brace (drop n bytes)) h) in
           let is : take n bytes ≡ name = cc in
@@ -34,8 +38,10 @@ closed_front bytes name e =
 used_front : (bytes name : Text) → used_name bytes ≡ Some name → (rest : Text) × (bytes ≡ 123 ∷ name ++ 125 ∷ rest)
 used_front [] name e = absurd cc
 used_front (b ∷ bytes) name e =
-    let P : (t : Bool) → eqb b 123 ≡ t → cond t (closed_name bytes) None ≡ Some name → (rest : Text) × (b ∷ bytes ≡ 123 ∷ name ++ 125 ∷ rest) =
-    λ t. elim t as (λ t. eqb b 123 ≡ t → cond t (closed_name bytes) None ≡ Some name → (rest : Text) × (b ∷ bytes ≡ 123 ∷ name ++ 125 ∷ rest)) [
+    let P : (t : Bool) → eqb b 123 ≡ t → cond t (closed_name bytes) None ≡ Some name → (rest : Text)
+    × (b ∷ bytes ≡ 123 ∷ name ++ 125 ∷ rest) =
+    λ t. elim t as (λ t. eqb b 123 ≡ t → cond t (closed_name bytes) None ≡ Some name → (rest : Text)
+    × (b ∷ bytes ≡ 123 ∷ name ++ 125 ∷ rest)) [
       | true ↦ λ h g. let r = closed_front bytes name g in (r.0, λ i. eqb-true b 123 h i ∷ r.1 i)
       | false ↦ λ h g. absurd cc
     ] in
@@ -62,15 +68,18 @@ at_front bytes (Some name) e =
     let r = used_front bytes name e in
     let n : length (written (use_of name)) - 1 ≡ length name + 2 = use_length name in
     let behind : drop (length (written (use_of name)) - 1) bytes ≡ r.0 =
-    ap (λ (t : Text). drop (length (written (use_of name)) - 1) t) r.1 ∙ drop_behind (123 ∷ name) r.0 125 (length (written (use_of name)) - 1) (omega (arith, n)) in
-    ap (λ (t : Text). written (use_of name) ++ t) behind ∙ ap (λ (t : Text). 64 ∷ 123 ∷ t) (append_assoc name (125 ∷ []) r.0) ∙ ap (λ (t : Text). 64 ∷ t) (sym r.1)
+    ap (λ (t : Text). drop (length (written (use_of name)) - 1) t) r.1 ∙ drop_behind (123 ∷ name) r.0 125
+    (length (written (use_of name)) - 1) (omega (arith, n)) in
+    ap (λ (t : Text). written (use_of name) ++ t) behind ∙ ap (λ (t : Text). 64 ∷ 123 ∷ t) (append_assoc name (125 ∷ []) r.0)
+    ∙ ap (λ (t : Text). 64 ∷ t) (sym r.1)
 
 front : (b : ℕ) (bytes : Text) → IsFront (first_piece b bytes) b bytes
 front b bytes =
     ⊎_elim
     (λ same. subst (λ (x : ℕ). IsFront (first_piece x bytes) x bytes) (sym same) (escape_front bytes))
     (λ no_escape. ⊎_elim
-    (λ same. subst (λ (x : ℕ). IsFront (first_piece x bytes) x bytes) (sym same) (subst (λ (p : Piece). IsFront p 64 bytes) (sym (at_first bytes (used_name bytes) refl)) (at_front bytes (used_name bytes) refl)))
+    (λ same. subst (λ (x : ℕ). IsFront (first_piece x bytes) x bytes) (sym same)
+    (subst (λ (p : Piece). IsFront p 64 bytes) (sym (at_first bytes (used_name bytes) refl)) (at_front bytes (used_name bytes) refl)))
     (λ no_at. subst (λ (p : Piece). IsFront p b bytes) (sym (plain_first b bytes no_escape no_at)) refl)
     (cases_eq b 64))
     (cases_eq b 92)

@@ -1,5 +1,6 @@
 -- Pieces, one at a time.
-use Rattle.std.proofs.Common.{◌≡◌, ◌≢◌, ℕ, zero, suc, ◌+◌, ◌-◌, ◌≤◌, false, cond, eqb, List, [], ◌∷◌, length, drop, take, get_or, Option, Some, None, refl, sym, ap, ◌∙◌, subst, ⊎_elim, arith, length-append}
+use Rattle.std.proofs.Common.{◌≡◌, ◌≢◌, ℕ, zero, suc, ◌+◌, ◌-◌, ◌≤◌, false, cond, eqb, List, [], ◌∷◌, length, drop, take, get_or, Option}
+use Rattle.std.proofs.Common.{Some, None, refl, sym, ap, ◌∙◌, subst, ⊎_elim, arith, length-append}
 use Rattle.std.proofs.lemmas.List.{take_rest}
 use Rattle.std.proofs.lemmas.Bool.{ne_eqb, cases_eq}
 use Rattle.names.specs.Paths.{is_slash}
@@ -18,19 +19,22 @@ pub told : (n : ℕ) (text : Text) → pieces_behind n (drop 1 text) ≡ pieces_
 told n text = ap (pieces_behind n) (sym (take_rest text 1))
 
 -- a text that begins with this piece
-pub begins_with : (text : Text) (b : ℕ) (p : Piece) → 1 ≤ length text → get_or text 0 0 ≡ b → first_piece b (take (length text - 1) (drop 1 text)) ≡ p
+pub begins_with : (text : Text) (b : ℕ) (p : Piece) → 1 ≤ length text → get_or text 0 0 ≡ b →
+    first_piece b (take (length text - 1) (drop 1 text)) ≡ p
     → pieces text ≡ p ∷ pieces_behind (length (written p) - 1) (take (length text - 1) (drop 1 text))
 unfolding pieces_behind
 begins_with [] b p some at first = absurd (omega arith)
 begins_with (a ∷ bytes) b p some at first =
     let rest = take_rest (a ∷ bytes) 1 in
     let same : first_piece a bytes ≡ p = ap (λ (x : ℕ). first_piece x bytes) at ∙ ap (first_piece b) (sym rest) ∙ first in
-    ap (λ (q : Piece). q ∷ pieces_behind (length (written q) - 1) bytes) same ∙ ap (λ (t : Text). p ∷ pieces_behind (length (written p) - 1) t) (sym rest)
+    ap (λ (q : Piece). q ∷ pieces_behind (length (written q) - 1) bytes) same
+    ∙ ap (λ (t : Text). p ∷ pieces_behind (length (written p) - 1) t) (sym rest)
 
 -- a byte that is neither \ nor @ stands for itself
 pub plain_first : (b : ℕ) (bytes : Text) → b ≢ 92 → b ≢ 64 → first_piece b bytes ≡ byte b
 plain_first b bytes h1 h2 =
-    ap (λ t. cond t (escape bytes) (cond (eqb b 64) (elim (used_name bytes) [ None ↦ byte b | Some name ↦ use_of name ]) (byte b))) (ne_eqb b 92 h1)
+    ap (λ t. cond t (escape bytes) (cond (eqb b 64) (elim (used_name bytes) [ None ↦ byte b | Some name ↦ use_of name ]) (byte b)))
+    (ne_eqb b 92 h1)
     ∙ ap (λ t. cond t (elim (used_name bytes) [ None ↦ byte b | Some name ↦ use_of name ]) (byte b)) (ne_eqb b 64 h2)
 
 -- an @ that begins no use stands for itself, and one that does forms a piece with its name
@@ -65,7 +69,8 @@ first_slash b bytes more =
     ⊎_elim
     (λ same. subst (λ (x : ℕ). begins_with_slash (first_piece x bytes ∷ more) ≡ is_slash x) (sym same) (escape_slash bytes more))
     (λ no_escape. ⊎_elim
-    (λ same. subst (λ (x : ℕ). begins_with_slash (first_piece x bytes ∷ more) ≡ is_slash x) (sym same) (ap (λ (p : Piece). begins_with_slash (p ∷ more)) (at_first bytes (used_name bytes) refl) ∙ at_slash (used_name bytes) more))
+    (λ same. subst (λ (x : ℕ). begins_with_slash (first_piece x bytes ∷ more) ≡ is_slash x) (sym same)
+    (ap (λ (p : Piece). begins_with_slash (p ∷ more)) (at_first bytes (used_name bytes) refl) ∙ at_slash (used_name bytes) more))
     (λ no_at. ap (λ (p : Piece). begins_with_slash (p ∷ more)) (plain_first b bytes no_escape no_at))
     (cases_eq b 64))
     (cases_eq b 92)

@@ -17,10 +17,16 @@ second_holds false b h = absurd cc
 pub joined_again : (behind : Bool) (text : Text) → runs_joined behind (runs_joined behind text) ≡ runs_joined behind text
 joined_again behind [] = refl
 joined_again behind (b ∷ bytes) =
-    let P : (t : Bool) → behind && is_slash b ≡ t → runs_joined behind (cond t (runs_joined true bytes) (b ∷ runs_joined (is_slash b) bytes)) ≡ cond t (runs_joined true bytes) (b ∷ runs_joined (is_slash b) bytes) =
-    λ t. elim t as (λ t. behind && is_slash b ≡ t → runs_joined behind (cond t (runs_joined true bytes) (b ∷ runs_joined (is_slash b) bytes)) ≡ cond t (runs_joined true bytes) (b ∷ runs_joined (is_slash b) bytes)) [
-      | true ↦ λ h. let is : behind ≡ true = first_holds behind (is_slash b) h in subst (λ (x : Bool). runs_joined x (runs_joined true bytes) ≡ runs_joined true bytes) (sym is) (joined_again true bytes)
-      | false ↦ λ h. ap (λ t. cond t (runs_joined true (runs_joined (is_slash b) bytes)) (b ∷ runs_joined (is_slash b) (runs_joined (is_slash b) bytes))) h ∙ ap (λ (x : Text). b ∷ x) (joined_again (is_slash b) bytes)
+    let P : (t : Bool) → behind && is_slash b ≡ t →
+    runs_joined behind (cond t (runs_joined true bytes) (b ∷ runs_joined (is_slash b) bytes)) ≡ cond t (runs_joined true bytes)
+    (b ∷ runs_joined (is_slash b) bytes) =
+    λ t. elim t as (λ t. behind && is_slash b ≡ t →
+    runs_joined behind (cond t (runs_joined true bytes) (b ∷ runs_joined (is_slash b) bytes)) ≡ cond t (runs_joined true bytes)
+    (b ∷ runs_joined (is_slash b) bytes)) [
+      | true ↦ λ h. let is : behind ≡ true = first_holds behind (is_slash b) h in
+          subst (λ (x : Bool). runs_joined x (runs_joined true bytes) ≡ runs_joined true bytes) (sym is) (joined_again true bytes)
+      | false ↦ λ h. ap (λ t. cond t (runs_joined true (runs_joined (is_slash b) bytes))
+          (b ∷ runs_joined (is_slash b) (runs_joined (is_slash b) bytes))) h ∙ ap (λ (x : Text). b ∷ x) (joined_again (is_slash b) bytes)
     ] in
     P (behind && is_slash b) refl
 
@@ -29,7 +35,8 @@ no_slash_first : (text : Text) → begins is_slash (runs_joined true text) ≡ f
 no_slash_first [] = refl
 no_slash_first (b ∷ bytes) =
     let P : (t : Bool) → is_slash b ≡ t → begins is_slash (cond t (runs_joined true bytes) (b ∷ runs_joined (is_slash b) bytes)) ≡ false =
-    λ t. elim t as (λ t. is_slash b ≡ t → begins is_slash (cond t (runs_joined true bytes) (b ∷ runs_joined (is_slash b) bytes)) ≡ false) [ true ↦ λ h. no_slash_first bytes | false ↦ λ h. h ] in
+    λ t. elim t as (λ t. is_slash b ≡ t → begins is_slash (cond t (runs_joined true bytes) (b ∷ runs_joined (is_slash b) bytes)) ≡ false)
+    [ true ↦ λ h. no_slash_first bytes | false ↦ λ h. h ] in
     P (is_slash b) refl
 
 one_behind : (b : ℕ) (text : Text) → is_slash b ≡ false → begins is_slash text ≡ false → begins_with_two (47 ∷ text) ≡ false
@@ -46,13 +53,15 @@ none_left [] = refl
 none_left (b ∷ bytes) =
     let P : (t : Bool) → is_slash b ≡ t → begins_with_two (b ∷ runs_joined t bytes) ≡ false =
     λ t. elim t as (λ t. is_slash b ≡ t → begins_with_two (b ∷ runs_joined t bytes) ≡ false) [
-      | true ↦ λ h. let same : b ≡ 47 = eqb-true b 47 h in subst (λ (x : ℕ). begins_with_two (x ∷ runs_joined true bytes) ≡ false) (sym same) (one_behind 0 (runs_joined true bytes) refl (no_slash_first bytes))
+      | true ↦ λ h. let same : b ≡ 47 = eqb-true b 47 h in subst (λ (x : ℕ). begins_with_two (x ∷ runs_joined true bytes) ≡ false)
+          (sym same) (one_behind 0 (runs_joined true bytes) refl (no_slash_first bytes))
       | false ↦ λ h. other_first b (runs_joined false bytes) h
     ] in
     P (is_slash b) refl
 
 stays_one : (text : Text) → one_slash (runs_joined false text) ≡ runs_joined false text
-stays_one text = ap (λ t. cond t (47 ∷ runs_joined false (runs_joined false text)) (runs_joined false (runs_joined false text))) (none_left text) ∙ joined_again false text
+stays_one text = ap (λ t. cond t (47 ∷ runs_joined false (runs_joined false text)) (runs_joined false (runs_joined false text)))
+    (none_left text) ∙ joined_again false text
 
 -- exactly two at the start
 two_first : (text : Text) → begins_with_two text ≡ true → (rest : Text) × (text ≡ 47 ∷ 47 ∷ rest)
@@ -66,14 +75,18 @@ two_first (a ∷ b ∷ rest) h =
 
 stays_two : (rest : Text) → one_slash (47 ∷ runs_joined false (47 ∷ 47 ∷ rest)) ≡ 47 ∷ runs_joined false (47 ∷ 47 ∷ rest)
 stays_two rest =
-    ap (λ t. cond (not t) (47 ∷ 47 ∷ runs_joined true (runs_joined true rest)) (47 ∷ runs_joined true (runs_joined true rest))) (no_slash_first rest)
+    ap (λ t. cond (not t) (47 ∷ 47 ∷ runs_joined true (runs_joined true rest)) (47 ∷ runs_joined true (runs_joined true rest)))
+    (no_slash_first rest)
     ∙ ap (λ (x : Text). 47 ∷ 47 ∷ x) (joined_again true rest)
 
 pub slashes_stay : (text : Text) → one_slash (one_slash text) ≡ one_slash text
 slashes_stay text =
-    let P : (t : Bool) → begins_with_two text ≡ t → one_slash (cond t (47 ∷ runs_joined false text) (runs_joined false text)) ≡ cond t (47 ∷ runs_joined false text) (runs_joined false text) =
-    λ t. elim t as (λ t. begins_with_two text ≡ t → one_slash (cond t (47 ∷ runs_joined false text) (runs_joined false text)) ≡ cond t (47 ∷ runs_joined false text) (runs_joined false text)) [
-      | true ↦ λ h. let r = two_first text h in subst (λ (x : Text). one_slash (47 ∷ runs_joined false x) ≡ 47 ∷ runs_joined false x) (sym r.1) (stays_two r.0)
+    let P : (t : Bool) → begins_with_two text ≡ t → one_slash (cond t (47 ∷ runs_joined false text) (runs_joined false text))
+    ≡ cond t (47 ∷ runs_joined false text) (runs_joined false text) =
+    λ t. elim t as (λ t. begins_with_two text ≡ t → one_slash (cond t (47 ∷ runs_joined false text) (runs_joined false text))
+    ≡ cond t (47 ∷ runs_joined false text) (runs_joined false text)) [
+      | true ↦ λ h. let r = two_first text h in subst (λ (x : Text). one_slash (47 ∷ runs_joined false x) ≡ 47 ∷ runs_joined false x)
+          (sym r.1) (stays_two r.0)
       | false ↦ λ h. stays_one text
     ] in
     P (begins_with_two text) refl

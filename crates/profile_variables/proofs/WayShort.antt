@@ -1,5 +1,6 @@
 -- The way is no longer than there are variables, and each step on it comes nearer to its end.
-use Rattle.std.proofs.Common.{◌≡◌, ℕ, ◌+◌, ◌-◌, ◌*◌, ◌<◌, ◌≤◌, Bool, true, false, eqb, List, [], ◌∷◌, length, map, Some, refl, sym, ap, ◌∙◌, ◌⊎◌, inl, inr, ⊎_elim, arith}
+use Rattle.std.proofs.Common.{◌≡◌, ℕ, ◌+◌, ◌-◌, ◌*◌, ◌<◌, ◌≤◌, Bool, true, false, eqb, List, [], ◌∷◌, length, map, Some, refl, sym, ap}
+use Rattle.std.proofs.Common.{◌∙◌, ◌⊎◌, inl, inr, ⊎_elim, arith}
 use Rattle.std.specs.Prelude.{slice_get, ◌||◌}
 use Rattle.std.specs.List.{IsDistinct, AllByRecursion, list_any}
 use Rattle.std.proofs.lemmas.Bool.{ne_eqb, eqb-true}
@@ -15,7 +16,8 @@ abbrev place : Step → ℕ
 place step = step.variable
 
 module _ (variables : List Variable) (lists : Lists) (met : List ℕ) (first : Text) where
-  none_of_them : (steps : List Step) (name : Text) (other n : ℕ) → Waits variables lists met first steps name → slice_get met other ≡ Some n → length steps ≤ n
+  none_of_them : (steps : List Step) (name : Text) (other n : ℕ) → Waits variables lists met first steps name → slice_get met other
+      ≡ Some n → length steps ≤ n
       → AllByRecursion (λ y. eqb other y ≡ false) (map place steps)
   none_of_them [] name other n waits at deep = tt
   none_of_them (step ∷ before) name other n waits at deep = (
@@ -41,10 +43,12 @@ module _ (variables : List Variable) (lists : Lists) (met : List ℕ) (first : T
   one_of true b e = inl refl
   one_of false b e = inr e
 
-  all_within : (steps : List Step) (name : Text) → Waits variables lists met first steps name → (q : ℕ) → list_any (eqb q) (map place steps) ≡ true → q < length variables
+  all_within : (steps : List Step) (name : Text) → Waits variables lists met first steps name → (q : ℕ) →
+      list_any (eqb q) (map place steps) ≡ true → q < length variables
   all_within [] name waits q e = absurd cc
   all_within (step ∷ before) name waits q e =
-      ⊎_elim (λ here. let same : q ≡ step.variable = eqb-true q step.variable here in let low = is_within step (length before) waits.0 in omega (arith, same, low))
+      ⊎_elim (λ here. let same : q ≡ step.variable = eqb-true q step.variable here in let low = is_within step (length before) waits.0 in
+      omega (arith, same, low))
       (λ later. all_within before (variable_at variables step.variable).name waits.2 q later)
       (one_of (eqb q step.variable) (list_any (eqb q) (map place before)) e)
 
@@ -56,10 +60,12 @@ module _ (variables : List Variable) (lists : Lists) (met : List ℕ) (first : T
     all_distinct before (variable_at variables step.variable).name way.1,
   )
 
-  within_way : (steps : List Step) → IsWay variables lists met first steps → (q : ℕ) → list_any (eqb q) (map place steps) ≡ true → q < length variables
+  within_way : (steps : List Step) → IsWay variables lists met first steps → (q : ℕ) → list_any (eqb q) (map place steps) ≡ true →
+      q < length variables
   within_way [] way q e = absurd cc
   within_way (step ∷ before) way q e =
-      ⊎_elim (λ here. let same : q ≡ step.variable = eqb-true q step.variable here in let low = is_within step (length before) way.0 in omega (arith, same, low))
+      ⊎_elim (λ here. let same : q ≡ step.variable = eqb-true q step.variable here in let low = is_within step (length before) way.0 in
+      omega (arith, same, low))
       (λ later. all_within before (variable_at variables step.variable).name way.1 q later)
       (one_of (eqb q step.variable) (list_any (eqb q) (map place before)) e)
 
@@ -74,14 +80,16 @@ module _ (variables : List Variable) (lists : Lists) (met : List ℕ) (first : T
   first_waits (step ∷ before) name waits = first_waits before (variable_at variables step.variable).name waits.2
 
   -- the first name is the one that was asked for
-  pub asked_first : (steps : List Step) (step : Step) → IsWay variables lists met first (step ∷ steps) → first_name variables steps (variable_at variables step.variable).name ≡ first
+  pub asked_first : (steps : List Step) (step : Step) → IsWay variables lists met first (step ∷ steps) →
+      first_name variables steps (variable_at variables step.variable).name ≡ first
   asked_first steps step way = first_waits steps (variable_at variables step.variable).name way.1
 
 -- what is left to do, by how many of `all` lists are made, and how many steps the way has
 abbrev pub left_to_do : ℕ → ℕ → ℕ → ℕ
 left_to_do all made steps = (all - made) * (all + 1) + (all - steps)
 
-pub one_list_more : (all made steps : ℕ) → made + 1 ≤ all → steps + 1 ≤ all → left_to_do all (made + 1) steps < left_to_do all made (steps + 1)
+pub one_list_more : (all made steps : ℕ) → made + 1 ≤ all → steps + 1 ≤ all →
+    left_to_do all (made + 1) steps < left_to_do all made (steps + 1)
 one_list_more all made steps few short =
     let rest = all - (made + 1) in
     let more : all - made ≡ rest + 1 = omega arith in

@@ -1,12 +1,14 @@
 -- Where each variable has a value, limits that apply to whole lists only make no difference.
-use Rattle.std.proofs.Common.{◌≡◌, ℕ, zero, suc, ◌*◌, ◌≤◌, ◌<◌, Bool, true, false, cond, List, [], ◌∷◌, ◌++◌, length, Option, Some, None, refl, sym, ap, ◌∙◌, subst, arith, length-append}
+use Rattle.std.proofs.Common.{◌≡◌, ℕ, zero, suc, ◌*◌, ◌≤◌, ◌<◌, Bool, true, false, cond, List, [], ◌∷◌, ◌++◌, length, Option, Some, None}
+use Rattle.std.proofs.Common.{refl, sym, ap, ◌∙◌, subst, arith, length-append}
 use Rattle.std.specs.Prelude.{option_and_then, slice_index_or, nat_le, ◌&&◌, All}
 use Rattle.std.proofs.lemmas.Bool.{leb-true}
 use Rattle.std.proofs.lemmas.List.Sums.{sum_by-append}
 use Rattle.std.proofs.lemmas.Option.{unwrap_or-slice_get}
 use Rattle.std.proofs.Math.Nat.{mul-le-mul_left}
 use Rattle.profile_variables.specs.Pieces.{Text, Piece, byte, escaped, use_of, pieces}
-use Rattle.profile_variables.specs.Variables.{Variable, Known, values_of, byte_count, fitting, most_texts, most_bytes, each_with, piece_texts, texts_from, value_texts, list_from, list_of_values, list_at}
+use Rattle.profile_variables.specs.Variables.{Variable, Known, values_of, byte_count, fitting, most_texts, most_bytes, each_with}
+use Rattle.profile_variables.specs.Variables.{piece_texts, texts_from, value_texts, list_from, list_of_values, list_at}
 use Rattle.profile_variables.specs.WholeLists.{all_texts_from, all_from, whole_list, whole_list_at}
 use Rattle.profile_variables.specs.inner.Known.{place_of}
 use Rattle.profile_variables.specs.inner.Way.{variable_at}
@@ -68,40 +70,53 @@ AreFilled known = (name : Text) (list : List Text) → known name ≡ Some list 
 module _ (known : Known) (filled : AreFilled known) where
   some_choice : (p : Piece) (choices : List Text) → piece_texts known p ≡ Some choices → 0 < length choices
   some_choice (byte b) choices e = let is : (b ∷ []) ∷ [] ≡ choices = cc in subst (λ (x : List Text). 0 < length x) is (omega arith)
-  some_choice (escaped b) choices e = let is : (92 ∷ b ∷ []) ∷ [] ≡ choices = cc in subst (λ (x : List Text). 0 < length x) is (omega arith)
+  some_choice (escaped b) choices e = let is : (92 ∷ b ∷ []) ∷ [] ≡ choices = cc in
+      subst (λ (x : List Text). 0 < length x) is (omega arith)
   some_choice (use_of name) choices e = filled name choices e
 
   -- without limits on the way the texts are the same
-  all_texts : (begun : List Text) (ps : List Piece) (texts : List Text) → texts_from known begun ps ≡ Some texts → all_texts_from known begun ps ≡ Some texts
+  all_texts : (begun : List Text) (ps : List Piece) (texts : List Text) → texts_from known begun ps ≡ Some texts →
+      all_texts_from known begun ps ≡ Some texts
   all_texts begun [] texts e = e
   all_texts begun (p ∷ ps) texts e =
-      let a = both_steps (λ choices. option_and_then (λ longer. texts_from known longer ps) (fitting (each_with begun choices))) (piece_texts known p) texts e in
+      let a = both_steps (λ choices. option_and_then (λ longer. texts_from known longer ps) (fitting (each_with begun choices)))
+      (piece_texts known p) texts e in
       let b = both_steps (λ longer. texts_from known longer ps) (fitting (each_with begun a.0)) texts a.2 in
       let same = (fits (each_with begun a.0) b.0 b.1).0 in
-      and_both (λ choices. all_texts_from known (each_with begun choices) ps) (piece_texts known p) a.0 texts a.1 (ap (λ (x : List Text). all_texts_from known x ps) same ∙ all_texts b.0 ps texts b.2)
+      and_both (λ choices. all_texts_from known (each_with begun choices) ps) (piece_texts known p) a.0 texts a.1
+      (ap (λ (x : List Text). all_texts_from known x ps) same ∙ all_texts b.0 ps texts b.2)
 
   -- what is begun fits where the whole does
-  begun_fits : (begun : List Text) (ps : List Piece) (texts : List Text) → all_texts_from known begun ps ≡ Some texts → Fits texts → Fits begun
+  begun_fits : (begun : List Text) (ps : List Piece) (texts : List Text) → all_texts_from known begun ps ≡ Some texts →
+      Fits texts → Fits begun
   begun_fits begun [] texts e h = let is : texts ≡ begun = cc in subst Fits is h
   begun_fits begun (p ∷ ps) texts e h =
       let a = both_steps (λ choices. all_texts_from known (each_with begun choices) ps) (piece_texts known p) texts e in
       fits_begun begun a.0 (some_choice p a.0 a.1) (begun_fits (each_with begun a.0) ps texts a.2 h)
 
-  limited_texts : (begun : List Text) (ps : List Piece) (texts : List Text) → all_texts_from known begun ps ≡ Some texts → Fits texts → texts_from known begun ps ≡ Some texts
+  limited_texts : (begun : List Text) (ps : List Piece) (texts : List Text) → all_texts_from known begun ps ≡ Some texts → Fits texts →
+      texts_from known begun ps ≡ Some texts
   limited_texts begun [] texts e h = e
   limited_texts begun (p ∷ ps) texts e h =
       let a = both_steps (λ choices. all_texts_from known (each_with begun choices) ps) (piece_texts known p) texts e in
-      and_both (λ choices. option_and_then (λ longer. texts_from known longer ps) (fitting (each_with begun choices))) (piece_texts known p) a.0 texts a.1
-      (and_both (λ longer. texts_from known longer ps) (fitting (each_with begun a.0)) (each_with begun a.0) texts (is_fitting (each_with begun a.0) (begun_fits (each_with begun a.0) ps texts a.2 h)) (limited_texts (each_with begun a.0) ps texts a.2 h))
+      and_both (λ choices. option_and_then (λ longer. texts_from known longer ps) (fitting (each_with begun choices)))
+      (piece_texts known p) a.0 texts a.1 (and_both (λ longer. texts_from known longer ps) (fitting (each_with begun a.0))
+      (each_with begun a.0) texts (is_fitting (each_with begun a.0) (begun_fits (each_with begun a.0) ps texts a.2 h))
+      (limited_texts (each_with begun a.0) ps texts a.2 h))
 
-  all_values : (begun values list : List Text) → Fits begun → list_from known begun values ≡ Some list → (all_from known begun values ≡ Some list) × Fits list
+  all_values : (begun values list : List Text) → Fits begun → list_from known begun values ≡ Some list →
+      (all_from known begun values ≡ Some list) × Fits list
   all_values begun [] list h e = let is : begun ≡ list = cc in (e, subst Fits is h)
   all_values begun (v ∷ vs) list h e =
-      let a = both_steps (λ texts. option_and_then (λ longer. list_from known longer vs) (fitting (begun ++ texts))) (value_texts known v) list e in
+      let a = both_steps (λ texts. option_and_then (λ longer. list_from known longer vs) (fitting (begun ++ texts)))
+      (value_texts known v) list e in
       let b = both_steps (λ longer. list_from known longer vs) (fitting (begun ++ a.0)) list a.2 in
       let f = fits (begun ++ a.0) b.0 b.1 in
-      let r = all_values b.0 vs list (subst Fits f.0 f.1) b.2 in
-      (and_both (λ texts. all_from known (begun ++ texts) vs) (all_texts_from known ([] ∷ []) (pieces v)) a.0 list (all_texts ([] ∷ []) (pieces v) a.0 a.1) (ap (λ (x : List Text). all_from known x vs) f.0 ∙ r.0), r.1)
+      let r = all_values b.0 vs list (subst Fits f.0 f.1) b.2 in (
+        and_both (λ texts. all_from known (begun ++ texts) vs) (all_texts_from known ([] ∷ []) (pieces v)) a.0 list
+            (all_texts ([] ∷ []) (pieces v) a.0 a.1) (ap (λ (x : List Text). all_from known x vs) f.0 ∙ r.0),
+        r.1,
+      )
 
   front_fits : (begun values list : List Text) → all_from known begun values ≡ Some list → Fits list → Fits begun
   front_fits begun [] list e h = let is : list ≡ begun = cc in subst Fits is h
@@ -109,13 +124,16 @@ module _ (known : Known) (filled : AreFilled known) where
       let a = both_steps (λ texts. all_from known (begun ++ texts) vs) (all_texts_from known ([] ∷ []) (pieces v)) list e in
       fits_first begun a.0 (front_fits (begun ++ a.0) vs list a.2 h)
 
-  limited_values : (begun values list : List Text) → all_from known begun values ≡ Some list → Fits list → list_from known begun values ≡ Some list
+  limited_values : (begun values list : List Text) → all_from known begun values ≡ Some list → Fits list →
+      list_from known begun values ≡ Some list
   limited_values begun [] list e h = e
   limited_values begun (v ∷ vs) list e h =
       let a = both_steps (λ texts. all_from known (begun ++ texts) vs) (all_texts_from known ([] ∷ []) (pieces v)) list e in
       let f = front_fits (begun ++ a.0) vs list a.2 h in
-      and_both (λ texts. option_and_then (λ longer. list_from known longer vs) (fitting (begun ++ texts))) (value_texts known v) a.0 list (limited_texts ([] ∷ []) (pieces v) a.0 a.1 (fits_second begun a.0 f))
-      (and_both (λ longer. list_from known longer vs) (fitting (begun ++ a.0)) (begun ++ a.0) list (is_fitting (begun ++ a.0) f) (limited_values (begun ++ a.0) vs list a.2 h))
+      and_both (λ texts. option_and_then (λ longer. list_from known longer vs) (fitting (begun ++ texts))) (value_texts known v) a.0 list
+      (limited_texts ([] ∷ []) (pieces v) a.0 a.1 (fits_second begun a.0 f))
+      (and_both (λ longer. list_from known longer vs) (fitting (begun ++ a.0)) (begun ++ a.0) list (is_fitting (begun ++ a.0) f)
+      (limited_values (begun ++ a.0) vs list a.2 h))
 
   to_whole : (values list : List Text) → list_of_values known values ≡ Some list → whole_list known values ≡ Some list
   to_whole values list e =
@@ -130,7 +148,8 @@ module _ (known : Known) (filled : AreFilled known) where
 
   -- ---- a list has a text
 
-  texts_filled : (begun : List Text) (ps : List Piece) (texts : List Text) → 0 < length begun → all_texts_from known begun ps ≡ Some texts → 0 < length texts
+  texts_filled : (begun : List Text) (ps : List Piece) (texts : List Text) → 0 < length begun → all_texts_from known begun ps
+      ≡ Some texts → 0 < length texts
   texts_filled begun [] texts some e = let is : begun ≡ texts = cc in subst (λ (x : List Text). 0 < length x) is some
   texts_filled begun (p ∷ ps) texts some e =
       let a = both_steps (λ choices. all_texts_from known (each_with begun choices) ps) (piece_texts known p) texts e in
@@ -160,8 +179,10 @@ both_or_none None None f g = refl
 both_or_none None (Some x) f g = g x refl
 both_or_none (Some x) b f g = sym (f x refl)
 
-has_values : (variables : List Variable) → All (λ (v : Variable). 0 < length v.values) variables → (name : Text) (values : List Text) (o : Option ℕ) → place_of variables name ≡ o → values_of variables name ≡ Some values → 0 < length values
-has_values variables filled name values None e valued = let no : None ≡ Some values = sym (stands_nowhere variables name e) ∙ valued in absurd cc
+has_values : (variables : List Variable) → All (λ (v : Variable). 0 < length v.values) variables → (name : Text) (values : List Text)
+    (o : Option ℕ) → place_of variables name ≡ o → values_of variables name ≡ Some values → 0 < length values
+has_values variables filled name values None e valued = let no : None ≡ Some values = sym (stands_nowhere variables name e)
+    ∙ valued in absurd cc
 has_values variables filled name values (Some p) e valued =
     let at = stands_at variables name p e in
     let d : Variable = record { name = []; values = [] } in
@@ -175,12 +196,15 @@ unfolding list_at
 filled_at variables filled zero name list e = absurd cc
 filled_at variables filled (suc n) name list e =
     let a = both_steps (list_of_values (list_at n variables)) (values_of variables name) list e in
-    list_filled (list_at n variables) (filled_at variables filled n) a.0 list (has_values variables filled name a.0 (place_of variables name) refl a.1) a.2
+    list_filled (list_at n variables) (filled_at variables filled n) a.0 list
+    (has_values variables filled name a.0 (place_of variables name) refl a.1) a.2
 
-pub same_lists : (variables : List Variable) → All (λ (v : Variable). 0 < length v.values) variables → (n : ℕ) (name : Text) → list_at n variables name ≡ whole_list_at n variables name
+pub same_lists : (variables : List Variable) → All (λ (v : Variable). 0 < length v.values) variables → (n : ℕ) (name : Text) →
+    list_at n variables name ≡ whole_list_at n variables name
 unfolding list_at whole_list_at
 same_lists variables filled zero name = refl
 same_lists variables filled (suc n) name =
-    (λ i. option_and_then (λ (values : List Text). both_or_none (list_of_values (list_at n variables) values) (whole_list (list_at n variables) values)
-    (to_whole (list_at n variables) (filled_at variables filled n) values) (from_whole (list_at n variables) (filled_at variables filled n) values) i) (values_of variables name))
+    (λ i. option_and_then (λ (values : List Text). both_or_none (list_of_values (list_at n variables) values)
+    (whole_list (list_at n variables) values) (to_whole (list_at n variables) (filled_at variables filled n) values)
+    (from_whole (list_at n variables) (filled_at variables filled n) values) i) (values_of variables name))
     ∙ ap (λ (known : Known). option_and_then (whole_list known) (values_of variables name)) (λ i x. same_lists variables filled n x i)

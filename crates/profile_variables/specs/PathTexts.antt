@@ -1,6 +1,7 @@
 -- A path's text with its variables put in place (apparmor.d(5), "Variables"; where it is silent, what AppArmor's parser
 -- does). The substitution is textual, so that what is put there is read with the rest.
-use Rattle.std.specs.Prelude.{◌≡◌, ℕ, ◌<◌, ◌≤◌, Bool, false, if◌then◌else◌, List, [], ◌∷◌, ◌++◌, length, reverse, Option, Some, option_and_then}
+use Rattle.std.specs.Prelude.{◌≡◌, ℕ, ◌<◌, ◌≤◌, Bool, false, if◌then◌else◌, List, [], ◌∷◌, ◌++◌, length, reverse, Option, Some}
+use Rattle.std.specs.Prelude.{option_and_then}
 use Rattle.std.specs.List.{flat_map}
 use Rattle.names.specs.Paths.{is_slash, ends_with_slash}
 use Rattle.profile_variables.specs.Pieces.{Text, Piece, byte, escaped, use_of, pieces, used_names}
@@ -25,7 +26,8 @@ alternative before behind text =
 -- the texts of a group, separated by commas
 abbrev pub alternatives : Bool → Bool → List Text → Text
 alternatives before behind [] = []
-alternatives before behind (text ∷ texts) = alternative before behind text ++ flat_map (λ other. 44 ∷ alternative before behind other) texts
+alternatives before behind (text ∷ texts) = alternative before behind text
+    ++ flat_map (λ other. 44 ∷ alternative before behind other) texts
 
 -- a single text is left as it is; several form one group
 abbrev pub in_place : Bool → Bool → List Text → Text
@@ -44,7 +46,8 @@ begins_with_slash (use_of name ∷ more) = false
 abbrev pub text_of : Known → Text → List Piece → Option Text
 text_of known so_far [] = Some so_far
 text_of known so_far (p ∷ more) =
-    option_and_then (λ texts. text_of known (so_far ++ in_place (ends_with_slash so_far) (begins_with_slash more) texts) more) (piece_texts known p)
+    option_and_then (λ texts. text_of known (so_far ++ in_place (ends_with_slash so_far) (begins_with_slash more) texts) more)
+    (piece_texts known p)
 
 abbrev pub path_text : Known → Text → Option Text
 path_text known path = text_of known [] (pieces path)

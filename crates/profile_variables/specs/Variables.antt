@@ -1,5 +1,6 @@
 -- Declared variables, and the texts that each stands for (apparmor.d(5), "Variables").
-use Rattle.std.specs.Prelude.{◌≡◌, ℕ, zero, suc, ◌&&◌, if◌then◌else◌, List, [], ◌∷◌, ◌++◌, length, map, sum_by, nat_le, bytes_eq, find, Option, Some, None, option_and_then}
+use Rattle.std.specs.Prelude.{◌≡◌, ℕ, zero, suc, ◌&&◌, if◌then◌else◌, List, [], ◌∷◌, ◌++◌, length, map, sum_by, nat_le, bytes_eq, find}
+use Rattle.std.specs.Prelude.{Option, Some, None, option_and_then}
 use Rattle.std.specs.List.{flat_map}
 use Rattle.std.specs.Option.{option_map}
 use Rattle.profile_variables.specs.Pieces.{Text, Piece, byte, escaped, use_of, written, pieces, used_names}
@@ -46,7 +47,8 @@ piece_texts known (use_of name) = known name
 abbrev pub texts_from : Known → List Text → List Piece → Option (List Text)
 texts_from known begun [] = Some begun
 texts_from known begun (p ∷ more) =
-    option_and_then (λ choices. option_and_then (λ longer. texts_from known longer more) (fitting (each_with begun choices))) (piece_texts known p)
+    option_and_then (λ choices. option_and_then (λ longer. texts_from known longer more) (fitting (each_with begun choices)))
+    (piece_texts known p)
 
 -- the texts that a value stands for
 abbrev pub value_texts : Known → Text → Option (List Text)

@@ -6,7 +6,8 @@ use Rattle.profile_variables.specs.Variables.{Variable, Known, values_of, fittin
 -- the texts that extend these by each piece in turn, however many and however long
 abbrev pub all_texts_from : Known → List Text → List Piece → Option (List Text)
 all_texts_from known begun [] = Some begun
-all_texts_from known begun (p ∷ more) = option_and_then (λ choices. all_texts_from known (each_with begun choices) more) (piece_texts known p)
+all_texts_from known begun (p ∷ more) = option_and_then (λ choices. all_texts_from known (each_with begun choices) more)
+    (piece_texts known p)
 
 -- the texts of these, and then those of each value in turn
 abbrev pub all_from : Known → List Text → List Text → Option (List Text)

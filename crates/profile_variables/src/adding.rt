@@ -1,6 +1,7 @@
 //! Bytes added to a text that may not become too long.
 ghost use Rattle.std.specs.Prelude.{◌≡◌, ◌≤◌, ◌<◌, ◌∷◌, length};
-ghost use Rattle.profile_variables.specs.PathTexts.{without_leading_slashes, without_trailing_slashes, alternative, alternatives, in_place};
+ghost use Rattle.profile_variables.specs.PathTexts.{without_leading_slashes, without_trailing_slashes, alternative, alternatives};
+ghost use Rattle.profile_variables.specs.PathTexts.{in_place};
 ghost use Rattle.profile_variables.specs.Variables.{most_bytes};
 ghost use Rattle.profile_variables.specs.inner.Adding.{Adds};
 

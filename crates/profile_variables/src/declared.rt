@@ -31,7 +31,8 @@ impl<'t> Model for Declared<'t> {
 
     ghost view = { λ d. d.variables.items };
 
-    ghost invariant = { λ d. (name : List ℕ) → get_by (λ key. slice_cmp nat_cmp name key.items) d.places ≡ place_of d.variables.items name };
+    ghost invariant = { λ d. (name : List ℕ) → get_by (λ key. slice_cmp nat_cmp name key.items) d.places
+        ≡ place_of d.variables.items name };
 }
 
 impl<'t> Declared<'t> {
@@ -85,7 +86,8 @@ fn places_of(
     alloc: Global,
     variables: &[Variable<'_>],
 ) -> Result<BTreeMap<Vec<u8>, usize>, AllocError>
-    ensures { IfOk result (λ places. (name : List ℕ) → get_by (λ key. slice_cmp nat_cmp name key.items) places ≡ place_of variables.now name) }
+    ensures { IfOk result (λ places. (name : List ℕ) → get_by (λ key. slice_cmp nat_cmp name key.items) places
+        ≡ place_of variables.now name) }
 {
     let mut places = BTreeMap::new(alloc);
     for (place, variable) in variables.iter().enumerate() {

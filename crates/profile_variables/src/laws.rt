@@ -15,18 +15,26 @@ pub fn texts_are_their_pieces()
 
 /// A variable has one list, or it has one problem, and not both.
 pub fn one_list_or_one_problem()
-    ensures some { (variables : List Variable) (name : Text) → IsListed variables name ⊎ ((problem : Problem) × HasProblem variables [] name problem) }
-    ensures list { (variables : List Variable) (name : Text) (one other : List Text) → HasList variables name one → HasList variables name other → one ≡ other }
-    ensures problem { (variables : List Variable) (name : Text) (one other : Problem) → HasProblem variables [] name one → HasProblem variables [] name other → one ≡ other }
-    ensures either { (variables : List Variable) (name : Text) (problem : Problem) → IsListed variables name → ¬ HasProblem variables [] name problem }
+    ensures some { (variables : List Variable) (name : Text) → IsListed variables name
+        ⊎ ((problem : Problem) × HasProblem variables [] name problem) }
+    ensures list { (variables : List Variable) (name : Text) (one other : List Text) → HasList variables name one →
+        HasList variables name other → one ≡ other }
+    ensures problem { (variables : List Variable) (name : Text) (one other : Problem) → HasProblem variables [] name one →
+        HasProblem variables [] name other → one ≡ other }
+    ensures either { (variables : List Variable) (name : Text) (problem : Problem) → IsListed variables name →
+        ¬ HasProblem variables [] name problem }
 {}
 
 /// A path has one text with its variables in place, or it has one problem, and not both.
 pub fn one_text_or_one_problem()
-    ensures some { (variables : List Variable) (path : Text) → ((text : Text) × IsSubstituted variables path text) ⊎ ((problem : Problem) × PathProblem variables path problem) }
-    ensures text { (variables : List Variable) (path one other : Text) → IsSubstituted variables path one → IsSubstituted variables path other → one ≡ other }
-    ensures problem { (variables : List Variable) (path : Text) (one other : Problem) → PathProblem variables path one → PathProblem variables path other → one ≡ other }
-    ensures either { (variables : List Variable) (path text : Text) (problem : Problem) → IsSubstituted variables path text → ¬ PathProblem variables path problem }
+    ensures some { (variables : List Variable) (path : Text) → ((text : Text) × IsSubstituted variables path text)
+        ⊎ ((problem : Problem) × PathProblem variables path problem) }
+    ensures text { (variables : List Variable) (path one other : Text) → IsSubstituted variables path one →
+        IsSubstituted variables path other → one ≡ other }
+    ensures problem { (variables : List Variable) (path : Text) (one other : Problem) → PathProblem variables path one →
+        PathProblem variables path other → one ≡ other }
+    ensures either { (variables : List Variable) (path text : Text) (problem : Problem) → IsSubstituted variables path text →
+        ¬ PathProblem variables path problem }
 {}
 
 /// Where each run of slashes is already a single one, nothing changes.
@@ -37,5 +45,6 @@ pub fn one_slash_stays()
 /// Where each variable has a value, it makes no difference whether limits apply to all that a list is made of, or to whole
 /// lists only.
 pub fn limits_are_of_whole_lists()
-    ensures { (variables : List Variable) → All (λ v. 0 < length v.values) variables → (n : ℕ) (name : Text) → list_at n variables name ≡ whole_list_at n variables name }
+    ensures { (variables : List Variable) → All (λ v. 0 < length v.values) variables → (n : ℕ) (name : Text) → list_at n variables name
+        ≡ whole_list_at n variables name }
 {}

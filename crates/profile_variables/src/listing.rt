@@ -70,7 +70,8 @@ fn with_piece(
     texts: Texts,
     piece: Piece<'_>,
 ) -> Result<Texts, Refusal>
-    ensures { Gives result (option_and_then (λ choices. fitting (each_with texts choices)) (piece_texts (known_in declared.now made.now) (piece_value piece.entry))) }
+    ensures { Gives result (option_and_then (λ choices. fitting (each_with texts choices))
+        (piece_texts (known_in declared.now made.now) (piece_value piece.entry))) }
 {
     match piece {
         Piece::Byte(byte) => texts.each_with_end(&[byte]),

@@ -1,11 +1,13 @@
 //! Lists made, each once: what a list needs is made before it.
-ghost use Rattle.std.specs.Prelude.{◌≡◌, ◌<◌, ◌≤◌, ◌+◌, ℕ, List, [], ◌∷◌, false, length, reverse, take, IsSome, IfSome, IfOk, IfErr, OnOk, OnErr, Some, None, map, slice_get, slice_set};
+ghost use Rattle.std.specs.Prelude.{◌≡◌, ◌<◌, ◌≤◌, ◌+◌, ℕ, List, [], ◌∷◌, false, length, reverse, take, IsSome, IfSome, IfOk, IfErr, OnOk};
+ghost use Rattle.std.specs.Prelude.{OnErr, Some, None, map, slice_get, slice_set};
 ghost use Rattle.std.specs.List.{list_any};
 ghost use Rattle.profile_variables.specs.Variables.{Variable as DeclaredVariable, list_of_values, with_first_value};
 ghost use Rattle.profile_variables.specs.Problems.{HasProblem};
 ghost use Rattle.profile_variables.specs.Faults.{Tells};
 ghost use Rattle.profile_variables.specs.inner.Known.{known_in, is_marked, is_named_marked};
-ghost use Rattle.profile_variables.specs.inner.Way.{IsSound, KnowsAll, AreKnown, variable_at, needed_at, IsFree, IsStep, Waits, IsWay, IsNearer, is_on};
+ghost use Rattle.profile_variables.specs.inner.Way.{IsSound, KnowsAll, AreKnown, variable_at, needed_at, IsFree, IsStep, Waits, IsWay};
+ghost use Rattle.profile_variables.specs.inner.Way.{IsNearer, is_on};
 ghost use Rattle.profile_variables.specs.inner.Gives.{Refuses};
 
 use crate::declared::Declared;
@@ -104,7 +106,8 @@ impl Made {
         ensures sound { IsSound declared.now self.new }
         ensures lists { self.new.lists.items ≡ self.old.lists.items }
         ensures met { self.new.met.items ≡ self.old.met.items }
-        ensures free { OnOk result (is_marked self.new.needs_first.items place ≡ false → IsFree declared.now self.new.needs_first.items place) }
+        ensures free { OnOk result (is_marked self.new.needs_first.items place ≡ false →
+            IsFree declared.now self.new.needs_first.items place) }
     {
         let needed = declared.variable(place).needed();
         if place == 0 || is_one_marked(declared, &self.needs_first, needed) {
@@ -128,7 +131,9 @@ impl Made {
         ensures sound { IsSound declared.now self.new }
         ensures made { OnOk result ((list : List (List ℕ)) × (self.new.lists.items ≡ slice_set self.old.lists.items place (Some list))) }
         ensures same { OnErr result (self.new.lists.items ≡ self.old.lists.items) }
-        ensures refused { IfErr result (λ refusal. Refuses refusal (list_of_values (known_in declared.now self.old.lists.items) (variable_at declared.now place).values)) }
+        ensures refused { IfErr result
+            (λ refusal. Refuses refusal (list_of_values (known_in declared.now self.old.lists.items)
+            (variable_at declared.now place).values)) }
         ensures met { self.new.met.items ≡ self.old.met.items }
     {
         let values = declared.variable(place).values();
@@ -141,7 +146,8 @@ impl Made {
     /// Forgets the lists that need the first variable.
     pub(crate) fn forget_first(&mut self)
         requires { (variables : List DeclaredVariable) × IsSound variables self.old }
-        ensures { (variables : List DeclaredVariable) → IsSound variables self.old → (value : List ℕ) → IsSound (with_first_value variables value) self.new }
+        ensures { (variables : List DeclaredVariable) → IsSound variables self.old → (value : List ℕ) →
+            IsSound (with_first_value variables value) self.new }
     {
         while let Some(place) = self.needing_first.pop() {
             self.lists[place] = None;
@@ -216,7 +222,8 @@ fn first_missing<'t>(
 ) -> Option<(usize, &'t [u8])>
     requires { AreKnown (known_in declared.now lists.now) (take next (map (λ name. name.now) names.now)) }
     ensures none { result ≡ None → AreKnown (known_in declared.now lists.now) (map (λ name. name.now) names.now) }
-    ensures before { IfSome result (λ missing. AreKnown (known_in declared.now lists.now) (take missing.0 (map (λ name. name.now) names.now))) }
+    ensures before { IfSome result (λ missing. AreKnown (known_in declared.now lists.now)
+        (take missing.0 (map (λ name. name.now) names.now))) }
     ensures at { IfSome result (λ missing. slice_get (map (λ name. name.now) names.now) missing.0 ≡ Some missing.1.now) }
     ensures unknown { IfSome result (λ missing. known_in declared.now lists.now missing.1.now ≡ None) }
 {

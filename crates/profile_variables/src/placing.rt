@@ -25,7 +25,8 @@ pub(crate) fn put_in_place(
 ) -> Result<Vec<u8>, Refusal>
     ensures text { IfOk result (λ text. path_text (known_in declared.now made.now) path.now ≡ Some text.items) }
     ensures short { IfOk result (λ text. length text.items ≤ most_bytes) }
-    ensures refused { IfErr result (λ refusal. (text : List ℕ) → path_text (known_in declared.now made.now) path.now ≡ Some text → Exceeds refusal text) }
+    ensures refused { IfErr result (λ refusal. (text : List ℕ) → path_text (known_in declared.now made.now) path.now ≡ Some text →
+        Exceeds refusal text) }
 {
     let mut text = Vec::new(alloc);
     let mut rest = path;
@@ -54,7 +55,8 @@ fn add_piece(
     slash_before: bool,
     slash_behind: bool,
 ) -> Result<(), Refusal>
-    ensures { AddsPiece result text.old.items text.new.items slash_before slash_behind (piece_texts (known_in declared.now made.now) (piece_value piece.entry)) }
+    ensures { AddsPiece result text.old.items text.new.items slash_before slash_behind
+        (piece_texts (known_in declared.now made.now) (piece_value piece.entry)) }
 {
     match piece {
         Piece::Byte(byte) => add(text, &[byte]),

@@ -29,7 +29,8 @@ impl Model for Texts {
 
     ghost view = { λ t. map (λ text. text.items) t.texts.items };
 
-    ghost invariant = { λ t. (t.bytes ≡ byte_count (map (λ text. text.items) t.texts.items)) × (length t.texts.items ≤ most_texts) × (t.bytes ≤ most_bytes) };
+    ghost invariant = { λ t. (t.bytes ≡ byte_count (map (λ text. text.items) t.texts.items)) × (length t.texts.items ≤ most_texts)
+        × (t.bytes ≤ most_bytes) };
 }
 
 impl Texts {
@@ -122,7 +123,8 @@ fn bytes_grown(bytes: usize, count: usize, more: usize) -> Option<usize>
 
 /// Appends the bytes to each text.
 fn extend_each(texts: &mut Vec<Vec<u8>>, end: &[u8]) -> Result<(), AllocError>
-    ensures { OnOk result (map (λ text. text.items) texts.new.items ≡ map (λ text. text ++ end.now) (map (λ text. text.items) texts.old.items)) }
+    ensures { OnOk result (map (λ text. text.items) texts.new.items ≡ map (λ text. text ++ end.now)
+        (map (λ text. text.items) texts.old.items)) }
 {
     for text in texts.iter_mut() {
         text.extend_from_slice(end)?;
@@ -136,7 +138,8 @@ fn product(
     firsts: &[Vec<u8>],
     seconds: &[Vec<u8>],
 ) -> Result<Vec<Vec<u8>>, AllocError>
-    ensures { IfOk result (λ texts. map (λ text. text.items) texts.items ≡ each_with (map (λ first. first.items) firsts.now) (map (λ second. second.items) seconds.now)) }
+    ensures { IfOk result (λ texts. map (λ text. text.items) texts.items ≡ each_with (map (λ first. first.items) firsts.now)
+        (map (λ second. second.items) seconds.now)) }
 {
     let mut texts = Vec::new(alloc);
     for first in firsts {
@@ -152,7 +155,8 @@ fn push_with_each(
     first: &[u8],
     seconds: &[Vec<u8>],
 ) -> Result<(), AllocError>
-    ensures { OnOk result (map (λ text. text.items) texts.new.items ≡ map (λ text. text.items) texts.old.items ++ map (λ second. first.now ++ second) (map (λ second. second.items) seconds.now)) }
+    ensures { OnOk result (map (λ text. text.items) texts.new.items ≡ map (λ text. text.items) texts.old.items
+        ++ map (λ second. first.now ++ second) (map (λ second. second.items) seconds.now)) }
 {
     for second in seconds {
         let mut text = Vec::from_slice(alloc, first)?;

@@ -30,4 +30,5 @@ module _ (M : RattleType) (g : row.Ghosts M.Denot) where
   opener_send send = search (sendable, session_send, boxes.crosses) depth 40 fits 20000
 
   pub scene_sync : IsSend M → (name : Lifetime) (life : Lft) → IsSync (scene.the_row (record { mir = name; lft = life }) M g)
-  scene_sync send name life = search (sendable, guard_sync, question_sync, rounds.the_sync, any_send, any_sync, boxes.crosses) depth 40 fits 20000
+  scene_sync send name life = search (sendable, guard_sync, question_sync, rounds.the_sync, any_send, any_sync, boxes.crosses)
+      depth 40 fits 20000

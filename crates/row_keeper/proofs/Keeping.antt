@@ -1,5 +1,6 @@
 -- The invariant between the parts of a keeper, before and after each step.
-use Rattle.std.proofs.Common.{◌≡◌, ◌≢◌, ℕ, suc, ◌+◌, ◌<◌, ◌≤◌, Bool, true, false, List, [], ◌∷◌, ◌++◌, length, drop, Some, None, Option, sym, refl, ap, ◌∙◌, subst, arith, get_or, length-drop, drop-cons}
+use Rattle.std.proofs.Common.{◌≡◌, ◌≢◌, ℕ, suc, ◌+◌, ◌<◌, ◌≤◌, Bool, true, false, List, [], ◌∷◌, ◌++◌, length, drop, Some, None, Option}
+use Rattle.std.proofs.Common.{sym, refl, ap, ◌∙◌, subst, arith, get_or, length-drop, drop-cons}
 use Rattle.std.proofs.lemmas.List.{drop_all}
 use Rattle.std.proofs.lemmas.Bool.{lt-ltb, ltb-true}
 use Rattle.std.specs.Prelude.{Vec, Ok, Err, slice_set, nat_lt, if◌then◌else◌}
@@ -44,7 +45,8 @@ last_more [] change = refl
 last_more (first ∷ rest) change = last_from_more first rest change
 
 -- the cells that are left, if there is a next one, and if there is none
-from_next : (cells : List Cell) (n : ℕ) (cell : Cell) → n < length cells → cell ≡ get_or cells n cell → drop n cells ≡ cell ∷ drop (n + 1) cells
+from_next : (cells : List Cell) (n : ℕ) (cell : Cell) → n < length cells → cell ≡ get_or cells n cell →
+    drop n cells ≡ cell ∷ drop (n + 1) cells
 from_next cells n cell within is = drop-cons cells n cell within ∙ (λ i. sym is i ∷ drop (next n i) cells) where
   next : (n : ℕ) → suc n ≡ n + 1
   next n = omega arith
@@ -58,15 +60,19 @@ module _ (capacity : ℕ) (history : List Change) (t : Tree) (made : tree_after 
   more = after_more capacity 0 root_alone t history change (length history) (omega arith) made
 
   counted : length history < max_changes → tree_after capacity (history ++ change ∷ []) ≡ apply t (has_room capacity t) change
-  counted few = more ∙ ap (λ (b : Bool). if b then apply t (has_room capacity t) change else Err EOVERFLOW) (lt-ltb (length history) max_changes few)
+  counted few = more ∙ ap (λ (b : Bool). if b then apply t (has_room capacity t) change else Err EOVERFLOW)
+      (lt-ltb (length history) max_changes few)
 
   too_many : length history ≡ max_changes → tree_after capacity (history ++ change ∷ []) ≡ Err EOVERFLOW
   too_many many = more ∙ ap (λ (n : ℕ). apply_counted capacity n t change) many
 
   -- a change that was accepted was counted
-  accepted : (u : Tree) → tree_after capacity (history ++ change ∷ []) ≡ Ok u → (length history < max_changes) × (apply t (has_room capacity t) change ≡ Ok u)
+  accepted : (u : Tree) → tree_after capacity (history ++ change ∷ []) ≡ Ok u → (length history < max_changes)
+      × (apply t (has_room capacity t) change ≡ Ok u)
   accepted u is =
-      elim (nat_lt (length history) max_changes) as (λ (b : Bool). nat_lt (length history) max_changes ≡ b → (if b then apply t (has_room capacity t) change else Err EOVERFLOW) ≡ Ok u → (length history < max_changes) × (apply t (has_room capacity t) change ≡ Ok u)) [
+      elim (nat_lt (length history) max_changes) as (λ (b : Bool). nat_lt (length history) max_changes ≡ b →
+      (if b then apply t (has_room capacity t) change else Err EOVERFLOW) ≡ Ok u → (length history < max_changes)
+      × (apply t (has_room capacity t) change ≡ Ok u)) [
         | true ↦ λ q h. (ltb-true (length history) max_changes q, h)
         | false ↦ λ q h. absurd (err_is_ok EOVERFLOW u h)
       ] refl (sym more ∙ is)
@@ -103,7 +109,8 @@ low_after next version (change.Rmdir path) h = omega arith
 low_after next version (change.Rename old new) h = omega arith
 
 -- a keeper at rest
-module _ (capacity : ℕ) (cells : List ℕ) (next version : ℕ) (history : List Change) (set : ℕ) (k : IsKept capacity cells next version history None set) (change : Change) where
+module _ (capacity : ℕ) (cells : List ℕ) (next version : ℕ) (history : List Change) (set : ℕ)
+    (k : IsKept capacity cells next version history None set) (change : Change) where
   abbrev world : World
   world = record { tree = k.tree; named = spot_at (slot_at cells); sound = tree_after_well capacity history k.tree k.made }
 
@@ -134,7 +141,8 @@ module _ (capacity : ℕ) (cells : List ℕ) (next version : ℕ) (history : Lis
   rest_full : version ≡ max_changes → tree_after capacity (history ++ change ∷ []) ≡ Err EOVERFLOW
   rest_full last = too_many capacity history k.tree k.made change (sym k.version_is ∙ last)
 
-  rest_opened : (plan : Vec Cell Global) (target : History) → MayPlan capacity (view_with cells history None set) change plan.items → target.events ≡ history ++ change ∷ []
+  rest_opened : (plan : Vec Cell Global) (target : History) → MayPlan capacity (view_with cells history None set) change plan.items →
+      target.events ≡ history ++ change ∷ []
       → IsKept capacity cells (next_after next change) version history (Some record { plan = plan; target = target }) 0
   rest_opened plan target (shut, (w, stood, named, plans), (u, made, encodes)) is =
       let (few, applied) = accepted capacity history k.tree k.made change u made in
@@ -147,12 +155,19 @@ module _ (capacity : ℕ) (cells : List ℕ) (next version : ℕ) (history : Lis
         next_low = low_after next version change k.next_low;
         version_is = k.version_is;
         few = omega (arith, k.version_is, few);
-        is_open = (is ∙ ap (λ (c : Change). history ++ c ∷ []) (sym last), omega arith, subst (λ (n : ℕ). All (λ (cell : Cell). cell.place < n) plan.items) k.encodes.long plans.lean.within);
+        is_open = (
+          is ∙ ap (λ (c : Change). history ++ c ∷ []) (sym last),
+          omega arith,
+          subst
+              (λ (n : ℕ). All (λ (cell : Cell). cell.place < n) plan.items) k.encodes.long plans.lean.within,
+        );
       }
 
 -- the same, for a value that is the view of a keeper's parts
-module _ (capacity : ℕ) (cells : List ℕ) (next version : ℕ) (history : List Change) (opened : Option OpenChange) (set : ℕ) (value : ℕ × KeeperView)
-    (kept : IsKept capacity cells next version history opened set) (is : (let v : ℕ × KeeperView = (capacity, view_with cells history opened set) in v) ≡ value) where
+module _ (capacity : ℕ) (cells : List ℕ) (next version : ℕ) (history : List Change) (opened : Option OpenChange) (set : ℕ)
+    (value : ℕ × KeeperView)
+    (kept : IsKept capacity cells next version history opened set)
+    (is : (let v : ℕ × KeeperView = (capacity, view_with cells history opened set) in v) ≡ value) where
   module _ (none : opened ≡ None) where
     kept_rest : IsKept capacity cells next version history None set
     kept_rest = subst (λ (o : Option OpenChange). IsKept capacity cells next version history o set) none kept
@@ -164,21 +179,26 @@ module _ (capacity : ℕ) (cells : List ℕ) (next version : ℕ) (history : Lis
     plannable change = rest_plannable capacity cells next version history set kept_rest change
 
     pub full : (change : Change) → version ≡ max_changes → IsPlanned value.0 value.1 change (Err EOVERFLOW)
-    full change last = subst (λ (v : ℕ × KeeperView). IsPlanned v.0 v.1 change (Err EOVERFLOW)) is_rest (refl, rest_full capacity cells next version history set kept_rest change last)
+    full change last = subst (λ (v : ℕ × KeeperView). IsPlanned v.0 v.1 change (Err EOVERFLOW)) is_rest
+        (refl, rest_full capacity cells next version history set kept_rest change last)
 
     pub planned : (change : Change) (plan : Vec Cell Global) → version ≢ max_changes
-        → ((row : List ℕ) (w : World) → row ≡ cells → EncodesWorld capacity row w → w.tree.next ≡ next → Plans capacity row w change plan.items)
+        → ((row : List ℕ) (w : World) → row ≡ cells → EncodesWorld capacity row w → w.tree.next ≡ next →
+        Plans capacity row w change plan.items)
         → IsPlanned value.0 value.1 change (Ok plan)
     planned change plan not_last plans =
-        subst (λ (v : ℕ × KeeperView). IsPlanned v.0 v.1 change (Ok plan)) is_rest (rest_planned capacity cells next version history set kept_rest change plan.items not_last plans)
+        subst (λ (v : ℕ × KeeperView). IsPlanned v.0 v.1 change (Ok plan)) is_rest
+        (rest_planned capacity cells next version history set kept_rest change plan.items not_last plans)
 
     pub refused : (change : Change) (errno : Errno) → version ≢ max_changes → errno ≢ ENOMEM
         → ((row : List ℕ) (w : World) → row ≡ cells → EncodesWorld capacity row w → Refuses capacity w change errno)
         → IsPlanned value.0 value.1 change (Err errno)
     refused change errno not_last other refuses =
-        subst (λ (v : ℕ × KeeperView). IsPlanned v.0 v.1 change (Err errno)) is_rest (refl, rest_refused capacity cells next version history set kept_rest change errno not_last other refuses)
+        subst (λ (v : ℕ × KeeperView). IsPlanned v.0 v.1 change (Err errno)) is_rest
+        (refl, rest_refused capacity cells next version history set kept_rest change errno not_last other refuses)
 
-  module _ (change : Change) (plan : Vec Cell Global) (may : MayPlan value.0 value.1 change plan.items) (target : History) (target_is : target.events ≡ history ++ change ∷ []) where
+  module _ (change : Change) (plan : Vec Cell Global) (may : MayPlan value.0 value.1 change plan.items) (target : History)
+      (target_is : target.events ≡ history ++ change ∷ []) where
     may_here : MayPlan capacity (view_with cells history opened set) change plan.items
     may_here = subst (λ (v : ℕ × KeeperView). MayPlan v.0 v.1 change plan.items) (sym is) may
 
@@ -188,35 +208,43 @@ module _ (capacity : ℕ) (cells : List ℕ) (next version : ℕ) (history : Lis
     pub kept_opened : IsKept capacity cells (next_after next change) version history (Some record { plan = plan; target = target }) 0
     kept_opened =
         rest_opened capacity cells next version history set (kept_rest none_here) change plan target
-        (subst (λ (o : Option OpenChange). MayPlan capacity (view_with cells history o set) change plan.items) none_here may_here) target_is
+        (subst (λ (o : Option OpenChange). MayPlan capacity (view_with cells history o set) change plan.items) none_here may_here)
+        target_is
 
     pub view_opened : IsOpened value.0 value.1 change (view_with cells history (Some record { plan = plan; target = target }) 0)
     view_opened = (
       plan.items,
       may,
-      ap (λ (c : Change). view_of c) (ap last_of target_is ∙ last_more history change) ∙ ap (λ (v : ℕ × KeeperView). opening v.1 change plan.items) (is_rest none_here),
+      ap (λ (c : Change). view_of c) (ap last_of target_is ∙ last_more history change)
+          ∙ ap (λ (v : ℕ × KeeperView). opening v.1 change plan.items) (is_rest none_here),
     ) where
       view_of : Change → KeeperView
       view_of c = record { history = history; cells = cells; pending = Some record { change = c; left = plan.items }; met = [] }
 
 -- All plans of a change are equally long.
-pub tested : (law : (capacity : ℕ) (row : List ℕ) (w v : World) (change : Change) (plan other : List Cell) → EncodesWorld capacity row w → EncodesWorld capacity row v → w.tree ≡ v.tree
+pub tested : (law : (capacity : ℕ) (row : List ℕ) (w v : World) (change : Change) (plan other : List Cell) → EncodesWorld capacity row w →
+    EncodesWorld capacity row v → w.tree ≡ v.tree
     → Plans capacity row w change plan → Plans capacity row v change other → length plan ≡ length other)
-    → (capacity : ℕ) (old : KeeperView) (change : Change) (plan : List Cell) → MayPlan capacity old change plan → IsTested capacity old change (Ok (length plan))
+    → (capacity : ℕ) (old : KeeperView) (change : Change) (plan : List Cell) → MayPlan capacity old change plan →
+    IsTested capacity old change (Ok (length plan))
 tested law capacity old change plan may =
     let (shut, (w, made, stands, plans), encodes) = may in (
       (opening old change plan, (plan, may, refl)),
       λ new (other, (shut', (v, made', stands', plans'), encodes'), is).
-          ap (λ (k : KeeperView). length (left_of k.pending)) is ∙ law capacity old.cells v w change other plan stands' stands (ok_inj v.tree w.tree (sym made' ∙ made)) plans' plans,
+          ap (λ (k : KeeperView). length (left_of k.pending)) is ∙ law capacity old.cells v w change other plan stands' stands
+          (ok_inj v.tree w.tree (sym made' ∙ made)) plans' plans,
     )
 
 -- a cell is set
-pub view_set : (cells : List ℕ) (history : List Change) (opened : Option OpenChange) (o : OpenChange) (set : ℕ) (cell : Cell) (k : KeeperView) → opened ≡ Some o → set < length o.plan.items → cell ≡ get_or o.plan.items set cell → view_with cells history opened set ≡ k
+pub view_set : (cells : List ℕ) (history : List Change) (opened : Option OpenChange) (o : OpenChange) (set : ℕ) (cell : Cell)
+    (k : KeeperView) → opened ≡ Some o → set < length o.plan.items → cell ≡ get_or o.plan.items set cell →
+    view_with cells history opened set ≡ k
     → IsSet k (view_with (slice_set cells cell.place cell.word) history opened (set + 1))
 view_set cells history opened o set cell k is within next value =
     let change = last_of o.target.events in
     let left = from_next o.plan.items set cell within next in
-    let at_one : IsSet (view_with cells history (Some o) set) (view_with (slice_set cells cell.place cell.word) history (Some o) (set + 1)) = (
+    let at_one : IsSet (view_with cells history (Some o) set) (view_with (slice_set cells cell.place cell.word) history
+    (Some o) (set + 1)) = (
       change,
       cell,
       drop (set + 1) o.plan.items,
@@ -224,17 +252,27 @@ view_set cells history opened o set cell k is within next value =
       ap (λ (cs : List Cell). view_of change cs) (ap (λ (cs : List Cell). drop 1 cs) (sym left)),
     ) in
     subst (λ (v : KeeperView). IsSet v (view_with (slice_set cells cell.place cell.word) history opened (set + 1))) value
-    (subst (λ (p : Option OpenChange). IsSet (view_with cells history p set) (view_with (slice_set cells cell.place cell.word) history p (set + 1))) (sym is) at_one)
+    (subst (λ (p : Option OpenChange). IsSet (view_with cells history p set) (view_with (slice_set cells cell.place cell.word) history p
+    (set + 1))) (sym is) at_one)
   where
     view_of : Change → List Cell → KeeperView
-    view_of c cs = record { history = history; cells = slice_set cells cell.place cell.word; pending = Some record { change = c; left = cs }; met = [] }
+    view_of c cs = record {
+      history = history;
+      cells = slice_set cells cell.place cell.word;
+      pending =
+          Some record { change = c; left = cs };
+      met = [];
+    }
 
 -- the change is closed exactly if no cell is left
-pub view_closed : (capacity : ℕ) (cells : List ℕ) (next version : ℕ) (history : List Change) (opened : Option OpenChange) (o : OpenChange) (set after : ℕ) (k : KeeperView) (target : List Change) → opened ≡ Some o → length o.plan.items ≤ set → target ≡ o.target.events
-    → IsKept capacity cells next version history opened set → view_with cells history opened set ≡ k → IsClosed k (view_with cells target None after)
+pub view_closed : (capacity : ℕ) (cells : List ℕ) (next version : ℕ) (history : List Change) (opened : Option OpenChange) (o : OpenChange)
+    (set after : ℕ) (k : KeeperView) (target : List Change) → opened ≡ Some o → length o.plan.items ≤ set → target ≡ o.target.events
+    → IsKept capacity cells next version history opened set → view_with cells history opened set ≡ k →
+    IsClosed k (view_with cells target None after)
 view_closed capacity cells next version history opened o set after k target is all target_is kept value =
     let change = last_of o.target.events in
-    let here : IsKept capacity cells next version history (Some o) set = subst (λ (p : Option OpenChange). IsKept capacity cells next version history p set) is kept in
+    let here : IsKept capacity cells next version history (Some o) set =
+    subst (λ (p : Option OpenChange). IsKept capacity cells next version history p set) is kept in
     let at_one : IsClosed (view_with cells history (Some o) set) (view_with cells target None after) = (
       change,
       ap (λ (cs : List Cell). Some record { change = change; left = cs }) (drop_all set o.plan.items all),
@@ -246,9 +284,11 @@ view_closed capacity cells next version history opened o set after k target is a
     view_of : List Change → KeeperView
     view_of events = record { history = events; cells = cells; pending = None; met = [] }
 
-pub not_closed : (cells : List ℕ) (history : List Change) (opened : Option OpenChange) (o : OpenChange) (set : ℕ) (k : KeeperView) → opened ≡ Some o → set < length o.plan.items → view_with cells history opened set ≡ k → ¬ (MayClose k)
+pub not_closed : (cells : List ℕ) (history : List Change) (opened : Option OpenChange) (o : OpenChange) (set : ℕ) (k : KeeperView) →
+    opened ≡ Some o → set < length o.plan.items → view_with cells history opened set ≡ k → ¬ (MayClose k)
 not_closed cells history opened o set k is some_left value (new, (change, none_left_is, closed)) =
     let here : pending_of (Some o) set ≡ Some record { change = change; left = [] } =
-    subst (λ (p : Option OpenChange). pending_of p set ≡ Some record { change = change; left = [] }) is (ap (λ (v : KeeperView). v.pending) value ∙ none_left_is) in
+    subst (λ (p : Option OpenChange). pending_of p set ≡ Some record { change = change; left = [] }) is
+    (ap (λ (v : KeeperView). v.pending) value ∙ none_left_is) in
     let low = none_left o.plan.items set (ap (λ (p : Option Pending). left_of p) here) in
     absurd (omega arith)

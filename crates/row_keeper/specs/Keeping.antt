@@ -13,7 +13,8 @@ use Rattle.row_plan.specs.Changes.{EncodesChanges, IsPlan}
 -- this one.
 abbrev pub MayPlan : ℕ → KeeperView → Change → List Cell → Type 0
 MayPlan capacity old change plan =
-    (old.pending ≡ None) × IsPlan capacity old.cells old.history change plan × EncodesChanges capacity (write old.cells plan) (old.history ++ change ∷ [])
+    (old.pending ≡ None) × IsPlan capacity old.cells old.history change plan × EncodesChanges capacity (write old.cells plan)
+    (old.history ++ change ∷ [])
 
 -- the change was opened with such cells
 abbrev pub IsOpened : ℕ → KeeperView → Change → KeeperView → Type 0
@@ -25,7 +26,8 @@ MayOpen capacity old change = (new : KeeperView) × IsOpened capacity old change
 -- the next cell of the open change was set
 abbrev pub IsSet : KeeperView → KeeperView → Type 0
 IsSet old new =
-    (change : Change) × (cell : Cell) × (left : List Cell) × (old.pending ≡ Some record { change = change; left = cell ∷ left }) × (new ≡ setting old cell)
+    (change : Change) × (cell : Cell) × (left : List Cell) × (old.pending ≡ Some record { change = change; left = cell ∷ left })
+    × (new ≡ setting old cell)
 
 abbrev pub MaySet : KeeperView → Type 0
 MaySet old = (new : KeeperView) × IsSet old new
@@ -40,5 +42,6 @@ MayClose old = (new : KeeperView) × IsClosed old new
 -- At rest, a change may be opened and then has `count` cells to set; or the definition refuses it with this error number, which may
 -- be the one for too many changes.
 abbrev pub IsTested : ℕ → KeeperView → Change → Result ℕ Errno → Type 0
-IsTested capacity old change (Ok count) = MayOpen capacity old change × ((new : KeeperView) → IsOpened capacity old change new → length (left_of new.pending) ≡ count)
+IsTested capacity old change (Ok count) = MayOpen capacity old change × ((new : KeeperView) → IsOpened capacity old change new →
+    length (left_of new.pending) ≡ count)
 IsTested capacity old change (Err errno) = (old.pending ≡ None) × (tree_after capacity (old.history ++ change ∷ []) ≡ Err errno)

@@ -1,5 +1,6 @@
 -- What the slots of a directory's entries, and free slots, say about the worlds that are seen.
-use Rattle.std.proofs.Common.{◌≡◌, ℕ, ◌+◌, ◌<◌, ◌≤◌, ◌≢◌, Bool, true, false, List, length, Some, None, Option, sym, refl, ap, ◌∙◌, subst, arith}
+use Rattle.std.proofs.Common.{◌≡◌, ℕ, ◌+◌, ◌<◌, ◌≤◌, ◌≢◌, Bool, true, false, List, length, Some, None, Option, sym, refl, ap, ◌∙◌, subst}
+use Rattle.std.proofs.Common.{arith}
 use mathlib.Core.Logic.{dite}
 use native.Mathlib.Decide.{ℕ_discrete}
 use Rattle.std.specs.Option.{option_map}
@@ -34,38 +35,53 @@ none_held (Some e) h = absurd (none_is_some (Held e) (sym h))
 abbrev pub NoEntryBelow : ℕ → (List ℕ → Type 0) → ℕ → ℕ → Type 0
 NoEntryBelow capacity may d s = (row : List ℕ) → may row → (r : ℕ) → r < s → ¬ (IsEntryOf (capacity + 1) (slot_at row) d r)
 
-seen_entry : (capacity : ℕ) (row : List ℕ) (w : World) → EncodesWorld capacity row w → (d s : ℕ) → IsEntryOf (capacity + 1) (slot_at row) d s → is_empty w.tree.entries (node_at (w.named d)) ≡ false
+seen_entry : (capacity : ℕ) (row : List ℕ) (w : World) → EncodesWorld capacity row w → (d s : ℕ) → IsEntryOf (capacity + 1) (slot_at row) d
+    s → is_empty w.tree.entries (node_at (w.named d)) ≡ false
 seen_entry capacity row w enc d s h =
     ap (λ (z : Spot). is_empty w.tree.entries (node_at z)) (enc.named d)
-    ∙ not_empty w.tree.entries (node_at (spot_at (slot_at row) d)) (slot_at row s).component _ (found_there (capacity + 1) (slot_at row) w.tree enc.tree.slots s (node_at (spot_at (slot_at row) d)) _ h.used
+    ∙ not_empty w.tree.entries (node_at (spot_at (slot_at row) d)) (slot_at row s).component _
+    (found_there (capacity + 1) (slot_at row) w.tree enc.tree.slots s (node_at (spot_at (slot_at row) d)) _ h.used
     (ap (λ (z : ℕ). (slot_at row z).node) h.under ∙ sym (node_of (capacity + 1) (slot_at row) w.tree enc.tree.slots d)) refl)
 
-seen_no_entry : (capacity : ℕ) (row : List ℕ) (w : World) → EncodesWorld capacity row w → (d : ℕ) → d < capacity + 1 → (slot_at row d).kind ≢ 0 → ((s : ℕ) → ¬ (IsEntryOf (capacity + 1) (slot_at row) d s)) → is_empty w.tree.entries (node_at (w.named d)) ≡ true
+seen_no_entry : (capacity : ℕ) (row : List ℕ) (w : World) → EncodesWorld capacity row w → (d : ℕ) → d < capacity + 1 →
+    (slot_at row d).kind ≢ 0 → ((s : ℕ) → ¬ (IsEntryOf (capacity + 1) (slot_at row) d s)) →
+    is_empty w.tree.entries (node_at (w.named d)) ≡ true
 seen_no_entry capacity row w enc d within filled none =
-    none_empty w.tree.entries (node_at (w.named d)) (λ q. none_held _ (seen_no_child capacity row w enc d q within filled (λ s h. none s record { used = h.used; under = h.under })))
+    none_empty w.tree.entries (node_at (w.named d))
+    (λ q. none_held _ (seen_no_child capacity row w enc d q within filled (λ s h. none s record { used = h.used; under = h.under })))
 
-pub no_entry_more : (capacity : ℕ) (may may' : List ℕ → Type 0) (d s : ℕ) → Fewer may may' → NoEntryBelow capacity may d s → TellsEntryOf capacity may' d s false → NoEntryBelow capacity may' d (s + 1)
+pub no_entry_more : (capacity : ℕ) (may may' : List ℕ → Type 0) (d s : ℕ) → Fewer may may' → NoEntryBelow capacity may d s →
+    TellsEntryOf capacity may' d s false → NoEntryBelow capacity may' d (s + 1)
 no_entry_more capacity may may' d s fewer none here row h r l = dite (ℕ_discrete r s)
     (λ e x. here row h (subst (λ (z : ℕ). IsEntryOf (capacity + 1) (slot_at row) d z) e x))
     (λ other. none row (fewer row h) r (omega arith))
 
-pub filled_seen : (capacity after : ℕ) (may : List ℕ → Type 0) (d s : ℕ) → after ≡ capacity → TellsEntryOf capacity may d s true → (w : World) → SeesBy after may w → is_empty w.tree.entries (node_at (w.named d)) ≡ false
-filled_seen capacity after may d s same tells w (row, h, enc) = seen_entry capacity row w (subst (λ (z : ℕ). EncodesWorld z row w) same enc) d s (tells row h)
+pub filled_seen : (capacity after : ℕ) (may : List ℕ → Type 0) (d s : ℕ) → after ≡ capacity → TellsEntryOf capacity may d s true →
+    (w : World) → SeesBy after may w → is_empty w.tree.entries (node_at (w.named d)) ≡ false
+filled_seen capacity after may d s same tells w (row, h, enc) =
+    seen_entry capacity row w (subst (λ (z : ℕ). EncodesWorld z row w) same enc) d s (tells row h)
 
-pub empty_seen : (capacity after : ℕ) (may may' : List ℕ → Type 0) (d stop : ℕ) → after ≡ capacity → capacity + 1 ≤ stop → Fewer may may' → Knows capacity may d → NoEntryBelow capacity may' d stop → (w : World) → SeesBy after may' w → is_empty w.tree.entries (node_at (w.named d)) ≡ true
+pub empty_seen : (capacity after : ℕ) (may may' : List ℕ → Type 0) (d stop : ℕ) → after ≡ capacity → capacity + 1 ≤ stop → Fewer may may' →
+    Knows capacity may d → NoEntryBelow capacity may' d stop → (w : World) → SeesBy after may' w →
+    is_empty w.tree.entries (node_at (w.named d)) ≡ true
 empty_seen capacity after may may' d stop same end fewer known none w (row, h, enc) =
     let e = subst (λ (z : ℕ). EncodesWorld z row w) same enc in
-    seen_no_entry capacity row w e d known.within (known.filled row w (fewer row h) e) (λ s x. none row h s (let a = x.used.within in omega arith) x)
+    seen_no_entry capacity row w e d known.within (known.filled row w (fewer row h) e)
+    (λ s x. none row h s (let a = x.used.within in omega arith) x)
 
-pub room_seen : (capacity after : ℕ) (may : List ℕ → Type 0) (s : ℕ) → after ≡ capacity → TellsFree capacity may (Some s) → (w : World) → SeesBy after may w → has_room after w.tree ≡ true
+pub room_seen : (capacity after : ℕ) (may : List ℕ → Type 0) (s : ℕ) → after ≡ capacity → TellsFree capacity may (Some s) → (w : World) →
+    SeesBy after may w → has_room after w.tree ≡ true
 room_seen capacity after may s same tells w (row, h, enc) =
     let e = subst (λ (z : ℕ). EncodesWorld z row w) same enc in
-    ap (λ (z : ℕ). has_room z w.tree) same ∙ lt-ltb _ _ (room_free (capacity + 1) (slot_at row) w.tree e.tree.slots capacity s refl w.sound.distinct (tells row h).free)
+    ap (λ (z : ℕ). has_room z w.tree) same ∙ lt-ltb _ _ (room_free (capacity + 1) (slot_at row) w.tree e.tree.slots capacity s refl
+    w.sound.distinct (tells row h).free)
 
-pub no_room_seen : (capacity after : ℕ) (may : List ℕ → Type 0) → after ≡ capacity → TellsFree capacity may None → (w : World) → SeesBy after may w → has_room after w.tree ≡ false
+pub no_room_seen : (capacity after : ℕ) (may : List ℕ → Type 0) → after ≡ capacity → TellsFree capacity may None → (w : World) →
+    SeesBy after may w → has_room after w.tree ≡ false
 no_room_seen capacity after may same tells w (row, h, enc) =
     let e = subst (λ (z : ℕ). EncodesWorld z row w) same enc in
-    ap (λ (z : ℕ). has_room z w.tree) same ∙ le-ltb _ _ (room_full (capacity + 1) (slot_at row) w.tree e.tree.slots capacity refl w.sound.distinct (tells row h))
+    ap (λ (z : ℕ). has_room z w.tree) same ∙ le-ltb _ _ (room_full (capacity + 1) (slot_at row) w.tree e.tree.slots capacity refl
+    w.sound.distinct (tells row h))
 
 pub most_seen : (capacity : ℕ) (may : List ℕ → Type 0) (w : World) → SeesBy capacity may w → length w.tree.entries ≤ capacity
 most_seen capacity may w (row, h, enc) = room_most (capacity + 1) (slot_at row) w.tree enc.tree.slots capacity refl w.sound.distinct

@@ -15,7 +15,8 @@ AgreesBoth known read row = Agrees known row × Agrees read row
 
 -- a place of the row whose word neither was known before nor was read, after as many words were read as may be
 abbrev pub IsNext : ℕ → List (ℕ × ℕ) → List (ℕ × ℕ) → ℕ → ℕ → Type 0
-IsNext capacity known read most place = (place < row_length capacity) × (known_at known place ≡ None) × (known_at read place ≡ None) × (length read ≡ most)
+IsNext capacity known read most place = (place < row_length capacity) × (known_at known place ≡ None) × (known_at read place ≡ None)
+    × (length read ≡ most)
 
 abbrev pub StopsReading : {X : Type 0} → ℕ → List (ℕ × ℕ) → List (ℕ × ℕ) → ℕ → (Tree → Result X Errno) → Stop → Type 0
 StopsReading capacity known read most = Stops capacity (AgreesBoth known read) (IsNext capacity known read most) (Unit {0})

@@ -75,8 +75,10 @@ impl KnownWords {
     /// Adds what `later` knows; where both know a word, that of `later` wins. If memory is refused, a part of it may have been added.
     pub fn append(&mut self, later: KnownWords) -> Result<(), AllocError>
         ensures capacity { self.new.0 ≡ self.old.0 }
-        ensures ok { OnOk result ((place : ℕ) → known_at self.new.1 place ≡ option_or (known_at later.1 place) (known_at self.old.1 place)) }
-        ensures either { (place : ℕ) → (known_at self.new.1 place ≡ known_at self.old.1 place) ⊎ (known_at self.new.1 place ≡ known_at later.1 place) }
+        ensures ok { OnOk result ((place : ℕ) → known_at self.new.1 place
+            ≡ option_or (known_at later.1 place) (known_at self.old.1 place)) }
+        ensures either { (place : ℕ) → (known_at self.new.1 place ≡ known_at self.old.1 place)
+            ⊎ (known_at self.new.1 place ≡ known_at later.1 place) }
     {
         let mut words = later.words;
         self.words.append(&mut words)?;

@@ -11,7 +11,8 @@ use tree_row::Cells;
 /// If all words of the cells are known, `Torn` is returned only if their row encodes no sound tree.
 pub fn torn_rows_encode_no_tree<C: Cells>(look: &RowLook<C>)
     ensures { IsTorn (C.unknown look.now.cells) (SeesBy (C.capacity_of (C.kept look.now.cells)) (C.may look.now.cells)) →
-        (row : List ℕ) (t : Tree) → C.whole (C.kept look.now.cells) row → WellFormed t → Encodes (C.capacity_of (C.kept look.now.cells)) row t → ⊥ }
+        (row : List ℕ) (t : Tree) → C.whole (C.kept look.now.cells) row → WellFormed t →
+        Encodes (C.capacity_of (C.kept look.now.cells)) row t → ⊥ }
 {
     let _ = look;
 }

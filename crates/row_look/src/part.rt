@@ -90,7 +90,8 @@ pub fn walk_known(
     last: Last,
     scratch: &mut Scratch,
 ) -> Result<RowEntry, Stop>
-    ensures found { IfOk result (λ entry. InEach known.now.0 (Agrees known.now.1) (λ row t. walk t last path.now ≡ Ok (spot_at (slot_at row) entry.slot))) }
+    ensures found { IfOk result (λ entry. InEach known.now.0 (Agrees known.now.1)
+        (λ row t. walk t last path.now ≡ Ok (spot_at (slot_at row) entry.slot))) }
     ensures stops { IfErr result (StopsKnown known.now.0 known.now.1 (λ t. walk t last path.now)) }
 {
     let mut look = RowLook::new(PartCells::new(known));
@@ -110,8 +111,10 @@ pub fn name_known(
     room: &mut [u8; NAME_ROOM],
 ) -> Result<Reached<RowEntry>, Stop>
     ensures fits { IfOk result (λ reached. reached.length ≤ LONGEST_PATH) }
-    ensures found { IfOk result (λ reached. InEach known.now.0 (Agrees known.now.1) (λ row t. walk t last path.now ≡ Ok (spot_at (slot_at row) reached.entry.slot))) }
-    ensures name { IfOk result (λ reached. InEach known.now.0 (Agrees known.now.1) (λ row t. and_then (walk t last path.now) (judged_name t) ≡ Ok (take reached.length room.new))) }
+    ensures found { IfOk result (λ reached. InEach known.now.0 (Agrees known.now.1)
+        (λ row t. walk t last path.now ≡ Ok (spot_at (slot_at row) reached.entry.slot))) }
+    ensures name { IfOk result (λ reached. InEach known.now.0 (Agrees known.now.1)
+        (λ row t. and_then (walk t last path.now) (judged_name t) ≡ Ok (take reached.length room.new))) }
     ensures stops { IfErr result (StopsKnown known.now.0 known.now.1 (λ t. and_then (walk t last path.now) (judged_name t))) }
 {
     let mut look = RowLook::new(PartCells::new(known));
@@ -130,7 +133,8 @@ pub fn name_place_known(
     room: &mut [u8; NAME_ROOM],
 ) -> Result<usize, Stop>
     ensures fits { IfOk result (λ length. length ≤ LONGEST_PATH) }
-    ensures name { IfOk result (λ length. InEach known.now.0 (Agrees known.now.1) (λ row t. named_place t path.now ≡ Ok (take length room.new))) }
+    ensures name { IfOk result (λ length. InEach known.now.0 (Agrees known.now.1)
+        (λ row t. named_place t path.now ≡ Ok (take length room.new))) }
     ensures stops { IfErr result (StopsKnown known.now.0 known.now.1 (λ t. named_place t path.now)) }
 {
     let mut look = RowLook::new(PartCells::new(known));

@@ -34,8 +34,10 @@ pub fn reach<L: Look>(
     ensures known { IfOk result (λ reached. L.knows look.new reached.entry) }
     ensures fits { IfOk result (λ reached. reached.length ≤ LONGEST_PATH) }
     ensures found { IfOk result (λ reached. (w : World) → L.sees look.new w → walk w.tree last path.now ≡ Ok (L.means reached.entry w)) }
-    ensures name { IfOk result (λ reached. (w : World) → L.sees look.new w → and_then (walk w.tree last path.now) (judged_name w.tree) ≡ Ok (take reached.length room.new)) }
-    ensures fault { IfErr result (IsFault (L.lacks look.new) (L.sees look.new) (λ w. and_then (walk w.tree last path.now) (judged_name w.tree))) }
+    ensures name { IfOk result (λ reached. (w : World) → L.sees look.new w → and_then (walk w.tree last path.now) (judged_name w.tree)
+        ≡ Ok (take reached.length room.new)) }
+    ensures fault { IfErr result
+        (IsFault (L.lacks look.new) (L.sees look.new) (λ w. and_then (walk w.tree last path.now) (judged_name w.tree))) }
 {
     let entry = resolve(look, path, last, scratch)?;
     let length = name_of(look, entry, room)?;

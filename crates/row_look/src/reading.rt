@@ -151,7 +151,8 @@ pub fn walk_and_read(
     ensures own { Agrees result.read.1 row.now.1 }
     ensures new { AreNew known.now.1 result.read.1 }
     ensures few { length result.read.1 ≤ most }
-    ensures found { IfOk result.end (λ entry. InEach known.now.0 (AgreesBoth known.now.1 result.read.1) (λ row t. walk t last path.now ≡ Ok (spot_at (slot_at row) entry.slot))) }
+    ensures found { IfOk result.end (λ entry. InEach known.now.0 (AgreesBoth known.now.1 result.read.1)
+        (λ row t. walk t last path.now ≡ Ok (spot_at (slot_at row) entry.slot))) }
     ensures stops { IfErr result.end (StopsReading known.now.0 known.now.1 result.read.1 most (λ t. walk t last path.now)) }
 {
     let mut look = RowLook::new(ReadCells::new(alloc, known, row, most));
@@ -181,9 +182,12 @@ pub fn name_and_read(
     ensures new { AreNew known.now.1 result.read.1 }
     ensures few { length result.read.1 ≤ most }
     ensures fits { IfOk result.end (λ reached. reached.length ≤ LONGEST_PATH) }
-    ensures found { IfOk result.end (λ reached. InEach known.now.0 (AgreesBoth known.now.1 result.read.1) (λ row t. walk t last path.now ≡ Ok (spot_at (slot_at row) reached.entry.slot))) }
-    ensures name { IfOk result.end (λ reached. InEach known.now.0 (AgreesBoth known.now.1 result.read.1) (λ row t. and_then (walk t last path.now) (judged_name t) ≡ Ok (take reached.length room.new))) }
-    ensures stops { IfErr result.end (StopsReading known.now.0 known.now.1 result.read.1 most (λ t. and_then (walk t last path.now) (judged_name t))) }
+    ensures found { IfOk result.end (λ reached. InEach known.now.0 (AgreesBoth known.now.1 result.read.1)
+        (λ row t. walk t last path.now ≡ Ok (spot_at (slot_at row) reached.entry.slot))) }
+    ensures name { IfOk result.end (λ reached. InEach known.now.0 (AgreesBoth known.now.1 result.read.1)
+        (λ row t. and_then (walk t last path.now) (judged_name t) ≡ Ok (take reached.length room.new))) }
+    ensures stops { IfErr result.end (StopsReading known.now.0 known.now.1 result.read.1 most
+        (λ t. and_then (walk t last path.now) (judged_name t))) }
 {
     let mut look = RowLook::new(ReadCells::new(alloc, known, row, most));
     match reach(&mut look, path, last, scratch, room) {
@@ -211,7 +215,8 @@ pub fn name_place_and_read(
     ensures new { AreNew known.now.1 result.read.1 }
     ensures few { length result.read.1 ≤ most }
     ensures fits { IfOk result.end (λ length. length ≤ LONGEST_PATH) }
-    ensures name { IfOk result.end (λ length. InEach known.now.0 (AgreesBoth known.now.1 result.read.1) (λ row t. named_place t path.now ≡ Ok (take length room.new))) }
+    ensures name { IfOk result.end (λ length. InEach known.now.0 (AgreesBoth known.now.1 result.read.1)
+        (λ row t. named_place t path.now ≡ Ok (take length room.new))) }
     ensures stops { IfErr result.end (StopsReading known.now.0 known.now.1 result.read.1 most (λ t. named_place t path.now)) }
 {
     let mut look = RowLook::new(ReadCells::new(alloc, known, row, most));

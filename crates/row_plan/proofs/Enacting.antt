@@ -35,7 +35,8 @@ directory_code (suc zero) text h = refl
 directory_code (suc (suc zero)) text h = absurd (cc h)
 directory_code (suc (suc (suc n))) text h = absurd (cc h)
 
-spot_directory : (n : ℕ) (f : ℕ → Slot) (t : Tree) (d : ℕ) → EncodesSlots n f t → d < n → shape_of (kind_at (spot_at f d)) ≡ kind.Directory → IsDirectorySlot n f d
+spot_directory : (n : ℕ) (f : ℕ → Slot) (t : Tree) (d : ℕ) → EncodesSlots n f t → d < n → shape_of (kind_at (spot_at f d))
+    ≡ kind.Directory → IsDirectorySlot n f d
 spot_directory n f t zero enc within h = record { within = within; kind = enc.root.kind }
 spot_directory n f t (suc d) enc within h = record { within = within; kind = directory_code (f (suc d)).kind (f (suc d)).text h }
 
@@ -65,11 +66,13 @@ module _ (capacity : ℕ) (row : List ℕ) (w : World) (enc : EncodesWorld capac
   node_is d = ap node_at (enc.named d) ∙ node_of slots f t enc.tree.slots d
 
   pub directory_slot : (d : ℕ) → d < slots → shape_of (kind_at (w.named d)) ≡ kind.Directory → IsDirectorySlot slots f d
-  directory_slot d within h = spot_directory slots f t d enc.tree.slots within (ap (λ (s : Spot). shape_of (kind_at s)) (sym (enc.named d)) ∙ h)
+  directory_slot d within h = spot_directory slots f t d enc.tree.slots within
+      (ap (λ (s : Spot). shape_of (kind_at s)) (sym (enc.named d)) ∙ h)
 
   -- an entry that is somewhere is not the root
   child_past : (d r : ℕ) (c : List ℕ) → child_of t (w.named d) c ≡ Some (w.named r) → r ≢ 0
-  child_past d r c is e = not_root (find t.entries (node_at (w.named d)) c) (is ∙ ap (λ (z : ℕ). Some (w.named z)) e ∙ ap Some (enc.named 0))
+  child_past d r c is e = not_root (find t.entries (node_at (w.named d)) c) (is ∙ ap (λ (z : ℕ). Some (w.named z)) e
+      ∙ ap Some (enc.named 0))
 
   pub child_used : (d r : ℕ) (c : List ℕ) → r < slots → (f r).kind ≢ 0 → child_of t (w.named d) c ≡ Some (w.named r) → IsUsed slots f r
   child_used d r c within filled is = let past = child_past d r c is in record { past_root = omega arith; within = within; used = filled }
@@ -77,42 +80,60 @@ module _ (capacity : ℕ) (row : List ℕ) (w : World) (enc : EncodesWorld capac
   pub held : (r : ℕ) → IsUsed slots f r → w.named r ≡ Held (entry_at f r)
   held r used = enc.named r ∙ held_spot f r used.past_root
 
-  pub child_found : (d r : ℕ) (c : List ℕ) → IsUsed slots f r → child_of t (w.named d) c ≡ Some (w.named r) → find t.entries (node_at (w.named d)) c ≡ Some (entry_at f r)
+  pub child_found : (d r : ℕ) (c : List ℕ) → IsUsed slots f r → child_of t (w.named d) c ≡ Some (w.named r) →
+      find t.entries (node_at (w.named d)) c ≡ Some (entry_at f r)
   child_found d r c used is = some_held (find t.entries (node_at (w.named d)) c) (entry_at f r) (is ∙ ap Some (held r used))
 
   -- a directory that has no entry is no slot's
-  childless : (r : ℕ) → IsUsed slots f r → (shape_of (kind_at (w.named r)) ≡ kind.Directory → is_empty t.entries (node_at (w.named r)) ≡ true) → (x : ℕ) → IsUsed slots f x → (f x).parent ≢ r
+  childless : (r : ℕ) → IsUsed slots f r → (shape_of (kind_at (w.named r)) ≡ kind.Directory → is_empty t.entries (node_at (w.named r))
+      ≡ true) → (x : ℕ) → IsUsed slots f x → (f x).parent ≢ r
   childless r used empty x h up =
       let k : (f r).kind ≡ 1 = ap (λ (z : ℕ). (f z).kind) (sym up) ∙ (enc.tree.slots.in_directory x h).kind in
-      let shape : shape_of (kind_at (w.named r)) ≡ kind.Directory = ap (λ (s : Spot). shape_of (kind_at s)) (held r used) ∙ ap (λ (z : ℕ). shape_of (kind_from z (f r).text)) k in
-      none_is_some (entry_at f x) (sym (empty_none t.entries (node_at (w.named r)) (f x).component (empty shape)) ∙ ap (λ (z : ℕ). find t.entries z (f x).component) (node_is r ∙ ap (λ (z : ℕ). (f z).node) (sym up)) ∙ enc.tree.slots.there x h)
+      let shape : shape_of (kind_at (w.named r)) ≡ kind.Directory = ap (λ (s : Spot). shape_of (kind_at s)) (held r used)
+      ∙ ap (λ (z : ℕ). shape_of (kind_from z (f r).text)) k in
+      none_is_some (entry_at f x) (sym (empty_none t.entries (node_at (w.named r)) (f x).component (empty shape))
+      ∙ ap (λ (z : ℕ). find t.entries z (f x).component) (node_is r ∙ ap (λ (z : ℕ). (f z).node) (sym up)) ∙ enc.tree.slots.there x h)
 
-  pub enacts_new : (made : NodeKind) (node next s p : ℕ) (c after : List ℕ) → p < slots → find t.entries (node_at (w.named p)) c ≡ None → shape_of (kind_at (w.named p)) ≡ kind.Directory → IsFree slots f s
-      → length c ≤ LONGEST_COMPONENT → length (text_in made) ≤ max_text → SetsSlot row s (new_slot made node p c) after → Encodes capacity after (with_entry t (entry (node_at (w.named p)) c node made) next)
+  pub enacts_new : (made : NodeKind) (node next s p : ℕ) (c after : List ℕ) → p < slots → find t.entries (node_at (w.named p)) c ≡ None →
+      shape_of (kind_at (w.named p)) ≡ kind.Directory → IsFree slots f s
+      → length c ≤ LONGEST_COMPONENT → length (text_in made) ≤ max_text → SetsSlot row s (new_slot made node p c) after →
+      Encodes capacity after (with_entry t (entry (node_at (w.named p)) c node made) next)
   enacts_new made node next s p c after within none directory free short short_text sets =
       let e = node_is p in
       subst (λ (d : ℕ). Encodes capacity after (with_entry t (entry d c node made) next)) (sym e)
-      (encodes_filled capacity row t enc.tree after made node next s p c (ap (λ (z : ℕ). find t.entries z c) (sym e) ∙ none) free (directory_slot p within directory) short short_text sets)
+      (encodes_filled capacity row t enc.tree after made node next s p c (ap (λ (z : ℕ). find t.entries z c) (sym e) ∙ none) free
+      (directory_slot p within directory) short short_text sets)
 
-  pub enacts_removal : (d r : ℕ) (c after : List ℕ) → r < slots → (f r).kind ≢ 0 → child_of t (w.named d) c ≡ Some (w.named r) → (shape_of (kind_at (w.named r)) ≡ kind.Directory → is_empty t.entries (node_at (w.named r)) ≡ true)
+  pub enacts_removal : (d r : ℕ) (c after : List ℕ) → r < slots → (f r).kind ≢ 0 → child_of t (w.named d) c ≡ Some (w.named r) →
+      (shape_of (kind_at (w.named r)) ≡ kind.Directory → is_empty t.entries (node_at (w.named r)) ≡ true)
       → FreesSlot row r after → Encodes capacity after (dropped t (node_at (w.named d)) c)
   enacts_removal d r c after within filled is empty frees =
       let used = child_used d r c within filled is in
       encodes_freed capacity row t enc.tree after r (node_at (w.named d)) c used (child_found d r c used is) (childless r used empty) frees
 
   -- an entry goes to a place where there is none
-  enacts_free_move : (d s p : ℕ) (c name after : List ℕ) → p < slots → IsUsed slots f s → child_of t (w.named d) c ≡ Some (w.named s) → find t.entries (node_at (w.named p)) name ≡ None → shape_of (kind_at (w.named p)) ≡ kind.Directory
-      → length name ≤ LONGEST_COMPONENT → SetsSlot row s (moved_slot (f s) p name) after → Encodes capacity after (moved t (node_at (w.named d)) c (node_at (w.named p)) name)
+  enacts_free_move : (d s p : ℕ) (c name after : List ℕ) → p < slots → IsUsed slots f s → child_of t (w.named d) c ≡ Some (w.named s) →
+      find t.entries (node_at (w.named p)) name ≡ None → shape_of (kind_at (w.named p)) ≡ kind.Directory
+      → length name ≤ LONGEST_COMPONENT → SetsSlot row s (moved_slot (f s) p name) after →
+      Encodes capacity after (moved t (node_at (w.named d)) c (node_at (w.named p)) name)
   enacts_free_move d s p c name after within used is none directory short sets =
       let e = node_is p in
-      let put = encodes_moved capacity row t enc.tree after s p (node_at (w.named d)) c name used (child_found d s c used is) (ap (λ (z : ℕ). find t.entries z name) (sym e) ∙ none) (directory_slot p within directory) short sets in
-      subst (λ (es : List Entry). Encodes capacity after record { entries = placed (node_at (w.named d)) c (node_at (w.named p)) name es; next = t.next }) (sym (without-none t.entries (node_at (w.named p)) name none))
-      (subst (λ (z : ℕ). Encodes capacity after record { entries = placed (node_at (w.named d)) c z name t.entries; next = t.next }) (sym e) put)
+      let put = encodes_moved capacity row t enc.tree after s p (node_at (w.named d)) c name used (child_found d s c used is)
+      (ap (λ (z : ℕ). find t.entries z name) (sym e) ∙ none) (directory_slot p within directory) short sets in
+      subst (λ (es : List Entry). Encodes capacity after record {
+        entries = placed (node_at (w.named d)) c (node_at (w.named p)) name es;
+        next = t.next;
+      }) (sym (without-none t.entries (node_at (w.named p)) name none))
+      (subst (λ (z : ℕ). Encodes capacity after record { entries = placed (node_at (w.named d)) c z name t.entries; next = t.next })
+      (sym e) put)
 
   -- to a place where there is one, which is removed first
-  module _ (d s p r : ℕ) (c name between after : List ℕ) (within : p < slots) (within_r : r < slots) (filled_r : (f r).kind ≢ 0) (used : IsUsed slots f s) (is : child_of t (w.named d) c ≡ Some (w.named s))
-      (onto : child_of t (w.named p) name ≡ Some (w.named r)) (other : node_at (w.named r) ≢ node_at (w.named s)) (empty : shape_of (kind_at (w.named r)) ≡ kind.Directory → is_empty t.entries (node_at (w.named r)) ≡ true)
-      (directory : shape_of (kind_at (w.named p)) ≡ kind.Directory) (short : length name ≤ LONGEST_COMPONENT) (frees : FreesSlot row r between) (sets : SetsSlot between s (moved_slot (slot_at between s) p name) after) where
+  module _ (d s p r : ℕ) (c name between after : List ℕ) (within : p < slots) (within_r : r < slots) (filled_r : (f r).kind ≢ 0)
+      (used : IsUsed slots f s) (is : child_of t (w.named d) c ≡ Some (w.named s))
+      (onto : child_of t (w.named p) name ≡ Some (w.named r)) (other : node_at (w.named r) ≢ node_at (w.named s))
+      (empty : shape_of (kind_at (w.named r)) ≡ kind.Directory → is_empty t.entries (node_at (w.named r)) ≡ true)
+      (directory : shape_of (kind_at (w.named p)) ≡ kind.Directory) (short : length name ≤ LONGEST_COMPONENT)
+      (frees : FreesSlot row r between) (sets : SetsSlot between s (moved_slot (slot_at between s) p name) after) where
     abbrev from : ℕ
     from = node_at (w.named d)
 
@@ -132,7 +153,8 @@ module _ (capacity : ℕ) (row : List ℕ) (w : World) (enc : EncodesWorld capac
     found_s = child_found d s c used is
 
     stays : (x : ℕ) → x ≢ r → x < slots → (f x).kind ≢ 0 → h x ≡ f x
-    stays x apart inside filled = let k = in_range_all slots f t enc.tree.slots x inside filled in other_stays row r between frees.others x apart k.0 k.1
+    stays x apart inside filled = let k = in_range_all slots f t enc.tree.slots x inside filled in
+        other_stays row r between frees.others x apart k.0 k.1
 
     stays_directory : (x : ℕ) → x ≢ r → IsDirectorySlot slots f x → h x ≡ f x
     stays_directory x apart x_is = stays x apart x_is.within (λ e. absurd (let k = x_is.kind in omega arith))
@@ -142,7 +164,9 @@ module _ (capacity : ℕ) (row : List ℕ) (w : World) (enc : EncodesWorld capac
 
     -- the directory of the new place is not the one that is removed, which has no entry
     apart_p : p ≢ r
-    apart_p e = none_is_some (entry_at f r) (sym (empty_none t.entries into name (subst (λ (z : ℕ). is_empty t.entries (node_at (w.named z)) ≡ true) (sym e) (empty (subst (λ (z : ℕ). shape_of (kind_at (w.named z)) ≡ kind.Directory) e directory)))) ∙ found_r)
+    apart_p e = none_is_some (entry_at f r)
+        (sym (empty_none t.entries into name (subst (λ (z : ℕ). is_empty t.entries (node_at (w.named z)) ≡ true) (sym e)
+        (empty (subst (λ (z : ℕ). shape_of (kind_at (w.named z)) ≡ kind.Directory) e directory)))) ∙ found_r)
 
     p_is : IsDirectorySlot slots f p
     p_is = directory_slot p within directory
@@ -154,40 +178,56 @@ module _ (capacity : ℕ) (row : List ℕ) (w : World) (enc : EncodesWorld capac
     same_s = stays s apart_s used.within used.used
 
     used_between : IsUsed slots h s
-    used_between = record { past_root = used.past_root; within = used.within; used = λ e. used.used (sym (ap (λ (z : Slot). z.kind) same_s) ∙ e) }
+    used_between = record {
+      past_root = used.past_root;
+      within = used.within;
+      used =
+          λ e. used.used (sym (ap (λ (z : Slot). z.kind) same_s) ∙ e);
+    }
 
     entry_between : entry_at h s ≡ entry_at f s
-    entry_between = same_entry f h s same_s (ap (λ (z : Slot). z.node) (stays_directory (f s).parent (childless r used_r empty s used) (enc.tree.slots.in_directory s used)))
+    entry_between = same_entry f h s same_s
+        (ap (λ (z : Slot). z.node) (stays_directory (f s).parent (childless r used_r empty s used) (enc.tree.slots.in_directory s used)))
 
     -- the two entries are at different places
     places_apart : Apart into name from c
     places_apart a b =
-        let e : entry_at f s ≡ entry_at f r = some_inj (entry_at f s) (entry_at f r) (sym found_s ∙ (λ i. find t.entries (a i) (b i)) ∙ found_r) in
+        let e : entry_at f s ≡ entry_at f r = some_inj (entry_at f s) (entry_at f r)
+        (sym found_s ∙ (λ i. find t.entries (a i) (b i)) ∙ found_r) in
         other (node_is r ∙ ap (λ (z : Entry). z.node) (sym e) ∙ sym (node_is s))
 
     pub enacts_move_onto : Encodes capacity after (moved t from c into name)
     enacts_move_onto =
         let gone = dropped t into name in
         let encodes_between = enacts_removal p r name between within_r filled_r onto empty frees in
-        let found : find gone.entries from c ≡ Some (entry_at h s) = find-without_other t.entries into name from c places_apart ∙ found_s ∙ ap Some (sym entry_between) in
+        let found : find gone.entries from c ≡ Some (entry_at h s) = find-without_other t.entries into name from c places_apart ∙ found_s
+        ∙ ap Some (sym entry_between) in
         let node_p : (h p).node ≡ into = ap (λ (z : Slot). z.node) same_p ∙ sym (node_is p) in
-        let none : find gone.entries (h p).node name ≡ None = ap (λ (z : ℕ). find gone.entries z name) node_p ∙ find-without_same t.entries into name in
-        let directory_between : IsDirectorySlot slots h p = record { within = within; kind = ap (λ (z : Slot). z.kind) same_p ∙ p_is.kind } in
+        let none : find gone.entries (h p).node name ≡ None = ap (λ (z : ℕ). find gone.entries z name) node_p
+        ∙ find-without_same t.entries into name in
+        let directory_between : IsDirectorySlot slots h p =
+        record { within = within; kind = ap (λ (z : Slot). z.kind) same_p ∙ p_is.kind } in
         subst (λ (z : ℕ). Encodes capacity after record { entries = placed from c z name gone.entries; next = t.next }) node_p
         (encodes_moved capacity between gone encodes_between after s p from c name used_between found none directory_between short sets)
 
   -- whatever was at the new place
   pub enacts_move : (d s p : ℕ) (c name : List ℕ) (replaced : Option RowEntry) (plan : List Cell) → p < slots → s < slots → (f s).kind ≢ 0
       → IfSome replaced (λ e. (e.slot < slots) × ((f e.slot).kind ≢ 0)) → child_of t (w.named d) c ≡ Some (w.named s)
-      → child_of t (w.named p) name ≡ option_map (λ (e : RowEntry). w.named e.slot) replaced → IfSome replaced (λ e. node_at (w.named e.slot) ≢ node_at (w.named s))
-      → IfSome replaced (λ e. shape_of (kind_at (w.named e.slot)) ≡ kind.Directory → is_empty t.entries (node_at (w.named e.slot)) ≡ true) → shape_of (kind_at (w.named p)) ≡ kind.Directory
-      → length name ≤ LONGEST_COMPONENT → MovesSlot row plan s p name (option_map (λ (e : RowEntry). e.slot) replaced) → Encodes capacity (write row plan) (moved t (node_at (w.named d)) c (node_at (w.named p)) name)
+      → child_of t (w.named p) name ≡ option_map (λ (e : RowEntry). w.named e.slot) replaced →
+      IfSome replaced (λ e. node_at (w.named e.slot) ≢ node_at (w.named s)) →
+      IfSome replaced (λ e. shape_of (kind_at (w.named e.slot)) ≡ kind.Directory → is_empty t.entries (node_at (w.named e.slot))
+      ≡ true) → shape_of (kind_at (w.named p)) ≡ kind.Directory
+      → length name ≤ LONGEST_COMPONENT → MovesSlot row plan s p name (option_map (λ (e : RowEntry). e.slot) replaced) →
+      Encodes capacity (write row plan) (moved t (node_at (w.named d)) c (node_at (w.named p)) name)
   enacts_move d s p c name None plan within within_s filled known is onto other empty directory short moves =
       let same : moves.between ≡ row = moves.frees in
-      let sets : SetsSlot row s (moved_slot (f s) p name) (write row plan) = subst (λ (z : List ℕ). SetsSlot z s (moved_slot (slot_at z s) p name) (write row plan)) same moves.moves in
-      enacts_free_move d s p c name (write row plan) within (child_used d s c within_s filled is) is (none_held (find t.entries (node_at (w.named p)) name) onto) directory short sets
+      let sets : SetsSlot row s (moved_slot (f s) p name) (write row plan) =
+      subst (λ (z : List ℕ). SetsSlot z s (moved_slot (slot_at z s) p name) (write row plan)) same moves.moves in
+      enacts_free_move d s p c name (write row plan) within (child_used d s c within_s filled is) is
+      (none_held (find t.entries (node_at (w.named p)) name) onto) directory short sets
   enacts_move d s p c name (Some e) plan within within_s filled known is onto other empty directory short moves =
-      enacts_move_onto d s p e.slot c name moves.between (write row plan) within known.0 known.1 (child_used d s c within_s filled is) is onto other empty directory short moves.frees moves.moves
+      enacts_move_onto d s p e.slot c name moves.between (write row plan) within known.0 known.1 (child_used d s c within_s filled is) is
+      onto other empty directory short moves.frees moves.moves
 
 -- the text of a new node's slot is within the limit
 pub fits_node : (node : NewNode) → FitsNode node → length (text_in (kind_of_new node)) ≤ max_text

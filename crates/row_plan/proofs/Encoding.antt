@@ -16,7 +16,8 @@ use Rattle.row_plan.proofs.Removing.{removed}
 use Rattle.row_plan.proofs.Placing.{put}
 
 -- the lengths of every slot that isn't free are within the limits
-pub in_range_all : (n : ℕ) (f : ℕ → Slot) (t : Tree) → EncodesSlots n f t → (x : ℕ) → x < n → (f x).kind ≢ 0 → (length (f x).component ≤ LONGEST_COMPONENT) × (length (f x).text ≤ max_text)
+pub in_range_all : (n : ℕ) (f : ℕ → Slot) (t : Tree) → EncodesSlots n f t → (x : ℕ) → x < n → (f x).kind ≢ 0 →
+    (length (f x).component ≤ LONGEST_COMPONENT) × (length (f x).text ≤ max_text)
 in_range_all n f t enc x within filled = dite (ℕ_discrete x 0)
     (λ e. subst (λ (z : ℕ). (length (f z).component ≤ LONGEST_COMPONENT) × (length (f z).text ≤ max_text)) (sym e) (
       subst (λ (z : List ℕ). length z ≤ LONGEST_COMPONENT) (sym enc.root.component) (omega arith),
@@ -38,25 +39,34 @@ module _ (capacity : ℕ) (row : List ℕ) (t : Tree) (enc : Encodes capacity ro
   kinds s others x other = other_kind row s after others x other
 
   same : (s : ℕ) → KeepsOthers row s after → (x : ℕ) → x < slots → x ≢ s → (f x).kind ≢ 0 → g x ≡ f x
-  same s others x within other filled = let r = in_range_all slots f t enc.slots x within filled in other_stays row s after others x other r.0 r.1
+  same s others x within other filled = let r = in_range_all slots f t enc.slots x within filled in
+      other_stays row s after others x other r.0 r.1
 
-  pub encodes_filled : (kind : NodeKind) (node next s p : ℕ) (c : List ℕ) → find t.entries (f p).node c ≡ None → IsFree slots f s → IsDirectorySlot slots f p → length c ≤ LONGEST_COMPONENT → length (text_in kind) ≤ max_text
+  pub encodes_filled : (kind : NodeKind) (node next s p : ℕ) (c : List ℕ) → find t.entries (f p).node c ≡ None → IsFree slots f s →
+      IsDirectorySlot slots f p → length c ≤ LONGEST_COMPONENT → length (text_in kind) ≤ max_text
       → SetsSlot row s (new_slot kind node p c) after → Encodes capacity after (with_entry t (entry (f p).node c node kind) next)
   encodes_filled kind node next s p c none free directory short short_text sets = record {
     long = sets.long ∙ enc.long;
-    slots = made slots f g t kind node next (f p).node c s p enc.slots none free.past_root free.within free.free directory refl short short_text sets.here (kinds s sets.others) (same s sets.others);
+    slots = made slots f g t kind node next (f p).node c s p enc.slots none free.past_root free.within free.free directory refl short
+        short_text sets.here (kinds s sets.others) (same s sets.others);
   }
 
-  pub encodes_freed : (r d : ℕ) (c : List ℕ) → IsUsed slots f r → find t.entries d c ≡ Some (entry_at f r) → ((x : ℕ) → IsUsed slots f x → (f x).parent ≢ r)
+  pub encodes_freed : (r d : ℕ) (c : List ℕ) → IsUsed slots f r → find t.entries d c ≡ Some (entry_at f r) →
+      ((x : ℕ) → IsUsed slots f x → (f x).parent ≢ r)
       → FreesSlot row r after → Encodes capacity after (dropped t d c)
   encodes_freed r d c used found childless frees = record {
     long = frees.long ∙ enc.long;
     slots = removed slots f g t d c r enc.slots used found childless frees.here (kinds r frees.others) (same r frees.others);
   }
 
-  pub encodes_moved : (s p d : ℕ) (c : List ℕ) (name : List ℕ) → IsUsed slots f s → find t.entries d c ≡ Some (entry_at f s) → find t.entries (f p).node name ≡ None → IsDirectorySlot slots f p → length name ≤ LONGEST_COMPONENT
-      → SetsSlot row s (moved_slot (f s) p name) after → Encodes capacity after record { entries = placed d c (f p).node name t.entries; next = t.next }
+  pub encodes_moved : (s p d : ℕ) (c : List ℕ) (name : List ℕ) → IsUsed slots f s → find t.entries d c ≡ Some (entry_at f s) →
+      find t.entries (f p).node name ≡ None → IsDirectorySlot slots f p → length name ≤ LONGEST_COMPONENT
+      → SetsSlot row s (moved_slot (f s) p name) after → Encodes capacity after record {
+        entries = placed d c (f p).node name t.entries;
+        next = t.next;
+      }
   encodes_moved s p d c name used found none directory short sets = record {
     long = sets.long ∙ enc.long;
-    slots = put slots f g t d c (f p).node name s p enc.slots used found none directory refl sets.here short (kinds s sets.others) (same s sets.others);
+    slots = put slots f g t d c (f p).node name s p enc.slots used found none directory refl sets.here short (kinds s sets.others)
+        (same s sets.others);
   }

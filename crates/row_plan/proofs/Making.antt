@@ -1,5 +1,6 @@
 -- A new entry in a free slot.
-use Rattle.std.proofs.Common.{◌≡◌, ℕ, ◌<◌, ◌≤◌, ◌≢◌, Bool, true, false, List, [], ◌∷◌, ◌++◌, length, Some, None, Option, sym, refl, ap, ◌∙◌, subst, arith}
+use Rattle.std.proofs.Common.{◌≡◌, ℕ, ◌<◌, ◌≤◌, ◌≢◌, Bool, true, false, List, [], ◌∷◌, ◌++◌, length, Some, None, Option, sym, refl, ap}
+use Rattle.std.proofs.Common.{◌∙◌, subst, arith}
 use Rattle.std.specs.Prelude.{if◌then◌else◌}
 use mathlib.Core.Logic.{dite}
 use native.Mathlib.Decide.{ℕ_discrete}
@@ -35,12 +36,15 @@ no_text File other = refl
 no_text (Link text) other = absurd (other refl)
 
 pub same_entry : (f g : ℕ → Slot) (x : ℕ) → g x ≡ f x → (g (f x).parent).node ≡ (f (f x).parent).node → entry_at g x ≡ entry_at f x
-same_entry f g x own above = (λ i. entry_in (own i) (g (own i).parent)) ∙ (λ i. entry (above i) (f x).component (f x).node (kind_from (f x).kind (f x).text))
+same_entry f g x own above = (λ i. entry_in (own i) (g (own i).parent))
+    ∙ (λ i. entry (above i) (f x).component (f x).node (kind_from (f x).kind (f x).text))
 
-module _ (n : ℕ) (f g : ℕ → Slot) (t : Tree) (kind : NodeKind) (node next d : ℕ) (c : List ℕ) (s p : ℕ) (enc : EncodesSlots n f t) (free : find t.entries d c ≡ None)
+module _ (n : ℕ) (f g : ℕ → Slot) (t : Tree) (kind : NodeKind) (node next d : ℕ) (c : List ℕ) (s p : ℕ) (enc : EncodesSlots n f t)
+    (free : find t.entries d c ≡ None)
     (past : 0 < s) (within : s < n) (empty : (f s).kind ≡ 0) (directory : IsDirectorySlot n f p) (holds : (f p).node ≡ d)
     (short : length c ≤ LONGEST_COMPONENT) (short_text : length (text_in kind) ≤ max_text)
-    (here : g s ≡ new_slot kind node p c) (kinds : (x : ℕ) → x ≢ s → (g x).kind ≡ (f x).kind) (same : (x : ℕ) → x < n → x ≢ s → (f x).kind ≢ 0 → g x ≡ f x) where
+    (here : g s ≡ new_slot kind node p c) (kinds : (x : ℕ) → x ≢ s → (g x).kind ≡ (f x).kind) (same : (x : ℕ) → x < n → x ≢ s →
+    (f x).kind ≢ 0 → g x ≡ f x) where
   abbrev new : Entry
   new = entry d c node kind
 
@@ -64,7 +68,12 @@ module _ (n : ℕ) (f g : ℕ → Slot) (t : Tree) (kind : NodeKind) (node next 
   old_used x h other = record { past_root = h.past_root; within = h.within; used = λ e. h.used (kinds x other ∙ e) }
 
   still_used : (x : ℕ) → IsUsed n f x → IsUsed n g x
-  still_used x h = record { past_root = h.past_root; within = h.within; used = λ e. h.used (sym (ap (λ (z : Slot). z.kind) (used_same x h)) ∙ e) }
+  still_used x h = record {
+    past_root = h.past_root;
+    within = h.within;
+    used =
+        λ e. h.used (sym (ap (λ (z : Slot). z.kind) (used_same x h)) ∙ e);
+  }
 
   still_directory : (x : ℕ) → IsDirectorySlot n f x → IsDirectorySlot n g x
   still_directory x h = record { within = h.within; kind = ap (λ (z : Slot). z.kind) (directory_same x h) ∙ h.kind }
@@ -96,10 +105,11 @@ module _ (n : ℕ) (f g : ℕ → Slot) (t : Tree) (kind : NodeKind) (node next 
             let same_z : z ≡ e = some_inj z e (sym (find-append_old t.entries new d' c' z is) ∙ h) in
             let (x, used, at_x) = enc.held d' c' z is in
             (x, still_used x used, old_entry x used ∙ at_x ∙ same_z)
-        | None ↦ λ is. elim (is_at d' c' new) as (λ (b : Bool). (if b then Some new else None) ≡ Some e → (x : ℕ) × IsUsed n g x × (entry_at g x ≡ e)) [
-          | true ↦ λ q. (s, used_new, new_entry ∙ some_inj new e q)
-          | false ↦ λ q. absurd (none_is_some e q)
-        ] (sym (find-append_new t.entries new d' c' is) ∙ h)
+        | None ↦ λ is. elim (is_at d' c' new) as (λ (b : Bool). (if b then Some new else None) ≡ Some e → (x : ℕ) × IsUsed n g x
+            × (entry_at g x ≡ e)) [
+              | true ↦ λ q. (s, used_new, new_entry ∙ some_inj new e q)
+              | false ↦ λ q. absurd (none_is_some e q)
+            ] (sym (find-append_new t.entries new d' c' is) ∙ h)
       ] refl
 
   root_directory : IsDirectorySlot n f 0
@@ -109,17 +119,28 @@ module _ (n : ℕ) (f g : ℕ → Slot) (t : Tree) (kind : NodeKind) (node next 
   made = record {
     root = subst (IsRootSlot n) (sym (directory_same 0 root_directory)) enc.root;
     in_directory = λ x h. dite (ℕ_discrete x s)
-        (λ e. subst (IsDirectorySlot n g) (sym (ap (λ (z : ℕ). (g z).parent) e ∙ ap (λ (z : Slot). z.parent) here)) (still_directory p directory))
-        (λ other. let o = old_used x h other in subst (IsDirectorySlot n g) (sym (ap (λ (z : Slot). z.parent) (used_same x o))) (still_directory _ (enc.in_directory x o)));
+        (λ e. subst (IsDirectorySlot n g) (sym (ap (λ (z : ℕ). (g z).parent) e ∙ ap (λ (z : Slot). z.parent) here))
+        (still_directory p directory))
+        (λ other. let o = old_used x h other in subst (IsDirectorySlot n g) (sym (ap (λ (z : Slot). z.parent) (used_same x o)))
+        (still_directory _ (enc.in_directory x o)));
     in_range = λ x h. dite (ℕ_discrete x s)
-        (λ e. subst IsInRange (sym (ap g e ∙ here)) record { kind = code_small kind; component = short; text = short_text; text_of_link = no_text kind })
+        (λ e. subst IsInRange (sym (ap g e ∙ here)) record {
+          kind = code_small kind;
+          component = short;
+          text = short_text;
+          text_of_link =
+              no_text kind;
+        })
         (λ other. let o = old_used x h other in subst IsInRange (sym (used_same x o)) (enc.in_range x o));
     there = λ x h. dite (ℕ_discrete x s)
         (λ e. subst (λ (z : Entry). find after z.of z.component ≡ Some z) (sym (ap (entry_at g) e ∙ new_entry)) found_new)
-        (λ other. let o = old_used x h other in subst (λ (z : Entry). find after z.of z.component ≡ Some z) (sym (old_entry x o)) (find-append_old t.entries new _ _ _ (enc.there x o)));
+        (λ other. let o = old_used x h other in subst (λ (z : Entry). find after z.of z.component ≡ Some z) (sym (old_entry x o))
+        (find-append_old t.entries new _ _ _ (enc.there x o)));
     held = λ d' c' e h. held_after d' c' e h;
     once = λ x y hx hy alike. dite (ℕ_discrete x s)
-        (λ xs. dite (ℕ_discrete y s) (λ ys. xs ∙ sym ys) (λ other. absurd (old_is_not_new y (old_used y hy other) (sym alike ∙ ap (entry_at g) xs ∙ new_entry))))
+        (λ xs. dite (ℕ_discrete y s) (λ ys. xs ∙ sym ys)
+        (λ other. absurd (old_is_not_new y (old_used y hy other) (sym alike ∙ ap (entry_at g) xs ∙ new_entry))))
         (λ xo. dite (ℕ_discrete y s) (λ ys. absurd (old_is_not_new x (old_used x hx xo) (alike ∙ ap (entry_at g) ys ∙ new_entry)))
-        (λ yo. let ox = old_used x hx xo in let oy = old_used y hy yo in enc.once x y ox oy (sym (old_entry x ox) ∙ alike ∙ old_entry y oy)));
+        (λ yo. let ox = old_used x hx xo in let oy = old_used y hy yo in
+        enc.once x y ox oy (sym (old_entry x ox) ∙ alike ∙ old_entry y oy)));
   }

@@ -19,7 +19,8 @@ with_words row base word (suc n) = slice_set (with_words row base word n) (base 
 
 -- eight bytes of a text as a word, and zeros past its end
 unfoldable pub packed : List ℕ → ℕ → ℕ
-packed text k = from_le_bytes w64 (slice_index text (8 * k) ∷ slice_index text (8 * k + 1) ∷ slice_index text (8 * k + 2) ∷ slice_index text (8 * k + 3)
+packed text k = from_le_bytes w64 (slice_index text (8 * k) ∷ slice_index text (8 * k + 1) ∷ slice_index text
+    (8 * k + 2) ∷ slice_index text (8 * k + 3)
     ∷ slice_index text (8 * k + 4) ∷ slice_index text (8 * k + 5) ∷ slice_index text (8 * k + 6) ∷ slice_index text (8 * k + 7) ∷ [])
 
 abbrev pub with_text : List ℕ → ℕ → List ℕ → List ℕ
@@ -28,7 +29,9 @@ with_text row base text = with_words row base (packed text) ((length text + 7) /
 -- the row with a slot's cells set: the numbers, the component and the text
 abbrev pub with_slot : List ℕ → ℕ → Slot → List ℕ
 with_slot row s own =
-    with_text (with_text (with_words row (164 * s) (slice_index (own.kind ∷ own.node ∷ own.parent ∷ (length own.component + 65536 * length own.text) ∷ [])) 4) (164 * s + 4) own.component) (164 * s + 36) own.text
+    with_text (with_text
+    (with_words row (164 * s) (slice_index (own.kind ∷ own.node ∷ own.parent ∷ (length own.component + 65536 * length own.text) ∷ []))
+    4) (164 * s + 4) own.component) (164 * s + 36) own.text
 
 -- the row with a slot freed, or with any that is given freed
 abbrev pub without_slot : List ℕ → ℕ → List ℕ
@@ -41,7 +44,8 @@ without_any row (Some s) = without_slot row s
 -- the row with the entry of a slot at another place: the slot of its directory, the length of its component, and the component
 abbrev pub with_place : List ℕ → ℕ → ℕ → List ℕ → List ℕ
 with_place row s parent name =
-    with_text (with_words row (164 * s + 2) (slice_index (parent ∷ (length name + 65536 * (slice_index row (164 * s + 3) / 65536)) ∷ [])) 2) (164 * s + 4) name
+    with_text (with_words row (164 * s + 2) (slice_index (parent ∷ (length name + 65536 * (slice_index row (164 * s + 3) / 65536)) ∷ []))
+    2) (164 * s + 4) name
 
 -- the number that a kind has in a slot, and the text that it has
 abbrev pub code_of : NodeKind → ℕ
@@ -55,7 +59,14 @@ text_in File = []
 text_in (Link text) = text
 
 abbrev pub new_slot : NodeKind → ℕ → ℕ → List ℕ → Slot
-new_slot kind node parent component = record { kind = code_of kind; node = node; parent = parent; component = component; text = text_in kind }
+new_slot kind node parent component = record {
+  kind = code_of kind;
+  node = node;
+  parent = parent;
+  component =
+      component;
+  text = text_in kind;
+}
 
 -- A new entry goes to the first free slot; an entry that is removed frees its slot; and one that moves keeps its slot, after the
 -- slot of the entry that it replaces is freed.
@@ -66,5 +77,6 @@ Leaves capacity row next (act.Link file place) after = (s : ℕ) × IsFirstFree 
     × (after ≡ with_slot row s (new_slot File (slot_at row file.slot).node place.directory.slot place.component.now))
 Leaves capacity row next (act.Remove place e) after = after ≡ without_slot row e.slot
 Leaves capacity row next (act.Move m) after =
-    after ≡ with_place (without_any row (option_map (λ (e : RowEntry). e.slot) m.replaced)) m.entry.slot m.to.directory.slot m.to.component.now
+    after ≡ with_place (without_any row (option_map (λ (e : RowEntry). e.slot) m.replaced)) m.entry.slot m.to.directory.slot
+    m.to.component.now
 Leaves capacity row next act.Nothing after = after ≡ row

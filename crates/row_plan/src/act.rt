@@ -33,7 +33,8 @@ pub(crate) fn plan_make<C: Cells>(
     requires fits { Fits (act.Make place.now node.now) }
     requires tested { PassedTests (C.capacity_of (C.kept cells.old)) (C.whole (C.kept cells.old)) (act.Make place.now node.now) }
     ensures kept { C.kept cells.new ≡ C.kept cells.old }
-    ensures ok { IfOk result (λ plan. PlansAct (C.capacity_of (C.kept cells.old)) (C.whole (C.kept cells.old)) next (act.Make place.now node.now) plan.items) }
+    ensures ok { IfOk result (λ plan. PlansAct (C.capacity_of (C.kept cells.old)) (C.whole (C.kept cells.old)) next
+        (act.Make place.now node.now) plan.items) }
 {
     let slot = vacant_slot(cells);
     let entry = NewEntry {
@@ -69,9 +70,11 @@ fn link_text<'a>(node: &NewNode<'a>) -> &'a [u8]
 
 // The first free slot of a tree that has room for one more entry.
 fn vacant_slot<C: Cells>(cells: &mut C) -> usize
-    requires { (row : List ℕ) × (w : World) × C.whole (C.kept cells.old) row × EncodesWorld (C.capacity_of (C.kept cells.old)) row w × (has_room (C.capacity_of (C.kept cells.old)) w.tree ≡ true) }
+    requires { (row : List ℕ) × (w : World) × C.whole (C.kept cells.old) row × EncodesWorld (C.capacity_of (C.kept cells.old)) row w
+        × (has_room (C.capacity_of (C.kept cells.old)) w.tree ≡ true) }
     ensures kept { C.kept cells.new ≡ C.kept cells.old }
-    ensures free { (row : List ℕ) → C.whole (C.kept cells.old) row → IsFirstFree (C.capacity_of (C.kept cells.old) + 1) (slot_at row) result }
+    ensures free { (row : List ℕ) → C.whole (C.kept cells.old) row → IsFirstFree (C.capacity_of (C.kept cells.old) + 1)
+        (slot_at row) result }
 {
     slots_are_counted();
     let Ok(found) = free_slot(cells) else {
@@ -95,7 +98,8 @@ pub(crate) fn plan_link<C: Cells>(
     requires fits { Fits (act.Link file place.now) }
     requires tested { PassedTests (C.capacity_of (C.kept cells.old)) (C.whole (C.kept cells.old)) (act.Link file place.now) }
     ensures kept { C.kept cells.new ≡ C.kept cells.old }
-    ensures ok { IfOk result (λ plan. (next : ℕ) → PlansAct (C.capacity_of (C.kept cells.old)) (C.whole (C.kept cells.old)) next (act.Link file place.now) plan.items) }
+    ensures ok { IfOk result (λ plan. (next : ℕ) → PlansAct (C.capacity_of (C.kept cells.old)) (C.whole (C.kept cells.old)) next
+        (act.Link file place.now) plan.items) }
 {
     let slot = vacant_slot(cells);
     let Ok(node) = slot_word(cells, file.slot(), NODE) else {
@@ -122,7 +126,8 @@ pub(crate) fn plan_remove<C: Cells>(
     requires slots { NamesSlots (C.capacity_of (C.kept cells.old)) (C.whole (C.kept cells.old)) (act.Remove place.now entry) }
     requires tested { PassedTests (C.capacity_of (C.kept cells.old)) (C.whole (C.kept cells.old)) (act.Remove place.now entry) }
     ensures kept { C.kept cells.new ≡ C.kept cells.old }
-    ensures ok { IfOk result (λ plan. (next : ℕ) → PlansAct (C.capacity_of (C.kept cells.old)) (C.whole (C.kept cells.old)) next (act.Remove place.now entry) plan.items) }
+    ensures ok { IfOk result (λ plan. (next : ℕ) → PlansAct (C.capacity_of (C.kept cells.old)) (C.whole (C.kept cells.old)) next
+        (act.Remove place.now entry) plan.items) }
 {
     clear_slot(alloc, cells, entry.slot())
 }
@@ -138,7 +143,8 @@ pub(crate) fn plan_move<C: Cells>(
     requires fits { Fits (act.Move moved.now) }
     requires tested { PassedTests (C.capacity_of (C.kept cells.old)) (C.whole (C.kept cells.old)) (act.Move moved.now) }
     ensures kept { C.kept cells.new ≡ C.kept cells.old }
-    ensures ok { IfOk result (λ plan. (next : ℕ) → PlansAct (C.capacity_of (C.kept cells.old)) (C.whole (C.kept cells.old)) next (act.Move moved.now) plan.items) }
+    ensures ok { IfOk result (λ plan. (next : ℕ) → PlansAct (C.capacity_of (C.kept cells.old)) (C.whole (C.kept cells.old)) next
+        (act.Move moved.now) plan.items) }
 {
     let replaced = slot_of(moved.replaced);
     let parent = moved.to.directory.slot();

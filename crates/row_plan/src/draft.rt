@@ -44,8 +44,10 @@ pub(crate) fn add_words<C: Cells>(
     requires within { base + length words.now ≤ row_length (C.capacity_of (C.kept cells.old)) }
     requires known { IsRead (C.whole (C.kept cells.old)) }
     ensures kept { C.kept cells.new ≡ C.kept cells.old }
-    ensures ok { OnOk result ((row after : List ℕ) → C.whole (C.kept cells.old) row → base + length words.now ≤ length row → Drafts row plan.old.items after
-        → SameFrom row after base (length words.now) → Drafts row plan.new.items (with_words after base (slice_index words.now) (length words.now))) }
+    ensures ok { OnOk result ((row after : List ℕ) → C.whole (C.kept cells.old) row → base + length words.now ≤ length row →
+        Drafts row plan.old.items after
+        → SameFrom row after base (length words.now) →
+        Drafts row plan.new.items (with_words after base (slice_index words.now) (length words.now))) }
 {
     // The capacity is at most `MOST_ENTRIES`, so no place is large.
     let _most = cells.capacity();
@@ -66,7 +68,8 @@ pub(crate) fn add_text<C: Cells>(
     requires known { IsRead (C.whole (C.kept cells.old)) }
     ensures kept { C.kept cells.new ≡ C.kept cells.old }
     ensures packed { IsPacked text.now }
-    ensures ok { OnOk result ((row after : List ℕ) → C.whole (C.kept cells.old) row → base + (length text.now + 7) / 8 ≤ length row → Drafts row plan.old.items after
+    ensures ok { OnOk result ((row after : List ℕ) → C.whole (C.kept cells.old) row → base + (length text.now + 7) / 8 ≤ length row →
+        Drafts row plan.old.items after
         → SameFrom row after base ((length text.now + 7) / 8) → Drafts row plan.new.items (with_text after base text.now)) }
 {
     // The capacity is at most `MOST_ENTRIES`, so no place is large.

@@ -1,5 +1,6 @@
 -- Lists read by place, with one place set or one more element; prefixes of lists.
-use Rattle.std.proofs.Common.{◌≡◌, ℕ, zero, suc, ◌≢◌, ◌⊎◌, List, [], ◌∷◌, ◌++◌, length, replicate, take, set, sym, refl, ap, ◌∙◌, inl, inr, ⊎_elim, append_assoc, append-nil}
+use Rattle.std.proofs.Common.{◌≡◌, ℕ, zero, suc, ◌≢◌, ◌⊎◌, List, [], ◌∷◌, ◌++◌, length, replicate, take, set, sym, refl, ap, ◌∙◌, inl, inr}
+use Rattle.std.proofs.Common.{⊎_elim, append_assoc, append-nil}
 use Rattle.std.proofs.Math.Seq.{take-append_seam}
 use mathlib.Core.Option.{some, some-injective, some-ne-none}
 use mathlib.Core.List.{IsPrefix}
@@ -59,4 +60,5 @@ module _ {A : Type 0} where
   -- two prefixes of one list that are equally long
   pub prefixes_alike : (xs ys zs : List A) → IsPrefix xs zs → IsPrefix ys zs → length xs ≡ length ys → xs ≡ ys
   prefixes_alike xs ys zs p q e =
-      sym (take-append_seam xs p.0) ∙ (ap (λ (l : List A). take (length xs) l) (p.1 ∙ sym q.1) ∙ (ap (λ (n : ℕ). take n (ys ++ q.0)) e ∙ take-append_seam ys q.0))
+      sym (take-append_seam xs p.0) ∙ (ap (λ (l : List A). take (length xs) l) (p.1 ∙ sym q.1)
+      ∙ (ap (λ (n : ℕ). take n (ys ++ q.0)) e ∙ take-append_seam ys q.0))

@@ -1,5 +1,6 @@
 -- The computed reason is right, and no other is.
-use Rattle.std.proofs.Common.{◌≡◌, ℕ, ◌+◌, ◌-◌, ◌<◌, ◌≤◌, Bool, true, false, ◌&&◌, List, IsTrue, Option, Some, None, length, get_or, nat_lt, cond, refl, sym, ap, subst, ◌∙◌, inl, inr, arith, true≢false}
+use Rattle.std.proofs.Common.{◌≡◌, ℕ, ◌+◌, ◌-◌, ◌<◌, ◌≤◌, Bool, true, false, ◌&&◌, List, IsTrue, Option, Some, None, length, get_or}
+use Rattle.std.proofs.Common.{nat_lt, cond, refl, sym, ap, subst, ◌∙◌, inl, inr, arith, true≢false}
 use Rattle.std.specs.List.{position, position_or_len}
 use Rattle.std.specs.Prelude.{option_map}
 use Rattle.std.proofs.lemmas.Bool.{and_parts, and_from, ltb-false, cases_lt}
@@ -77,7 +78,8 @@ module _ (rules : List RuleValue) (kind : RuleKind) (p : Permission) (name : Lis
   none_hits : position (hits kind p name) rules ≡ None → NoHit rules kind p name
   none_hits e n h =
       let past : length rules ≤ position_or_len (hits kind p name) rules =
-      ltb-false _ _ (no_place (nat_lt (position_or_len (hits kind p name) rules) (length rules)) (position_or_len (hits kind p name) rules) e) in
+      ltb-false _ _ (no_place (nat_lt (position_or_len (hits kind p name) rules) (length rules))
+      (position_or_len (hits kind p name) rules) e) in
       let fails : hits kind p name (get_or rules (n - 1) nothing) ≡ false =
       fails_before_first (hits kind p name) rules (n - 1) nothing (omega (arith, h.1.0, h.1.1, past)) in
       true≢false (sym (hit_at n h) ∙ fails)
@@ -102,7 +104,8 @@ module _ (rules : List RuleValue) (name : List ℕ) (p : Permission) where
   unfolding reason
   denied n e = rw (← e) refl
 
-  pub not_denied : (r : Reason) → None ≡ first_hit Deny p name rules → r ≡ reason_by None (first_hit Allow p name rules) → r ≡ reason rules name p
+  pub not_denied : (r : Reason) → None ≡ first_hit Deny p name rules → r ≡ reason_by None (first_hit Allow p name rules) →
+      r ≡ reason rules name p
   unfolding reason
   not_denied r e h = rw (← e) h
 
@@ -112,7 +115,8 @@ module _ (rules : List RuleValue) (name : List ℕ) (p : Permission) where
 one_number : (S : ℕ → Type 0) (n m : ℕ) → IsLeast S n → IsLeast S m → n ≡ m
 one_number S n m f g = omega (arith, f.1 m g.0, g.1 n f.0)
 
-pub one_reason : (rules : List RuleValue) (name : List ℕ) (p : Permission) (v w : Reason) → IsReason rules name p v → IsReason rules name p w → v ≡ w
+pub one_reason : (rules : List RuleValue) (name : List ℕ) (p : Permission) (v w : Reason) → IsReason rules name p v →
+    IsReason rules name p w → v ≡ w
 one_reason rules name p (Denied n) (Denied m) f g = ap Denied (one_number (Hits rules Deny p name) n m f g)
 one_reason rules name p (Denied n) (Allowed m) f g = absurd (g.0 n f.0)
 one_reason rules name p (Denied n) NoRule f g = absurd (g.0 n f.0)

@@ -30,7 +30,8 @@ module _ (rules : List RuleValue) (name : List ℕ) where
     λ m by. h.1 m (by.0, by.1, (hits_of by.0 (Denied m) by.2).0),
   )
 
-  allowed : (ask : Perms) (p : Permission) (r : Reason) → IsReason rules name p r → IsTrue (has ask p) → ((n : ℕ) → Denies rules name ask n → ⊥)
+  allowed : (ask : Perms) (p : Permission) (r : Reason) → IsReason rules name p r → IsTrue (has ask p) →
+      ((n : ℕ) → Denies rules name ask n → ⊥)
       → (((n : ℕ) → Hits rules Allow p name n → ⊥) → ⊥) → IsAllowed r
   allowed ask p (Allowed n) h asked none some = tt
   allowed ask p (Denied n) h asked none some = absurd (none n (p, asked, h.0))

@@ -40,4 +40,5 @@ reason_line text rules spans name p =
 -- the line of the verdict, and a line for each permission that is asked, in the order in which a set is printed
 unfoldable pub explanation : List ℕ → List RuleValue → List Span → List ℕ → Perms → List ℕ
 explanation text rules spans name ask =
-    verdict_text (verdict rules name ask) ++ (codes "\n" ++ flat_map (reason_line text rules spans name) (filter (has ask) all_permissions))
+    verdict_text (verdict rules name ask)
+    ++ (codes "\n" ++ flat_map (reason_line text rules spans name) (filter (has ask) all_permissions))

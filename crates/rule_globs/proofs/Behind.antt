@@ -1,5 +1,6 @@
 -- What is reached after a pattern, and its live places, by the parts of the pattern.
-use Rattle.std.proofs.Common.{◌≡◌, ℕ, ◌+◌, ◌<◌, Bool, true, ◌&&◌, ◌||◌, ◌⊎◌, ◌↔◌, inl, inr, ⊎_elim, List, [], ◌∷◌, ◌++◌, IsTrue, refl, sym, ap, ◌∙◌, subst, arith}
+use Rattle.std.proofs.Common.{◌≡◌, ℕ, ◌+◌, ◌<◌, Bool, true, ◌&&◌, ◌||◌, ◌⊎◌, ◌↔◌, inl, inr, ⊎_elim, List, [], ◌∷◌, ◌++◌, IsTrue, refl, sym}
+use Rattle.std.proofs.Common.{ap, ◌∙◌, subst, arith}
 use Rattle.std.specs.List.{list_all}
 use Rattle.std.proofs.lemmas.List.{append-nil, append_assoc}
 use Rattle.std.proofs.lemmas.List.Folds.{list_all-append}
@@ -84,9 +85,22 @@ pub cat_right : (E : List ℕ → Type 0) (a b : Glob) (x : List ℕ) (q : ℕ) 
     LiveAfter E (cat a b) x (places a + q) ↔ LiveAfter (Behind E a) b x q
 cat_right E a b x q = (
   λ h. ⊎_elim (λ t. absurd (omega (arith, Live-below a h.1 (places a + q) t)))
-      (λ t. let e : t.0 ≡ q = omega (arith, t.3) in
-      (h.0 ++ t.1, t.2, h.2 ∙ ap (λ z. h.0 ++ z) t.4 ∙ sym (append_assoc h.0 t.1 t.2), (h.0, t.1, refl, h.3, t.5), subst (λ z. Live b t.2 z) e t.6)) h.4,
-  λ h. (h.3.0, h.3.1 ++ h.1, h.2 ∙ ap (λ z. z ++ h.1) h.3.2 ∙ append_assoc h.3.0 h.3.1 h.1, h.3.3, inr (q, h.3.1, h.1, refl, refl, h.3.4, h.4)),
+      (λ t. let e : t.0 ≡ q = omega (arith, t.3) in (
+        h.0 ++ t.1,
+        t.2,
+        h.2 ∙ ap (λ z. h.0 ++ z) t.4 ∙ sym (append_assoc h.0 t.1 t.2),
+        (h.0, t.1, refl, h.3, t.5),
+        subst
+            (λ z. Live b t.2 z) e t.6,
+      )) h.4,
+  λ h. (
+    h.3.0,
+    h.3.1 ++ h.1,
+    h.2 ∙ ap (λ z. z ++ h.1) h.3.2 ∙ append_assoc h.3.0 h.3.1 h.1,
+    h.3.3,
+    inr
+        (q, h.3.1, h.1, refl, refl, h.3.4, h.4),
+  ),
 )
 
 pub alt_left : (E : List ℕ → Type 0) (a b : Glob) (x : List ℕ) (p : ℕ) → p < places a →
@@ -146,7 +160,8 @@ run_behind E set x c here live now reached = (
       (λ t.
       let e : list_all (fits set) (t.0 ++ (c ∷ [])) ≡ true = subst (λ z. list_all (fits set) z ≡ true) t.1 h.4 in
       let both = and_parts (list_all (fits set) t.0) (fits set c && true) (sym (list_all-append (fits set) t.0 (c ∷ [])) ∙ e) in
-      or_right here (live && fits set c) (and_from live (fits set c) (now.1 (h.0, t.0, t.2, h.3, (refl, both.0))) (and_parts (fits set c) true both.1).0))
+      or_right here (live && fits set c) (and_from live (fits set c) (now.1 (h.0, t.0, t.2, h.3, (refl, both.0)))
+      (and_parts (fits set c) true both.1).0))
       (split_last h.0 h.1 x c h.2),
 )
 

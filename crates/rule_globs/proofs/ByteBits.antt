@@ -1,5 +1,6 @@
 -- Sets of bytes as bits, word by word.
-use Rattle.std.proofs.Common.{◌≡◌, ℕ, zero, suc, ◌+◌, ◌-◌, ◌*◌, ◌/◌, ◌%◌, ◌^◌, ◌<◌, ◌==◌, Bool, not, ◌&&◌, ◌||◌, ⊎_elim, List, [], ◌∷◌, get_or, max, min, nat_lt, nat_le, w64, bit_or, bit_and, refl, sym, ap, ◌∙◌, arith}
+use Rattle.std.proofs.Common.{◌≡◌, ℕ, zero, suc, ◌+◌, ◌-◌, ◌*◌, ◌/◌, ◌%◌, ◌^◌, ◌<◌, ◌==◌, Bool, not, ◌&&◌, ◌||◌, ⊎_elim, List, [], ◌∷◌}
+use Rattle.std.proofs.Common.{get_or, max, min, nat_lt, nat_le, w64, bit_or, bit_and, refl, sym, ap, ◌∙◌, arith}
 use Rattle.std.specs.Int.{bit_at, bit_not}
 use Rattle.std.proofs.lemmas.Bool.{cases_lt, lt-ltb, le-ltb, le-leb, lt-leb}
 use Rattle.std.proofs.lemmas.Nat.{one_shl}
@@ -86,5 +87,6 @@ pub in_four_words : (a b c d : ℕ) (words : List ℕ) (range : ByteRange) →
     (n : ℕ) → n < 256 →
     has_bit (get_or (a ∷ b ∷ c ∷ d ∷ []) (n / 64) 0) (n % 64) ≡ (has_bit (get_or words (n / 64) 0) (n % 64) || in_range range n)
 in_four_words a b c d words range ha hb hc hd n lt =
-    four a b c d (λ q i. has_bit (get_or words q 0) i || in_range range (64 * q + i)) ha hb hc hd (n / 64) (n % 64) (omega (arith, lt)) (omega arith)
+    four a b c d (λ q i. has_bit (get_or words q 0) i || in_range range (64 * q + i)) ha hb hc hd (n / 64) (n % 64)
+    (omega (arith, lt)) (omega arith)
     ∙ ap (λ z. has_bit (get_or words (n / 64) 0) (n % 64) || in_range range z) (omega arith)

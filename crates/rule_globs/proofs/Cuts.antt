@@ -1,5 +1,6 @@
 -- Trying each cut finds out whether a pattern takes some bytes; and byte 0 is never taken.
-use Rattle.std.proofs.Common.{◌≡◌, ◌≢◌, ℕ, ◌<◌, Bool, true, false, ◌&&◌, ◌||◌, ◌↔◌, inl, inr, ⊎_elim, List, [], ◌∷◌, ◌++◌, map, nat_lt, IsTrue, All, refl, sym, ap, ◌∙◌, subst, arith}
+use Rattle.std.proofs.Common.{◌≡◌, ◌≢◌, ℕ, ◌<◌, Bool, true, false, ◌&&◌, ◌||◌, ◌↔◌, inl, inr, ⊎_elim, List, [], ◌∷◌, ◌++◌, map, nat_lt}
+use Rattle.std.proofs.Common.{IsTrue, All, refl, sym, ap, ◌∙◌, subst, arith}
 use Rattle.std.specs.List.{list_all, list_any}
 use Rattle.std.proofs.lemmas.Bool.{and_parts, and_from, or_cases, or_left, or_right, ltb-true}
 use Rattle.std.proofs.lemmas.List.Elements.{All-nil, All-cons, All-append, All-same}
@@ -59,7 +60,8 @@ by_cuts (cat a b) bytes = (
 by_cuts none bytes = (λ h. let e : ⊥ = cc (h) in absurd e, λ h. absurd h)
 by_cuts (alt a b) bytes = (
   λ h. ⊎_elim (λ t. inl ((by_cuts a bytes).0 t)) (λ t. inr ((by_cuts b bytes).0 t)) (or_cases (takes a bytes) (takes b bytes) h),
-  ⊎_elim (λ t. or_left (takes a bytes) (takes b bytes) ((by_cuts a bytes).1 t)) (λ t. or_right (takes a bytes) (takes b bytes) ((by_cuts b bytes).1 t)),
+  ⊎_elim (λ t. or_left (takes a bytes) (takes b bytes) ((by_cuts a bytes).1 t))
+      (λ t. or_right (takes a bytes) (takes b bytes) ((by_cuts b bytes).1 t)),
 )
 
 not_zero : (set : ByteSet) (b : ℕ) → fits set b ≡ true → b ≢ 0

@@ -1,5 +1,6 @@
 -- Which places are live at first, and which follow live places that take a byte, against the live places by parts.
-use Rattle.std.proofs.Common.{◌≡◌, ℕ, ◌+◌, ◌-◌, ◌<◌, ◌≤◌, true, ◌&&◌, ◌⊎◌, ◌↔◌, inl, inr, ⊎_elim, List, [], ◌∷◌, ◌++◌, IsTrue, refl, sym, ap, ◌∙◌, subst, arith}
+use Rattle.std.proofs.Common.{◌≡◌, ℕ, ◌+◌, ◌-◌, ◌<◌, ◌≤◌, true, ◌&&◌, ◌⊎◌, ◌↔◌, inl, inr, ⊎_elim, List, [], ◌∷◌, ◌++◌, IsTrue, refl, sym}
+use Rattle.std.proofs.Common.{ap, ◌∙◌, subst, arith}
 use Rattle.std.specs.List.{list_all}
 use Rattle.std.proofs.lemmas.List.{append-nil, append_assoc}
 use Rattle.std.proofs.lemmas.List.Folds.{list_all-append}
@@ -209,7 +210,8 @@ follows-live (cat a b) base behind x c q h = ⊎_elim
     let part = part_first a b base h.1 c q (Starts b base behind) behind (omega (arith, h.2, Live-below a x h.0 l)) h.4 h.5 in
     ⊎_elim
     (λ t. cat_own a b base behind (x ++ (c ∷ [])) q t)
-    (λ t. cat_join a b base behind (x ++ (c ∷ [])) q (x ++ (c ∷ [])) [] (sym (append-nil (x ++ (c ∷ [])))) t.0 (starts-live b base behind q t.1))
+    (λ t. cat_join a b base behind (x ++ (c ∷ [])) q (x ++ (c ∷ [])) [] (sym (append-nil (x ++ (c ∷ [])))) t.0
+    (starts-live b base behind q t.1))
     (follows-live a (base + places b) (Starts b base behind) x c q (h.0, h.1, omega (arith, h.2), l, part.0, part.1)))
     (λ l.
     let part = part_second a b base h.1 c q (Starts b base behind) behind (omega (arith, h.2, l.3)) h.4 h.5 in

@@ -1,5 +1,6 @@
 -- What a sweep does at an item, at the first of some items and at the first of some alternatives.
-use Rattle.std.proofs.Common.{◌≡◌, ℕ, zero, suc, ◌+◌, ◌<◌, ◌≤◌, Bool, true, false, ◌||◌, List, [], ◌∷◌, drop, length, get_or, Vec, Global, refl, sym, ap, ◌∙◌, arith, drop-cons, drop_of_length-le, if◌then◌else◌}
+use Rattle.std.proofs.Common.{◌≡◌, ℕ, zero, suc, ◌+◌, ◌<◌, ◌≤◌, Bool, true, false, ◌||◌, List, [], ◌∷◌, drop, length, get_or, Vec, Global}
+use Rattle.std.proofs.Common.{refl, sym, ap, ◌∙◌, arith, drop-cons, drop_of_length-le, if◌then◌else◌}
 use Rattle.rule_globs.specs.Glob.{one, run, cat, fits, places, ByteSet, exactly, not_slash, class}
 use Rattle.rule_globs.specs.inner.Sweep.{Pass, sweep, pass_one, pass_run, join, restart}
 use Rattle.rule_globs.specs.Meaning.{meaning, meaning_of, alternatives_meaning, stars_glob, in_stars}
@@ -104,7 +105,8 @@ alternatives-room all i alternative c n reached s0 s lt e now room =
     let place : s0.place + places (alternatives_meaning all) ≡ s.place + places (alternatives_meaning (drop i all)) =
     sym (sweep-place (alternatives_meaning all) c s0) ∙ ap (λ (z : Pass). z.place) now
     ∙ sweep-place (alternatives_meaning (drop i all)) c s in
-    let parts : places (alternatives_meaning (drop i all)) ≡ places (meaning_of alternative.items) + places (alternatives_meaning (drop (i + 1) all)) =
+    let parts : places (alternatives_meaning (drop i all)) ≡ places (meaning_of alternative.items) + places
+    (alternatives_meaning (drop (i + 1) all)) =
     ap (λ z. places (alternatives_meaning z)) (left all i alternative lt e) in
     omega arith
 
@@ -142,7 +144,8 @@ pub at-Class : (item : Item) (k : Class) (c : ℕ) (s r : Pass) (taken : Bool) �
     taken ≡ fits (class k.negated k.ranges) c → r ≡ pass_one taken s → r ≡ sweep (meaning item) c s
 at-Class item k c s r taken e f g = g ∙ ap (λ z. pass_one z s) f ∙ sym (sweep-Class item k c s e)
 
-pub at-Group : (item : Item) (all : Vec (Vec Item Global) Global) (list : List (Vec Item Global)) (c : ℕ) (s r : Pass) → item ≡ v.Group all →
+pub at-Group : (item : Item) (all : Vec (Vec Item Global) Global) (list : List (Vec Item Global)) (c : ℕ) (s r : Pass) →
+    item ≡ v.Group all →
     list ≡ all.items → r ≡ sweep (alternatives_meaning list) c s → r ≡ sweep (meaning item) c s
 at-Group item all list c s r e f g =
     g ∙ ap (λ z. sweep (alternatives_meaning z) c s) f ∙ sym (ap (λ z. sweep z c s) (ap meaning e ∙ meaning-Group all))
@@ -164,7 +167,8 @@ at-free crosses strict c s r more e h k = k ∙ ap (λ z. pass_run z s) h ∙ sy
 
 -- What is left of some items weighs no more than they do, and an item or an alternative weighs less.
 weight_cut : (items : List Item) (i : ℕ) → weight (meaning_of (drop i items)) ≤ weight (meaning_of items)
-weight_cut [] i = let e : drop {A = Item} i [] ≡ [] = drop_of_length-le [] {i = i} (omega arith) in omega (arith, ap (λ z. weight (meaning_of z)) e)
+weight_cut [] i = let e : drop {A = Item} i [] ≡ [] = drop_of_length-le [] {i = i} (omega arith) in
+    omega (arith, ap (λ z. weight (meaning_of z)) e)
 weight_cut (x ∷ items) zero = omega arith
 weight_cut (x ∷ items) (suc i) = omega (arith, weight_cut items i)
 
@@ -177,7 +181,8 @@ weight-item items i item lt e =
 
 weight_cut_alternatives : (all : List (Vec Item Global)) (i : ℕ) →
     weight (alternatives_meaning (drop i all)) ≤ weight (alternatives_meaning all)
-weight_cut_alternatives [] i = let e : drop {A = Vec Item Global} i [] ≡ [] = drop_of_length-le [] {i = i} (omega arith) in omega (arith, ap (λ z. weight (alternatives_meaning z)) e)
+weight_cut_alternatives [] i = let e : drop {A = Vec Item Global} i [] ≡ [] = drop_of_length-le [] {i = i} (omega arith) in
+    omega (arith, ap (λ z. weight (alternatives_meaning z)) e)
 weight_cut_alternatives (x ∷ all) zero = omega arith
 weight_cut_alternatives (x ∷ all) (suc i) = omega (arith, weight_cut_alternatives all i)
 
@@ -185,7 +190,8 @@ pub weight-alternative : (all : List (Vec Item Global)) (i : ℕ) (alternative :
     i < length all → alternative ≡ get_or all i alternative → items ≡ alternative.items →
     weight (meaning_of items) < weight (alternatives_meaning all)
 weight-alternative all i alternative items lt e f =
-    let parts : weight (alternatives_meaning (drop i all)) ≡ 1 + weight (meaning_of alternative.items) + weight (alternatives_meaning (drop (i + 1) all)) =
+    let parts : weight (alternatives_meaning (drop i all)) ≡ 1 + weight (meaning_of alternative.items) + weight
+    (alternatives_meaning (drop (i + 1) all)) =
     ap (λ z. weight (alternatives_meaning z)) (left all i alternative lt e) in
     omega (arith, weight_cut_alternatives all i, ap (λ z. weight (meaning_of z)) f)
 

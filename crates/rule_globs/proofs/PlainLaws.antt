@@ -1,5 +1,6 @@
 -- The computed verdict is right, and what being allowed means.
-use Rattle.std.proofs.Common.{[], ◌≡◌, ℕ, ◌+◌, ◌-◌, ◌<◌, ◌≤◌, Bool, true, false, not, ◌&&◌, ◌↔◌, ⊎_elim, List, IsTrue, Option, Some, None, length, get_or, nat_lt, cond, refl, sym, ap, ◌∙◌, subst, arith, if◌then◌else◌, true≢false}
+use Rattle.std.proofs.Common.{[], ◌≡◌, ℕ, ◌+◌, ◌-◌, ◌<◌, ◌≤◌, Bool, true, false, not, ◌&&◌, ◌↔◌, ⊎_elim, List, IsTrue, Option, Some, None}
+use Rattle.std.proofs.Common.{length, get_or, nat_lt, cond, refl, sym, ap, ◌∙◌, subst, arith, if◌then◌else◌, true≢false}
 use Rattle.std.specs.List.{list_any, position, position_or_len}
 use Rattle.std.proofs.lemmas.Bool.{and_parts, and_from, cases_Bool, not-true, not_from_false, ltb-false, cases_lt}
 use Rattle.std.proofs.lemmas.List.{get_or_default}
@@ -32,7 +33,8 @@ allow_kind Deny h = let e : ⊥ = cc (h) in absurd e
 denies_says : (name : List ℕ) (ask : Perms) (rule : RuleValue) →
     IsTrue (denies name ask rule) ↔ ((rule.kind ≡ Deny) × HitsSome rule name ask)
 denies_says name ask rule = (
-  λ h. let outer = and_parts (is_deny rule.kind && list_any (λ p. has ask p && has rule.perms p) all_permissions) (takes (pattern rule) name) h in
+  λ h. let outer = and_parts (is_deny rule.kind && list_any (λ p. has ask p && has rule.perms p) all_permissions)
+      (takes (pattern rule) name) h in
       let inner = and_parts (is_deny rule.kind) (list_any (λ p. has ask p && has rule.perms p) all_permissions) outer.0 in
       (deny_kind rule.kind inner.0, ((shares_by_any ask rule.perms).0 inner.1, (by_cuts (pattern rule) name).0 outer.1)),
   λ h. and_from (is_deny rule.kind && list_any (λ p. has ask p && has rule.perms p) all_permissions) (takes (pattern rule) name)
@@ -98,7 +100,8 @@ module _ (rules : List RuleValue) (name : List ℕ) where
     none_denies : position (denies name ask) rules ≡ None → (n : ℕ) → Denies rules name ask n → ⊥
     none_denies e n d =
         let past : length rules ≤ position_or_len (denies name ask) rules =
-        ltb-false _ _ (no_place (nat_lt (position_or_len (denies name ask) rules) (length rules)) (position_or_len (denies name ask) rules) e) in
+        ltb-false _ _ (no_place (nat_lt (position_or_len (denies name ask) rules) (length rules))
+        (position_or_len (denies name ask) rules) e) in
         let fails : denies name ask (get_or rules (n - 1) nothing) ≡ false =
         fails_before_first (denies name ask) rules (n - 1) nothing (omega (arith, d.2.1.0, d.2.1.1, past)) in
         true≢false (sym (denial_passes n d) ∙ fails)
@@ -108,8 +111,21 @@ module _ (rules : List RuleValue) (name : List ℕ) where
   allow_found p h =
       let some = Any-from_list_any (allows name p) rules h in
       let back : some.0 ≡ some.0 + 1 - 1 = omega arith in
-      let says = (allows_says name p some.1).0 some.4 in
-      (some.0 + 1, (some.1, (omega arith, omega (arith, some.2), sym some.3 ∙ ap (λ z. get_or rules z some.1) back), says.0, says.1, says.2))
+      let says = (allows_says name p some.1).0 some.4 in (
+        some.0 + 1,
+        (
+          some.1,
+          (
+            omega arith,
+            omega (arith, some.2),
+            sym some.3 ∙ ap (λ z. get_or rules z some.1)
+                back,
+          ),
+          says.0,
+          says.1,
+          says.2,
+        ),
+      )
 
   allow_passes : (p : Permission) (n : ℕ) → Hits rules Allow p name n → list_any (allows name p) rules ≡ true
   allow_passes p n hit =

@@ -4,7 +4,8 @@ use Rattle.std.specs.List.{list_all}
 use Rattle.std.proofs.lemmas.List.{append-nil, append_assoc}
 use Rattle.std.proofs.lemmas.Bool.{and_parts, and_from}
 use Rattle.rule_globs.specs.Glob.{Glob, ByteSet, empty, one, run, cat, none, alt, fits, Takes, places, Live, LiveOrEnd}
-use Rattle.rule_globs.specs.LiveSteps.{Left, left, Steps, stay, over_empty, into_cat, into_first, into_second, leave, take_one, take_more, StandsAt, IsLeftFirst}
+use Rattle.rule_globs.specs.LiveSteps.{Left, left, Steps, stay, over_empty, into_cat, into_first, into_second, leave, take_one, take_more}
+use Rattle.rule_globs.specs.LiveSteps.{StandsAt, IsLeftFirst}
 
 run_along : (at : ℕ) (set : ByteSet) (x y : List ℕ) (r e : List Left) → IsTrue (list_all (fits set) x) →
     Steps (left at (run set) ∷ r) y e → Steps (left at (run set) ∷ r) (x ++ y) e
@@ -21,7 +22,8 @@ over (one set) at x y r e h s =
 over (run set) at x y r e h s = run_along at set x y r e h (leave at set r e y s)
 over (cat a b) at x y r e h s =
     subst (λ z. Steps (left at (cat a b) ∷ r) z e) (sym (append_assoc h.0 h.1 y) ∙ ap (λ z. z ++ y) (sym h.2))
-    (into_cat at a b r e (h.0 ++ (h.1 ++ y)) (over a at h.0 (h.1 ++ y) (left (at + places a) b ∷ r) e h.3 (over b (at + places a) h.1 y r e h.4 s)))
+    (into_cat at a b r e (h.0 ++ (h.1 ++ y)) (over a at h.0 (h.1 ++ y) (left (at + places a) b ∷ r) e h.3
+    (over b (at + places a) h.1 y r e h.4 s)))
 over none at x y r e h s = absurd h
 over (alt a b) at x y r e h s = ⊎_elim
     (λ t. into_first at a b r e (x ++ y) (over a at x y r e t s))

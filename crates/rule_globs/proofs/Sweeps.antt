@@ -1,10 +1,12 @@
 -- One sweep moves the set of live places on by one byte.
-use Rattle.std.proofs.Common.{◌≡◌, ◌≢◌, ℕ, ◌+◌, ◌-◌, ◌<◌, ◌≤◌, Bool, false, ◌||◌, ◌⊎◌, ◌↔◌, inl, inr, ⊎_elim, List, [], ◌∷◌, ◌++◌, IsTrue, length, get_or, set, refl, sym, ap, ◌∙◌, subst, arith, get_or-set_other, get_or-set_same}
+use Rattle.std.proofs.Common.{◌≡◌, ◌≢◌, ℕ, ◌+◌, ◌-◌, ◌<◌, ◌≤◌, Bool, false, ◌||◌, ◌⊎◌, ◌↔◌, inl, inr, ⊎_elim, List, [], ◌∷◌, ◌++◌, IsTrue}
+use Rattle.std.proofs.Common.{length, get_or, set, refl, sym, ap, ◌∙◌, subst, arith, get_or-set_other, get_or-set_same}
 use Rattle.std.proofs.Math.ListN.{length-set}
 use Rattle.std.proofs.lemmas.Bool.{or_cases, or_left, or_right, cases_lt}
 use Rattle.rule_globs.specs.Glob.{Glob, empty, one, run, cat, none, alt, fits, places}
 use Rattle.rule_globs.specs.inner.Sweep.{Pass, sweep, pass_one, pass_run, restart}
-use Rattle.rule_globs.proofs.Behind.{Behind, LiveAfter, iff_trans, iff_sym, one_behind, run_behind, run_live, one_live, empty_behind, cat_left, cat_right, cat_behind, alt_left, alt_right, alt_behind}
+use Rattle.rule_globs.proofs.Behind.{Behind, LiveAfter, iff_trans, iff_sym, one_behind, run_behind, run_live, one_live, empty_behind}
+use Rattle.rule_globs.proofs.Behind.{cat_left, cat_right, cat_behind, alt_left, alt_right, alt_behind}
 
 -- where a sweep goes, that it keeps the length, and that it writes its own places only
 pub sweep-place : (g : Glob) (c : ℕ) (s : Pass) → (sweep g c s).place ≡ s.place + places g
@@ -77,7 +79,8 @@ written live place b room =
     let lt : place < length live = omega arith in
     subst (λ z. get_or (set live place b) z false ≡ b) e (get_or-set_same live place b false lt)
 
-at_first : {A : Type 0} (live : List Bool) (place : ℕ) → (IsTrue (get_or live (place + 0) false) ↔ A) → IsTrue (get_or live place false) ↔ A
+at_first : {A : Type 0} (live : List Bool) (place : ℕ) → (IsTrue (get_or live (place + 0) false) ↔ A) →
+    IsTrue (get_or live place false) ↔ A
 at_first {A} live place h = let e : place + 0 ≡ place = omega arith in subst (λ z. IsTrue (get_or live z false) ↔ A) e h
 
 -- If the bits are the live places after some bytes, then the sweep makes them those after one more byte.
@@ -107,7 +110,8 @@ sweep-holds (cat a b) E x c s room now reached =
     (λ q lt. let e : s.place + (places a + q) ≡ s1.place + q = omega (arith, place1) in
     bit_is _ _ (sweep-outside a c s (s1.place + q) (inr (omega (arith, place1))) ∙ ap (λ z. get_or s.live z false) (sym e))
     (iff_trans (now (places a + q) (omega arith)) (cat_right E a b x q))) first.1 in (
-      split_places (λ p. IsTrue (get_or (sweep b c s1).live (s.place + p) false) ↔ LiveAfter E (cat a b) (x ++ (c ∷ [])) p) (places a) (places b)
+      split_places (λ p. IsTrue (get_or (sweep b c s1).live (s.place + p) false) ↔ LiveAfter E (cat a b) (x ++ (c ∷ [])) p)
+          (places a) (places b)
           (λ p lt. bit_is _ _ (sweep-outside b c s1 (s.place + p) (inl (omega (arith, place1))))
           (iff_trans (first.0 p lt) (iff_sym (cat_left E a b (x ++ (c ∷ [])) p lt))))
           (λ q lt. let e : s.place + (places a + q) ≡ s1.place + q = omega (arith, place1) in
@@ -126,7 +130,8 @@ sweep-holds (alt a b) E x c s room now reached =
     (λ q lt. let e : s.place + (places a + q) ≡ s1.place + q = omega (arith, place1) in
     bit_is _ _ (sweep-outside a c s (s1.place + q) (inr (omega (arith, place1))) ∙ ap (λ z. get_or s.live z false) (sym e))
     (iff_trans (now (places a + q) (omega arith)) (alt_right E a b x q))) reached in (
-      split_places (λ p. IsTrue (get_or (sweep b c s1).live (s.place + p) false) ↔ LiveAfter E (alt a b) (x ++ (c ∷ [])) p) (places a) (places b)
+      split_places (λ p. IsTrue (get_or (sweep b c s1).live (s.place + p) false) ↔ LiveAfter E (alt a b) (x ++ (c ∷ [])) p)
+          (places a) (places b)
           (λ p lt. bit_is _ _ (sweep-outside b c s1 (s.place + p) (inl (omega (arith, place1))))
           (iff_trans (first.0 p lt) (iff_sym (alt_left E a b (x ++ (c ∷ [])) p lt))))
           (λ q lt. let e : s.place + (places a + q) ≡ s1.place + q = omega (arith, place1) in

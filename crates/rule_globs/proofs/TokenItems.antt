@@ -1,9 +1,11 @@
 -- Items by induction, and the tokens of each kind of item.
-use Rattle.std.proofs.Common.{◌≡◌, ℕ, Bool, true, not, ◌&&◌, ◌==◌, List, [], ◌∷◌, ◌++◌, length, map, Vec, Global, refl, sym, ap, subst, ◌∙◌}
+use Rattle.std.proofs.Common.{◌≡◌, ℕ, Bool, true, not, ◌&&◌, ◌==◌, List, [], ◌∷◌, ◌++◌, length, map, Vec, Global, refl, sym, ap, subst}
+use Rattle.std.proofs.Common.{◌∙◌}
 use Rattle.std.specs.List.{flat_map, list_all}
 use Rattle.std.proofs.lemmas.List.Folds.{flat_map-map, list_all-map}
 use Rattle.std.proofs.lemmas.List.{length-map}
-use Rattle.rule_globs.specs.Tokens.{Token, byte, any_byte, bracket, stars, opening, closing, with_commas, node_tokens, tokens, tokens_of, node_full, is_full, all_full}
+use Rattle.rule_globs.specs.Tokens.{Token, byte, any_byte, bracket, stars, opening, closing, with_commas, node_tokens, tokens, tokens_of}
+use Rattle.rule_globs.specs.Tokens.{node_full, is_full, all_full}
 use Rattle.rule_globs.specs.declared.items.Class.{Class}
 use Rattle.rule_globs.specs.declared.items.Stars.{Stars}
 use Rattle.rule_globs.specs.Each.{Each}
@@ -101,7 +103,8 @@ some_full alternatives = not (length alternatives == 0) && list_all (λ items. a
 
 some_row : (f : Vec Item Global → Vec Bool Global) → ((v : Vec Item Global) → (f v).items ≡ map is_full v.items) →
     (alternatives : List (Vec Item Global)) →
-    (not (length (map f alternatives) == 0) && list_all (λ items. list_all (λ full. full) items.items) (map f alternatives)) ≡ some_full alternatives
+    (not (length (map f alternatives) == 0) && list_all (λ items. list_all (λ full. full) items.items) (map f alternatives))
+    ≡ some_full alternatives
 some_row f same alternatives = cc (length-map alternatives f, all_row f same alternatives)
 
 pub full-Group : (alternatives : Vec (Vec Item Global) Global) → is_full (v.Group alternatives) ≡ some_full alternatives.items

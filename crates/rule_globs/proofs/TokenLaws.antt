@@ -1,14 +1,17 @@
 -- The items of a path and the row of its tokens stand for the same pattern, and have enough places.
-use Rattle.std.proofs.Common.{◌≡◌, ◌≤◌, ◌*◌, IsTrue, Bool, true, false, not, ◌==◌, List, [], ◌∷◌, ◌++◌, length, Vec, Global, refl, sym, ap, ◌∙◌, append_assoc, append-nil, arith, length-append}
+use Rattle.std.proofs.Common.{◌≡◌, ◌≤◌, ◌*◌, IsTrue, Bool, true, false, not, ◌==◌, List, [], ◌∷◌, ◌++◌, length, Vec, Global, refl, sym, ap}
+use Rattle.std.proofs.Common.{◌∙◌, append_assoc, append-nil, arith, length-append}
 use Rattle.std.proofs.lemmas.Bool.{and_parts}
 use Rattle.std.specs.List.{list_all}
 use Rattle.rule_globs.specs.Glob.{Glob, empty, none, places}
 use Rattle.rule_globs.specs.Meaning.{meaning, meaning_of, alternatives_meaning, stars_glob}
-use Rattle.rule_globs.specs.Tokens.{Token, opening, between, closing, Behind, one_more, before, behind_all, pattern_of, tokens, tokens_of, is_full, all_full}
+use Rattle.rule_globs.specs.Tokens.{Token, opening, between, closing, Behind, one_more, before, behind_all, pattern_of, tokens, tokens_of}
+use Rattle.rule_globs.specs.Tokens.{is_full, all_full}
 use Rattle.rule_globs.specs.declared.items.Item.{Item}
 use Rattle.rule_globs.specs.declared.items.Item.TheVariants as v
 use Rattle.rule_globs.proofs.MeaningLaws.{meaning-Byte, meaning-AnyByte, meaning-Class, meaning-Stars, meaning-Group}
-use Rattle.rule_globs.proofs.TokenItems.{EachWithin, item_induction, alternatives_row, tokens-Byte, tokens-AnyByte, tokens-Class, tokens-Stars, tokens-Group, some_full, full-Group}
+use Rattle.rule_globs.proofs.TokenItems.{EachWithin, item_induction, alternatives_row, tokens-Byte, tokens-AnyByte, tokens-Class}
+use Rattle.rule_globs.proofs.TokenItems.{tokens-Stars, tokens-Group, some_full, full-Group}
 use Rattle.rule_globs.specs.Each.{Each}
 
 -- ---- the pattern

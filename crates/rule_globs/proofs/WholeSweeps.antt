@@ -1,5 +1,6 @@
 -- A whole pattern: the beginning is a byte 0 before the name.
-use Rattle.std.proofs.Common.{◌≡◌, ℕ, ◌+◌, ◌<◌, ◌≤◌, Bool, true, false, ◌↔◌, inr, ⊎_elim, List, [], ◌∷◌, ◌++◌, IsTrue, length, get_or, replicate, take, refl, sym, ap, ◌∙◌, subst, arith, zero-add, true≢false}
+use Rattle.std.proofs.Common.{◌≡◌, ℕ, ◌+◌, ◌<◌, ◌≤◌, Bool, true, false, ◌↔◌, inr, ⊎_elim, List, [], ◌∷◌, ◌++◌, IsTrue, length, get_or}
+use Rattle.std.proofs.Common.{replicate, take, refl, sym, ap, ◌∙◌, subst, arith, zero-add, true≢false}
 use Rattle.std.proofs.lemmas.List.{get_or-replicate, length-replicate, take_more}
 use Rattle.rule_globs.specs.Glob.{Glob, Takes, places, Live, LiveOrEnd}
 use Rattle.rule_globs.specs.inner.Sweep.{Pass, sweep}
@@ -28,7 +29,8 @@ takes_zero g x = (
 lit_zero : (g : Glob) (x : List ℕ) (live : List Bool) → Lit IsZero g (0 ∷ x) 0 live ↔ IsLit g x live
 lit_zero g x live = (
   λ h p lt. subst (λ z. IsTrue (get_or live z false) ↔ Live g x p) (zero-add p) (iff_trans (h p lt) (live_zero g x p)),
-  λ h p lt. subst (λ z. IsTrue (get_or live z false) ↔ LiveAfter IsZero g (0 ∷ x) p) (sym (zero-add p)) (iff_trans (h p lt) (iff_sym (live_zero g x p))),
+  λ h p lt. subst (λ z. IsTrue (get_or live z false) ↔ LiveAfter IsZero g (0 ∷ x) p) (sym (zero-add p))
+      (iff_trans (h p lt) (iff_sym (live_zero g x p))),
 )
 
 pub sweep-start : (g : Glob) (live : List Bool) → places g ≤ length live →
@@ -52,7 +54,8 @@ sweep-byte g x c live room now =
     let s : Pass = record { place = 0; reached = false; live = live } in
     let both = sweep-holds g IsZero (0 ∷ x) c s (omega arith) ((lit_zero g x live).1 now) (
       λ h. absurd (true≢false (sym h)),
-      λ h. let e : [] ≡ x ++ (c ∷ []) = cc (h) in let e2 : c ∷ [] ≡ [] = (both_empty x (c ∷ []) e).1 in let never : ⊥ = cc (e2) in absurd never,
+      λ h. let e : [] ≡ x ++ (c ∷ []) = cc (h) in let e2 : c ∷ [] ≡ [] = (both_empty x (c ∷ []) e).1 in let never : ⊥ =
+          cc (e2) in absurd never,
     ) in
     ((lit_zero g (x ++ (c ∷ [])) (sweep g c s).live).0 both.0, iff_trans both.1 (takes_zero g (x ++ (c ∷ []))))
 

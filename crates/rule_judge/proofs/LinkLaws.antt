@@ -94,7 +94,8 @@ fine old new Allowed = (
   λ e. (
     refl,
     subset_of old new (λ p. ⊎_elim
-        (λ is. absurd (wider_is_fine (extra old new) (widening_something (extra old new) (λ nothing. true≢false (sym is ∙ nothing p)) ∙ e)))
+        (λ is. absurd (wider_is_fine (extra old new) (widening_something (extra old new) (λ nothing. true≢false (sym is ∙ nothing p))
+        ∙ e)))
         (λ f. f) (cases_Bool (has (extra old new) p))),
   ),
   λ h. sym (widening_nothing (extra old new) (nothing_extra old new h.1)),
@@ -107,10 +108,12 @@ allowed_is (NoRule missing) h = absurd (true≢false (sym h))
 
 -- the set of the permissions that are allowed has just these
 pub allowed_set : ((rules : List RuleValue) (name : List ℕ) (ask : Perms) → IsVerdict rules name ask (verdict rules name ask)) →
-    ((rules : List RuleValue) (name : List ℕ) (ask : Perms) (v w : Verdict) → IsVerdict rules name ask v → IsVerdict rules name ask w → v ≡ w) →
+    ((rules : List RuleValue) (name : List ℕ) (ask : Perms) (v w : Verdict) → IsVerdict rules name ask v →
+    IsVerdict rules name ask w → v ≡ w) →
     (rules : List RuleValue) (name : List ℕ) (p : Permission) → IsTrue (has (allowed rules name) p) ↔ IsAllowed rules name p
 allowed_set verdict_is_right one_verdict rules name p =
-    let of : has (allowed rules name) p ≡ is_allowed (verdict rules name (only p)) = has-set_of (λ q. is_allowed (verdict rules name (only q))) p in
+    let of : has (allowed rules name) p ≡ is_allowed (verdict rules name (only p)) =
+    has-set_of (λ q. is_allowed (verdict rules name (only q))) p in
     let right = verdict_is_right rules name (only p) in (
       λ h. subst (IsVerdict rules name (only p)) (allowed_is (verdict rules name (only p)) (sym of ∙ h)) right,
       λ h. of ∙ ap is_allowed (one_verdict rules name (only p) (verdict rules name (only p)) Allowed right h),

@@ -1,5 +1,6 @@
 -- The verdict, one rule after another.
-use Rattle.std.proofs.Common.{◌≡◌, ℕ, ◌+◌, ◌-◌, ◌<◌, ◌≤◌, Bool, not, ◌&&◌, ◌⊎◌, ◌↔◌, inl, inr, ⊎_elim, List, map, IsTrue, length, get_or, sym, ap, ◌∙◌, subst, arith, true≢false}
+use Rattle.std.proofs.Common.{◌≡◌, ℕ, ◌+◌, ◌-◌, ◌<◌, ◌≤◌, Bool, not, ◌&&◌, ◌⊎◌, ◌↔◌, inl, inr, ⊎_elim, List, map, IsTrue, length, get_or}
+use Rattle.std.proofs.Common.{sym, ap, ◌∙◌, subst, arith, true≢false}
 use Rattle.std.proofs.lemmas.List.{get_or_default, get_or-map, length-map}
 use Rattle.std.proofs.lemmas.Bool.{and_parts, and_from, cases_lt, cases_Bool, not-true, not_from_false}
 use Rattle.names.specs.declared.permissions.Permission.{Permission}
@@ -81,7 +82,8 @@ module _ (rules : List RuleValue) (name : List ℕ) (ask : Perms) where
       HitsSome r name ask → t ≡ set_of (λ q. has s q && not (has r.perms q)) → (IsTrue (has s p) ↔ IsMissingAfter rules name ask i p) →
       IsTrue (has t p) ↔ IsMissingAfter rules name ask (i + 1) p
   missing-allow i r s t p at allow some less now =
-      let is : has t p ≡ (has s p && not (has r.perms p)) = ap (λ z. has z p) less ∙ has-set_of (λ q. has s q && not (has r.perms q)) p in (
+      let is : has t p ≡ (has s p && not (has r.perms p)) = ap (λ z. has z p) less
+      ∙ has-set_of (λ q. has s q && not (has r.perms q)) p in (
         λ h. let both = and_parts (has s p) (not (has r.perms p)) (sym is ∙ h) in let w = now.0 both.0 in (
           w.0,
           λ n le hit. ⊎_elim

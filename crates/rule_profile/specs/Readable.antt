@@ -47,7 +47,8 @@ is_token after_slash depth behind (byte b) = can_stand b
 is_token after_slash depth behind any_byte = true
 is_token after_slash depth behind (bracket negated ranges) = not (length ranges == 0) && list_all is_range ranges
 is_token after_slash depth behind (stars crosses_slashes true) = not (begins_with_run behind) && after_slash && slash_or_end_behind behind
-is_token after_slash depth behind (stars crosses_slashes false) = not (begins_with_run behind) && not (after_slash && slash_or_end_behind behind)
+is_token after_slash depth behind (stars crosses_slashes false) = not (begins_with_run behind)
+    && not (after_slash && slash_or_end_behind behind)
 is_token after_slash depth behind opening = nat_lt depth max_depth
 is_token after_slash depth behind between = nat_lt 0 depth
 is_token after_slash depth behind closing = nat_lt 0 depth

@@ -1,6 +1,7 @@
 -- What more bytes after a text leave unchanged: a part that was read with enough left over is read the same whatever follows, and
 -- where a part has a settled fault it has a fault whatever follows.
-use Rattle.std.proofs.Common.{◌≡◌, ℕ, Bool, true, false, cond, List, [], ◌∷◌, ◌++◌, Option, Some, None, Result, Ok, Err, refl, sym, ap, subst, ◌∙◌}
+use Rattle.std.proofs.Common.{◌≡◌, ℕ, Bool, true, false, cond, List, [], ◌∷◌, ◌++◌, Option, Some, None, Result, Ok, Err, refl, sym, ap}
+use Rattle.std.proofs.Common.{subst, ◌∙◌}
 use Rattle.rule_reader.specs.declared.reading.local_fault.LocalFault.{LocalFault}
 use Rattle.rule_reader.specs.ReadSteps.{◌>>=◌, goes_on}
 
@@ -63,7 +64,8 @@ kept_if false on off = off refl
 abbrev pub by_option : {X A : Type 0} → Option X → Result A LocalFault → (X → Result A LocalFault) → Result A LocalFault
 by_option o x f = elim o [ None ↦ x | Some v ↦ f v ]
 
-pub kept_option : {X A : Type 0} {put : A → A} {enough : A → Bool} {x y : Result A LocalFault} (f g : X → Result A LocalFault) (o : Option X)
+pub kept_option : {X A : Type 0} {put : A → A} {enough : A → Bool} {x y : Result A LocalFault} (f g : X → Result A LocalFault)
+    (o : Option X)
     → Kept put enough x y → ((v : X) → Kept put enough (f v) (g v)) → Kept put enough (by_option o x f) (by_option o y g)
 kept_option f g None h k = h
 kept_option f g (Some v) h k = k v
@@ -86,7 +88,8 @@ none_claimed ea eb (Ok a) k none after = after a none
 none_claimed ea eb (Err s) k none after = none
 
 -- The second part is kept after what the first left over; where that is too little, nothing is claimed of the second.
-pub kept_bind : {A B : Type 0} {pa : A → A} {ea : A → Bool} {pb : B → B} {eb : B → Bool} {x y : Result A LocalFault} (k l : A → Result B LocalFault)
+pub kept_bind : {A B : Type 0} {pa : A → A} {ea : A → Bool} {pb : B → B} {eb : B → Bool} {x y : Result A LocalFault}
+    (k l : A → Result B LocalFault)
     → Kept pa ea x y → ((a : A) → ea a ≡ true → Kept pb eb (k a) (l (pa a))) → ((a : A) → ea a ≡ false → claims eb (k a) ≡ false)
     → Kept pb eb (x >>= k) (y >>= l)
 kept_bind {pa = pa} {ea = ea} {pb = pb} {eb = eb} {x = Ok a} {y = y} k l h more none =
@@ -96,7 +99,8 @@ kept_bind {pa = pa} {ea = ea} {pb = pb} {eb = eb} {x = Ok a} {y = y} k l h more 
 kept_bind {x = Err s} {y = y} k l h more none = record { same = λ settled. fault_goes_on y l (h.same settled) }
 
 -- what is claimed may be used
-pub kept_when : {A : Type 0} {put : A → A} {enough : A → Bool} {x y : Result A LocalFault} → (claims enough x ≡ true → Kept put enough x y) → Kept put enough x y
+pub kept_when : {A : Type 0} {put : A → A} {enough : A → Bool} {x y : Result A LocalFault} →
+    (claims enough x ≡ true → Kept put enough x y) → Kept put enough x y
 kept_when h = record { same = λ some. (h some).same some }
 
 -- ---- a part that answers the bytes left over, or a value and them
@@ -124,11 +128,16 @@ pub ends_here : (P : List ℕ → Type 0) (rest : List ℕ) → goes_on rest ≡
 ends_here P [] end p = p
 ends_here P (b ∷ rest) end p = both end
 
-pub after_bytes : {B : Type 0} {more : List ℕ} {pb : B → B} {eb : B → Bool} {x y : Result (List ℕ) LocalFault} (k l : List ℕ → Result B LocalFault)
-    → KeptBytes more x y → ((rest : List ℕ) → Kept pb eb (k rest) (l (rest ++ more))) → claims eb (k []) ≡ false → Kept pb eb (x >>= k) (y >>= l)
-after_bytes {eb = eb} k l h next none = kept_bind k l h (λ rest _. next rest) (λ rest end. ends_here (λ r. claims eb (k r) ≡ false) rest end none)
+pub after_bytes : {B : Type 0} {more : List ℕ} {pb : B → B} {eb : B → Bool} {x y : Result (List ℕ) LocalFault}
+    (k l : List ℕ → Result B LocalFault)
+    → KeptBytes more x y → ((rest : List ℕ) → Kept pb eb (k rest) (l (rest ++ more))) → claims eb (k []) ≡ false →
+    Kept pb eb (x >>= k) (y >>= l)
+after_bytes {eb = eb} k l h next none = kept_bind k l h (λ rest _. next rest)
+    (λ rest end. ends_here (λ r. claims eb (k r) ≡ false) rest end none)
 
-pub after_pair : {V B : Type 0} {more : List ℕ} {pb : B → B} {eb : B → Bool} {x y : Result (V × List ℕ) LocalFault} (k l : V × List ℕ → Result B LocalFault)
-    → KeptPair more x y → ((v : V) (rest : List ℕ) → Kept pb eb (k (v, rest)) (l (v, rest ++ more))) → ((v : V) → claims eb (k (v, [])) ≡ false)
-    → Kept pb eb (x >>= k) (y >>= l)
-after_pair {eb = eb} k l h next none = kept_bind k l h (λ a _. next a.0 a.1) (λ a end. ends_here (λ r. claims eb (k (a.0, r)) ≡ false) a.1 end (none a.0))
+pub after_pair : {V B : Type 0} {more : List ℕ} {pb : B → B} {eb : B → Bool} {x y : Result (V × List ℕ) LocalFault}
+    (k l : V × List ℕ → Result B LocalFault)
+    → KeptPair more x y → ((v : V) (rest : List ℕ) → Kept pb eb (k (v, rest)) (l (v, rest ++ more))) →
+    ((v : V) → claims eb (k (v, [])) ≡ false) → Kept pb eb (x >>= k) (y >>= l)
+after_pair {eb = eb} k l h next none = kept_bind k l h (λ a _. next a.0 a.1)
+    (λ a end. ends_here (λ r. claims eb (k (a.0, r)) ≡ false) a.1 end (none a.0))

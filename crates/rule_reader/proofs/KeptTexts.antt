@@ -1,5 +1,6 @@
 -- Rules and whole texts with more bytes after them: a settled fault stays whatever follows.
-use Rattle.std.proofs.Common.{◌≡◌, ℕ, zero, suc, Bool, true, false, cond, List, [], ◌∷◌, ◌++◌, length, Option, Some, None, Result, Ok, Err, refl, sym, ap, subst, ◌==◌}
+use Rattle.std.proofs.Common.{◌≡◌, ℕ, zero, suc, Bool, true, false, cond, List, [], ◌∷◌, ◌++◌, length, Option, Some, None, Result, Ok, Err}
+use Rattle.std.proofs.Common.{refl, sym, ap, subst, ◌==◌}
 use Rattle.std.specs.Prelude.{◌||◌, codes, drop, if◌then◌else◌}
 use Rattle.std.specs.List.{list_all}
 use Rattle.std.proofs.lemmas.Bool.{ne_eqb, eqb-true, not-false}
@@ -15,12 +16,15 @@ use Rattle.rule_profile.specs.Profile.{RuleValue, ProfileValue}
 use Rattle.rule_reader.specs.ReadFaults.{Refused, IsSettled}
 use Rattle.rule_reader.specs.ReadHeader.{header_at}
 use Rattle.rule_reader.specs.ReadPaths.{path_at, path_in}
-use Rattle.rule_reader.specs.Reading.{is_mode, perms_at, perms_behind, qualifier_at, start_at, comma_at, body_at, rule_at, rule_begins, rules_at, end_at, text_at, outcome_of}
+use Rattle.rule_reader.specs.Reading.{is_mode, perms_at, perms_behind, qualifier_at, start_at, comma_at, body_at, rule_at, rule_begins}
+use Rattle.rule_reader.specs.Reading.{rules_at, end_at, text_at, outcome_of}
 use Rattle.rule_reader.specs.ReadSteps.{◌>>=◌, goes_on, fault_here, syntax, fault_of}
 use Rattle.rule_reader.specs.ReadWords.{blank, gap, word, after_word, is_word, fault_of_word, word_left_out}
 use Rattle.rule_reader.specs.TextBytes.{begins, is_quote, is_comma, is_close_brace, is_arrow, is_letter_byte}
 use Rattle.rule_globs.specs.Tokens.{Token}
-use Rattle.rule_reader.proofs.Kept.{IsFault, claims, Same, Kept, KeptBytes, KeptPair, then_more, with_rest, some_over, by_test, both, ends_here, nothing, known, stays, faults, stop_is, fault_if, kept_if, kept_option, none_claimed, kept_bind, after_bytes, after_pair}
+use Rattle.rule_reader.proofs.Kept.{IsFault, claims, Same, Kept, KeptBytes, KeptPair, then_more, with_rest, some_over, by_test, both}
+use Rattle.rule_reader.proofs.Kept.{ends_here, nothing, known, stays, faults, stop_is, fault_if, kept_if, kept_option, none_claimed}
+use Rattle.rule_reader.proofs.Kept.{kept_bind, after_bytes, after_pair}
 use Rattle.rule_reader.proofs.KeptHeader.{header_kept}
 use Rattle.rule_reader.proofs.KeptPaths.{over, path_kept}
 use Rattle.rule_reader.proofs.KeptWords.{word_cases, ended_word, blank_kept, gap_kept}
@@ -33,7 +37,9 @@ no_dash b h = ne_eqb 45 b (λ e. let same : is_letter_byte 45 ≡ is_letter_byte
 
 -- permissions, or a fault of the word, where the end ends the word
 open_perms : (bytes : List ℕ) (perms : Option Perms) (t : Bool) → after_word bytes ≡ []
-    → claims (λ (x : Perms × List ℕ). goes_on x.1) (elim perms [ Some p ↦ Ok (p, after_word bytes) | None ↦ cond t (word_left_out bytes) (fault_of_word kinds.Permission bytes) ]) ≡ false
+    → claims (λ (x : Perms × List ℕ). goes_on x.1)
+    (elim perms [ Some p ↦ Ok (p, after_word bytes) | None ↦ cond t (word_left_out bytes) (fault_of_word kinds.Permission bytes) ])
+    ≡ false
 open_perms bytes (Some p) t e = rw e refl
 open_perms bytes None true e = rw e refl
 open_perms bytes None false e = rw e refl
@@ -49,7 +55,8 @@ perms_kept (b ∷ bytes) more =
     (λ letter same past.
     let arrow = no_dash b letter in
     rw (same, arrow) (kept_if (length (word here) == 0) (λ _. stays) (λ _.
-    kept_option _ _ (perms_of (word here)) (faults (fault_if (list_all is_mode (word here)) stop_is stop_is) (fault_if (list_all is_mode (word (here ++ more))) stop_is stop_is)) (λ perms. known (λ _. ap (with_rest perms) past)))))
+    kept_option _ _ (perms_of (word here)) (faults (fault_if (list_all is_mode (word here)) stop_is stop_is)
+    (fault_if (list_all is_mode (word (here ++ more))) stop_is stop_is)) (λ perms. known (λ _. ap (with_rest perms) past)))))
     (λ letter past some.
     let arrow = no_dash b letter in
     nothing (rw (arrow, some) (open_perms here (perms_of (word here)) (list_all is_mode (word here)) past))))
@@ -57,7 +64,8 @@ perms_kept (b ∷ bytes) more =
 behind_kept : (bytes more : List ℕ) → over false bytes ≡ true → KeptPair more (perms_behind bytes) (perms_behind (bytes ++ more))
 unfolding perms_behind perms_at
 behind_kept [] more h = nothing refl
-behind_kept (b ∷ bytes) more h = kept_if (is_comma b) (λ _. stays) (λ _. after_bytes _ _ (gap_kept (b ∷ bytes) more) (λ from. perms_kept from more) refl)
+behind_kept (b ∷ bytes) more h = kept_if (is_comma b) (λ _. stays) (λ _. after_bytes _ _ (gap_kept (b ∷ bytes) more)
+    (λ from. perms_kept from more) refl)
 
 -- nothing is here, or a comma at the end
 over_cases : (P : List ℕ → Type 0) (rest : List ℕ) → over false rest ≡ false → P [] → P (44 ∷ []) → P rest
@@ -73,7 +81,8 @@ word_over [] = false
 word_over (b ∷ bytes) = cond (is_letter_byte b) (goes_on (after_word (b ∷ bytes))) true
 
 open_qualifier : (b : ℕ) (bytes : List ℕ) (s t : Bool) → is_letter_byte b ≡ true → after_word (b ∷ bytes) ≡ []
-    → claims (λ (x : RuleKind × List ℕ). word_over x.1) (cond s (gap (after_word (b ∷ bytes)) >>= λ from. Ok (Allow, from)) (cond t (gap (after_word (b ∷ bytes)) >>= λ from. Ok (Deny, from)) (Ok (Allow, b ∷ bytes)))) ≡ false
+    → claims (λ (x : RuleKind × List ℕ). word_over x.1) (cond s (gap (after_word (b ∷ bytes)) >>= λ from. Ok (Allow, from))
+    (cond t (gap (after_word (b ∷ bytes)) >>= λ from. Ok (Deny, from)) (Ok (Allow, b ∷ bytes)))) ≡ false
 open_qualifier b bytes true t letter past = rw past refl
 open_qualifier b bytes false true letter past = rw past refl
 open_qualifier b bytes false false letter past = rw (letter, past) refl
@@ -128,16 +137,20 @@ start_kept (b ∷ bytes) more =
     kept_if (is_slash b || is_quote b) (λ _. known (λ _. refl)) (λ _.
     word_cases b bytes more
     (λ other. rw other (kept_if (b == 64 || b == 94 || b == 36) (λ _. stays) (λ _. stays)))
-    (λ letter same past. rw same (kept_if (length (word here) == 0) (λ _. kept_if (b == 64 || b == 94 || b == 36) (λ _. stays) (λ _. stays)) (λ _.
+    (λ letter same past. rw same
+    (kept_if (length (word here) == 0) (λ _. kept_if (b == 64 || b == 94 || b == 36) (λ _. stays) (λ _. stays)) (λ _.
     kept_option _ _ (perms_of (word here)) stays (λ perms. known (λ _. ap (λ (x : List ℕ). Some (with_rest perms x)) past)))))
     (λ letter past some. nothing (rw some (open_start here (perms_of (word here)) past))))
 
 comma_here : (bytes more : List ℕ)
-    → KeptBytes more (if begins is_comma bytes then Ok (drop 1 bytes) else if is_arrow bytes then fault_here (kinds.LeftOut 2) bytes else syntax bytes)
-    (if begins is_comma (bytes ++ more) then Ok (drop 1 (bytes ++ more)) else if is_arrow (bytes ++ more) then fault_here (kinds.LeftOut 2) (bytes ++ more) else syntax (bytes ++ more))
+    → KeptBytes more (if begins is_comma bytes then Ok (drop 1 bytes) else if is_arrow bytes then fault_here (kinds.LeftOut 2)
+    bytes else syntax bytes)
+    (if begins is_comma (bytes ++ more) then Ok (drop 1 (bytes ++ more)) else if is_arrow (bytes ++ more) then fault_here (kinds.LeftOut 2)
+    (bytes ++ more) else syntax (bytes ++ more))
 comma_here [] more = nothing refl
 comma_here (b ∷ bytes) more =
-    kept_if (is_comma b) (λ _. known (λ _. refl)) (λ _. faults (fault_if (is_arrow (b ∷ bytes)) stop_is stop_is) (fault_if (is_arrow (b ∷ bytes ++ more)) stop_is stop_is))
+    kept_if (is_comma b) (λ _. known (λ _. refl)) (λ _. faults (fault_if (is_arrow (b ∷ bytes)) stop_is stop_is)
+    (fault_if (is_arrow (b ∷ bytes ++ more)) stop_is stop_is))
 
 comma_kept : (bytes more : List ℕ) → KeptBytes more (comma_at bytes) (comma_at (bytes ++ more))
 unfolding comma_at
@@ -162,7 +175,8 @@ path_body_kept bytes more =
     (λ path some. after_pair _ _ (behind_kept path.1 more some) (λ perms rest. known (λ _. refl)) (λ perms. refl))
     (λ path e. over_cases (λ r. claims body_over (perms_behind r >>= λ perms. Ok ((perms.0, path.0), perms.1)) ≡ false) path.1 e refl refl)
 
-perms_body_kept : (perms : Perms × List ℕ) (more : List ℕ) → Kept (then_more more) body_over (perms_body perms) (perms_body (then_more more perms))
+perms_body_kept : (perms : Perms × List ℕ) (more : List ℕ) → Kept (then_more more) body_over (perms_body perms)
+    (perms_body (then_more more perms))
 unfolding path_at path_in
 perms_body_kept perms more =
     after_bytes _ _ (gap_kept perms.1 more) (λ from. kept_bind _ _ (path_kept from more) (λ path _. known (λ _. refl)) (λ path e. e)) refl
@@ -170,17 +184,20 @@ perms_body_kept perms more =
 abbrev rest_body : List ℕ → Option (Perms × List ℕ) → Result Body LocalFault
 rest_body bytes start = elim start [ None ↦ path_body bytes | Some perms ↦ perms_body perms ]
 
-rest_body_kept : (bytes more : List ℕ) (start : Option (Perms × List ℕ)) → Kept (then_more more) body_over (rest_body bytes start) (rest_body (bytes ++ more) (start_more more start))
+rest_body_kept : (bytes more : List ℕ) (start : Option (Perms × List ℕ)) → Kept (then_more more) body_over (rest_body bytes start)
+    (rest_body (bytes ++ more) (start_more more start))
 rest_body_kept bytes more None = path_body_kept bytes more
 rest_body_kept bytes more (Some perms) = perms_body_kept perms more
 
-rest_body_none : (bytes : List ℕ) (start : Option (Perms × List ℕ)) → start_over start ≡ false → claims body_over (rest_body bytes start) ≡ false
+rest_body_none : (bytes : List ℕ) (start : Option (Perms × List ℕ)) → start_over start ≡ false →
+    claims body_over (rest_body bytes start) ≡ false
 rest_body_none bytes None e = both e
 rest_body_none bytes (Some perms) e = ends_here (λ r. claims body_over (perms_body (perms.0, r)) ≡ false) perms.1 e refl
 
 body_kept : (bytes more : List ℕ) → Kept (then_more more) body_over (body_at bytes) (body_at (bytes ++ more))
 unfolding body_at
-body_kept bytes more = kept_bind (rest_body bytes) (rest_body (bytes ++ more)) (start_kept bytes more) (λ start _. rest_body_kept bytes more start) (rest_body_none bytes)
+body_kept bytes more = kept_bind (rest_body bytes) (rest_body (bytes ++ more)) (start_kept bytes more)
+    (λ start _. rest_body_kept bytes more start) (rest_body_none bytes)
 
 body_none : (bytes : List ℕ) → word_over bytes ≡ false → claims body_over (body_at bytes) ≡ false
 unfolding body_at
@@ -200,9 +217,11 @@ rule_kept bytes more =
     (λ kind _. kept_bind _ _ (body_kept kind.1 more)
     (λ body _. after_bytes _ _ (comma_kept body.1 more) (λ past. known (λ _. refl)) refl)
     (rule_none kind.0))
-    (λ kind e. none_claimed body_over some_over (body_at kind.1) (λ body. comma_at body.1 >>= rule_value kind.0 body) (body_none kind.1 e) (rule_none kind.0))
+    (λ kind e. none_claimed body_over some_over (body_at kind.1) (λ body. comma_at body.1 >>= rule_value kind.0 body) (body_none kind.1 e)
+    (rule_none kind.0))
 
-too_many : (bytes : List ℕ) (begins_here : Result (Unit {0}) LocalFault) → IsFault (begins_here >>= λ _. fault_here {A = List RuleValue × List ℕ} kinds.TooManyRules bytes)
+too_many : (bytes : List ℕ) (begins_here : Result (Unit {0}) LocalFault) →
+    IsFault (begins_here >>= λ _. fault_here {A = List RuleValue × List ℕ} kinds.TooManyRules bytes)
 too_many bytes (Ok x) = stop_is
 too_many bytes (Err s) = stop_is
 
@@ -211,7 +230,8 @@ unfolding rules_at rule_begins rule_at qualifier_at body_at start_at
 rules_none zero = refl
 rules_none (suc room) = refl
 
-one_more_none : (first : RuleValue) (others : Result (List RuleValue × List ℕ) LocalFault) → claims some_over others ≡ false → claims some_over (others >>= λ x. Ok (first ∷ x.0, x.1)) ≡ false
+one_more_none : (first : RuleValue) (others : Result (List RuleValue × List ℕ) LocalFault) → claims some_over others ≡ false →
+    claims some_over (others >>= λ x. Ok (first ∷ x.0, x.1)) ≡ false
 one_more_none first (Ok x) h = h
 one_more_none first (Err s) h = h
 
@@ -219,7 +239,8 @@ rules_kept : (room : ℕ) (bytes more : List ℕ) → KeptPair more (rules_at ro
 unfolding rules_at
 rules_kept room [] more = nothing (rules_none room)
 rules_kept zero (b ∷ bytes) more =
-    kept_if (is_close_brace b) (λ _. known (λ _. refl)) (λ _. faults (too_many (b ∷ bytes) (rule_begins (b ∷ bytes))) (too_many (b ∷ bytes ++ more) (rule_begins (b ∷ bytes ++ more))))
+    kept_if (is_close_brace b) (λ _. known (λ _. refl)) (λ _. faults (too_many (b ∷ bytes) (rule_begins (b ∷ bytes)))
+    (too_many (b ∷ bytes ++ more) (rule_begins (b ∷ bytes ++ more))))
 rules_kept (suc room) (b ∷ bytes) more =
     kept_if (is_close_brace b) (λ _. known (λ _. refl)) (λ _.
     after_pair _ _ (rule_kept (b ∷ bytes) more)
@@ -233,7 +254,8 @@ rules_kept (suc room) (b ∷ bytes) more =
 abbrev all_read : Result (List RuleValue × List ℕ) LocalFault → List ℕ → Result ProfileValue LocalFault
 all_read rules name = rules >>= λ x. blank x.1 >>= λ past. end_at past >>= λ all. Ok (record { name = name; rules = x.0 })
 
-rules_open : (name : List ℕ) (rules : Result (List RuleValue × List ℕ) LocalFault) → claims some_over rules ≡ false → claims (λ _. false) (all_read rules name) ≡ false
+rules_open : (name : List ℕ) (rules : Result (List RuleValue × List ℕ) LocalFault) → claims some_over rules ≡ false →
+    claims (λ _. false) (all_read rules name) ≡ false
 rules_open name (Ok x) e = ends_here (λ r. claims (λ _. false) (all_read (Ok (x.0, r)) name) ≡ false) x.1 e refl
 rules_open name (Err s) e = e
 

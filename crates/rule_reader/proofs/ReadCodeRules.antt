@@ -27,6 +27,8 @@ by_word true deny bytes rest x h = sym (ap behind (some_is _ _ h))
 by_word false true bytes rest x h = sym (ap behind (some_is _ _ h))
 by_word false false bytes rest x h = absurd (none_some x (sym h))
 
-pub qualifier_there : (bytes rest : List ℕ) (kind : RuleKind) → some_of (kind, rest) ≡ found (is_word (codes "allow") bytes) (is_word (codes "deny") bytes) (after_word bytes) → qualifier_at bytes ≡ behind (kind, rest)
+pub qualifier_there : (bytes rest : List ℕ) (kind : RuleKind) → some_of (kind, rest) ≡ found (is_word (codes "allow") bytes)
+    (is_word (codes "deny") bytes) (after_word bytes) → qualifier_at bytes ≡ behind (kind, rest)
 unfolding qualifier_at
-qualifier_there bytes rest kind h = by_word (is_word (codes "allow") bytes) (is_word (codes "deny") bytes) bytes (after_word bytes) (kind, rest) h
+qualifier_there bytes rest kind h = by_word (is_word (codes "allow") bytes) (is_word (codes "deny") bytes) bytes
+    (after_word bytes) (kind, rest) h

@@ -19,7 +19,8 @@ abbrev ends_as : ProfileValue → Result (Unit {0}) LocalFault → Result Profil
 ends_as p end = end >>= λ _. Ok p
 
 -- all parts were read, and these bytes are left
-text_parts : (bytes from name rest inside behind past : List ℕ) (rules : List RuleValue) → blank bytes ≡ Ok from → header_at from ≡ Ok (name, rest) → blank rest ≡ Ok inside → rules_at 1024 inside ≡ Ok (rules, behind) → blank behind ≡ Ok past
+text_parts : (bytes from name rest inside behind past : List ℕ) (rules : List RuleValue) → blank bytes ≡ Ok from → header_at from
+    ≡ Ok (name, rest) → blank rest ≡ Ok inside → rules_at 1024 inside ≡ Ok (rules, behind) → blank behind ≡ Ok past
     → text_at bytes ≡ ends_as (value name rules) (end_at past)
 unfolding text_at
 text_parts bytes from name rest inside behind past rules h1 h2 h3 h4 h5 = rw (h1, h2, h3, h4, h5) refl
@@ -32,12 +33,14 @@ ended : (bytes : List ℕ) → length bytes == 0 ≡ true → end_at bytes ≡ O
 ended [] h = refl
 ended (b ∷ bytes) h = let e : length (b ∷ bytes) ≡ 0 = eqb-true (length (b ∷ bytes)) 0 h in absurd (omega arith)
 
-pub text_goes_on : (bytes from name rest inside behind past : List ℕ) (rules : List RuleValue) → blank bytes ≡ Ok from → header_at from ≡ Ok (name, rest) → blank rest ≡ Ok inside → rules_at 1024 inside ≡ Ok (rules, behind) → blank behind ≡ Ok past
+pub text_goes_on : (bytes from name rest inside behind past : List ℕ) (rules : List RuleValue) → blank bytes ≡ Ok from → header_at from
+    ≡ Ok (name, rest) → blank rest ≡ Ok inside → rules_at 1024 inside ≡ Ok (rules, behind) → blank behind ≡ Ok past
     → length past == 0 ≡ false → text_at bytes ≡ syntax past
 text_goes_on bytes from name rest inside behind past rules h1 h2 h3 h4 h5 e =
     text_parts bytes from name rest inside behind past rules h1 h2 h3 h4 h5 ∙ ap (ends_as (value name rules)) (not_ended past e)
 
-pub text_done : (bytes from name rest inside behind past : List ℕ) (rules : List RuleValue) → blank bytes ≡ Ok from → header_at from ≡ Ok (name, rest) → blank rest ≡ Ok inside → rules_at 1024 inside ≡ Ok (rules, behind) → blank behind ≡ Ok past
+pub text_done : (bytes from name rest inside behind past : List ℕ) (rules : List RuleValue) → blank bytes ≡ Ok from → header_at from
+    ≡ Ok (name, rest) → blank rest ≡ Ok inside → rules_at 1024 inside ≡ Ok (rules, behind) → blank behind ≡ Ok past
     → length past == 0 ≡ true → text_at bytes ≡ Ok (value name rules)
 text_done bytes from name rest inside behind past rules h1 h2 h3 h4 h5 e =
     text_parts bytes from name rest inside behind past rules h1 h2 h3 h4 h5 ∙ ap (ends_as (value name rules)) (ended past e)

@@ -1,5 +1,6 @@
 -- What the code takes for a word is the word there.
-use Rattle.std.proofs.Common.{◌≡◌, ℕ, ◌<◌, Bool, true, false, cond, List, [], ◌∷◌, length, take, drop, get_or, refl, sym, ap, subst, ◌∙◌, arith}
+use Rattle.std.proofs.Common.{◌≡◌, ℕ, ◌<◌, Bool, true, false, cond, List, [], ◌∷◌, length, take, drop, get_or, refl, sym, ap, subst, ◌∙◌}
+use Rattle.std.proofs.Common.{arith}
 use Rattle.std.specs.Prelude.{◌||◌, ◌==◌}
 use Rattle.std.specs.Int.{is_in_range}
 use Rattle.rule_reader.specs.ReadWords.{leading, word, after_word}
@@ -17,7 +18,8 @@ letter_is_word b h = or_more (is_in_range 48 57 b) (is_in_range 65 90 b) (is_in_
 
 -- a word is here: what begins with a letter is one
 pub word_there : (bytes : List ℕ) → begins is_letter_byte bytes ≡ true
-    → (take (length (leading is_word_byte bytes)) bytes ≡ word bytes) × (drop (length (leading is_word_byte bytes)) bytes ≡ after_word bytes) × (0 < length (leading is_word_byte bytes))
+    → (take (length (leading is_word_byte bytes)) bytes ≡ word bytes) × (drop (length (leading is_word_byte bytes)) bytes
+    ≡ after_word bytes) × (0 < length (leading is_word_byte bytes))
 word_there [] h = absurd cc
 word_there (b ∷ bytes) h =
     let w : is_word_byte b ≡ true = letter_is_word b h in

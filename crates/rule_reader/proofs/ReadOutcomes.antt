@@ -114,8 +114,11 @@ is_the_one text p q e h = same_profile q p (sym (outcome_ok text q e) ∙ read_o
 stopped : (text : List ℕ) (e : Failure) (s : LocalFault) → e ≡ failures.At s → Fails e (text_at text) → text_at text ≡ Err s
 stopped text e s is k = subst (λ (x : Failure). Fails x (text_at text)) is k
 
-pub failed_so : (text : List ℕ) (e : Failure) (s : LocalFault) (f : ReadFault) → e ≡ failures.At s → f ≡ fault_of (length text) s → Fails e (text_at text) → outcome_of text ≡ Err f
+pub failed_so : (text : List ℕ) (e : Failure) (s : LocalFault) (f : ReadFault) → e ≡ failures.At s → f ≡ fault_of (length text) s →
+    Fails e (text_at text) → outcome_of text ≡ Err f
 failed_so text e s f is told_so k = outcome_err text s (stopped text e s is k) ∙ ap (λ (x : ReadFault). Err x) (sym told_so)
 
-pub not_failed : (text : List ℕ) (p : ProfileValue) (e : Failure) (s : LocalFault) → e ≡ failures.At s → ReadsAs text p → Fails e (text_at text) → ⊥
-not_failed text p e s is h k = clash p (fault_of (length text) s) (sym (read_outcome text p h) ∙ outcome_err text s (stopped text e s is k))
+pub not_failed : (text : List ℕ) (p : ProfileValue) (e : Failure) (s : LocalFault) → e ≡ failures.At s → ReadsAs text p →
+    Fails e (text_at text) → ⊥
+not_failed text p e s is h k = clash p (fault_of (length text) s) (sym (read_outcome text p h) ∙ outcome_err text s
+    (stopped text e s is k))

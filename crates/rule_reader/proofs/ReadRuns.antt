@@ -1,5 +1,6 @@
 -- A run of bytes that pass a test, and what follows it.
-use Rattle.std.proofs.Common.{◌≡◌, ℕ, ◌≤◌, Bool, true, false, cond, eqb, List, [], ◌∷◌, ◌++◌, length, take, drop, refl, sym, ap, subst, ◌∙◌, ◌⊎◌, inl, inr, ◌==◌, arith}
+use Rattle.std.proofs.Common.{◌≡◌, ℕ, ◌≤◌, Bool, true, false, cond, eqb, List, [], ◌∷◌, ◌++◌, length, take, drop, refl, sym, ap, subst}
+use Rattle.std.proofs.Common.{◌∙◌, ◌⊎◌, inl, inr, ◌==◌, arith}
 use Rattle.std.specs.Prelude.{◌||◌}
 use Rattle.std.proofs.lemmas.Bool.{eqb-true, ne_eqb}
 use Rattle.rule_reader.specs.ReadWords.{leading, after}
@@ -42,7 +43,8 @@ pub leading_passes : (test : ℕ → Bool) (bytes : List ℕ) → Passes test (l
 leading_passes test [] = tt
 leading_passes test (b ∷ bytes) =
     let h = leading_passes test bytes in
-    let P : (t : Bool) → test b ≡ t → Passes test (cond t (b ∷ leading test bytes) []) = λ t. elim t as (λ t. test b ≡ t → Passes test (cond t (b ∷ leading test bytes) [])) [ true ↦ λ e. (e, h) | false ↦ λ e. tt ] in
+    let P : (t : Bool) → test b ≡ t → Passes test (cond t (b ∷ leading test bytes) []) =
+    λ t. elim t as (λ t. test b ≡ t → Passes test (cond t (b ∷ leading test bytes) [])) [ true ↦ λ e. (e, h) | false ↦ λ e. tt ] in
     P (test b) refl
 
 pub leading_parts : (test : ℕ → Bool) (bytes : List ℕ) → bytes ≡ leading test bytes ++ after test bytes
@@ -61,7 +63,8 @@ after_again test (b ∷ w) rest h s = ap (λ t. cond t (after test (w ++ rest)) 
 pub leading_again : (test : ℕ → Bool) (w rest : List ℕ) → Passes test w → begins test rest ≡ false → leading test (w ++ rest) ≡ w
 leading_again test [] [] h s = refl
 leading_again test [] (b ∷ rest) h s = ap (λ t. cond t (b ∷ leading test rest) []) s
-leading_again test (b ∷ w) rest h s = ap (λ t. cond t (b ∷ leading test (w ++ rest)) []) h.0 ∙ ap (λ (x : List ℕ). b ∷ x) (leading_again test w rest h.1 s)
+leading_again test (b ∷ w) rest h s = ap (λ t. cond t (b ∷ leading test (w ++ rest)) []) h.0 ∙ ap (λ (x : List ℕ). b ∷ x)
+    (leading_again test w rest h.1 s)
 
 -- ---- bytes that pass one test and not another
 
@@ -87,7 +90,8 @@ one_of b h =
     ]
 
 -- white fails a test that the four white bytes fail
-pub white_stops : (test : ℕ → Bool) (b : ℕ) → test 32 ≡ false → test 9 ≡ false → test 10 ≡ false → test 13 ≡ false → is_white b ≡ true → test b ≡ false
+pub white_stops : (test : ℕ → Bool) (b : ℕ) → test 32 ≡ false → test 9 ≡ false → test 10 ≡ false → test 13 ≡ false →
+    is_white b ≡ true → test b ≡ false
 white_stops test b h1 h2 h3 h4 h =
     let P : ℕ → Type 0 = λ x. test x ≡ false in
     elim (one_of b h) [
@@ -96,7 +100,8 @@ white_stops test b h1 h2 h3 h4 h =
     ]
 
 -- and what passes it is not white
-pub not_white : (test : ℕ → Bool) (b : ℕ) → test 32 ≡ false → test 9 ≡ false → test 10 ≡ false → test 13 ≡ false → test b ≡ true → is_white b ≡ false
+pub not_white : (test : ℕ → Bool) (b : ℕ) → test 32 ≡ false → test 9 ≡ false → test 10 ≡ false → test 13 ≡ false → test b ≡ true →
+    is_white b ≡ false
 not_white test b h1 h2 h3 h4 h =
     let P : (t : Bool) → is_white b ≡ t → t ≡ false = λ t. elim t as (λ t. is_white b ≡ t → t ≡ false) [
       | true ↦ λ e. let no = white_stops test b h1 h2 h3 h4 e in absurd cc

@@ -4,7 +4,8 @@ use Rattle.rule_reader.specs.declared.reading.local_fault.LocalFault.{LocalFault
 use Rattle.rule_reader.specs.ReadSteps.{◌>>=◌}
 
 -- where two steps gave a value, the first one did
-pub bind_ok : {A B : Type 0} (r : Result A LocalFault) (f : A → Result B LocalFault) (y : B) → (r >>= f) ≡ Ok y → (x : A) × (r ≡ Ok x) × (f x ≡ Ok y)
+pub bind_ok : {A B : Type 0} (r : Result A LocalFault) (f : A → Result B LocalFault) (y : B) → (r >>= f) ≡ Ok y →
+    (x : A) × (r ≡ Ok x) × (f x ≡ Ok y)
 bind_ok (Ok x) f y e = (x, refl, e)
 bind_ok (Err d) f y e = absurd cc
 

@@ -1,5 +1,6 @@
 -- The rules of a text are read again at their places.
-use Rattle.std.proofs.Common.{◌≡◌, ℕ, zero, suc, ◌-◌, ◌+◌, ◌<◌, ◌≤◌, true, false, List, [], ◌∷◌, ◌++◌, length, drop, Result, Ok, refl, sym, ap, subst, ◌∙◌, append_assoc, inl, inr, arith}
+use Rattle.std.proofs.Common.{◌≡◌, ℕ, zero, suc, ◌-◌, ◌+◌, ◌<◌, ◌≤◌, true, false, List, [], ◌∷◌, ◌++◌, length, drop, Result, Ok, refl, sym}
+use Rattle.std.proofs.Common.{ap, subst, ◌∙◌, append_assoc, inl, inr, arith}
 use Rattle.std.specs.Prelude.{codes}
 use Rattle.std.proofs.lemmas.List.{length-append}
 use Rattle.std.proofs.Math.Seq.{drop-append_seam}
@@ -31,7 +32,8 @@ found_again text front bytes e =
     ap (λ n. drop n text) k ∙ ap (drop (length front)) e ∙ drop-append_seam front bytes
 
 -- a rule after a prefix of a text
-rule_again : (text front bytes taken more : List ℕ) (r : RuleValue) → text ≡ front ++ bytes → bytes ≡ taken ++ more → 0 < length taken → rule_at bytes ≡ Ok (r, more) → IsReadAgain text r (span_between (length text) bytes more)
+rule_again : (text front bytes taken more : List ℕ) (r : RuleValue) → text ≡ front ++ bytes → bytes ≡ taken ++ more → 0 < length taken →
+    rule_at bytes ≡ Ok (r, more) → IsReadAgain text r (span_between (length text) bytes more)
 rule_again text front bytes taken more r e1 e2 some h =
     let long : length text ≡ length front + length bytes = ap length e1 ∙ length-append front bytes in
     let longer : length bytes ≡ length taken + length more = ap length e2 ∙ length-append taken more in
@@ -49,7 +51,8 @@ abbrev read_as : ProfileValue → Result ProfileValue LocalFault
 read_as p = Ok p
 
 -- no more rules are read
-none_again : (text : List ℕ) (past : ℕ) (rest : List ℕ) (x : List RuleValue × List ℕ) (spans : List Span) → done ([], rest) ≡ Ok x → spans ≡ [] → AreReadAgain text past x.0 spans
+none_again : (text : List ℕ) (past : ℕ) (rest : List ℕ) (x : List RuleValue × List ℕ) (spans : List Span) → done ([], rest) ≡ Ok x →
+    spans ≡ [] → AreReadAgain text past x.0 spans
 none_again text past rest x spans e h =
     rw h (subst (λ (y : List RuleValue × List ℕ). AreReadAgain text past y.0 []) (ok_is ([], rest) x e) tt)
 
@@ -58,33 +61,40 @@ unfolding spans_at
 closed n zero bytes h = refl
 closed n (suc room) bytes h = rw (spans_at, h) refl
 
-one_more : (n room : ℕ) (bytes : List ℕ) (r : RuleValue) (more from : List ℕ) → begins is_close_brace bytes ≡ false → rule_at bytes ≡ Ok (r, more) → blank more ≡ Ok from
+one_more : (n room : ℕ) (bytes : List ℕ) (r : RuleValue) (more from : List ℕ) → begins is_close_brace bytes ≡ false → rule_at bytes
+    ≡ Ok (r, more) → blank more ≡ Ok from
     → spans_at n (suc room) bytes ≡ span_between n bytes more ∷ spans_at n room from
 unfolding spans_at
 one_more n room bytes r more from goes h b = rw (spans_at, goes, h, b) refl
 
 -- one more rule is read, and a blank, if the others follow them
-next_again : (text front bytes taken more blanks from : List ℕ) (past room : ℕ) (r : RuleValue) (rules : List RuleValue) → text ≡ front ++ bytes → bytes ≡ taken ++ more → more ≡ blanks ++ from → 0 < length taken → past ≤ length front
+next_again : (text front bytes taken more blanks from : List ℕ) (past room : ℕ) (r : RuleValue) (rules : List RuleValue) →
+    text ≡ front ++ bytes → bytes ≡ taken ++ more → more ≡ blanks ++ from → 0 < length taken → past ≤ length front
     → begins is_close_brace bytes ≡ false → rule_at bytes ≡ Ok (r, more) → blank more ≡ Ok from
-    → ((ahead : List ℕ) → text ≡ ahead ++ from → length text - length more ≤ length ahead → AreReadAgain text (length text - length more) rules (spans_at (length text) room from))
+    → ((ahead : List ℕ) → text ≡ ahead ++ from → length text - length more ≤ length ahead → AreReadAgain text (length text - length more)
+    rules (spans_at (length text) room from))
     → AreReadAgain text past (r ∷ rules) (spans_at (length text) (suc room) bytes)
 next_again text front bytes taken more blanks from past room r rules e1 e2 e3 some near goes h b others =
     let long : length text ≡ length front + length bytes = ap length e1 ∙ length-append front bytes in
     let longer : length bytes ≡ length taken + length more = ap length e2 ∙ length-append taken more in
     let behind : text ≡ ((front ++ taken) ++ blanks) ++ from = rw (e1, e2, e3) (simp append_assoc) in
-    let nearer : length text - length more ≤ length ((front ++ taken) ++ blanks) = omega (arith, long, longer, length-append (front ++ taken) blanks, length-append front taken) in
+    let nearer : length text - length more ≤ length ((front ++ taken) ++ blanks) =
+    omega (arith, long, longer, length-append (front ++ taken) blanks, length-append front taken) in
     rw (one_more (length text) room bytes r more from goes h b)
     (omega (arith, long, near), rule_again text front bytes taken more r e1 e2 some h, others ((front ++ taken) ++ blanks) behind nearer)
 
-those_again : (text : List ℕ) (past : ℕ) (spans : List Span) (x y : List RuleValue × List ℕ) → done x ≡ Ok y → AreReadAgain text past x.0 spans → AreReadAgain text past y.0 spans
+those_again : (text : List ℕ) (past : ℕ) (spans : List Span) (x y : List RuleValue × List ℕ) → done x ≡ Ok y →
+    AreReadAgain text past x.0 spans → AreReadAgain text past y.0 spans
 those_again text past spans x y e h = subst (λ (z : List RuleValue × List ℕ). AreReadAgain text past z.0 spans) (ok_is x y e) h
 
 -- rules after a prefix of a text
-rules_again : (text : List ℕ) (room : ℕ) (front bytes : List ℕ) (past : ℕ) (x : List RuleValue × List ℕ) → rules_at room bytes ≡ Ok x → text ≡ front ++ bytes → past ≤ length front
+rules_again : (text : List ℕ) (room : ℕ) (front bytes : List ℕ) (past : ℕ) (x : List RuleValue × List ℕ) → rules_at room bytes ≡ Ok x →
+    text ≡ front ++ bytes → past ≤ length front
     → AreReadAgain text past x.0 (spans_at (length text) room bytes)
 unfolding rules_at
 rules_again text zero front bytes past x e there near =
-    elim (chosen (begins is_close_brace bytes) (Ok ([], drop 1 bytes)) (rule_begins bytes >>= λ _. fault_here kinds.TooManyRules bytes) (Ok x) e) [
+    elim (chosen (begins is_close_brace bytes) (Ok ([], drop 1 bytes)) (rule_begins bytes >>= λ _. fault_here kinds.TooManyRules bytes)
+    (Ok x) e) [
       | inl h ↦ none_again text past (drop 1 bytes) x _ h.1 (closed (length text) zero bytes h.0)
       | inr h ↦ let k = bind_ok (rule_begins bytes) (λ _. fault_here kinds.TooManyRules bytes) x h.1 in absurd (not_ok _ x k.2)
     ]
@@ -106,13 +116,15 @@ rules_again text (suc room) front bytes past x e there near =
     ]
 
 -- the rules after a text's header
-inside_again : (text from header name inside : List ℕ) (start within : List ℕ) (x : List RuleValue × List ℕ) → text ≡ start ++ from → from ≡ header ++ (codes "{" ++ name) → name ≡ within ++ inside → rules_at 1024 inside ≡ Ok x
+inside_again : (text from header name inside : List ℕ) (start within : List ℕ) (x : List RuleValue × List ℕ) → text ≡ start ++ from →
+    from ≡ header ++ (codes "{" ++ name) → name ≡ within ++ inside → rules_at 1024 inside ≡ Ok x
     → AreReadAgain text 0 x.0 (spans_at (length text) 1024 inside)
 inside_again text from header name inside start within x e1 e2 e3 h =
     let there : text ≡ ((start ++ header) ++ (codes "{" ++ within)) ++ inside = rw (e1, e2, e3) (simp append_assoc) in
     rules_again text 1024 ((start ++ header) ++ (codes "{" ++ within)) inside 0 x h there (omega arith)
 
-that_text : (text : List ℕ) (spans : List Span) (p q : ProfileValue) → read_as p ≡ Ok q → AreReadAgain text 0 p.rules spans → AreReadAgain text 0 q.rules spans
+that_text : (text : List ℕ) (spans : List Span) (p q : ProfileValue) → read_as p ≡ Ok q → AreReadAgain text 0 p.rules spans →
+    AreReadAgain text 0 q.rules spans
 that_text text spans p q e h = subst (λ (z : ProfileValue). AreReadAgain text 0 z.rules spans) (ok_is p q e) h
 
 text_again : (text : List ℕ) (p : ProfileValue) → text_at text ≡ Ok p → AreReadAgain text 0 p.rules (spans_of text)
@@ -136,7 +148,8 @@ text_again text p e =
     let within = middle_blank b.0.1 c.0 c.1 (rules_some 1024 c.0 d.0 d.1) in
     that_text text (spans_of text) (record { name = b.0.0; rules = d.0.0 }) p g.2
     (rw (spans_there text a.0 b.0.0 b.0.1 c.0 a.1 b.1 c.1)
-    (inside_again text a.0 (print_header header.written) b.0.1 c.0 (print_blank start.0) (print_blank within.0) d.0 start.2 header.parts within.2 d.1))
+    (inside_again text a.0 (print_header header.written) b.0.1 c.0 (print_blank start.0) (print_blank within.0) d.0 start.2
+    header.parts within.2 d.1))
 
 pub spans_again : (text : List ℕ) (p : ProfileValue) → outcome_of text ≡ Ok p → AreReadAgain text 0 p.rules (spans_of text)
 spans_again text p e = text_again text p (read_again text p ((read_as_outcome text p).1 e))

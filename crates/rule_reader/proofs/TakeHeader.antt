@@ -1,20 +1,25 @@
 -- What comes before the rules: what is read is in the grammar.
-use Rattle.std.proofs.Common.{◌≡◌, ℕ, ◌≤◌, ◌<◌, Bool, true, false, cond, List, [], ◌∷◌, ◌++◌, length, drop, Option, Some, None, Result, Ok, refl, sym, ap, subst, ◌∙◌, append_assoc, inl, inr, ◌==◌, arith}
+use Rattle.std.proofs.Common.{◌≡◌, ℕ, ◌≤◌, ◌<◌, Bool, true, false, cond, List, [], ◌∷◌, ◌++◌, length, drop, Option, Some, None, Result, Ok}
+use Rattle.std.proofs.Common.{refl, sym, ap, subst, ◌∙◌, append_assoc, inl, inr, ◌==◌, arith}
 use Rattle.std.specs.Prelude.{◌||◌, ◌&&◌, not, nat_eq, codes}
 use Rattle.std.specs.List.{starts_with}
 use Rattle.std.proofs.lemmas.Bool.{eqb-false, not_from_false}
 use Rattle.rule_reader.specs.declared.reading.local_fault.LocalFault.{LocalFault}
 use Rattle.rule_reader.specs.declared.reading.local_fault.FaultKind.TheVariants as kinds
 use Rattle.rule_globs.specs.Glob.{is_slash}
-use Rattle.rule_reader.specs.Grammar.{Attachment, WrittenHeader, named, by_path, print_attachment, print_header, IsAttachment, IsHeader, header_means}
-use Rattle.rule_reader.specs.GrammarWords.{Cell, plain, escaped, print_cells, print_blank, WrittenName, in_quotes, print_name, name_means, IsNameCell, IsFirst, BeginsWithSlash}
+use Rattle.rule_reader.specs.Grammar.{Attachment, WrittenHeader, named, by_path, print_attachment, print_header, IsAttachment, IsHeader}
+use Rattle.rule_reader.specs.Grammar.{header_means}
+use Rattle.rule_reader.specs.GrammarWords.{Cell, plain, escaped, print_cells, print_blank, WrittenName, in_quotes, print_name, name_means}
+use Rattle.rule_reader.specs.GrammarWords.{IsNameCell, IsFirst, BeginsWithSlash}
 use Rattle.rule_globs.specs.Each.{Each}
-use Rattle.rule_reader.specs.ReadHeader.{slash_name_at, is_colon, begins_no_name, name_at, attachment_at, brace_at, named_header_at, slash_header_at, header_at}
+use Rattle.rule_reader.specs.ReadHeader.{slash_name_at, is_colon, begins_no_name, name_at, attachment_at, brace_at, named_header_at}
+use Rattle.rule_reader.specs.ReadHeader.{slash_header_at, header_at}
 use Rattle.rule_reader.specs.ReadSteps.{◌>>=◌, goes_on, fault_here, syntax}
 use Rattle.rule_reader.specs.ReadWords.{gap, literal, word, after_word, is_word, word_left_out, name_bytes, name_in, quoted_name}
 use Rattle.rule_reader.specs.TextBytes.{begins, is_quote, is_open_brace}
 use Rattle.rule_reader.proofs.ReadSteps.{bind_ok, chosen, ok_is, not_ok}
-use Rattle.rule_reader.proofs.TakeWords.{GapTaken, gap_takes, NoHash, no_hash, stands, begins_so, literal_takes, is_word_takes, NameTaken, name_bytes_take}
+use Rattle.rule_reader.proofs.TakeWords.{GapTaken, gap_takes, NoHash, no_hash, stands, begins_so, literal_takes, is_word_takes, NameTaken}
+use Rattle.rule_reader.proofs.TakeWords.{name_bytes_take}
 use Rattle.rule_reader.proofs.TakeRules.{goes_behind}
 
 -- ---- names
@@ -41,7 +46,8 @@ same_start test bytes (b ∷ name) rest e h = ap (begins test) (sym e)
 abbrev InTaken : Bool → ℕ → List ℕ → List ℕ × List ℕ → Type 0
 InTaken quoted room bytes x = NameTaken quoted false room bytes x.0 x.1 × (0 < length x.0)
 
-name_in_takes : (quoted : Bool) (room : ℕ) (bytes : List ℕ) (x : List ℕ × List ℕ) → name_in quoted room bytes ≡ Ok x → InTaken quoted room bytes x
+name_in_takes : (quoted : Bool) (room : ℕ) (bytes : List ℕ) (x : List ℕ × List ℕ) → name_in quoted room bytes ≡ Ok x →
+    InTaken quoted room bytes x
 unfolding name_in
 name_in_takes quoted room bytes x e =
     let R : Type 0 = Result (List ℕ × List ℕ) LocalFault in
@@ -52,7 +58,8 @@ name_in_takes quoted room bytes x e =
       | inr h ↦
           let none : length k.0.0 ≡ 0 → ⊥ = eqb-false (length k.0.0) 0 h.0 in
           let some : 0 < length k.0.0 = omega arith in
-          subst (InTaken quoted room bytes) (ok_is k.0 x h.1) (name_bytes_take quoted (length bytes) false room bytes k.0.0 k.0.1 k.1, some)
+          subst (InTaken quoted room bytes) (ok_is k.0 x h.1)
+          (name_bytes_take quoted (length bytes) false room bytes k.0.0 k.0.1 k.1, some)
     ]
 
 bare_takes : (room : ℕ) (bytes : List ℕ) (x : List ℕ × List ℕ) → name_in false room bytes ≡ Ok x → NameRead room false bytes bytes x
@@ -88,7 +95,8 @@ quoted_takes room inner x e =
       some = some_cells t.cells k.0.0 t.means h.1;
       means = t.means;
       fits = subst (λ (y : List ℕ). length y ≤ room) (sym t.means) t.fits;
-      parts = regroup inner (print_cells t.cells) k.0.1 l.0 (t.parts ∙ ap (λ (y : List ℕ). y ++ k.0.1) (sym t.means)) (literal_takes (codes "\"") k.0.1 l.0 l.1);
+      parts = regroup inner (print_cells t.cells) k.0.1 l.0 (t.parts ∙ ap (λ (y : List ℕ). y ++ k.0.1) (sym t.means))
+          (literal_takes (codes "\"") k.0.1 l.0 l.1);
       stands = tt;
       start = λ test. ap (begins test) t.means ∙ same_start test inner k.0.0 k.0.1 t.parts h.1;
     })
@@ -104,8 +112,19 @@ pub record NamePart (Begins : Bool → List Cell → Type 0) (room : ℕ) (bytes
   pub means : name_means written ≡ x.0
   pub stands : NoHash written.quoted x.1
 
-part_of : (Begins : Bool → List Cell → Type 0) (room : ℕ) (quoted : Bool) (bytes inner : List ℕ) (x : List ℕ × List ℕ) → (r : NameRead room quoted bytes inner x) → Begins quoted r.cells → NamePart Begins room bytes x
-part_of Begins room quoted bytes inner x r h = record { written = record { quoted = quoted; cells = r.cells }; valid = r.valid; begun = h; some = r.some; fits = r.fits; parts = r.parts; means = r.means; stands = r.stands }
+part_of : (Begins : Bool → List Cell → Type 0) (room : ℕ) (quoted : Bool) (bytes inner : List ℕ) (x : List ℕ × List ℕ) →
+    (r : NameRead room quoted bytes inner x) → Begins quoted r.cells → NamePart Begins room bytes x
+part_of Begins room quoted bytes inner x r h = record {
+  written = record { quoted = quoted; cells = r.cells };
+  valid = r.valid;
+  begun =
+      h;
+  some = r.some;
+  fits = r.fits;
+  parts = r.parts;
+  means = r.means;
+  stands = r.stands;
+}
 
 abbrev Slash : Bool → List Cell → Type 0
 Slash quoted cells = BeginsWithSlash cells
@@ -121,14 +140,16 @@ slash_name_takes room bytes x e =
     let R : Type 0 = Result (List ℕ × List ℕ) LocalFault in
     let inside : R = cond (begins is_slash (drop 1 bytes)) (quoted_name room (drop 1 bytes)) (syntax (drop 1 bytes)) in
     elim (chosen (begins is_slash bytes) (name_in false room bytes) (cond (begins is_quote bytes) inside (syntax bytes)) (Ok x) e) [
-      | inl h ↦ let r = bare_takes room bytes x h.1 in part_of Slash room false bytes bytes x r (slash_first r.cells r.some (r.start is_slash ∙ h.0))
+      | inl h ↦ let r = bare_takes room bytes x h.1 in part_of Slash room false bytes bytes x r
+          (slash_first r.cells r.some (r.start is_slash ∙ h.0))
       | inr h ↦ elim (chosen (begins is_quote bytes) inside (syntax bytes) (Ok x) h.1) [
         | inr g ↦ absurd (not_ok _ x g.1)
         | inl g ↦ elim (chosen (begins is_slash (drop 1 bytes)) (quoted_name room (drop 1 bytes)) (syntax (drop 1 bytes)) (Ok x) g.1) [
           | inr k ↦ absurd (not_ok _ x k.1)
           | inl k ↦
               let r = quoted_takes room (drop 1 bytes) x k.1 in
-              subst (λ (y : List ℕ). NamePart Slash room y x) (sym (begins_so 34 bytes g.0)) (part_of Slash room true (34 ∷ drop 1 bytes) (drop 1 bytes) x r (slash_first r.cells r.some (r.start is_slash ∙ k.0)))
+              subst (λ (y : List ℕ). NamePart Slash room y x) (sym (begins_so 34 bytes g.0))
+              (part_of Slash room true (34 ∷ drop 1 bytes) (drop 1 bytes) x r (slash_first r.cells r.some (r.start is_slash ∙ k.0)))
         ]
       ]
     ]
@@ -138,7 +159,8 @@ first_so quoted true n h e = absurd cc
 first_so true false n h e = refl
 first_so false false n h e = e
 
-first_cell : (quoted : Bool) (cells : List Cell) → 0 < length cells → begins is_colon (print_cells cells) ≡ false → (quoted || not (begins begins_no_name (print_cells cells))) ≡ true → IsFirst quoted cells
+first_cell : (quoted : Bool) (cells : List Cell) → 0 < length cells → begins is_colon (print_cells cells) ≡ false →
+    (quoted || not (begins begins_no_name (print_cells cells))) ≡ true → IsFirst quoted cells
 first_cell quoted [] h e1 e2 = absurd (omega arith)
 first_cell quoted (plain b ∷ cells) h e1 e2 = first_so quoted (b == 58) (b == 123 || b == 125 || b == 44 || b == 35) e1 e2
 first_cell quoted (escaped b ∷ cells) h e1 e2 = refl
@@ -147,23 +169,28 @@ name_takes : (bytes : List ℕ) (x : List ℕ × List ℕ) → name_at bytes ≡
 unfolding name_at
 name_takes bytes x e =
     let R : Type 0 = Result (List ℕ × List ℕ) LocalFault in
-    let inside : R = cond (begins is_colon (drop 1 bytes)) (fault_here (kinds.LeftOut 1) (drop 1 bytes)) (quoted_name 255 (drop 1 bytes)) in
+    let inside : R = cond (begins is_colon (drop 1 bytes)) (fault_here (kinds.LeftOut 1) (drop 1 bytes))
+    (quoted_name 255 (drop 1 bytes)) in
     let third : R = cond (begins begins_no_name bytes) (syntax bytes) (name_in false 255 bytes) in
     let second : R = cond (begins is_colon bytes) (fault_here (kinds.LeftOut 1) bytes) third in
     elim (chosen (begins is_quote bytes) inside second (Ok x) e) [
-      | inl h ↦ elim (chosen (begins is_colon (drop 1 bytes)) (fault_here (kinds.LeftOut 1) (drop 1 bytes)) (quoted_name 255 (drop 1 bytes)) (Ok x) h.1) [
-        | inl g ↦ absurd (not_ok _ x g.1)
-        | inr g ↦
-            let r = quoted_takes 255 (drop 1 bytes) x g.1 in
-            subst (λ (y : List ℕ). NamePart IsFirst 255 y x) (sym (begins_so 34 bytes h.0)) (part_of IsFirst 255 true (34 ∷ drop 1 bytes) (drop 1 bytes) x r (first_cell true r.cells r.some (r.start is_colon ∙ g.0) refl))
-      ]
+      | inl h ↦ elim (chosen (begins is_colon (drop 1 bytes)) (fault_here (kinds.LeftOut 1) (drop 1 bytes))
+          (quoted_name 255 (drop 1 bytes)) (Ok x) h.1) [
+            | inl g ↦ absurd (not_ok _ x g.1)
+            | inr g ↦
+                let r = quoted_takes 255 (drop 1 bytes) x g.1 in
+                subst (λ (y : List ℕ). NamePart IsFirst 255 y x) (sym (begins_so 34 bytes h.0))
+                (part_of IsFirst 255 true (34 ∷ drop 1 bytes) (drop 1 bytes) x r
+                (first_cell true r.cells r.some (r.start is_colon ∙ g.0) refl))
+          ]
       | inr h ↦ elim (chosen (begins is_colon bytes) (fault_here (kinds.LeftOut 1) bytes) third (Ok x) h.1) [
         | inl g ↦ absurd (not_ok _ x g.1)
         | inr g ↦ elim (chosen (begins begins_no_name bytes) (syntax bytes) (name_in false 255 bytes) (Ok x) g.1) [
           | inl k ↦ absurd (not_ok _ x k.1)
           | inr k ↦
               let r = bare_takes 255 bytes x k.1 in
-              part_of IsFirst 255 false bytes bytes x r (first_cell false r.cells r.some (r.start is_colon ∙ g.0) (not_from_false (begins begins_no_name (print_cells r.cells)) (r.start begins_no_name ∙ k.0)))
+              part_of IsFirst 255 false bytes bytes x r (first_cell false r.cells r.some (r.start is_colon ∙ g.0)
+              (not_from_false (begins begins_no_name (print_cells r.cells)) (r.start begins_no_name ∙ k.0)))
         ]
       ]
     ]
@@ -189,7 +216,8 @@ brace_takes bytes rest e =
         | inl h ↦ absurd (not_ok _ rest h.1)
         | inr h3 ↦ elim (chosen (starts_with nat_eq bytes (codes "xattrs=")) (fault_here (kinds.LeftOut 6) bytes) s4 (Ok rest) h3.1) [
           | inl h ↦ absurd (not_ok _ rest h.1)
-          | inr h4 ↦ elim (chosen (begins (λ b. b == 40) bytes) (fault_here (kinds.LeftOut 1) bytes) (syntax bytes) (Ok rest) h4.1) [ inl h ↦ absurd (not_ok _ rest h.1) | inr h ↦ absurd (not_ok _ rest h.1) ]
+          | inr h4 ↦ elim (chosen (begins (λ b. b == 40) bytes) (fault_here (kinds.LeftOut 1) bytes) (syntax bytes) (Ok rest) h4.1)
+              [ inl h ↦ absurd (not_ok _ rest h.1) | inr h ↦ absurd (not_ok _ rest h.1) ]
         ]
       ]
     ]
@@ -212,8 +240,11 @@ attachment_takes bytes rest e more =
       | inl h ↦
           let k = bind_ok (slash_name_at (length bytes) bytes) put rest h.1 in
           let n : NamePart Slash (length bytes) bytes k.0 = slash_name_takes (length bytes) bytes k.0 k.1 in
-          let g : GapTaken k.0.1 rest = gap_takes k.0.1 rest k.2 more in
-          (Some (record { name = n.written; gap = g.0 }), (n.valid, n.begun, (g.1, stands n.written.quoted g.0 k.0.1 rest n.stands g.2)), two_parts bytes (print_name n.written) k.0.1 (print_blank g.0) rest n.parts g.2)
+          let g : GapTaken k.0.1 rest = gap_takes k.0.1 rest k.2 more in (
+            Some (record { name = n.written; gap = g.0 }),
+            (n.valid, n.begun, (g.1, stands n.written.quoted g.0 k.0.1 rest n.stands g.2)),
+            two_parts bytes (print_name n.written) k.0.1 (print_blank g.0) rest n.parts g.2,
+          )
       | inr h ↦ subst (AttachmentTaken bytes) (ok_is bytes rest h.1) (None, tt, refl)
     ]
 
@@ -225,15 +256,28 @@ pub record HeaderTaken (bytes : List ℕ) (x : List ℕ × List ℕ) : Type 0 wh
   pub parts : bytes ≡ print_header written ++ (codes "{" ++ x.1)
   pub means : header_means written ≡ x.0
 
-named_parts : (a k b g c n d h e t f z : List ℕ) → a ≡ k ++ b → b ≡ g ++ c → c ≡ n ++ d → d ≡ h ++ e → e ≡ t ++ f → f ≡ z → a ≡ (k ++ (g ++ (n ++ (h ++ t)))) ++ z
+named_parts : (a k b g c n d h e t f z : List ℕ) → a ≡ k ++ b → b ≡ g ++ c → c ≡ n ++ d → d ≡ h ++ e → e ≡ t ++ f → f ≡ z →
+    a ≡ (k ++ (g ++ (n ++ (h ++ t)))) ++ z
 named_parts a k b g c n d h e t f z e1 e2 e3 e4 e5 e6 = rw (e1, e2, e3, e4, e5, e6) (simp append_assoc)
 
-named_of : (bytes from : List ℕ) (name : List ℕ × List ℕ) (behind brace inside : List ℕ) → bytes ≡ codes "profile" ++ after_word bytes → GapTaken (after_word bytes) from → NamePart IsFirst 255 from name → GapTaken name.1 behind
+named_of : (bytes from : List ℕ) (name : List ℕ × List ℕ) (behind brace inside : List ℕ) → bytes ≡ codes "profile" ++ after_word bytes →
+    GapTaken (after_word bytes) from → NamePart IsFirst 255 from name → GapTaken name.1 behind
     → AttachmentTaken behind brace → brace ≡ 123 ∷ inside → HeaderTaken bytes (name.0, inside)
 named_of bytes from name behind brace inside start g n h t opened = record {
   written = named g.0 n.written h.0 t.0;
-  valid = (g.1, record { cells = n.valid; some = n.some; fits = n.fits }, n.begun, (h.1, stands n.written.quoted h.0 name.1 behind n.stands h.2), t.1);
-  parts = named_parts bytes (codes "profile") (after_word bytes) (print_blank g.0) from (print_name n.written) name.1 (print_blank h.0) behind (print_attachment t.0) brace (123 ∷ inside) start g.2 n.parts h.2 t.2 opened;
+  valid = (
+    g.1,
+    record { cells = n.valid; some = n.some; fits = n.fits },
+    n.begun,
+    (
+      h.1,
+      stands n.written.quoted h.0 name.1
+          behind n.stands h.2,
+    ),
+    t.1,
+  );
+  parts = named_parts bytes (codes "profile") (after_word bytes) (print_blank g.0) from (print_name n.written) name.1 (print_blank h.0)
+      behind (print_attachment t.0) brace (123 ∷ inside) start g.2 n.parts h.2 t.2 opened;
   means = n.means;
 }
 
@@ -243,7 +287,8 @@ behind_some behind brace inside t opened = ap goes_on t.2 ∙ goes_behind (print
 that_header : (bytes : List ℕ) (x y : List ℕ × List ℕ) → x ≡ y → HeaderTaken bytes x → HeaderTaken bytes y
 that_header bytes x y e h = subst (HeaderTaken bytes) e h
 
-named_header_takes : (bytes : List ℕ) (x : List ℕ × List ℕ) → bytes ≡ codes "profile" ++ after_word bytes → named_header_at bytes ≡ Ok x → HeaderTaken bytes x
+named_header_takes : (bytes : List ℕ) (x : List ℕ × List ℕ) → bytes ≡ codes "profile" ++ after_word bytes → named_header_at bytes ≡ Ok x →
+    HeaderTaken bytes x
 unfolding named_header_at
 named_header_takes bytes x start e =
     let R : Type 0 = Result (List ℕ × List ℕ) LocalFault in
@@ -260,13 +305,24 @@ named_header_takes bytes x start e =
     let opened : d.0 ≡ 123 ∷ f.0 = brace_takes d.0 f.0 f.1 in
     let t : AttachmentTaken c.0 d.0 = attachment_takes c.0 d.0 d.1 (brace_some d.0 f.0 f.1) in
     that_header bytes (b.0.0, f.0) x (ok_is (b.0.0, f.0) x f.2)
-    (named_of bytes a.0 b.0 c.0 d.0 f.0 start (gap_takes (after_word bytes) a.0 a.1 (name_some a.0 b.0 b.1)) (name_takes a.0 b.0 b.1) (gap_takes b.0.1 c.0 c.1 (behind_some c.0 d.0 f.0 t opened)) t opened)
+    (named_of bytes a.0 b.0 c.0 d.0 f.0 start (gap_takes (after_word bytes) a.0 a.1 (name_some a.0 b.0 b.1)) (name_takes a.0 b.0 b.1)
+    (gap_takes b.0.1 c.0 c.1 (behind_some c.0 d.0 f.0 t opened)) t opened)
 
-by_path_of : (bytes : List ℕ) (name : List ℕ × List ℕ) (brace inside : List ℕ) → NamePart Slash 255 bytes name → GapTaken name.1 brace → brace ≡ 123 ∷ inside → HeaderTaken bytes (name.0, inside)
+by_path_of : (bytes : List ℕ) (name : List ℕ × List ℕ) (brace inside : List ℕ) → NamePart Slash 255 bytes name → GapTaken name.1 brace →
+    brace ≡ 123 ∷ inside → HeaderTaken bytes (name.0, inside)
 by_path_of bytes name brace inside n h opened = record {
   written = by_path n.written h.0;
-  valid = (record { cells = n.valid; some = n.some; fits = n.fits }, n.begun, (h.1, stands n.written.quoted h.0 name.1 brace n.stands h.2));
-  parts = two_parts bytes (print_name n.written) name.1 (print_blank h.0) (123 ∷ inside) n.parts (h.2 ∙ ap (λ (y : List ℕ). print_blank h.0 ++ y) opened);
+  valid = (
+    record { cells = n.valid; some = n.some; fits = n.fits },
+    n.begun,
+    (
+      h.1,
+      stands n.written.quoted h.0 name.1
+          brace n.stands h.2,
+    ),
+  );
+  parts = two_parts bytes (print_name n.written) name.1 (print_blank h.0) (123 ∷ inside) n.parts
+      (h.2 ∙ ap (λ (y : List ℕ). print_blank h.0 ++ y) opened);
   means = n.means;
 }
 
@@ -296,7 +352,8 @@ header_takes bytes x e =
       | inr h1 ↦ elim (chosen (begins is_slash bytes || begins is_quote bytes) (slash_header_at bytes) third (Ok x) h1.1) [
         | inl h ↦ slash_header_takes bytes x h.1
         | inr h2 ↦ elim (chosen (length (word bytes) == 0) no_word (word_left_out bytes) (Ok x) h2.1) [
-          | inl h ↦ elim (chosen (begins (λ b. b == 64) bytes) (fault_here (kinds.LeftOut 1) bytes) (syntax bytes) (Ok x) h.1) [ inl m ↦ absurd (not_ok _ x m.1) | inr m ↦ absurd (not_ok _ x m.1) ]
+          | inl h ↦ elim (chosen (begins (λ b. b == 64) bytes) (fault_here (kinds.LeftOut 1) bytes) (syntax bytes) (Ok x) h.1)
+              [ inl m ↦ absurd (not_ok _ x m.1) | inr m ↦ absurd (not_ok _ x m.1) ]
           | inr h ↦ absurd (not_ok _ x h.1)
         ]
       ]

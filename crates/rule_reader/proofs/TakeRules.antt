@@ -1,5 +1,6 @@
 -- Rules: what is read is in the grammar.
-use Rattle.std.proofs.Common.{◌≡◌, ℕ, zero, suc, ◌≤◌, ◌<◌, Bool, true, false, cond, List, [], ◌∷◌, ◌++◌, length, drop, Option, Some, None, Result, Ok, refl, sym, ap, subst, ◌∙◌, append_assoc, inl, inr, ◌==◌, arith}
+use Rattle.std.proofs.Common.{◌≡◌, ℕ, zero, suc, ◌≤◌, ◌<◌, Bool, true, false, cond, List, [], ◌∷◌, ◌++◌, length, drop, Option, Some, None}
+use Rattle.std.proofs.Common.{Result, Ok, refl, sym, ap, subst, ◌∙◌, append_assoc, inl, inr, ◌==◌, arith}
 use Rattle.std.specs.Prelude.{◌||◌, codes, if◌then◌else◌}
 use Rattle.std.specs.List.{list_all}
 use Rattle.std.proofs.lemmas.Bool.{eqb-false}
@@ -11,14 +12,16 @@ use Rattle.verdicts.specs.declared.kind.RuleKind.TheVariants.{Allow, Deny}
 use Rattle.rule_reader.specs.declared.reading.local_fault.LocalFault.{LocalFault}
 use Rattle.rule_reader.specs.declared.reading.local_fault.FaultKind.TheVariants as kinds
 use Rattle.rule_globs.specs.Glob.{is_slash}
-use Rattle.rule_reader.specs.Grammar.{Qualifier, none, allow, deny, print_qualifier, IsQualifier, kind_of, IsWord, WrittenRule, print_rule, CommaEnds, PathStands, IsRule, rule_means, print_rules, AreRules, rules_mean}
+use Rattle.rule_reader.specs.Grammar.{Qualifier, none, allow, deny, print_qualifier, IsQualifier, kind_of, IsWord, WrittenRule, print_rule}
+use Rattle.rule_reader.specs.Grammar.{CommaEnds, PathStands, IsRule, rule_means, print_rules, AreRules, rules_mean}
 use Rattle.rule_reader.specs.GrammarPaths.{WrittenPath, print_path, IsPath, path_means}
 use Rattle.rule_reader.specs.GrammarWords.{Piece, print_blank, IsBlank, IsGap, Stands}
 use Rattle.rule_profile.specs.Profile.{RuleValue}
 use Rattle.rule_reader.specs.ReadPaths.{path_at, comma_ends}
 use Rattle.rule_reader.specs.ReadSteps.{◌>>=◌, goes_on, fault_here, fault_with_left, syntax}
 use Rattle.rule_reader.specs.ReadWords.{blank, gap, word, after_word, is_word, fault_of_word, word_left_out}
-use Rattle.rule_reader.specs.Reading.{is_mode, perms_at, perms_behind, qualifier_at, start_at, comma_at, body_at, rule_at, rule_begins, rules_at}
+use Rattle.rule_reader.specs.Reading.{is_mode, perms_at, perms_behind, qualifier_at, start_at, comma_at, body_at, rule_at, rule_begins}
+use Rattle.rule_reader.specs.Reading.{rules_at}
 use Rattle.rule_reader.specs.TextBytes.{begins, is_quote, is_comma, is_close_brace, is_arrow}
 use Rattle.rule_globs.specs.Tokens.{Token}
 use Rattle.rule_reader.proofs.ReadSteps.{bind_ok, chosen, ok_is, not_ok, some_is, none_some}
@@ -31,7 +34,8 @@ abbrev WordTaken : List ℕ → Perms × List ℕ → Type 0
 WordTaken bytes x = (letters : List ℕ) × IsWord letters x.0 × (bytes ≡ letters ++ x.1)
 
 -- the word here, if it has a set
-word_so : (bytes : List ℕ) (perms : Perms) → (length (word bytes) == 0) ≡ false → perms_of (word bytes) ≡ Some perms → WordTaken bytes (perms, after_word bytes)
+word_so : (bytes : List ℕ) (perms : Perms) → (length (word bytes) == 0) ≡ false → perms_of (word bytes) ≡ Some perms →
+    WordTaken bytes (perms, after_word bytes)
 word_so bytes perms e h =
     let none_left : length (word bytes) ≡ 0 → ⊥ = eqb-false (length (word bytes)) 0 e in
     let some : 0 < length (word bytes) = omega arith in
@@ -52,9 +56,11 @@ perms_take bytes x e =
         | inr h2 ↦ elim (chosen (length (word bytes) == 0) (syntax bytes) (go (perms_of (word bytes))) (Ok x) h2.1) [
           | inl h ↦ absurd (not_ok _ x h.1)
           | inr h ↦
-              let P : (o : Option Perms) → perms_of (word bytes) ≡ o → go o ≡ Ok x → WordTaken bytes x = λ o. elim o as (λ o. perms_of (word bytes) ≡ o → go o ≡ Ok x → WordTaken bytes x) [
+              let P : (o : Option Perms) → perms_of (word bytes) ≡ o → go o ≡ Ok x → WordTaken bytes x =
+              λ o. elim o as (λ o. perms_of (word bytes) ≡ o → go o ≡ Ok x → WordTaken bytes x) [
                 | Some perms ↦ λ a k. subst (WordTaken bytes) (ok_is (perms, after_word bytes) x k) (word_so bytes perms h.0 a)
-                | None ↦ λ a k. elim (chosen (list_all is_mode (word bytes)) (word_left_out bytes) (fault_of_word kinds.Permission bytes) (Ok x) k) [ inl m ↦ absurd (not_ok _ x m.1) | inr m ↦ absurd (not_ok _ x m.1) ]
+                | None ↦ λ a k. elim (chosen (list_all is_mode (word bytes)) (word_left_out bytes) (fault_of_word kinds.Permission bytes)
+                    (Ok x) k) [ inl m ↦ absurd (not_ok _ x m.1) | inr m ↦ absurd (not_ok _ x m.1) ]
               ] in
               P (perms_of (word bytes)) refl h.1
         ]
@@ -73,7 +79,8 @@ BehindTaken bytes x = (from : List ℕ) × GapTaken bytes from × WordTaken from
 perms_behind_take : (bytes : List ℕ) (x : Perms × List ℕ) → perms_behind bytes ≡ Ok x → BehindTaken bytes x
 unfolding perms_behind
 perms_behind_take bytes x e =
-    elim (chosen (begins is_comma bytes) (fault_with_left kinds.EmptyPermissions (length bytes) (drop 1 bytes)) (gap bytes >>= perms_at) (Ok x) e) [
+    elim (chosen (begins is_comma bytes) (fault_with_left kinds.EmptyPermissions (length bytes) (drop 1 bytes))
+    (gap bytes >>= perms_at) (Ok x) e) [
       | inl h ↦ absurd (not_ok _ x h.1)
       | inr h ↦ let k = bind_ok (gap bytes) perms_at x h.1 in (k.0, gap_takes bytes k.0 k.1 (perms_some k.0 x k.2), perms_take k.0 x k.2)
     ]
@@ -98,13 +105,25 @@ qualifier_takes bytes x e more =
           let k = bind_ok (gap (after_word bytes)) (put Allow) x h.1 in
           let same : (Allow, k.0) ≡ x = ok_is (Allow, k.0) x k.2 in
           let g = gap_takes (after_word bytes) k.0 k.1 (ap (λ (y : RuleKind × List ℕ). goes_on y.1) same ∙ more) in
-          subst (QualifierTaken bytes) same (allow g.0, g.1, two_parts bytes (codes "allow") (after_word bytes) (print_blank g.0) k.0 (is_word_takes (codes "allow") bytes (omega arith) h.0) g.2, refl)
+          subst (QualifierTaken bytes) same (
+            allow g.0,
+            g.1,
+            two_parts bytes (codes "allow") (after_word bytes) (print_blank g.0) k.0
+                (is_word_takes (codes "allow") bytes (omega arith) h.0) g.2,
+            refl,
+          )
       | inr h ↦ elim (chosen (is_word (codes "deny") bytes) second (Ok (Allow, bytes)) (Ok x) h.1) [
         | inl h ↦
             let k = bind_ok (gap (after_word bytes)) (put Deny) x h.1 in
             let same : (Deny, k.0) ≡ x = ok_is (Deny, k.0) x k.2 in
             let g = gap_takes (after_word bytes) k.0 k.1 (ap (λ (y : RuleKind × List ℕ). goes_on y.1) same ∙ more) in
-            subst (QualifierTaken bytes) same (deny g.0, g.1, two_parts bytes (codes "deny") (after_word bytes) (print_blank g.0) k.0 (is_word_takes (codes "deny") bytes (omega arith) h.0) g.2, refl)
+            subst (QualifierTaken bytes) same (
+              deny g.0,
+              g.1,
+              two_parts bytes (codes "deny") (after_word bytes) (print_blank g.0) k.0
+                  (is_word_takes (codes "deny") bytes (omega arith) h.0) g.2,
+              refl,
+            )
         | inr h ↦ subst (QualifierTaken bytes) (ok_is (Allow, bytes) x h.1) (none, tt, refl, refl)
       ]
     ]
@@ -120,10 +139,13 @@ start_takes bytes x e =
     elim (chosen (begins is_slash bytes || begins is_quote bytes) (Ok None) second (Ok (Some x)) e) [
       | inl h ↦ absurd (none_some x (ok_is None (Some x) h.1))
       | inr h1 ↦ elim (chosen (length (word bytes) == 0) no_word (go (perms_of (word bytes))) (Ok (Some x)) h1.1) [
-        | inl h ↦ elim (chosen (begins (λ b. b == 64 || b == 94 || b == 36) bytes) (fault_here (kinds.LeftOut 1) bytes) (syntax bytes) (Ok (Some x)) h.1) [ inl m ↦ absurd (not_ok _ (Some x) m.1) | inr m ↦ absurd (not_ok _ (Some x) m.1) ]
+        | inl h ↦ elim (chosen (begins (λ b. b == 64 || b == 94 || b == 36) bytes) (fault_here (kinds.LeftOut 1) bytes) (syntax bytes)
+            (Ok (Some x)) h.1) [ inl m ↦ absurd (not_ok _ (Some x) m.1) | inr m ↦ absurd (not_ok _ (Some x) m.1) ]
         | inr h ↦
-            let P : (o : Option Perms) → perms_of (word bytes) ≡ o → go o ≡ Ok (Some x) → WordTaken bytes x = λ o. elim o as (λ o. perms_of (word bytes) ≡ o → go o ≡ Ok (Some x) → WordTaken bytes x) [
-              | Some perms ↦ λ a k. subst (WordTaken bytes) (some_is (perms, after_word bytes) x (ok_is (Some (perms, after_word bytes)) (Some x) k)) (word_so bytes perms h.0 a)
+            let P : (o : Option Perms) → perms_of (word bytes) ≡ o → go o ≡ Ok (Some x) → WordTaken bytes x =
+            λ o. elim o as (λ o. perms_of (word bytes) ≡ o → go o ≡ Ok (Some x) → WordTaken bytes x) [
+              | Some perms ↦ λ a k. subst (WordTaken bytes)
+                  (some_is (perms, after_word bytes) x (ok_is (Some (perms, after_word bytes)) (Some x) k)) (word_so bytes perms h.0 a)
               | None ↦ λ a k. absurd (not_ok _ (Some x) k)
             ] in
             P (perms_of (word bytes)) refl h.1
@@ -146,13 +168,15 @@ record BodyTaken (bytes : List ℕ) (x : (Perms × List Token) × List ℕ) : Ty
   is_gap : IsGap between
   is_word : IsWord letters x.0.0
   means : path_means path ≡ x.0.1
-  parts : bytes ≡ (if path_first then print_path path ++ (print_blank between ++ letters) else letters ++ (print_blank between ++ print_path path)) ++ x.1
+  parts : bytes ≡ (if path_first then print_path path ++ (print_blank between ++ letters) else letters
+      ++ (print_blank between ++ print_path path)) ++ x.1
   stands : BodyStands path_first path.quoted between x.1
 
 three_parts : (a p b g c w d : List ℕ) → a ≡ p ++ b → b ≡ g ++ c → c ≡ w ++ d → a ≡ (p ++ (g ++ w)) ++ d
 three_parts a p b g c w d e1 e2 e3 = rw (e1, e2, e3) (simp append_assoc)
 
-path_is_first : (bytes : List ℕ) (path : List Token × List ℕ) (perms : Perms × List ℕ) → PathTaken bytes path → BehindTaken path.1 perms → BodyTaken bytes ((perms.0, path.0), perms.1)
+path_is_first : (bytes : List ℕ) (path : List Token × List ℕ) (perms : Perms × List ℕ) → PathTaken bytes path → BehindTaken path.1 perms →
+    BodyTaken bytes ((perms.0, path.0), perms.1)
 path_is_first bytes path perms p h =
     let g : GapTaken path.1 h.0 = h.1 in
     let w : WordTaken h.0 perms = h.2 in
@@ -169,7 +193,8 @@ path_is_first bytes path perms p h =
       stands = stands p.written.quoted g.0 path.1 h.0 (path_no_hash p.written.quoted path.1 p.ends) g.2;
     }
 
-path_is_last : (bytes : List ℕ) (perms : Perms × List ℕ) (from : List ℕ) (path : List Token × List ℕ) → WordTaken bytes perms → GapTaken perms.1 from → PathTaken from path → BodyTaken bytes ((perms.0, path.0), path.1)
+path_is_last : (bytes : List ℕ) (perms : Perms × List ℕ) (from : List ℕ) (path : List Token × List ℕ) → WordTaken bytes perms →
+    GapTaken perms.1 from → PathTaken from path → BodyTaken bytes ((perms.0, path.0), path.1)
 path_is_last bytes perms from path w g p = record {
   path_first = false;
   path = p.written;
@@ -194,16 +219,19 @@ body_takes bytes x e =
       | Some perms ↦ gap perms.1 >>= λ from. path_at from >>= put_last perms
     ] in
     let k = bind_ok (start_at bytes) go x e in
-    let P : (start : Option (Perms × List ℕ)) → start_at bytes ≡ Ok start → go start ≡ Ok x → BodyTaken bytes x = λ start. elim start as (λ start. start_at bytes ≡ Ok start → go start ≡ Ok x → BodyTaken bytes x) [
+    let P : (start : Option (Perms × List ℕ)) → start_at bytes ≡ Ok start → go start ≡ Ok x → BodyTaken bytes x =
+    λ start. elim start as (λ start. start_at bytes ≡ Ok start → go start ≡ Ok x → BodyTaken bytes x) [
       | None ↦ λ a h.
           let p = bind_ok (path_at bytes) (λ path. perms_behind path.1 >>= put_first path) x h in
           let w = bind_ok (perms_behind p.0.1) (put_first p.0) x p.2 in
-          subst (BodyTaken bytes) (ok_is ((w.0.0, p.0.0), w.0.1) x w.2) (path_is_first bytes p.0 w.0 (path_takes bytes p.0 p.1) (perms_behind_take p.0.1 w.0 w.1))
+          subst (BodyTaken bytes) (ok_is ((w.0.0, p.0.0), w.0.1) x w.2) (path_is_first bytes p.0 w.0 (path_takes bytes p.0 p.1)
+          (perms_behind_take p.0.1 w.0 w.1))
       | Some perms ↦ λ a h.
           let g = bind_ok (gap perms.1) (λ from. path_at from >>= put_last perms) x h in
           let p = bind_ok (path_at g.0) (put_last perms) x g.2 in
           subst (BodyTaken bytes) (ok_is ((perms.0, p.0.0), p.0.1) x p.2)
-          (path_is_last bytes perms g.0 p.0 (start_takes bytes perms a) (gap_takes perms.1 g.0 g.1 (path_some g.0 p.0 p.1)) (path_takes g.0 p.0 p.1))
+          (path_is_last bytes perms g.0 p.0 (start_takes bytes perms a) (gap_takes perms.1 g.0 g.1 (path_some g.0 p.0 p.1))
+          (path_takes g.0 p.0 p.1))
     ] in
     P k.0 k.1 k.2
 
@@ -218,17 +246,21 @@ comma_takes : (bytes rest : List ℕ) → comma_at bytes ≡ Ok rest → MiddleB
 unfolding comma_at
 comma_takes bytes rest e =
     let R : Type 0 = Result (List ℕ) LocalFault in
-    let go : List ℕ → R = λ at. cond (begins is_comma at) (Ok (drop 1 at)) (cond (is_arrow at) (fault_here (kinds.LeftOut 2) at) (syntax at)) in
+    let go : List ℕ → R = λ at. cond (begins is_comma at) (Ok (drop 1 at))
+    (cond (is_arrow at) (fault_here (kinds.LeftOut 2) at) (syntax at)) in
     let k = bind_ok (blank bytes) go rest e in
-    elim (chosen (begins is_comma k.0) (Ok (drop 1 k.0)) (cond (is_arrow k.0) (fault_here (kinds.LeftOut 2) k.0) (syntax k.0)) (Ok rest) k.2) [
+    elim (chosen (begins is_comma k.0) (Ok (drop 1 k.0)) (cond (is_arrow k.0) (fault_here (kinds.LeftOut 2) k.0) (syntax k.0))
+    (Ok rest) k.2) [
       | inl h ↦
           let same : k.0 ≡ 44 ∷ rest = begins_so 44 k.0 h.0 ∙ ap (λ (x : List ℕ). 44 ∷ x) (ok_is (drop 1 k.0) rest h.1) in
           subst (MiddleBlank bytes) same (middle_blank bytes k.0 k.1 (ap goes_on same))
-      | inr h ↦ elim (chosen (is_arrow k.0) (fault_here (kinds.LeftOut 2) k.0) (syntax k.0) (Ok rest) h.1) [ inl m ↦ absurd (not_ok _ rest m.1) | inr m ↦ absurd (not_ok _ rest m.1) ]
+      | inr h ↦ elim (chosen (is_arrow k.0) (fault_here (kinds.LeftOut 2) k.0) (syntax k.0) (Ok rest) h.1)
+          [ inl m ↦ absurd (not_ok _ rest m.1) | inr m ↦ absurd (not_ok _ rest m.1) ]
     ]
 
 -- directly after a bare path the comma ends it
-comma_stands : (pieces : List Piece) (quoted : Bool) (bytes rest behind others : List ℕ) → PathEnds quoted bytes → bytes ≡ print_blank pieces ++ (44 ∷ rest) → rest ≡ behind ++ others → goes_on behind ≡ true → CommaEnds pieces quoted behind
+comma_stands : (pieces : List Piece) (quoted : Bool) (bytes rest behind others : List ℕ) → PathEnds quoted bytes →
+    bytes ≡ print_blank pieces ++ (44 ∷ rest) → rest ≡ behind ++ others → goes_on behind ≡ true → CommaEnds pieces quoted behind
 comma_stands (p ∷ pieces) quoted bytes rest behind others ends e1 e2 more = tt
 comma_stands [] true bytes rest behind others ends e1 e2 more = tt
 comma_stands [] false bytes rest [] others ends e1 e2 more = absurd cc
@@ -247,11 +279,15 @@ pub record OneRule (bytes : List ℕ) (r : RuleValue) (from tail : List ℕ) : T
 abbrev value_of : RuleKind → (Perms × List Token) × List ℕ → RuleValue
 value_of kind body = record { kind = kind; perms = body.0.0; items = body.0.1 }
 
-path_stands : (path_first : Bool) (r : WrittenRule) (bytes rest behind others : List ℕ) → BodyStands path_first r.path.quoted r.gap bytes → bytes ≡ print_blank r.before_comma ++ (44 ∷ rest) → rest ≡ behind ++ others → goes_on behind ≡ true
+path_stands : (path_first : Bool) (r : WrittenRule) (bytes rest behind others : List ℕ) → BodyStands path_first r.path.quoted r.gap bytes →
+    bytes ≡ print_blank r.before_comma ++ (44 ∷ rest) → rest ≡ behind ++ others → goes_on behind ≡ true
     → PathStands path_first r behind
 path_stands true r bytes rest behind others h e1 e2 more = h
-path_stands false r bytes rest behind others h e1 e2 more =
-    (stands r.path.quoted r.before_comma bytes (44 ∷ rest) (path_no_hash r.path.quoted bytes h) e1, comma_stands r.before_comma r.path.quoted bytes rest behind others h e1 e2 more)
+path_stands false r bytes rest behind others h e1 e2 more = (
+  stands r.path.quoted r.before_comma bytes (44 ∷ rest) (path_no_hash r.path.quoted bytes h) e1,
+  comma_stands r.before_comma
+      r.path.quoted bytes rest behind others h e1 e2 more,
+)
 
 pub goes_behind : (pieces tail : List ℕ) → goes_on tail ≡ true → goes_on (pieces ++ tail) ≡ true
 goes_behind [] tail h = h
@@ -260,12 +296,25 @@ goes_behind (b ∷ pieces) tail h = refl
 four_parts : (a q b p c w d z : List ℕ) → a ≡ q ++ b → b ≡ p ++ c → c ≡ w ++ (44 ∷ d) → d ≡ z → a ≡ (q ++ (p ++ (w ++ codes ","))) ++ z
 four_parts a q b p c w d z e1 e2 e3 e4 = rw (e1, e2, e3, e4) (simp append_assoc)
 
-whole_rule : (bytes : List ℕ) (kind : RuleKind × List ℕ) (body : (Perms × List Token) × List ℕ) (rest : List ℕ) (past : List Piece) (from tail others : List ℕ) → QualifierTaken bytes kind → BodyTaken kind.1 body → MiddleBlank body.1 (44 ∷ rest)
-    → IsBlank past → rest ≡ print_blank past ++ from → from ≡ tail ++ others → goes_on tail ≡ true → OneRule bytes (value_of kind.0 body) from tail
+whole_rule : (bytes : List ℕ) (kind : RuleKind × List ℕ) (body : (Perms × List Token) × List ℕ) (rest : List ℕ) (past : List Piece)
+    (from tail others : List ℕ) → QualifierTaken bytes kind → BodyTaken kind.1 body → MiddleBlank body.1 (44 ∷ rest)
+    → IsBlank past → rest ≡ print_blank past ++ from → from ≡ tail ++ others → goes_on tail ≡ true →
+    OneRule bytes (value_of kind.0 body) from tail
 whole_rule bytes kind body rest past from tail others q b c is_past e1 e2 more =
     let behind : List ℕ = print_blank past ++ tail in
-    let there : rest ≡ behind ++ others = e1 ∙ ap (λ (x : List ℕ). print_blank past ++ x) e2 ∙ sym (append_assoc (print_blank past) tail others) in
-    let w : WrittenRule = record { qualifier = q.0; path_first = b.path_first; path = b.path; gap = b.between; letters = b.letters; perms = body.0.0; before_comma = c.0; past = past } in
+    let there : rest ≡ behind ++ others = e1 ∙ ap (λ (x : List ℕ). print_blank past ++ x) e2
+    ∙ sym (append_assoc (print_blank past) tail others) in
+    let w : WrittenRule = record {
+      qualifier = q.0;
+      path_first = b.path_first;
+      path = b.path;
+      gap = b.between;
+      letters = b.letters;
+      perms =
+          body.0.0;
+      before_comma = c.0;
+      past = past;
+    } in
     record {
       written = w;
       valid = record {
@@ -277,14 +326,19 @@ whole_rule bytes kind body rest past from tail others q b c is_past e1 e2 more =
         past = is_past;
         stands = path_stands b.path_first w body.1 rest behind others b.stands c.2 there (goes_behind (print_blank past) tail more);
       };
-      parts = four_parts bytes (print_qualifier q.0) kind.1 (if b.path_first then print_path b.path ++ (print_blank b.between ++ b.letters) else b.letters ++ (print_blank b.between ++ print_path b.path)) body.1 (print_blank c.0) rest (print_blank past ++ from) q.2 b.parts c.2 e1;
+      parts = four_parts bytes (print_qualifier q.0) kind.1 (if b.path_first then print_path b.path ++ (print_blank b.between ++ b.letters)
+          else b.letters ++ (print_blank b.between ++ print_path b.path)) body.1 (print_blank c.0) rest (print_blank past ++ from)
+          q.2 b.parts c.2 e1;
       means = (let x = q.3 in let y = b.means in cc);
     }
 
-that_rule : (bytes : List ℕ) (x y : RuleValue × List ℕ) (past : List Piece) (from tail : List ℕ) → x ≡ y → (x.1 ≡ print_blank past ++ from → OneRule bytes x.0 from tail) → y.1 ≡ print_blank past ++ from → OneRule bytes y.0 from tail
-that_rule bytes x y past from tail e h = subst (λ (z : RuleValue × List ℕ). z.1 ≡ print_blank past ++ from → OneRule bytes z.0 from tail) e h
+that_rule : (bytes : List ℕ) (x y : RuleValue × List ℕ) (past : List Piece) (from tail : List ℕ) → x ≡ y →
+    (x.1 ≡ print_blank past ++ from → OneRule bytes x.0 from tail) → y.1 ≡ print_blank past ++ from → OneRule bytes y.0 from tail
+that_rule bytes x y past from tail e h = subst (λ (z : RuleValue × List ℕ). z.1 ≡ print_blank past ++ from →
+    OneRule bytes z.0 from tail) e h
 
-rule_takes : (bytes : List ℕ) (x : RuleValue × List ℕ) (past : List Piece) (from tail others : List ℕ) → rule_at bytes ≡ Ok x → IsBlank past → x.1 ≡ print_blank past ++ from → from ≡ tail ++ others → goes_on tail ≡ true → OneRule bytes x.0 from tail
+rule_takes : (bytes : List ℕ) (x : RuleValue × List ℕ) (past : List Piece) (from tail others : List ℕ) → rule_at bytes ≡ Ok x →
+    IsBlank past → x.1 ≡ print_blank past ++ from → from ≡ tail ++ others → goes_on tail ≡ true → OneRule bytes x.0 from tail
 unfolding rule_at
 rule_takes bytes x past from tail others e is_past e1 e2 more =
     let R : Type 0 = Result (RuleValue × List ℕ) LocalFault in
@@ -295,7 +349,8 @@ rule_takes bytes x past from tail others e is_past e1 e2 more =
     let b = bind_ok (body_at q.0.1) (second q.0.0) x q.2 in
     let c = bind_ok (comma_at b.0.1) (put q.0.0 b.0) x b.2 in
     that_rule bytes (value_of q.0.0 b.0, c.0) x past from tail (ok_is (value_of q.0.0 b.0, c.0) x c.2)
-    (λ e1. whole_rule bytes q.0 b.0 c.0 past from tail others (qualifier_takes bytes q.0 q.1 (body_some q.0.1 b.0 b.1)) (body_takes q.0.1 b.0 b.1) (comma_takes b.0.1 c.0 c.1) is_past e1 e2 more) e1
+    (λ e1. whole_rule bytes q.0 b.0 c.0 past from tail others (qualifier_takes bytes q.0 q.1 (body_some q.0.1 b.0 b.1))
+    (body_takes q.0.1 b.0 b.1) (comma_takes b.0.1 c.0 c.1) is_past e1 e2 more) e1
 
 some_parts : (q p w : List ℕ) → 0 < length (q ++ (p ++ (w ++ codes ",")))
 some_parts q p w = omega (arith, length-append q (p ++ (w ++ codes ",")), length-append p (w ++ codes ","), length-append w (codes ","))
@@ -321,7 +376,8 @@ rule_ends bytes x e =
     let w = qualifier_takes bytes q.0 q.1 (body_some q.0.1 b.0 b.1) in
     let p = body_takes q.0.1 b.0 b.1 in
     let k = comma_takes b.0.1 c.0 c.1 in
-    let inner : List ℕ = if p.path_first then print_path p.path ++ (print_blank p.between ++ p.letters) else p.letters ++ (print_blank p.between ++ print_path p.path) in
+    let inner : List ℕ = if p.path_first then print_path p.path ++ (print_blank p.between ++ p.letters) else p.letters
+    ++ (print_blank p.between ++ print_path p.path) in
     behind_that bytes (value_of q.0.0 b.0, c.0) x (ok_is (value_of q.0.0 b.0, c.0) x c.2) (
       print_qualifier w.0 ++ (inner ++ (print_blank k.0 ++ codes ",")),
       some_parts (print_qualifier w.0) inner (print_blank k.0),
@@ -340,34 +396,41 @@ pub record RulesTaken (room : ℕ) (bytes : List ℕ) (x : List RuleValue × Lis
 abbrev done : List RuleValue × List ℕ → Result (List RuleValue × List ℕ) LocalFault
 done x = Ok x
 
-no_rules : (room : ℕ) (bytes : List ℕ) (x : List RuleValue × List ℕ) → begins is_close_brace bytes ≡ true → done ([], drop 1 bytes) ≡ Ok x → RulesTaken room bytes x
-no_rules room bytes x h e = subst (RulesTaken room bytes) (ok_is ([], drop 1 bytes) x e) (record { written = []; valid = tt; parts = begins_so 125 bytes h; means = refl; few = omega arith })
+no_rules : (room : ℕ) (bytes : List ℕ) (x : List RuleValue × List ℕ) → begins is_close_brace bytes ≡ true → done ([], drop 1 bytes)
+    ≡ Ok x → RulesTaken room bytes x
+no_rules room bytes x h e = subst (RulesTaken room bytes) (ok_is ([], drop 1 bytes) x e)
+    (record { written = []; valid = tt; parts = begins_so 125 bytes h; means = refl; few = omega arith })
 
 next : (a r x b y z : List ℕ) → a ≡ r ++ (x ++ b) → b ≡ y ++ z → a ≡ (r ++ (x ++ y)) ++ z
 next a r x b y z e1 e2 = rw (e1, e2) (simp append_assoc)
 
-more_rules : (room : ℕ) (bytes : List ℕ) (first : RuleValue × List ℕ) (from : List ℕ) (others : List RuleValue × List ℕ) → rule_at bytes ≡ Ok first → blank first.1 ≡ Ok from → RulesTaken room from others → RulesTaken (suc room) bytes (first.0 ∷ others.0, others.1)
+more_rules : (room : ℕ) (bytes : List ℕ) (first : RuleValue × List ℕ) (from : List ℕ) (others : List RuleValue × List ℕ) → rule_at bytes
+    ≡ Ok first → blank first.1 ≡ Ok from → RulesTaken room from others → RulesTaken (suc room) bytes (first.0 ∷ others.0, others.1)
 more_rules room bytes first from others e1 e2 more =
     let tail : List ℕ = print_rules more.written ++ codes "}" in
     let there : from ≡ tail ++ others.1 = more.parts ∙ sym (append_assoc (print_rules more.written) (codes "}") others.1) in
     let some : goes_on from ≡ true = ap goes_on more.parts ∙ goes_behind (print_rules more.written) (codes "}" ++ others.1) refl in
     let p : MiddleBlank first.1 from = middle_blank first.1 from e2 some in
-    let r : OneRule bytes first.0 from tail = rule_takes bytes first p.0 from tail others.1 e1 p.1 p.2 there (goes_behind (print_rules more.written) (codes "}") refl) in
+    let r : OneRule bytes first.0 from tail = rule_takes bytes first p.0 from tail others.1 e1 p.1 p.2 there
+    (goes_behind (print_rules more.written) (codes "}") refl) in
     record {
       written = r.written ∷ more.written;
       valid = (r.valid, more.valid);
-      parts = next bytes (print_rule r.written) (print_blank r.written.past) from (print_rules more.written) (codes "}" ++ others.1) r.parts more.parts;
+      parts = next bytes (print_rule r.written) (print_blank r.written.past) from (print_rules more.written) (codes "}" ++ others.1)
+          r.parts more.parts;
       means = (let p = r.means in let q = more.means in cc);
       few = omega (arith, more.few);
     }
 
-that_rules : (room : ℕ) (bytes : List ℕ) (first : RuleValue) (others x : List RuleValue × List ℕ) → done (first ∷ others.0, others.1) ≡ Ok x → RulesTaken room bytes (first ∷ others.0, others.1) → RulesTaken room bytes x
+that_rules : (room : ℕ) (bytes : List ℕ) (first : RuleValue) (others x : List RuleValue × List ℕ) → done (first ∷ others.0, others.1)
+    ≡ Ok x → RulesTaken room bytes (first ∷ others.0, others.1) → RulesTaken room bytes x
 that_rules room bytes first others x e h = subst (RulesTaken room bytes) (ok_is (first ∷ others.0, others.1) x e) h
 
 pub rules_take : (room : ℕ) (bytes : List ℕ) (x : List RuleValue × List ℕ) → rules_at room bytes ≡ Ok x → RulesTaken room bytes x
 unfolding rules_at
 rules_take zero bytes x e =
-    elim (chosen (begins is_close_brace bytes) (Ok ([], drop 1 bytes)) (rule_begins bytes >>= λ _. fault_here kinds.TooManyRules bytes) (Ok x) e) [
+    elim (chosen (begins is_close_brace bytes) (Ok ([], drop 1 bytes)) (rule_begins bytes >>= λ _. fault_here kinds.TooManyRules bytes)
+    (Ok x) e) [
       | inl h ↦ no_rules zero bytes x h.0 h.1
       | inr h ↦ let k = bind_ok (rule_begins bytes) (λ _. fault_here kinds.TooManyRules bytes) x h.1 in absurd (not_ok _ x k.2)
     ]

@@ -21,20 +21,42 @@ nothing_left : (bytes : List ℕ) (u : Unit {0}) → end_at bytes ≡ Ok u → b
 nothing_left [] u e = refl
 nothing_left (b ∷ bytes) u e = absurd (not_ok _ u e)
 
-whole : (t w a h b v c r d y l z : List ℕ) → t ≡ w ++ a → a ≡ h ++ (codes "{" ++ b) → b ≡ v ++ c → c ≡ r ++ (codes "}" ++ d) → d ≡ y ++ (l ++ z) → z ≡ [] → t ≡ w ++ (h ++ (codes "{" ++ (v ++ (r ++ (codes "}" ++ (y ++ l))))))
+whole : (t w a h b v c r d y l z : List ℕ) → t ≡ w ++ a → a ≡ h ++ (codes "{" ++ b) → b ≡ v ++ c → c ≡ r ++ (codes "}" ++ d) →
+    d ≡ y ++ (l ++ z) → z ≡ [] → t ≡ w ++ (h ++ (codes "{" ++ (v ++ (r ++ (codes "}" ++ (y ++ l))))))
 whole t w a h b v c r d y l z e1 e2 e3 e4 e5 e6 =
     let last : l ++ z ≡ l = ap (λ (x : List ℕ). l ++ x) e6 ∙ append-nil l in
     cc
 
 -- the parts that were read, as a text
-text_of : (text from : List ℕ) (name : List ℕ × List ℕ) (inside : List ℕ) (rules : List RuleValue × List ℕ) (past : List ℕ) → MiddleBlank text from → HeaderTaken from name → MiddleBlank name.1 inside → RulesTaken 1024 inside rules → BlankTaken rules.1 past → past ≡ []
+text_of : (text from : List ℕ) (name : List ℕ × List ℕ) (inside : List ℕ) (rules : List RuleValue × List ℕ) (past : List ℕ) →
+    MiddleBlank text from → HeaderTaken from name → MiddleBlank name.1 inside → RulesTaken 1024 inside rules →
+    BlankTaken rules.1 past → past ≡ []
     → ReadsAs text (profile_of name.0 rules.0)
 unfolding print_text
 text_of text from name inside rules past start header within taken behind none =
     record {
-      written = record { start = start.0; header = header.written; inside = within.0; rules = taken.written; past = behind.pieces; last = behind.last };
-      valid = record { start = start.1; header = header.valid; inside = within.1; rules = taken.valid; rules_fit = taken.few; past = behind.valid; last = behind.valid_last };
-      bytes = whole text (print_blank start.0) from (print_header header.written) name.1 (print_blank within.0) inside (print_rules taken.written) rules.1 (print_blank behind.pieces) (print_last behind.last) past start.2 header.parts within.2 taken.parts behind.parts none;
+      written = record {
+        start = start.0;
+        header = header.written;
+        inside = within.0;
+        rules = taken.written;
+        past =
+            behind.pieces;
+        last = behind.last;
+      };
+      valid = record {
+        start = start.1;
+        header = header.valid;
+        inside = within.1;
+        rules = taken.valid;
+        rules_fit = taken.few;
+        past =
+            behind.valid;
+        last = behind.valid_last;
+      };
+      bytes = whole text (print_blank start.0) from (print_header header.written) name.1 (print_blank within.0) inside
+          (print_rules taken.written) rules.1 (print_blank behind.pieces) (print_last behind.last) past start.2 header.parts within.2
+          taken.parts behind.parts none;
       means = (let m = header.means in let r = taken.means in cc);
     }
 
@@ -59,4 +81,6 @@ text_takes text p e =
     let f = bind_ok (blank d.0.1) (s4 b.0.0 d.0.0) p d.2 in
     let g = bind_ok (end_at f.0) (s5 b.0.0 d.0.0) p f.2 in
     that_text text (profile_of b.0.0 d.0.0) p (ok_is (profile_of b.0.0 d.0.0) p g.2)
-    (text_of text a.0 b.0 c.0 d.0 f.0 (middle_blank text a.0 a.1 (header_some a.0 b.0 b.1)) (header_takes a.0 b.0 b.1) (middle_blank b.0.1 c.0 c.1 (rules_some 1024 c.0 d.0 d.1)) (rules_take 1024 c.0 d.0 d.1) (blank_takes d.0.1 f.0 f.1) (nothing_left f.0 g.0 g.1))
+    (text_of text a.0 b.0 c.0 d.0 f.0 (middle_blank text a.0 a.1 (header_some a.0 b.0 b.1)) (header_takes a.0 b.0 b.1)
+    (middle_blank b.0.1 c.0 c.1 (rules_some 1024 c.0 d.0 d.1)) (rules_take 1024 c.0 d.0 d.1) (blank_takes d.0.1 f.0 f.1)
+    (nothing_left f.0 g.0 g.1))

@@ -1,5 +1,6 @@
 -- Blanks, words and names: what is read is in the grammar.
-use Rattle.std.proofs.Common.{◌≡◌, ℕ, zero, suc, ◌≤◌, ◌<◌, Bool, true, false, cond, List, [], ◌∷◌, ◌++◌, length, drop, Option, Some, None, Result, Ok, refl, sym, ap, subst, ◌∙◌, append_assoc, ◌⊎◌, inl, inr, ◌==◌, arith}
+use Rattle.std.proofs.Common.{◌≡◌, ℕ, zero, suc, ◌≤◌, ◌<◌, Bool, true, false, cond, List, [], ◌∷◌, ◌++◌, length, drop, Option, Some, None}
+use Rattle.std.proofs.Common.{Result, Ok, refl, sym, ap, subst, ◌∙◌, append_assoc, ◌⊎◌, inl, inr, ◌==◌, arith}
 use Rattle.std.specs.Prelude.{◌||◌, ◌&&◌, not, nat_eq, codes}
 use Rattle.std.specs.List.{starts_with}
 use Rattle.std.proofs.lemmas.Bool.{eqb-true, and_parts, and_from, or_parts, or_from, false_from_ne_true}
@@ -9,11 +10,13 @@ use Rattle.rule_reader.specs.declared.reading.name.NameByte.{NameByte}
 use Rattle.rule_reader.specs.declared.reading.name.NameByte.TheVariants.{OfName, Ends, Wrong}
 use Rattle.rule_reader.specs.declared.reading.local_fault.LocalFault.{LocalFault}
 use Rattle.rule_reader.specs.declared.reading.local_fault.FaultKind.TheVariants as kinds
-use Rattle.rule_reader.specs.GrammarWords.{Cell, plain, escaped, print_cells, Piece, white, comment, print_blank, IsCommentByte, IsBlank, IsGap, Stands, print_last, IsLast, IsNameCell}
+use Rattle.rule_reader.specs.GrammarWords.{Cell, plain, escaped, print_cells, Piece, white, comment, print_blank, IsCommentByte, IsBlank}
+use Rattle.rule_reader.specs.GrammarWords.{IsGap, Stands, print_last, IsLast, IsNameCell}
 use Rattle.rule_globs.specs.Each.{Each}
 use Rattle.rule_reader.specs.ReadSteps.{◌>>=◌, goes_on, fault_here, fault_with_left, syntax}
 use Rattle.rule_reader.specs.ReadWords.{leading, blank_at, blank, gap, literal, word, after_word, is_word, name_byte, name_bytes}
-use Rattle.rule_reader.specs.TextBytes.{begins, is_white, is_hash, opens_blank, is_include_mark, is_include, is_letter_byte, is_word_byte, is_quote}
+use Rattle.rule_reader.specs.TextBytes.{begins, is_white, is_hash, opens_blank, is_include_mark, is_include, is_letter_byte, is_word_byte}
+use Rattle.rule_reader.specs.TextBytes.{is_quote}
 use Rattle.rule_reader.proofs.ReadSteps.{bind_ok, chosen, ok_is, not_ok}
 use Rattle.rule_reader.proofs.ReadRuns.{leading_parts, white_stops}
 
@@ -36,7 +39,9 @@ begins_more test (suc n) (b ∷ w) more h = begins_more test n w more h
 no_include : (w more : List ℕ) → is_include (w ++ more) ≡ false → is_include w ≡ false
 no_include w more h = false_from_ne_true (is_include w) (λ e.
     let s = and_parts (starts_with nat_eq w (codes "#include")) (begins is_include_mark (drop 8 w)) e in
-    let yes : is_include (w ++ more) ≡ true = and_from (starts_with nat_eq (w ++ more) (codes "#include")) (begins is_include_mark (drop 8 (w ++ more))) (starts_more (codes "#include") w more s.0) (begins_more is_include_mark 8 w more s.1) in
+    let yes : is_include (w ++ more) ≡ true = and_from (starts_with nat_eq (w ++ more) (codes "#include"))
+    (begins is_include_mark (drop 8 (w ++ more))) (starts_more (codes "#include") w more s.0)
+    (begins_more is_include_mark 8 w more s.1) in
     absurd cc)
 
 -- ---- blanks
@@ -58,7 +63,8 @@ pub record BlankTaken (bytes rest : List ℕ) : Type 0 where
 -- after the # of a comment, which ends at the text's end or at LF
 CommentTaken : List ℕ → List ℕ → Type 0
 CommentTaken bytes rest =
-    (Each IsCommentByte bytes × (rest ≡ [])) ⊎ ((inner : List ℕ) × (more : List ℕ) × Each IsCommentByte inner × (bytes ≡ inner ++ (10 ∷ more)) × BlankTaken more rest)
+    (Each IsCommentByte bytes × (rest ≡ [])) ⊎ ((inner : List ℕ) × (more : List ℕ) × Each IsCommentByte inner
+    × (bytes ≡ inner ++ (10 ∷ more)) × BlankTaken more rest)
 
 abbrev Taken : Bool → List ℕ → List ℕ → Type 0
 Taken true bytes rest = CommentTaken bytes rest
@@ -95,9 +101,17 @@ opened bytes rest none t =
           record {
             pieces = comment inner ∷ t.pieces;
             last = t.last;
-            valid = ((h.2, no_include (35 ∷ (inner ++ (10 ∷ []))) h.1 (subst (λ (x : List ℕ). is_include (35 ∷ x) ≡ false) whole none)), t.valid);
+            valid = (
+              (
+                h.2,
+                no_include (35 ∷ (inner ++ (10 ∷ []))) h.1
+                    (subst (λ (x : List ℕ). is_include (35 ∷ x) ≡ false) whole none),
+              ),
+              t.valid,
+            );
             valid_last = t.valid_last;
-            parts = ap (λ (x : List ℕ). 35 ∷ x) (whole ∙ ap (λ (x : List ℕ). (inner ++ (10 ∷ [])) ++ x) t.parts ∙ sym (append_assoc (inner ++ (10 ∷ [])) (print_blank t.pieces) (print_last t.last ++ rest)));
+            parts = ap (λ (x : List ℕ). 35 ∷ x) (whole ∙ ap (λ (x : List ℕ). (inner ++ (10 ∷ [])) ++ x) t.parts
+                ∙ sym (append_assoc (inner ++ (10 ∷ [])) (print_blank t.pieces) (print_last t.last ++ rest)));
             at_end = t.at_end;
             stops = t.stops;
           }
@@ -106,35 +120,57 @@ opened bytes rest none t =
 blank_take : (inside : Bool) (bytes rest : List ℕ) → blank_at inside bytes ≡ Ok rest → Taken inside bytes rest
 unfolding CommentTaken
 blank_take true [] rest e = inl (tt, sym (ok_is [] rest e))
-blank_take false [] rest e = subst (BlankTaken []) (ok_is [] rest e) (record { pieces = []; last = None; valid = tt; valid_last = tt; parts = refl; at_end = tt; stops = refl })
+blank_take false [] rest e = subst (BlankTaken []) (ok_is [] rest e)
+    (record { pieces = []; last = None; valid = tt; valid_last = tt; parts = refl; at_end = tt; stops = refl })
 blank_take true (b ∷ bytes) rest e =
     elim (chosen (b == 0) (syntax (b ∷ bytes)) (blank_at (not (b == 10)) bytes) (Ok rest) e) [
       | inl h ↦ absurd (not_ok _ rest h.1)
       | inr h ↦
           let P : (t : Bool) → (b == 10) ≡ t → blank_at (not t) bytes ≡ Ok rest → CommentTaken (b ∷ bytes) rest =
           λ t. elim t as (λ t. (b == 10) ≡ t → blank_at (not t) bytes ≡ Ok rest → CommentTaken (b ∷ bytes) rest) [
-            | true ↦ λ a k. let same : b ≡ 10 = eqb-true b 10 a in inr ([], bytes, tt, ap (λ x. x ∷ bytes) same, blank_take false bytes rest k)
+            | true ↦ λ a k. let same : b ≡ 10 = eqb-true b 10 a in
+                inr ([], bytes, tt, ap (λ x. x ∷ bytes) same, blank_take false bytes rest k)
             | false ↦ λ a k. one_more b bytes rest (or_from (b == 0) (b == 10) h.0 a) (blank_take true bytes rest k)
           ] in
           P (b == 10) refl h.1
     ]
 blank_take false (b ∷ bytes) rest e =
-    let third : Result (List ℕ) LocalFault = cond (is_include (b ∷ bytes)) (fault_here (kinds.LeftOut 8) (b ∷ bytes)) (blank_at true bytes) in
+    let third : Result (List ℕ) LocalFault = cond (is_include (b ∷ bytes)) (fault_here (kinds.LeftOut 8) (b ∷ bytes))
+    (blank_at true bytes) in
     let second : Result (List ℕ) LocalFault = cond (is_hash b) third (Ok (b ∷ bytes)) in
     elim (chosen (is_white b) (blank_at false bytes) second (Ok rest) e) [
       | inl h ↦
           let t : BlankTaken bytes rest = blank_take false bytes rest h.1 in
-          record { pieces = white b ∷ t.pieces; last = t.last; valid = (h.0, t.valid); valid_last = t.valid_last; parts = ap (λ (x : List ℕ). b ∷ x) t.parts; at_end = t.at_end; stops = t.stops }
+          record {
+            pieces = white b ∷ t.pieces;
+            last = t.last;
+            valid = (h.0, t.valid);
+            valid_last = t.valid_last;
+            parts =
+                ap (λ (x : List ℕ). b ∷ x) t.parts;
+            at_end = t.at_end;
+            stops = t.stops;
+          }
       | inr h ↦ elim (chosen (is_hash b) third (Ok (b ∷ bytes)) (Ok rest) h.1) [
         | inl g ↦ elim (chosen (is_include (b ∷ bytes)) (fault_here (kinds.LeftOut 8) (b ∷ bytes)) (blank_at true bytes) (Ok rest) g.1) [
           | inl k ↦ absurd (not_ok _ rest k.1)
           | inr k ↦
               let same : b ≡ 35 = eqb-true b 35 g.0 in
               let inner : CommentTaken bytes rest = blank_take true bytes rest k.1 in
-              subst (λ (x : ℕ). BlankTaken (x ∷ bytes) rest) (sym same) (opened bytes rest (subst (λ (x : ℕ). is_include (x ∷ bytes) ≡ false) same k.0) inner)
+              subst (λ (x : ℕ). BlankTaken (x ∷ bytes) rest) (sym same)
+              (opened bytes rest (subst (λ (x : ℕ). is_include (x ∷ bytes) ≡ false) same k.0) inner)
         ]
         | inr g ↦ subst (BlankTaken (b ∷ bytes)) (ok_is (b ∷ bytes) rest g.1)
-            (record { pieces = []; last = None; valid = tt; valid_last = tt; parts = refl; at_end = tt; stops = or_from (is_white b) (is_hash b) h.0 g.0 })
+            (record {
+              pieces = [];
+              last = None;
+              valid = tt;
+              valid_last = tt;
+              parts = refl;
+              at_end = tt;
+              stops =
+                  or_from (is_white b) (is_hash b) h.0 g.0;
+            })
       ]
     ]
 
@@ -148,7 +184,8 @@ MiddleBlank bytes rest = (pieces : List Piece) × IsBlank pieces × (bytes ≡ p
 pub middle_blank : (bytes rest : List ℕ) → blank bytes ≡ Ok rest → goes_on rest ≡ true → MiddleBlank bytes rest
 middle_blank bytes rest e more =
     let t : BlankTaken bytes rest = blank_takes bytes rest e in
-    let P : (last : Option (List ℕ)) → AtEnd last rest → bytes ≡ print_blank t.pieces ++ (print_last last ++ rest) → MiddleBlank bytes rest =
+    let P : (last : Option (List ℕ)) → AtEnd last rest → bytes ≡ print_blank t.pieces ++ (print_last last ++ rest) →
+    MiddleBlank bytes rest =
     λ last. elim last as (λ last. AtEnd last rest → bytes ≡ print_blank t.pieces ++ (print_last last ++ rest) → MiddleBlank bytes rest) [
       | None ↦ λ a parts. (t.pieces, t.valid, parts)
       | Some inner ↦ λ a parts. let no : goes_on rest ≡ false = ap goes_on a in absurd cc
@@ -180,7 +217,8 @@ abbrev pub NoHash : Bool → List ℕ → Type 0
 NoHash true rest = Unit {0}
 NoHash false rest = begins is_hash rest ≡ false
 
-pub stands : (quoted : Bool) (pieces : List Piece) (bytes rest : List ℕ) → NoHash quoted bytes → bytes ≡ print_blank pieces ++ rest → Stands quoted pieces
+pub stands : (quoted : Bool) (pieces : List Piece) (bytes rest : List ℕ) → NoHash quoted bytes → bytes ≡ print_blank pieces ++ rest →
+    Stands quoted pieces
 stands quoted [] bytes rest h e = tt
 stands quoted (white b ∷ pieces) bytes rest h e = tt
 stands true (comment inner ∷ pieces) bytes rest h e = refl
@@ -205,7 +243,8 @@ literal_takes (w ∷ word) (b ∷ bytes) rest e =
 -- a word is what comes before the bytes after it
 pub word_takes : (bytes : List ℕ) → 0 < length (word bytes) → bytes ≡ word bytes ++ after_word bytes
 word_takes bytes =
-    elim (begins is_letter_byte bytes) as (λ t. 0 < length (cond t (leading is_word_byte bytes) []) → bytes ≡ cond t (leading is_word_byte bytes) [] ++ after_word bytes) [
+    elim (begins is_letter_byte bytes) as (λ t. 0 < length (cond t (leading is_word_byte bytes) []) →
+    bytes ≡ cond t (leading is_word_byte bytes) [] ++ after_word bytes) [
       | true ↦ λ some. leading_parts is_word_byte bytes
       | false ↦ λ some. absurd (omega arith)
     ]
@@ -246,7 +285,8 @@ pub no_line_feed : (b : ℕ) → is_white b ≡ false → (b == 10) ≡ false
 no_line_feed b h = (or_parts (b == 32 || b == 9) (b == 10) (or_parts (b == 32 || b == 9 || b == 10) (b == 13) h).0).1
 
 -- which bytes are of a name, by the tests for byte 0, LF, a quote, white and a backslash
-plain_so : (quoted z l q w n : Bool) → cond (z || (l && (quoted || false))) Wrong (cond q (cond quoted Ends Wrong) (cond (not quoted && w) Ends OfName)) ≡ OfName → (w ≡ false → l ≡ false) → n ≡ false
+plain_so : (quoted z l q w n : Bool) → cond (z || (l && (quoted || false))) Wrong
+    (cond q (cond quoted Ends Wrong) (cond (not quoted && w) Ends OfName)) ≡ OfName → (w ≡ false → l ≡ false) → n ≡ false
     → (not (z || l || (not quoted && w)) && not (q || n)) ≡ true
 plain_so true true l q w n e f g = absurd cc
 plain_so true false true q w n e f g = absurd cc
@@ -272,7 +312,8 @@ escaped_so quoted false false e = refl
 escaped_valid : (quoted : Bool) (b : ℕ) → name_byte quoted true b ≡ OfName → IsNameCell quoted (escaped b)
 escaped_valid quoted b e = escaped_so quoted (b == 0) (b == 10) e
 
-ends_so : (quoted behind z l q w : Bool) → cond (z || (l && (quoted || behind))) Wrong (cond behind OfName (cond q (cond quoted Ends Wrong) (cond (not quoted && w) Ends OfName))) ≡ Ends
+ends_so : (quoted behind z l q w : Bool) → cond (z || (l && (quoted || behind))) Wrong
+    (cond behind OfName (cond q (cond quoted Ends Wrong) (cond (not quoted && w) Ends OfName))) ≡ Ends
     → (behind ≡ false) × (quoted ≡ false → w ≡ true)
 ends_so quoted behind true l q w e = absurd cc
 ends_so true behind false true q w e = absurd cc
@@ -286,14 +327,25 @@ ends_so false false false false true w e = absurd cc
 ends_so false false false false false true e = (refl, λ h. refl)
 ends_so false false false false false false e = absurd cc
 
-ends_white : (quoted behind : Bool) (b : ℕ) (rest : List ℕ) → name_byte quoted behind b ≡ Ends → (behind ≡ false) × NameEnds quoted (b ∷ rest)
+ends_white : (quoted behind : Bool) (b : ℕ) (rest : List ℕ) → name_byte quoted behind b ≡ Ends → (behind ≡ false)
+    × NameEnds quoted (b ∷ rest)
 ends_white true behind b rest e = ((ends_so true behind (b == 0) (b == 10) (is_quote b) (is_white b) e).0, tt)
 ends_white false behind b rest e = let h = ends_so false behind (b == 0) (b == 10) (is_quote b) (is_white b) e in (h.0, h.1 refl)
 
-no_name : (quoted behind : Bool) (room : ℕ) (rest : List ℕ) → behind ≡ false → NameEnds quoted rest → NameTaken quoted behind room rest [] rest
-no_name quoted behind room rest e h = record { cells = []; valid = tt; means = ap (λ t. held t []) (sym e); parts = refl; fits = omega arith; ends = h }
+no_name : (quoted behind : Bool) (room : ℕ) (rest : List ℕ) → behind ≡ false → NameEnds quoted rest →
+    NameTaken quoted behind room rest [] rest
+no_name quoted behind room rest e h = record {
+  cells = [];
+  valid = tt;
+  means = ap (λ t. held t []) (sym e);
+  parts = refl;
+  fits =
+      omega arith;
+  ends = h;
+}
 
-more_name : (quoted behind : Bool) (room b : ℕ) (bytes name rest : List ℕ) → name_byte quoted behind b ≡ OfName → NameTaken quoted (not behind && b == 92) room bytes name rest → NameTaken quoted behind (suc room) (b ∷ bytes) (b ∷ name) rest
+more_name : (quoted behind : Bool) (room b : ℕ) (bytes name rest : List ℕ) → name_byte quoted behind b ≡ OfName →
+    NameTaken quoted (not behind && b == 92) room bytes name rest → NameTaken quoted behind (suc room) (b ∷ bytes) (b ∷ name) rest
 more_name quoted true room b bytes name rest of more = record {
   cells = escaped b ∷ more.cells;
   valid = (escaped_valid quoted b of, more.valid);
@@ -303,8 +355,10 @@ more_name quoted true room b bytes name rest of more = record {
   ends = more.ends;
 }
 more_name quoted false room b bytes name rest of more =
-    let P : (t : Bool) → (b == 92) ≡ t → NameTaken quoted t room bytes name rest → NameTaken quoted false (suc room) (b ∷ bytes) (b ∷ name) rest =
-    λ t. elim t as (λ t. (b == 92) ≡ t → NameTaken quoted t room bytes name rest → NameTaken quoted false (suc room) (b ∷ bytes) (b ∷ name) rest) [
+    let P : (t : Bool) → (b == 92) ≡ t → NameTaken quoted t room bytes name rest → NameTaken quoted false (suc room)
+    (b ∷ bytes) (b ∷ name) rest =
+    λ t. elim t as (λ t. (b == 92) ≡ t → NameTaken quoted t room bytes name rest → NameTaken quoted false (suc room)
+    (b ∷ bytes) (b ∷ name) rest) [
       | true ↦ λ a m. record {
         cells = m.cells;
         valid = m.valid;
@@ -324,38 +378,48 @@ more_name quoted false room b bytes name rest of more =
     ] in
     P (b == 92) refl more
 
-that_name : (quoted behind : Bool) (room : ℕ) (bytes : List ℕ) (x y : List ℕ × List ℕ) → x ≡ y → NameTaken quoted behind room bytes x.0 x.1 → NameTaken quoted behind room bytes y.0 y.1
+that_name : (quoted behind : Bool) (room : ℕ) (bytes : List ℕ) (x y : List ℕ × List ℕ) → x ≡ y →
+    NameTaken quoted behind room bytes x.0 x.1 → NameTaken quoted behind room bytes y.0 y.1
 that_name quoted behind room bytes x y e h = subst (λ (z : List ℕ × List ℕ). NameTaken quoted behind room bytes z.0 z.1) e h
 
-pub name_bytes_take : (quoted : Bool) (first : ℕ) (behind : Bool) (room : ℕ) (bytes name rest : List ℕ) → name_bytes quoted first behind room bytes ≡ Ok (name, rest) → NameTaken quoted behind room bytes name rest
+pub name_bytes_take : (quoted : Bool) (first : ℕ) (behind : Bool) (room : ℕ) (bytes name rest : List ℕ) →
+    name_bytes quoted first behind room bytes ≡ Ok (name, rest) → NameTaken quoted behind room bytes name rest
 unfolding name_bytes
 name_bytes_take true first behind room [] name rest e = absurd (not_ok _ (name, rest) e)
 name_bytes_take false first true room [] name rest e = absurd (not_ok _ (name, rest) e)
-name_bytes_take false first false room [] name rest e = that_name false false room [] ([], []) (name, rest) (ok_is ([], []) (name, rest) e) (no_name false false room [] refl tt)
+name_bytes_take false first false room [] name rest e = that_name false false room [] ([], []) (name, rest) (ok_is ([], []) (name, rest) e)
+    (no_name false false room [] refl tt)
 name_bytes_take quoted first behind zero (b ∷ bytes) name rest e =
-    let go : NameByte → Result (List ℕ × List ℕ) LocalFault = λ n. elim n [ OfName ↦ fault_with_left kinds.Syntax first (b ∷ bytes) | Ends ↦ Ok ([], b ∷ bytes) | Wrong ↦ syntax (b ∷ bytes) ] in
+    let go : NameByte → Result (List ℕ × List ℕ) LocalFault =
+    λ n. elim n [ OfName ↦ fault_with_left kinds.Syntax first (b ∷ bytes) | Ends ↦ Ok ([], b ∷ bytes) | Wrong ↦ syntax (b ∷ bytes) ] in
     let P : (n : NameByte) → name_byte quoted behind b ≡ n → go n ≡ Ok (name, rest) → NameTaken quoted behind zero (b ∷ bytes) name rest =
     λ n. elim n as (λ n. name_byte quoted behind b ≡ n → go n ≡ Ok (name, rest) → NameTaken quoted behind zero (b ∷ bytes) name rest) [
       | OfName ↦ λ a h. absurd (not_ok _ (name, rest) h)
       | Ends ↦ λ a h.
           let w = ends_white quoted behind b bytes a in
-          that_name quoted behind zero (b ∷ bytes) ([], b ∷ bytes) (name, rest) (ok_is ([], b ∷ bytes) (name, rest) h) (no_name quoted behind zero (b ∷ bytes) w.0 w.1)
+          that_name quoted behind zero (b ∷ bytes) ([], b ∷ bytes) (name, rest) (ok_is ([], b ∷ bytes) (name, rest) h)
+          (no_name quoted behind zero (b ∷ bytes) w.0 w.1)
       | Wrong ↦ λ a h. absurd (not_ok _ (name, rest) h)
     ] in
     P (name_byte quoted behind b) refl e
 name_bytes_take quoted first behind (suc room) (b ∷ bytes) name rest e =
     let put : List ℕ × List ℕ → Result (List ℕ × List ℕ) LocalFault = λ x. Ok (b ∷ x.0, x.1) in
     let more : Result (List ℕ × List ℕ) LocalFault = name_bytes quoted first (not behind && b == 92) room bytes in
-    let go : NameByte → Result (List ℕ × List ℕ) LocalFault = λ n. elim n [ OfName ↦ more >>= put | Ends ↦ Ok ([], b ∷ bytes) | Wrong ↦ syntax (b ∷ bytes) ] in
-    let P : (n : NameByte) → name_byte quoted behind b ≡ n → go n ≡ Ok (name, rest) → NameTaken quoted behind (suc room) (b ∷ bytes) name rest =
-    λ n. elim n as (λ n. name_byte quoted behind b ≡ n → go n ≡ Ok (name, rest) → NameTaken quoted behind (suc room) (b ∷ bytes) name rest) [
+    let go : NameByte → Result (List ℕ × List ℕ) LocalFault =
+    λ n. elim n [ OfName ↦ more >>= put | Ends ↦ Ok ([], b ∷ bytes) | Wrong ↦ syntax (b ∷ bytes) ] in
+    let P : (n : NameByte) → name_byte quoted behind b ≡ n → go n ≡ Ok (name, rest) → NameTaken quoted behind (suc room)
+    (b ∷ bytes) name rest =
+    λ n. elim n as (λ n. name_byte quoted behind b ≡ n → go n ≡ Ok (name, rest)
+    → NameTaken quoted behind (suc room) (b ∷ bytes) name rest) [
       | OfName ↦ λ a h.
           let k = bind_ok more put (name, rest) h in
           that_name quoted behind (suc room) (b ∷ bytes) (b ∷ k.0.0, k.0.1) (name, rest) (ok_is (b ∷ k.0.0, k.0.1) (name, rest) k.2)
-          (more_name quoted behind room b bytes k.0.0 k.0.1 a (name_bytes_take quoted first (not behind && b == 92) room bytes k.0.0 k.0.1 k.1))
+          (more_name quoted behind room b bytes k.0.0 k.0.1 a
+          (name_bytes_take quoted first (not behind && b == 92) room bytes k.0.0 k.0.1 k.1))
       | Ends ↦ λ a h.
           let w = ends_white quoted behind b bytes a in
-          that_name quoted behind (suc room) (b ∷ bytes) ([], b ∷ bytes) (name, rest) (ok_is ([], b ∷ bytes) (name, rest) h) (no_name quoted behind (suc room) (b ∷ bytes) w.0 w.1)
+          that_name quoted behind (suc room) (b ∷ bytes) ([], b ∷ bytes) (name, rest) (ok_is ([], b ∷ bytes) (name, rest) h)
+          (no_name quoted behind (suc room) (b ∷ bytes) w.0 w.1)
       | Wrong ↦ λ a h. absurd (not_ok _ (name, rest) h)
     ] in
     P (name_byte quoted behind b) refl e

@@ -1,5 +1,6 @@
 -- A path's items and open groups as tokens, from one token to the next.
-use Rattle.std.proofs.Common.{◌≡◌, ◌+◌, ℕ, IsTrue, Bool, true, false, not, ◌&&◌, ◌==◌, List, [], ◌∷◌, ◌++◌, length, Vec, Global, refl, ap, ◌∙◌, append_assoc, append-nil, arith, if◌then◌else◌}
+use Rattle.std.proofs.Common.{◌≡◌, ◌+◌, ℕ, IsTrue, Bool, true, false, not, ◌&&◌, ◌==◌, List, [], ◌∷◌, ◌++◌, length, Vec, Global, refl, ap}
+use Rattle.std.proofs.Common.{◌∙◌, append_assoc, append-nil, arith, if◌then◌else◌}
 use Rattle.std.specs.List.{flat_map, list_all}
 use Rattle.std.proofs.lemmas.List.{length_push}
 use Rattle.std.proofs.lemmas.Bool.{ne_eqb, and_parts, and_from}
@@ -26,7 +27,8 @@ row_more (first ∷ others) last =
     row_step first last others ∙ ap (λ row. tokens_of first.items ++ (between ∷ row)) (row_more others last) ∙ simp append_assoc
 
 regroup : (groups before done last : List Token) →
-    groups ++ (before ++ ((opening ∷ ((done ++ last) ++ closing ∷ [])) ++ [])) ≡ ((groups ++ ((before ++ (opening ∷ done)) ++ [])) ++ last) ++ closing ∷ []
+    groups ++ (before ++ ((opening ∷ ((done ++ last) ++ closing ∷ [])) ++ [])) ≡ ((groups ++ ((before ++ (opening ∷ done)) ++ [])) ++ last)
+    ++ closing ∷ []
 regroup groups before done last = simp (append_assoc, append-nil)
 
 pub group_closes : (groups outer : List OpenGroup) (group : OpenGroup) (items before now : List Item) (last : Vec Item Global)
@@ -35,13 +37,17 @@ pub group_closes : (groups outer : List OpenGroup) (group : OpenGroup) (items be
     tokens_so_far outer now ≡ tokens_so_far groups items ++ closing ∷ []
 group_closes groups outer group items before now last alternatives eg el ea eb en =
     let left : tokens_of now ≡ tokens_of group.before.items ++ (tokens (v.Group alternatives) ++ []) =
-    ap tokens_of (en ∙ ap (λ x. x ++ v.Group alternatives ∷ []) eb) ∙ flat_map-append tokens group.before.items (v.Group alternatives ∷ []) in
-    let whole : tokens (v.Group alternatives) ≡ opening ∷ ((alternatives_tokens group.alternatives.items ++ tokens_of last.items) ++ closing ∷ []) =
-    tokens-Group alternatives ∙ ap (λ row. opening ∷ (row ++ closing ∷ [])) (ap alternatives_row ea ∙ row_more group.alternatives.items last) in
+    ap tokens_of (en ∙ ap (λ x. x ++ v.Group alternatives ∷ []) eb) ∙ flat_map-append tokens group.before.items
+    (v.Group alternatives ∷ []) in
+    let whole : tokens (v.Group alternatives) ≡ opening ∷ ((alternatives_tokens group.alternatives.items ++ tokens_of last.items)
+    ++ closing ∷ []) =
+    tokens-Group alternatives ∙ ap (λ row. opening ∷ (row ++ closing ∷ []))
+    (ap alternatives_row ea ∙ row_more group.alternatives.items last) in
     let right : flat_map group_tokens groups ≡ flat_map group_tokens outer ++ (group_tokens group ++ []) =
     ap (flat_map group_tokens) eg ∙ flat_map-append group_tokens outer (group ∷ []) in
     let same : tokens_of last.items ≡ tokens_of items = ap tokens_of el in
-    let regrouped = regroup (flat_map group_tokens outer) (tokens_of group.before.items) (alternatives_tokens group.alternatives.items) (tokens_of last.items) in
+    let regrouped = regroup (flat_map group_tokens outer) (tokens_of group.before.items) (alternatives_tokens group.alternatives.items)
+    (tokens_of last.items) in
     cc
 
 no_fewer : (n : ℕ) → not (n + 1 == 0) ≡ true
@@ -51,7 +57,8 @@ some_more : (done : List (Vec Item Global)) (last : Vec Item Global) → IsTrue 
     IsTrue (all_full last.items) → IsTrue (some_full (done ++ last ∷ []))
 some_more done last whole here =
     let all : list_all (λ items. all_full items.items) (done ++ last ∷ []) ≡ true =
-    list_all-append (λ items. all_full items.items) done (last ∷ []) ∙ and_from _ (all_full last.items && true) whole (and_from (all_full last.items) true here refl) in
+    list_all-append (λ items. all_full items.items) done (last ∷ []) ∙ and_from _ (all_full last.items && true) whole
+    (and_from (all_full last.items) true here refl) in
     and_from _ _ (rw length_push (no_fewer (length done))) all
 
 -- All is full with the group, or, where memory ran out, without it.
@@ -64,7 +71,8 @@ full_group outer items start now last alternatives pushed el ea eb en here =
     let group : is_full (v.Group alternatives) ≡ true =
     full-Group alternatives ∙ ap some_full ea ∙ some_more outer.alternatives.items last parts.1 (ap all_full el ∙ here) in
     let more : all_full (before ++ v.Group alternatives ∷ []) ≡ true =
-    list_all-append is_full before (v.Group alternatives ∷ []) ∙ and_from (all_full before) (is_full (v.Group alternatives) && true) parts.0
+    list_all-append is_full before (v.Group alternatives ∷ []) ∙ and_from (all_full before)
+    (is_full (v.Group alternatives) && true) parts.0
     (and_from (is_full (v.Group alternatives)) true group refl) in
     let P : Bool → Type 0 = λ b. now ≡ (if b then before ++ v.Group alternatives ∷ [] else before) → IsTrue (all_full now) in
     let go : P pushed = elim pushed as P [ true ↦ λ e. ap all_full e ∙ more | false ↦ λ e. ap all_full e ∙ parts.0 ] in

@@ -1,7 +1,8 @@
 -- The numbers by which faults of reading are reported.
 use Rattle.std.specs.Prelude.{ℕ, Option, Some, None}
 use Rattle.rule_reader.specs.declared.fault.ReadFault.{ReadFault}
-use Rattle.rule_reader.specs.declared.fault.ReadFault.TheVariants.{Syntax, LeftOut, Permission, EmptyPermissions, NotAbsolute, Class, Group, Depth, TooManyRules, TooManyItems, NoMemory}
+use Rattle.rule_reader.specs.declared.fault.ReadFault.TheVariants.{Syntax, LeftOut, Permission, EmptyPermissions, NotAbsolute, Class}
+use Rattle.rule_reader.specs.declared.fault.ReadFault.TheVariants.{Group, Depth, TooManyRules, TooManyItems, NoMemory}
 
 abbrev pub fault_number : ReadFault → ℕ
 fault_number (Syntax offset) = 1

@@ -1,11 +1,13 @@
 -- A fault as it is printed.
 use Rattle.std.specs.Prelude.{ℕ, List, ◌++◌, codes, decimal}
 use Rattle.rule_reader.specs.declared.fault.ReadFault.{ReadFault}
-use Rattle.rule_reader.specs.declared.fault.ReadFault.TheVariants.{Syntax, LeftOut, Permission, EmptyPermissions, NotAbsolute, Class, Group, Depth, TooManyRules, TooManyItems, NoMemory}
+use Rattle.rule_reader.specs.declared.fault.ReadFault.TheVariants.{Syntax, LeftOut, Permission, EmptyPermissions, NotAbsolute, Class}
+use Rattle.rule_reader.specs.declared.fault.ReadFault.TheVariants.{Group, Depth, TooManyRules, TooManyItems, NoMemory}
 
 abbrev pub fault_text : ReadFault → List ℕ
 fault_text (Syntax offset) = codes "syntax error at byte " ++ decimal offset
-fault_text (LeftOut offset len) = codes "not supported: the " ++ (decimal len ++ (codes " bytes from byte " ++ (decimal offset ++ codes " on")))
+fault_text (LeftOut offset len) = codes "not supported: the "
+    ++ (decimal len ++ (codes " bytes from byte " ++ (decimal offset ++ codes " on")))
 fault_text (Permission offset) = codes "no permissions at byte " ++ decimal offset
 fault_text (EmptyPermissions offset) = codes "permissions are missing at byte " ++ decimal offset
 fault_text (NotAbsolute offset) = codes "the path at byte " ++ (decimal offset ++ codes " isn't absolute")

@@ -5,7 +5,8 @@ use Rattle.names.specs.Permissions.{perms_of}
 use Rattle.verdicts.specs.declared.kind.RuleKind.{RuleKind}
 use Rattle.verdicts.specs.declared.kind.RuleKind.TheVariants.{Allow, Deny}
 use Rattle.rule_reader.specs.GrammarPaths.{WrittenPath, print_path, IsPath, path_means}
-use Rattle.rule_reader.specs.GrammarWords.{Piece, print_blank, IsBlank, IsGap, Stands, print_last, IsLast, WrittenName, print_name, name_means, IsWrittenName, IsNameCell, IsFirst, BeginsWithSlash}
+use Rattle.rule_reader.specs.GrammarWords.{Piece, print_blank, IsBlank, IsGap, Stands, print_last, IsLast, WrittenName, print_name}
+use Rattle.rule_reader.specs.GrammarWords.{name_means, IsWrittenName, IsNameCell, IsFirst, BeginsWithSlash}
 use Rattle.rule_globs.specs.Each.{Each}
 use Rattle.rule_profile.specs.Limits.{max_rules}
 use Rattle.rule_profile.specs.Profile.{RuleValue, ProfileValue}

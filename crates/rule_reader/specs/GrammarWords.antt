@@ -1,5 +1,6 @@
 -- The grammar of profile texts, as trees: cells, blanks and names; the bytes of each, and which are valid.
-use Rattle.std.specs.Prelude.{◌≡◌, ℕ, ◌≤◌, ◌<◌, List, [], ◌∷◌, ◌++◌, length, codes, Bool, true, false, not, ◌&&◌, ◌||◌, ◌==◌, if◌then◌else◌, Option, Some, None}
+use Rattle.std.specs.Prelude.{◌≡◌, ℕ, ◌≤◌, ◌<◌, List, [], ◌∷◌, ◌++◌, length, codes, Bool, true, false, not, ◌&&◌, ◌||◌, ◌==◌}
+use Rattle.std.specs.Prelude.{if◌then◌else◌, Option, Some, None}
 use Rattle.rule_globs.specs.Each.{Each}
 use Rattle.rule_profile.specs.Limits.{max_name}
 use Rattle.rule_reader.specs.TextBytes.{is_white, is_quote, is_include}

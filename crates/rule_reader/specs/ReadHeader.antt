@@ -27,7 +27,8 @@ begins_no_name b = is_open_brace b || is_close_brace b || is_comma b || is_hash 
 -- a name after the word profile; one that begins with a colon belongs to a namespace
 unfoldable pub name_at : List ℕ → Result (List ℕ × List ℕ) LocalFault
 name_at bytes =
-    if begins is_quote bytes then (if begins is_colon (drop 1 bytes) then fault_here (kinds.LeftOut 1) (drop 1 bytes) else quoted_name max_name (drop 1 bytes))
+    if begins is_quote bytes then (if begins is_colon (drop 1 bytes) then fault_here (kinds.LeftOut 1) (drop 1 bytes) else quoted_name
+    max_name (drop 1 bytes))
     else if begins is_colon bytes then fault_here (kinds.LeftOut 1) bytes
     else if begins begins_no_name bytes then syntax bytes
     else name_in false max_name bytes

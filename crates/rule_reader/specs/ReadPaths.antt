@@ -1,5 +1,6 @@
 -- Reading a rule's path (apparmor.d(5), "Globbing"), token by token.
-use Rattle.std.specs.Prelude.{ℕ, zero, suc, List, [], ◌∷◌, length, codes, Result, Ok, Bool, true, false, not, ◌&&◌, ◌||◌, ◌==◌, if◌then◌else◌, nat_le, drop, nat_eq}
+use Rattle.std.specs.Prelude.{ℕ, zero, suc, List, [], ◌∷◌, length, codes, Result, Ok, Bool, true, false, not, ◌&&◌, ◌||◌, ◌==◌}
+use Rattle.std.specs.Prelude.{if◌then◌else◌, nat_le, drop, nat_eq}
 use Rattle.std.specs.Char.{is_ascii_alphanumeric}
 use Rattle.std.specs.List.{starts_with}
 use Rattle.rule_reader.specs.declared.reading.local_fault.FaultKind.TheVariants as kinds
@@ -55,7 +56,11 @@ slash_or_end quoted depth bytes =
 unfoldable pub token_at : Bool → ℕ → Bool → List ℕ → Result (Token × List ℕ) LocalFault
 token_at quoted depth after_slash [] = syntax []
 token_at quoted depth after_slash (b ∷ bytes) =
-    if is_star b then Ok (stars (begins is_star bytes) (after_slash && slash_or_end quoted depth (after is_star bytes)), after is_star bytes)
+    if is_star b then Ok (
+      stars (begins is_star bytes) (after_slash && slash_or_end quoted depth (after is_star bytes)),
+      after
+          is_star bytes,
+    )
     else if b == 63 then Ok (any_byte, bytes)
     else if b == 91 then (class_at quoted (length (b ∷ bytes)) bytes >>= λ x. Ok (bracket x.0.0 x.0.1, x.1))
     else if is_open_brace b then Ok (opening, bytes)

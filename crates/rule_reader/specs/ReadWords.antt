@@ -1,5 +1,6 @@
 -- Reading the parts of a text below rules: blanks, words and names. Reading a part returns its value and the bytes after it.
-use Rattle.std.specs.Prelude.{ℕ, zero, suc, List, [], ◌∷◌, length, codes, Result, Ok, Bool, true, false, not, ◌&&◌, ◌||◌, ◌==◌, if◌then◌else◌}
+use Rattle.std.specs.Prelude.{ℕ, zero, suc, List, [], ◌∷◌, length, codes, Result, Ok, Bool, true, false, not, ◌&&◌, ◌||◌, ◌==◌}
+use Rattle.std.specs.Prelude.{if◌then◌else◌}
 use Rattle.std.specs.Str.{bytes_eq}
 use Rattle.rule_reader.specs.declared.reading.name.NameByte.{NameByte}
 use Rattle.rule_reader.specs.declared.reading.name.NameByte.TheVariants.{OfName, Ends, Wrong}

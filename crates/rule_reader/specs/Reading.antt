@@ -1,5 +1,6 @@
 -- Reading a text from left to right, to its end or to the first fault: rules, and the whole text.
-use Rattle.std.specs.Prelude.{ℕ, zero, suc, List, [], ◌∷◌, length, codes, Bool, Option, Some, None, Result, Ok, Err, ◌||◌, ◌==◌, if◌then◌else◌, drop}
+use Rattle.std.specs.Prelude.{ℕ, zero, suc, List, [], ◌∷◌, length, codes, Bool, Option, Some, None, Result, Ok, Err, ◌||◌, ◌==◌}
+use Rattle.std.specs.Prelude.{if◌then◌else◌, drop}
 use Rattle.std.specs.List.{list_all, list_any}
 use Rattle.names.specs.declared.permissions.Perms.{Perms}
 use Rattle.names.specs.Permissions.{perms_of}
@@ -55,7 +56,8 @@ qualifier_at bytes =
 unfoldable pub start_at : List ℕ → Result (Option (Perms × List ℕ)) LocalFault
 start_at bytes =
     if begins is_slash bytes || begins is_quote bytes then Ok None
-    else if length (word bytes) == 0 then (if begins (λ b. b == 64 || b == 94 || b == 36) bytes then fault_here (kinds.LeftOut 1) bytes else syntax bytes)
+    else if length (word bytes) == 0 then (if begins (λ b. b == 64 || b == 94 || b == 36) bytes then fault_here (kinds.LeftOut 1)
+    bytes else syntax bytes)
     else elim (perms_of (word bytes)) [ Some perms ↦ Ok (Some (perms, after_word bytes)) | None ↦ word_left_out bytes ]
 
 -- the comma that ends a rule

@@ -22,4 +22,5 @@ again tested p h = canonical_read p (tested h.0 p h.1)
 
 -- two profiles have two canonical texts, since a text has one profile
 pub canon_apart : Tested → HasOneProfile → (p q : ProfileValue) → CanBeRead p → CanBeRead q → canonical p ≡ canonical q → p ≡ q
-canon_apart tested one_profile p q h g e = one_profile (canonical p) p q (again tested p h) (subst (λ (x : List ℕ). ReadsAs x q) (sym e) (again tested q g))
+canon_apart tested one_profile p q h g e = one_profile (canonical p) p q (again tested p h)
+    (subst (λ (x : List ℕ). ReadsAs x q) (sym e) (again tested q g))

@@ -16,7 +16,8 @@ abbrev pub is_special : List ℕ → ℕ → Bool
 is_special special b = list_any (λ s. s == b) special
 
 -- what all special ones pass is passed by one of them
-pub special_passes : (test : ℕ → Bool) (special : List ℕ) (b : ℕ) → list_all test special ≡ true → is_special special b ≡ true → test b ≡ true
+pub special_passes : (test : ℕ → Bool) (special : List ℕ) (b : ℕ) → list_all test special ≡ true → is_special special b ≡ true →
+    test b ≡ true
 special_passes test [] b h e = absurd cc
 special_passes test (s ∷ special) b h e =
     let p = and_parts (test s) (list_all test special) h in
@@ -47,15 +48,18 @@ cell_among special b = cond (is_special special b) (escaped b) (plain b)
 
 pub print_cell_among : (special : List ℕ) (b : ℕ) → print_cell (cell_among special b) ≡ escaped_among special b
 print_cell_among special b =
-    elim (is_special special b) as (λ t. print_cell (cond t (escaped b) (plain b)) ≡ cond t (92 ∷ b ∷ []) (b ∷ [])) [ true ↦ refl | false ↦ refl ]
+    elim (is_special special b) as (λ t. print_cell (cond t (escaped b) (plain b)) ≡ cond t (92 ∷ b ∷ []) (b ∷ []))
+    [ true ↦ refl | false ↦ refl ]
 
 pub byte_of_cell : (special : List ℕ) (b : ℕ) → byte_of (cell_among special b) ≡ b
 byte_of_cell special b = elim (is_special special b) as (λ t. byte_of (cond t (escaped b) (plain b)) ≡ b) [ true ↦ refl | false ↦ refl ]
 
 -- a cell of either kind
-pub by_cell : (P : Cell → Type 0) (special : List ℕ) (b : ℕ) → (is_special special b ≡ true → P (escaped b)) → (is_special special b ≡ false → P (plain b)) → P (cell_among special b)
+pub by_cell : (P : Cell → Type 0) (special : List ℕ) (b : ℕ) → (is_special special b ≡ true → P (escaped b)) →
+    (is_special special b ≡ false → P (plain b)) → P (cell_among special b)
 by_cell P special b in_it not_in =
-    let Q : (t : Bool) → is_special special b ≡ t → P (cond t (escaped b) (plain b)) = λ t. elim t as (λ t. is_special special b ≡ t → P (cond t (escaped b) (plain b))) [ true ↦ in_it | false ↦ not_in ] in
+    let Q : (t : Bool) → is_special special b ≡ t → P (cond t (escaped b) (plain b)) =
+    λ t. elim t as (λ t. is_special special b ≡ t → P (cond t (escaped b) (plain b))) [ true ↦ in_it | false ↦ not_in ] in
     Q (is_special special b) refl
 
 -- ---- of a path
@@ -70,10 +74,12 @@ path_cell_valid depth next b h =
     (λ e.
     let c = stands b h in
     let n = none_of (codes "*?[{},\\\"@") b e in
-    rw (c.0, c.1, n.0, n.1.0, n.1.1.0, n.1.1.1.0, n.1.1.1.1.0, n.1.1.1.1.1.0, n.1.1.1.1.1.1.0, n.1.1.1.1.1.1.1.0, n.1.1.1.1.1.1.1.1.0) refl)
+    rw (c.0, c.1, n.0, n.1.0, n.1.1.0, n.1.1.1.0, n.1.1.1.1.0, n.1.1.1.1.1.0, n.1.1.1.1.1.1.0, n.1.1.1.1.1.1.1.0, n.1.1.1.1.1.1.1.1.0)
+    refl)
 
 -- no such cell begins with a star
-pub path_cell_no_star : (b : ℕ) (bytes : List ℕ) → (first : ℕ) × (rest : List ℕ) × (print_cell (path_cell b) ++ bytes ≡ first ∷ rest) × ((first == 42) ≡ false)
+pub path_cell_no_star : (b : ℕ) (bytes : List ℕ) → (first : ℕ) × (rest : List ℕ) × (print_cell (path_cell b) ++ bytes ≡ first ∷ rest)
+    × ((first == 42) ≡ false)
 path_cell_no_star b bytes =
     by_cell (λ c. (first : ℕ) × (rest : List ℕ) × (print_cell c ++ bytes ≡ first ∷ rest) × ((first == 42) ≡ false)) (codes "*?[{},\\\"@") b
     (λ e. (92, b ∷ bytes, refl, refl))
@@ -119,7 +125,8 @@ pub record NameCells (behind : Bool) (bytes : List ℕ) : Type 0 where
   pub prints : print_cells (name_cells behind bytes) ≡ backslash behind bytes
 
 -- the parts of the test of a name's bytes
-name_parts : (behind : Bool) (b : ℕ) (bytes : List ℕ) → are_name_bytes behind (b ∷ bytes) ≡ true → (can_stand b ≡ true) × ((behind || not (b == 34)) ≡ true) × (are_name_bytes (not behind && b == 92) bytes ≡ true)
+name_parts : (behind : Bool) (b : ℕ) (bytes : List ℕ) → are_name_bytes behind (b ∷ bytes) ≡ true → (can_stand b ≡ true)
+    × ((behind || not (b == 34)) ≡ true) × (are_name_bytes (not behind && b == 92) bytes ≡ true)
 name_parts behind b bytes h =
     let p = and_parts (can_stand b && (behind || not (b == 34))) (are_name_bytes (not behind && b == 92) bytes) h in
     let q = and_parts (can_stand b) (behind || not (b == 34)) p.0 in
@@ -135,9 +142,11 @@ name_cells_are true (b ∷ bytes) h =
 name_cells_are false (b ∷ bytes) h =
     let p = name_parts false b bytes h in
     let after : (t : Bool) → (b == 92) ≡ t → are_name_bytes t bytes ≡ true = λ t e. subst (λ t. are_name_bytes t bytes ≡ true) e p.2 in
-    let G : Bool → Type 0 = λ t. Each (IsNameCell true) (cond t (name_cells true bytes) (plain b ∷ name_cells false bytes)) × (print_cells (cond t (name_cells true bytes) (plain b ∷ name_cells false bytes)) ≡ b ∷ bytes) in
+    let G : Bool → Type 0 = λ t. Each (IsNameCell true) (cond t (name_cells true bytes) (plain b ∷ name_cells false bytes))
+    × (print_cells (cond t (name_cells true bytes) (plain b ∷ name_cells false bytes)) ≡ b ∷ bytes) in
     let P : (t : Bool) → (b == 92) ≡ t → G t = λ t. elim t as (λ t. (b == 92) ≡ t → G t) [
-      | true ↦ λ e. let more = name_cells_are true bytes (after true e) in (more.valid, more.prints ∙ ap (λ (x : ℕ). x ∷ bytes) (sym (eqb-true b 92 e)))
+      | true ↦ λ e. let more = name_cells_are true bytes (after true e) in
+          (more.valid, more.prints ∙ ap (λ (x : ℕ). x ∷ bytes) (sym (eqb-true b 92 e)))
       | false ↦ λ e.
           let more = name_cells_are false bytes (after false e) in
           let c = stands b p.0 in

@@ -1,5 +1,6 @@
 -- The members of a class in a canonical text.
-use Rattle.std.proofs.Common.{◌≡◌, ℕ, ◌≤◌, Bool, true, false, cond, ltb, leb, List, [], ◌∷◌, ◌++◌, length, Option, Some, refl, sym, ap, subst, ◌∙◌, append_assoc, ◌==◌, arith}
+use Rattle.std.proofs.Common.{◌≡◌, ℕ, ◌≤◌, Bool, true, false, cond, ltb, leb, List, [], ◌∷◌, ◌++◌, length, Option, Some, refl, sym, ap}
+use Rattle.std.proofs.Common.{subst, ◌∙◌, append_assoc, ◌==◌, arith}
 use Rattle.std.specs.Prelude.{◌&&◌, ◌||◌, not, codes, option_map}
 use Rattle.std.specs.List.{list_all, flat_map}
 use Rattle.std.proofs.lemmas.Bool.{eqb-true, and_parts, leb-true, le-ltb, not-true}
@@ -11,7 +12,8 @@ use Rattle.rule_globs.specs.Each.{Each}
 use Rattle.rule_profile.specs.Readable.{can_stand, is_range}
 use Rattle.rule_globs.specs.Tokens.{bracket}
 use Rattle.rule_globs.specs.declared.items.ByteRange.{ByteRange}
-use Rattle.rule_writer.proofs.CanonCells.{class_cell, class_cell_valid, class_cell_no_dash, class_cell_no_caret, print_cell_among, byte_of_cell}
+use Rattle.rule_writer.proofs.CanonCells.{class_cell, class_cell_valid, class_cell_no_dash, class_cell_no_caret, print_cell_among}
+use Rattle.rule_writer.proofs.CanonCells.{byte_of_cell}
 
 -- a range in front of other members
 abbrev pub with_range : ByteRange → List Cell → List Cell
@@ -27,8 +29,10 @@ range_prints : (r : ByteRange) (cells : List Cell) → print_cells (with_range r
 range_prints r cells =
     let first : print_cell (class_cell r.first) ≡ escaped_among (codes "\\]^-\"") r.first = print_cell_among (codes "\\]^-\"") r.first in
     let last : print_cell (class_cell r.last) ≡ escaped_among (codes "\\]^-\"") r.last = print_cell_among (codes "\\]^-\"") r.last in
-    elim (r.first == r.last) as (λ t. print_cells (cond t (class_cell r.first ∷ cells) (class_cell r.first ∷ plain 45 ∷ class_cell r.last ∷ cells))
-    ≡ cond t (escaped_among (codes "\\]^-\"") r.first) (escaped_among (codes "\\]^-\"") r.first ++ (codes "-" ++ escaped_among (codes "\\]^-\"") r.last)) ++ print_cells cells) [
+    elim (r.first == r.last) as
+    (λ t. print_cells (cond t (class_cell r.first ∷ cells) (class_cell r.first ∷ plain 45 ∷ class_cell r.last ∷ cells))
+    ≡ cond t (escaped_among (codes "\\]^-\"") r.first) (escaped_among (codes "\\]^-\"") r.first
+    ++ (codes "-" ++ escaped_among (codes "\\]^-\"") r.last)) ++ print_cells cells) [
       | true ↦ ap (λ (x : List ℕ). x ++ print_cells cells) first
       | false ↦ ap (λ (x : List ℕ). x ++ (45 ∷ (print_cell (class_cell r.last) ++ print_cells cells))) first
           ∙ ap (λ (x : List ℕ). escaped_among (codes "\\]^-\"") r.first ++ (45 ∷ (x ++ print_cells cells))) last
@@ -53,7 +57,9 @@ class_cells_valid (r ∷ ranges) h =
     let p = and_parts (is_range r) (list_all is_range ranges) h in
     let q = range_parts r p.0 in
     let more = class_cells_valid ranges p.1 in
-    elim (r.first == r.last) as (λ t. Each (IsClassCell true) (cond t (class_cell r.first ∷ class_cells ranges) (class_cell r.first ∷ plain 45 ∷ class_cell r.last ∷ class_cells ranges))) [
+    elim (r.first == r.last) as
+    (λ t. Each (IsClassCell true) (cond t (class_cell r.first ∷ class_cells ranges)
+    (class_cell r.first ∷ plain 45 ∷ class_cell r.last ∷ class_cells ranges))) [
       | true ↦ (class_cell_valid r.first q.0, more)
       | false ↦ (class_cell_valid r.first q.0, (refl, (class_cell_valid r.last q.1, more)))
     ]
@@ -62,44 +68,58 @@ class_cells_valid (r ∷ ranges) h =
 pub class_cells_begun : (negated : Bool) (ranges : List ByteRange) → (length ranges == 0) ≡ false → IsBegun negated (class_cells ranges)
 class_cells_begun negated [] h = absurd cc
 class_cells_begun negated (r ∷ ranges) h =
-    let first : (negated || not (is_plain 94 (class_cell r.first))) ≡ true = rw (class_cell_no_caret r.first) (elim negated as (λ t. (t || true) ≡ true) [ true ↦ refl | false ↦ refl ]) in
-    elim (r.first == r.last) as (λ t. IsBegun negated (cond t (class_cell r.first ∷ class_cells ranges) (class_cell r.first ∷ plain 45 ∷ class_cell r.last ∷ class_cells ranges))) [ true ↦ first | false ↦ first ]
+    let first : (negated || not (is_plain 94 (class_cell r.first))) ≡ true = rw (class_cell_no_caret r.first)
+    (elim negated as (λ t. (t || true) ≡ true) [ true ↦ refl | false ↦ refl ]) in
+    elim (r.first == r.last) as
+    (λ t. IsBegun negated (cond t (class_cell r.first ∷ class_cells ranges)
+    (class_cell r.first ∷ plain 45 ∷ class_cell r.last ∷ class_cells ranges))) [ true ↦ first | false ↦ first ]
 
 -- ---- they stand for the ranges
 
 -- a member before one that is no dash by itself
-member_first : (apart : Bool) (c d : Cell) (cells : List Cell) (ranges : List ByteRange) → is_plain 45 d ≡ false → members false (d ∷ cells) ≡ Some ranges → members apart (c ∷ d ∷ cells) ≡ Some (single (byte_of c) ∷ ranges)
+member_first : (apart : Bool) (c d : Cell) (cells : List Cell) (ranges : List ByteRange) → is_plain 45 d ≡ false →
+    members false (d ∷ cells) ≡ Some ranges → members apart (c ∷ d ∷ cells) ≡ Some (single (byte_of c) ∷ ranges)
 unfolding members
 member_first apart c d [] ranges h e = ap (λ (o : Option (List ByteRange)). option_map (λ others. single (byte_of c) ∷ others) o) e
 member_first apart c d (f ∷ cells) ranges h e =
-    let one : (((apart && is_plain 45 c) || not (is_plain 45 d)) ≡ true) = rw h (elim (apart && is_plain 45 c) as (λ t. (t || true) ≡ true) [ true ↦ refl | false ↦ refl ]) in
+    let one : (((apart && is_plain 45 c) || not (is_plain 45 d)) ≡ true) =
+    rw h (elim (apart && is_plain 45 c) as (λ t. (t || true) ≡ true) [ true ↦ refl | false ↦ refl ]) in
     rw one (ap (λ (o : Option (List ByteRange)). option_map (λ others. single (byte_of c) ∷ others) o) e)
 
 -- a range of two before others
-range_first : (apart : Bool) (c e : Cell) (cells : List Cell) (ranges : List ByteRange) → is_plain 45 c ≡ false → is_plain 45 e ≡ false → byte_of c ≤ byte_of e → members true cells ≡ Some ranges
+range_first : (apart : Bool) (c e : Cell) (cells : List Cell) (ranges : List ByteRange) → is_plain 45 c ≡ false → is_plain 45 e ≡ false →
+    byte_of c ≤ byte_of e → members true cells ≡ Some ranges
     → members apart (c ∷ plain 45 ∷ e ∷ cells) ≡ Some (range (byte_of c) (byte_of e) ∷ ranges)
 unfolding members
 range_first apart c e cells ranges h g l m =
-    let one : ((apart && is_plain 45 c) || false) ≡ false = rw h (elim apart as (λ t. ((t && false) || false) ≡ false) [ true ↦ refl | false ↦ refl ]) in
+    let one : ((apart && is_plain 45 c) || false) ≡ false =
+    rw h (elim apart as (λ t. ((t && false) || false) ≡ false) [ true ↦ refl | false ↦ refl ]) in
     let two : ltb (byte_of e) (byte_of c) ≡ false = le-ltb (byte_of e) (byte_of c) l in
     rw (one, g, two) (ap (λ (o : Option (List ByteRange)). option_map (λ others. range (byte_of c) (byte_of e) ∷ others) o) m)
 
 -- members that begin with one that is no dash are the same directly after a range
-class_cell_first : (b : ℕ) (ranges : List ByteRange) (cells : List Cell) (others : List ByteRange) (apart : Bool) → cells ≡ class_cells ranges → members false cells ≡ Some others
+class_cell_first : (b : ℕ) (ranges : List ByteRange) (cells : List Cell) (others : List ByteRange) (apart : Bool) →
+    cells ≡ class_cells ranges → members false cells ≡ Some others
     → members apart (class_cell b ∷ cells) ≡ Some (single (byte_of (class_cell b)) ∷ others)
 unfolding members
 class_cell_first b [] cells others apart e h =
     let empty : members false [] ≡ Some others = subst (λ (x : List Cell). members false x ≡ Some others) e h in
     rw e (ap (λ (o : Option (List ByteRange)). option_map (λ others. single (byte_of (class_cell b)) ∷ others) o) empty)
 class_cell_first b (r ∷ ranges) cells others apart e h =
-    let G : List Cell → Type 0 = λ x. members false x ≡ Some others → members apart (class_cell b ∷ x) ≡ Some (single (byte_of (class_cell b)) ∷ others) in
-    let at : G (with_range r (class_cells ranges)) = elim (r.first == r.last) as (λ t. G (cond t (class_cell r.first ∷ class_cells ranges) (class_cell r.first ∷ plain 45 ∷ class_cell r.last ∷ class_cells ranges))) [
+    let G : List Cell → Type 0 = λ x. members false x ≡ Some others → members apart (class_cell b ∷ x)
+    ≡ Some (single (byte_of (class_cell b)) ∷ others) in
+    let at : G (with_range r (class_cells ranges)) =
+    elim (r.first == r.last) as
+    (λ t. G (cond t (class_cell r.first ∷ class_cells ranges)
+    (class_cell r.first ∷ plain 45 ∷ class_cell r.last ∷ class_cells ranges))) [
       | true ↦ member_first apart (class_cell b) (class_cell r.first) (class_cells ranges) others (class_cell_no_dash r.first)
-      | false ↦ member_first apart (class_cell b) (class_cell r.first) (plain 45 ∷ class_cell r.last ∷ class_cells ranges) others (class_cell_no_dash r.first)
+      | false ↦ member_first apart (class_cell b) (class_cell r.first) (plain 45 ∷ class_cell r.last ∷ class_cells ranges) others
+          (class_cell_no_dash r.first)
     ] in
     subst G (sym e) at h
 
-pub class_cells_mean : (apart : Bool) (ranges : List ByteRange) → list_all is_range ranges ≡ true → members apart (class_cells ranges) ≡ Some ranges
+pub class_cells_mean : (apart : Bool) (ranges : List ByteRange) → list_all is_range ranges ≡ true →
+    members apart (class_cells ranges) ≡ Some ranges
 unfolding members
 class_cells_mean apart [] h = refl
 class_cells_mean apart (r ∷ ranges) h =
@@ -107,12 +127,15 @@ class_cells_mean apart (r ∷ ranges) h =
     let q = range_parts r p.0 in
     let first : byte_of (class_cell r.first) ≡ r.first = byte_of_cell (codes "\\]^-\"") r.first in
     let last : byte_of (class_cell r.last) ≡ r.last = byte_of_cell (codes "\\]^-\"") r.last in
-    let G : Bool → Type 0 = λ t. members apart (cond t (class_cell r.first ∷ class_cells ranges) (class_cell r.first ∷ plain 45 ∷ class_cell r.last ∷ class_cells ranges)) ≡ Some (r ∷ ranges) in
+    let G : Bool → Type 0 =
+    λ t. members apart (cond t (class_cell r.first ∷ class_cells ranges)
+    (class_cell r.first ∷ plain 45 ∷ class_cell r.last ∷ class_cells ranges)) ≡ Some (r ∷ ranges) in
     let P : (t : Bool) → (r.first == r.last) ≡ t → G t = λ t. elim t as (λ t. (r.first == r.last) ≡ t → G t) [
       | true ↦ λ e. class_cell_first r.first ranges (class_cells ranges) ranges apart refl (class_cells_mean false ranges p.1)
           ∙ ap (λ (x : ℕ). Some (range x x ∷ ranges)) first
           ∙ ap (λ (x : ℕ). Some (range r.first x ∷ ranges)) (eqb-true r.first r.last e)
-      | false ↦ λ e. range_first apart (class_cell r.first) (class_cell r.last) (class_cells ranges) ranges (class_cell_no_dash r.first) (class_cell_no_dash r.last) (omega (arith, first, last, q.2)) (class_cells_mean true ranges p.1)
+      | false ↦ λ e. range_first apart (class_cell r.first) (class_cell r.last) (class_cells ranges) ranges (class_cell_no_dash r.first)
+          (class_cell_no_dash r.last) (omega (arith, first, last, q.2)) (class_cells_mean true ranges p.1)
           ∙ ap (λ (x : ℕ). Some (range x (byte_of (class_cell r.last)) ∷ ranges)) first
           ∙ ap (λ (x : ℕ). Some (range r.first x ∷ ranges)) last
     ] in
@@ -123,7 +146,8 @@ class_cells_mean apart (r ∷ ranges) h =
 abbrev pub canonical_class : Bool → List ByteRange → WrittenClass
 canonical_class negated ranges = record { negated = negated; cells = class_cells ranges; ranges = ranges }
 
-pub canonical_class_valid : (negated : Bool) (ranges : List ByteRange) → (not (length ranges == 0) && list_all is_range ranges) ≡ true → IsClass true (canonical_class negated ranges)
+pub canonical_class_valid : (negated : Bool) (ranges : List ByteRange) → (not (length ranges == 0) && list_all is_range ranges) ≡ true →
+    IsClass true (canonical_class negated ranges)
 canonical_class_valid negated ranges h =
     let p = and_parts (not (length ranges == 0)) (list_all is_range ranges) h in
     record {
@@ -132,6 +156,7 @@ canonical_class_valid negated ranges h =
       ranges = class_cells_mean true ranges p.1;
     }
 
-pub canonical_class_prints : (negated : Bool) (ranges : List ByteRange) → print_class (canonical_class negated ranges) ≡ token_text (bracket negated ranges)
+pub canonical_class_prints : (negated : Bool) (ranges : List ByteRange) → print_class (canonical_class negated ranges)
+    ≡ token_text (bracket negated ranges)
 canonical_class_prints true ranges = ap (λ (x : List ℕ). 91 ∷ 94 ∷ (x ++ codes "]")) (class_cells_print ranges)
 canonical_class_prints false ranges = ap (λ (x : List ℕ). 91 ∷ (x ++ codes "]")) (class_cells_print ranges)

@@ -6,7 +6,9 @@ use Rattle.std.specs.List.{flat_map}
 use Rattle.std.proofs.lemmas.Bool.{eqb-true, and_parts, leb-true, ltb-true, not-true}
 use Rattle.rule_writer.specs.Canonical.{token_text}
 use Rattle.rule_globs.specs.Glob.{is_slash}
-use Rattle.rule_reader.specs.GrammarPaths.{WrittenItem, cell, question, star, two_stars, class, open_brace, comma, close_brace, print_item, print_items, first_byte, next_is, IsItem, depth_behind_item, AreItems, is_plain_slash_item, slash_or_end_behind_item, item_means, items_mean, WrittenPath, IsAbsolute, IsPath, path_means}
+use Rattle.rule_reader.specs.GrammarPaths.{WrittenItem, cell, question, star, two_stars, class, open_brace, comma, close_brace, print_item}
+use Rattle.rule_reader.specs.GrammarPaths.{print_items, first_byte, next_is, IsItem, depth_behind_item, AreItems, is_plain_slash_item}
+use Rattle.rule_reader.specs.GrammarPaths.{slash_or_end_behind_item, item_means, items_mean, WrittenPath, IsAbsolute, IsPath, path_means}
 use Rattle.rule_profile.specs.Readable as readable
 use Rattle.rule_reader.specs.TextBytes.{is_star}
 use Rattle.rule_globs.specs.Tokens.{Token, byte, any_byte, bracket, stars, opening, between, closing}
@@ -37,7 +39,8 @@ item_prints closing = refl
 
 pub items_print : (tokens : List Token) → print_items (map canonical_item tokens) ≡ flat_map token_text tokens
 items_print [] = refl
-items_print (t ∷ tokens) = ap (λ (x : List ℕ). x ++ print_items (map canonical_item tokens)) (item_prints t) ∙ ap (λ (x : List ℕ). token_text t ++ x) (items_print tokens)
+items_print (t ∷ tokens) = ap (λ (x : List ℕ). x ++ print_items (map canonical_item tokens)) (item_prints t)
+    ∙ ap (λ (x : List ℕ). token_text t ++ x) (items_print tokens)
 
 -- ---- what they stand for
 
@@ -56,7 +59,8 @@ same_behind [] = refl
 same_behind (t ∷ tokens) = same_slash t
 
 -- a run's mark is right
-run_mark : (after_slash : Bool) (depth : ℕ) (behind : List Token) (crosses strict : Bool) → readable.is_token after_slash depth behind (stars crosses strict) ≡ true
+run_mark : (after_slash : Bool) (depth : ℕ) (behind : List Token) (crosses strict : Bool) → readable.is_token after_slash depth behind
+    (stars crosses strict) ≡ true
     → (readable.begins_with_run behind ≡ false) × ((after_slash && slash_or_end_behind behind) ≡ strict)
 run_mark after_slash depth behind crosses true h =
     let p = and_parts (not (readable.begins_with_run behind) && after_slash) (slash_or_end_behind behind) h in
@@ -77,10 +81,12 @@ item_stands after_slash depth behind opening h = refl
 item_stands after_slash depth behind between h = refl
 item_stands after_slash depth behind closing h = refl
 
-pub items_stand : (after_slash : Bool) (depth : ℕ) (tokens : List Token) → readable.are_tokens after_slash depth tokens ≡ true → items_mean after_slash (map canonical_item tokens) ≡ tokens
+pub items_stand : (after_slash : Bool) (depth : ℕ) (tokens : List Token) → readable.are_tokens after_slash depth tokens ≡ true →
+    items_mean after_slash (map canonical_item tokens) ≡ tokens
 items_stand after_slash depth [] h = refl
 items_stand after_slash depth (t ∷ tokens) h =
-    let p = and_parts (readable.is_token after_slash depth tokens t) (readable.are_tokens (is_plain_slash t) (depth_behind t depth) tokens) h in
+    let p = and_parts (readable.is_token after_slash depth tokens t) (readable.are_tokens (is_plain_slash t) (depth_behind t depth) tokens)
+    h in
     let first : item_means (after_slash && slash_or_end_behind_item (map canonical_item tokens)) (canonical_item t) ≡ t =
     ap (λ s. item_means (after_slash && s) (canonical_item t)) (same_behind tokens) ∙ item_stands after_slash depth tokens t p.0 in
     let more : items_mean (is_plain_slash_item (canonical_item t)) (map canonical_item tokens) ≡ tokens =
@@ -90,7 +96,8 @@ items_stand after_slash depth (t ∷ tokens) h =
 -- ---- they are valid
 
 -- no star stands where no run begins
-no_star : (tokens : List Token) → readable.begins_with_run tokens ≡ false → next_is is_star (first_byte (print_items (map canonical_item tokens))) ≡ false
+no_star : (tokens : List Token) → readable.begins_with_run tokens ≡ false →
+    next_is is_star (first_byte (print_items (map canonical_item tokens))) ≡ false
 no_star [] h = refl
 no_star (byte b ∷ tokens) h =
     let p = path_cell_no_star b (print_items (map canonical_item tokens)) in
@@ -123,11 +130,16 @@ same_depth opening depth = refl
 same_depth between depth = refl
 same_depth closing depth = refl
 
-pub items_valid : (after_slash : Bool) (depth : ℕ) (tokens : List Token) → readable.are_tokens after_slash depth tokens ≡ true → AreItems true depth (map canonical_item tokens)
+pub items_valid : (after_slash : Bool) (depth : ℕ) (tokens : List Token) → readable.are_tokens after_slash depth tokens ≡ true →
+    AreItems true depth (map canonical_item tokens)
 items_valid after_slash depth [] h = eqb-true depth 0 h
 items_valid after_slash depth (t ∷ tokens) h =
-    let p = and_parts (readable.is_token after_slash depth tokens t) (readable.are_tokens (is_plain_slash t) (depth_behind t depth) tokens) h in
-    (item_valid after_slash depth tokens t p.0, subst (λ d. AreItems true d (map canonical_item tokens)) (sym (same_depth t depth)) (items_valid (is_plain_slash t) (depth_behind t depth) tokens p.1))
+    let p = and_parts (readable.is_token after_slash depth tokens t) (readable.are_tokens (is_plain_slash t) (depth_behind t depth) tokens)
+    h in (
+      item_valid after_slash depth tokens t p.0,
+      subst (λ d. AreItems true d (map canonical_item tokens)) (sym (same_depth t depth))
+          (items_valid (is_plain_slash t) (depth_behind t depth) tokens p.1),
+    )
 
 -- ---- the path
 
@@ -145,7 +157,8 @@ absolute (between ∷ tokens) h = absurd cc
 absolute (closing ∷ tokens) h = absurd cc
 
 -- the parts of the test of a path
-pub path_parts : (tokens : List Token) → readable.is_path tokens ≡ true → (readable.begins_with_slash tokens ≡ true) × (length tokens ≤ 1024) × (readable.are_tokens false 0 tokens ≡ true)
+pub path_parts : (tokens : List Token) → readable.is_path tokens ≡ true → (readable.begins_with_slash tokens ≡ true)
+    × (length tokens ≤ 1024) × (readable.are_tokens false 0 tokens ≡ true)
 path_parts tokens h =
     let p = and_parts (readable.begins_with_slash tokens && leb (length tokens) 1024) (readable.are_tokens false 0 tokens) h in
     let q = and_parts (readable.begins_with_slash tokens) (leb (length tokens) 1024) p.0 in

@@ -15,15 +15,19 @@ use Rattle.rule_writer.proofs.CanonItems.{canonical_item, items_print}
 use Rattle.rule_writer.proofs.CanonTexts.{canonical_kind, canonical_rule, canonical_rule_valid, canonical_rule_means}
 
 -- a rule's parts, regrouped
-parts : (items letters : List ℕ) → (34 ∷ (items ++ 34 ∷ []) ++ (32 ∷ letters)) ++ 44 ∷ [] ≡ 34 ∷ (items ++ (34 ∷ 32 ∷ (letters ++ 44 ∷ [])))
+parts : (items letters : List ℕ) → (34 ∷ (items ++ 34 ∷ []) ++ (32 ∷ letters)) ++ 44 ∷ []
+    ≡ 34 ∷ (items ++ (34 ∷ 32 ∷ (letters ++ 44 ∷ [])))
 parts items letters = simp append_assoc
 
 text_prints : (r : RuleValue) → print_rule (canonical_rule r []) ≡ rule_text r
 text_prints r =
     let items : print_items (map canonical_item r.items) ≡ flat_map token_text r.items = items_print r.items in
-    let body : (34 ∷ (print_items (map canonical_item r.items) ++ 34 ∷ []) ++ (32 ∷ letters r.perms)) ++ 44 ∷ [] ≡ 34 ∷ (flat_map token_text r.items ++ (34 ∷ 32 ∷ (letters r.perms ++ 44 ∷ []))) =
-    parts (print_items (map canonical_item r.items)) (letters r.perms) ∙ ap (λ (x : List ℕ). 34 ∷ (x ++ (34 ∷ 32 ∷ (letters r.perms ++ 44 ∷ [])))) items in
-    elim r.kind as (λ k. print_qualifier (canonical_kind k) ++ ((34 ∷ (print_items (map canonical_item r.items) ++ 34 ∷ []) ++ (32 ∷ letters r.perms)) ++ 44 ∷ [])
+    let body : (34 ∷ (print_items (map canonical_item r.items) ++ 34 ∷ []) ++ (32 ∷ letters r.perms)) ++ 44 ∷ []
+    ≡ 34 ∷ (flat_map token_text r.items ++ (34 ∷ 32 ∷ (letters r.perms ++ 44 ∷ []))) =
+    parts (print_items (map canonical_item r.items)) (letters r.perms)
+    ∙ ap (λ (x : List ℕ). 34 ∷ (x ++ (34 ∷ 32 ∷ (letters r.perms ++ 44 ∷ [])))) items in
+    elim r.kind as (λ k. print_qualifier (canonical_kind k)
+    ++ ((34 ∷ (print_items (map canonical_item r.items) ++ 34 ∷ []) ++ (32 ∷ letters r.perms)) ++ 44 ∷ [])
     ≡ qualifier_text k ++ (34 ∷ (flat_map token_text r.items ++ (34 ∷ 32 ∷ (letters r.perms ++ 44 ∷ []))))) [
       | Allow ↦ body
       | Deny ↦ ap (λ (x : List ℕ). codes "deny " ++ x) body
@@ -36,7 +40,8 @@ text_again r more h =
     ∙ rule_again (canonical_rule r []) [] more (canonical_rule_valid [] r [] h)
     ∙ ap (λ (x : RuleValue). Ok (x, more)) (canonical_rule_means r [] h)
 
-line_parts : (items letters : List ℕ) → (34 ∷ (items ++ (34 ∷ 32 ∷ (letters ++ 44 ∷ [])))) ++ 10 ∷ [] ≡ 34 ∷ (items ++ (34 ∷ 32 ∷ (letters ++ 44 ∷ 10 ∷ [])))
+line_parts : (items letters : List ℕ) → (34 ∷ (items ++ (34 ∷ 32 ∷ (letters ++ 44 ∷ [])))) ++ 10 ∷ []
+    ≡ 34 ∷ (items ++ (34 ∷ 32 ∷ (letters ++ 44 ∷ 10 ∷ [])))
 line_parts items letters = simp append_assoc
 
 -- two spaces, a rule's text and LF are its line
@@ -44,7 +49,8 @@ pub line_of_text : (r : RuleValue) → rule_line r ≡ codes "  " ++ (rule_text 
 line_of_text r =
     let items : List ℕ = flat_map token_text r.items in
     let p = line_parts items (letters r.perms) in
-    elim r.kind as (λ k. kind_text k ++ (34 ∷ (items ++ (34 ∷ 32 ∷ (letters r.perms ++ 44 ∷ 10 ∷ [])))) ≡ codes "  " ++ ((qualifier_text k ++ (34 ∷ (items ++ (34 ∷ 32 ∷ (letters r.perms ++ 44 ∷ []))))) ++ 10 ∷ [])) [
+    elim r.kind as (λ k. kind_text k ++ (34 ∷ (items ++ (34 ∷ 32 ∷ (letters r.perms ++ 44 ∷ 10 ∷ [])))) ≡ codes "  "
+    ++ ((qualifier_text k ++ (34 ∷ (items ++ (34 ∷ 32 ∷ (letters r.perms ++ 44 ∷ []))))) ++ 10 ∷ [])) [
       | Allow ↦ ap (λ (x : List ℕ). 32 ∷ 32 ∷ x) (sym p)
       | Deny ↦ ap (λ (x : List ℕ). codes "  deny " ++ x) (sym p)
     ]

@@ -1,5 +1,6 @@
 -- The canonical text of a profile that passes the test is written in the grammar, and means that profile.
-use Rattle.std.proofs.Common.{◌≡◌, ℕ, suc, ◌<◌, ◌≤◌, Bool, true, false, cond, leb, List, [], ◌∷◌, ◌++◌, length, map, filter, Some, None, refl, sym, ap, subst, ◌∙◌, append_assoc, ◌==◌, arith}
+use Rattle.std.proofs.Common.{◌≡◌, ℕ, suc, ◌<◌, ◌≤◌, Bool, true, false, cond, leb, List, [], ◌∷◌, ◌++◌, length, map, filter, Some, None}
+use Rattle.std.proofs.Common.{refl, sym, ap, subst, ◌∙◌, append_assoc, ◌==◌, arith}
 use Rattle.std.specs.Prelude.{◌&&◌, ◌||◌, not, codes}
 use Rattle.std.specs.List.{list_all, list_any, flat_map}
 use Rattle.std.proofs.lemmas.Bool.{and_parts, leb-true, not-true}
@@ -7,9 +8,12 @@ use Rattle.names.specs.declared.permissions.Permission.{Permission}
 use Rattle.names.specs.declared.permissions.Perms.{Perms}
 use Rattle.names.specs.Permissions.{letter, has, letters, perms_of, all_permissions}
 use Rattle.rule_writer.specs.Canonical.{token_text, kind_text, rule_line, canonical}
-use Rattle.rule_reader.specs.Grammar.{Qualifier, none, deny, print_qualifier, IsQualifier, kind_of, IsWord, WrittenRule, print_rule, IsRule, rule_means, print_rules, AreRules, rules_mean, behind_rule, named, WrittenText, print_text, IsText, text_means, ReadsAs}
+use Rattle.rule_reader.specs.Grammar.{Qualifier, none, deny, print_qualifier, IsQualifier, kind_of, IsWord, WrittenRule, print_rule}
+use Rattle.rule_reader.specs.Grammar.{IsRule, rule_means, print_rules, AreRules, rules_mean, behind_rule, named, WrittenText, print_text}
+use Rattle.rule_reader.specs.Grammar.{IsText, text_means, ReadsAs}
 use Rattle.rule_reader.specs.GrammarPaths.{print_items, path_means}
-use Rattle.rule_reader.specs.GrammarWords.{Piece, white, print_blank, IsBlank, Cell, plain, escaped, print_cells, WrittenName, IsWrittenName, IsFirst}
+use Rattle.rule_reader.specs.GrammarWords.{Piece, white, print_blank, IsBlank, Cell, plain, escaped, print_cells, WrittenName}
+use Rattle.rule_reader.specs.GrammarWords.{IsWrittenName, IsFirst}
 use Rattle.rule_profile.specs.Profile.{RuleValue, ProfileValue}
 use Rattle.rule_profile.specs.Readable.{are_name_bytes, is_name, is_path, is_rule, is_profile}
 use Rattle.verdicts.specs.declared.kind.RuleKind.{RuleKind}
@@ -22,7 +26,8 @@ use Rattle.rule_writer.proofs.CanonItems.{canonical_item, canonical_path, canoni
 abbrev pub canonical_name : List ℕ → WrittenName
 canonical_name name = record { quoted = true; cells = name_cells false name }
 
-pub name_parts : (b : ℕ) (bytes : List ℕ) → is_name (b ∷ bytes) ≡ true → ((b == 58) ≡ false) × (length (b ∷ bytes) ≤ 255) × (are_name_bytes false (b ∷ bytes) ≡ true)
+pub name_parts : (b : ℕ) (bytes : List ℕ) → is_name (b ∷ bytes) ≡ true → ((b == 58) ≡ false) × (length (b ∷ bytes) ≤ 255)
+    × (are_name_bytes false (b ∷ bytes) ≡ true)
 name_parts b bytes h =
     let p = and_parts (not (b == 58) && leb (length (b ∷ bytes)) 255) (are_name_bytes false (b ∷ bytes)) h in
     let q = and_parts (not (b == 58)) (leb (length (b ∷ bytes)) 255) p.0 in
@@ -53,7 +58,12 @@ canonical_name_is (b ∷ bytes) h =
     let p = name_parts b bytes h in
     let k = name_cells_are false (b ∷ bytes) p.2 in
     record {
-      valid = record { cells = k.valid; some = some_cell (name_cells false (b ∷ bytes)) b bytes k.prints; fits = subst (λ (x : List ℕ). length x ≤ 255) (sym k.prints) p.1 };
+      valid = record {
+        cells = k.valid;
+        some = some_cell (name_cells false (b ∷ bytes)) b bytes k.prints;
+        fits =
+            subst (λ (x : List ℕ). length x ≤ 255) (sym k.prints) p.1;
+      };
       first = first_cell (name_cells false (b ∷ bytes)) b bytes k.prints p.0;
       prints = k.prints;
     }
@@ -112,7 +122,8 @@ canonical_rule r rules = record {
   past = line_end rules;
 }
 
-pub canonical_rule_valid : (behind : List ℕ) (r : RuleValue) (rules : List RuleValue) → is_rule r ≡ true → IsRule behind (canonical_rule r rules)
+pub canonical_rule_valid : (behind : List ℕ) (r : RuleValue) (rules : List RuleValue) → is_rule r ≡ true →
+    IsRule behind (canonical_rule r rules)
 canonical_rule_valid behind r rules h =
     let p = and_parts (list_any (has r.perms) all_permissions) (is_path r.items) h in
     record {
@@ -130,7 +141,8 @@ canonical_rule_means r rules h =
     let p = and_parts (list_any (has r.perms) all_permissions) (is_path r.items) h in
     let kind = kind_means r.kind in
     let items = canonical_path_means r.items p.1 in
-    ap (λ (k : RuleKind). record { kind = k; perms = r.perms; items = path_means (canonical_path r.items) }) kind ∙ ap (λ i. record { kind = r.kind; perms = r.perms; items = i }) items
+    ap (λ (k : RuleKind). record { kind = k; perms = r.perms; items = path_means (canonical_path r.items) }) kind
+    ∙ ap (λ i. record { kind = r.kind; perms = r.perms; items = i }) items
 
 abbrev pub canonical_rules : List RuleValue → List WrittenRule
 canonical_rules [] = []
@@ -146,7 +158,8 @@ canonical_rules_mean : (rules : List RuleValue) → list_all is_rule rules ≡ t
 canonical_rules_mean [] h = refl
 canonical_rules_mean (r ∷ rules) h =
     let p = and_parts (is_rule r) (list_all is_rule rules) h in
-    ap (λ (x : RuleValue). x ∷ rules_mean (canonical_rules rules)) (canonical_rule_means r rules p.0) ∙ ap (λ (x : List RuleValue). r ∷ x) (canonical_rules_mean rules p.1)
+    ap (λ (x : RuleValue). x ∷ rules_mean (canonical_rules rules)) (canonical_rule_means r rules p.0) ∙ ap (λ (x : List RuleValue). r ∷ x)
+    (canonical_rules_mean rules p.1)
 
 same_length : (rules : List RuleValue) → length (canonical_rules rules) ≡ length rules
 same_length [] = refl
@@ -155,24 +168,30 @@ same_length (r ∷ rules) = ap (λ (n : ℕ). suc n) (same_length rules)
 -- ---- the bytes of rules
 
 -- a line's parts, regrouped: the path's items, the letters and what stands behind the LF
-line_parts : (items letters behind : List ℕ) → ((34 ∷ (items ++ 34 ∷ []) ++ (32 ∷ letters)) ++ 44 ∷ []) ++ 10 ∷ behind ≡ (34 ∷ (items ++ (34 ∷ 32 ∷ (letters ++ 44 ∷ 10 ∷ [])))) ++ behind
+line_parts : (items letters behind : List ℕ) → ((34 ∷ (items ++ 34 ∷ []) ++ (32 ∷ letters)) ++ 44 ∷ []) ++ 10 ∷ behind
+    ≡ (34 ∷ (items ++ (34 ∷ 32 ∷ (letters ++ 44 ∷ 10 ∷ [])))) ++ behind
 line_parts items letters behind = simp append_assoc
 
 -- two spaces, a rule and LF are its line
-rule_prints : (r : RuleValue) (rules : List RuleValue) (behind : List ℕ) → 32 ∷ 32 ∷ (print_rule (canonical_rule r rules) ++ 10 ∷ behind) ≡ rule_line r ++ behind
+rule_prints : (r : RuleValue) (rules : List RuleValue) (behind : List ℕ) → 32 ∷ 32 ∷ (print_rule (canonical_rule r rules) ++ 10 ∷ behind)
+    ≡ rule_line r ++ behind
 rule_prints r rules behind =
     let items : print_items (map canonical_item r.items) ≡ flat_map token_text r.items = items_print r.items in
-    let line : ((34 ∷ (print_items (map canonical_item r.items) ++ 34 ∷ []) ++ (32 ∷ letters r.perms)) ++ 44 ∷ []) ++ 10 ∷ behind ≡ (34 ∷ (flat_map token_text r.items ++ (34 ∷ 32 ∷ (letters r.perms ++ 44 ∷ 10 ∷ [])))) ++ behind =
+    let line : ((34 ∷ (print_items (map canonical_item r.items) ++ 34 ∷ []) ++ (32 ∷ letters r.perms)) ++ 44 ∷ []) ++ 10 ∷ behind
+    ≡ (34 ∷ (flat_map token_text r.items ++ (34 ∷ 32 ∷ (letters r.perms ++ 44 ∷ 10 ∷ [])))) ++ behind =
     line_parts (print_items (map canonical_item r.items)) (letters r.perms) behind
     ∙ ap (λ (x : List ℕ). (34 ∷ (x ++ (34 ∷ 32 ∷ (letters r.perms ++ 44 ∷ 10 ∷ [])))) ++ behind) items in
-    elim r.kind as (λ k. 32 ∷ 32 ∷ ((print_qualifier (canonical_kind k) ++ ((34 ∷ (print_items (map canonical_item r.items) ++ 34 ∷ []) ++ (32 ∷ letters r.perms)) ++ 44 ∷ [])) ++ 10 ∷ behind)
+    elim r.kind as (λ k.
+    32 ∷ 32 ∷ ((print_qualifier (canonical_kind k)
+    ++ ((34 ∷ (print_items (map canonical_item r.items) ++ 34 ∷ []) ++ (32 ∷ letters r.perms)) ++ 44 ∷ [])) ++ 10 ∷ behind)
     ≡ (kind_text k ++ (34 ∷ (flat_map token_text r.items ++ (34 ∷ 32 ∷ (letters r.perms ++ 44 ∷ 10 ∷ []))))) ++ behind) [
       | Allow ↦ ap (λ (x : List ℕ). 32 ∷ 32 ∷ x) line
       | Deny ↦ ap (λ (x : List ℕ). codes "  deny " ++ x) line
     ]
 
 -- what stands behind the opening brace
-rules_print : (rules : List RuleValue) (behind : List ℕ) → print_blank (line_end rules) ++ (print_rules (canonical_rules rules) ++ behind) ≡ 10 ∷ (flat_map rule_line rules ++ behind)
+rules_print : (rules : List RuleValue) (behind : List ℕ) → print_blank (line_end rules) ++ (print_rules (canonical_rules rules) ++ behind)
+    ≡ 10 ∷ (flat_map rule_line rules ++ behind)
 rules_print [] behind = refl
 rules_print (r ∷ rules) behind =
     let first : List ℕ = print_rule (canonical_rule r rules) in
@@ -196,7 +215,8 @@ canonical_text p = record {
   last = None;
 }
 
-pub profile_parts : (p : ProfileValue) → is_profile p ≡ true → (is_name p.name ≡ true) × (length p.rules ≤ 1024) × (list_all is_rule p.rules ≡ true)
+pub profile_parts : (p : ProfileValue) → is_profile p ≡ true → (is_name p.name ≡ true) × (length p.rules ≤ 1024)
+    × (list_all is_rule p.rules ≡ true)
 profile_parts p h =
     let a = and_parts (is_name p.name && leb (length p.rules) 1024) (list_all is_rule p.rules) h in
     let b = and_parts (is_name p.name) (leb (length p.rules) 1024) a.0 in
@@ -223,16 +243,20 @@ canonical_text_means p h =
     ∙ ap (λ (x : List RuleValue). record { name = p.name; rules = x }) (canonical_rules_mean p.rules a.2)
 
 -- a header's parts, regrouped
-header_parts : (name behind : List ℕ) → ((codes "profile" ++ (32 ∷ ((34 ∷ (name ++ 34 ∷ [])) ++ 32 ∷ []))) ++ behind) ≡ codes "profile \"" ++ (name ++ (34 ∷ 32 ∷ behind))
+header_parts : (name behind : List ℕ) → ((codes "profile" ++ (32 ∷ ((34 ∷ (name ++ 34 ∷ [])) ++ 32 ∷ []))) ++ behind) ≡ codes "profile \""
+    ++ (name ++ (34 ∷ 32 ∷ behind))
 header_parts name behind = simp append_assoc
 
 pub canonical_text_prints : (p : ProfileValue) → is_profile p ≡ true → print_text (canonical_text p) ≡ canonical p
 unfolding print_text canonical
 canonical_text_prints p h =
     let a = profile_parts p h in
-    header_parts (print_cells (name_cells false p.name)) (123 ∷ (print_blank (line_end p.rules) ++ (print_rules (canonical_rules p.rules) ++ codes "}\n")))
-    ∙ ap (λ (x : List ℕ). codes "profile \"" ++ (print_cells (name_cells false p.name) ++ (34 ∷ 32 ∷ 123 ∷ x))) (rules_print p.rules (codes "}\n"))
-    ∙ ap (λ (x : List ℕ). codes "profile \"" ++ (x ++ (34 ∷ 32 ∷ 123 ∷ 10 ∷ (flat_map rule_line p.rules ++ codes "}\n")))) (canonical_name_is p.name a.0).prints
+    header_parts (print_cells (name_cells false p.name))
+    (123 ∷ (print_blank (line_end p.rules) ++ (print_rules (canonical_rules p.rules) ++ codes "}\n")))
+    ∙ ap (λ (x : List ℕ). codes "profile \"" ++ (print_cells (name_cells false p.name) ++ (34 ∷ 32 ∷ 123 ∷ x)))
+    (rules_print p.rules (codes "}\n"))
+    ∙ ap (λ (x : List ℕ). codes "profile \"" ++ (x ++ (34 ∷ 32 ∷ 123 ∷ 10 ∷ (flat_map rule_line p.rules ++ codes "}\n"))))
+    (canonical_name_is p.name a.0).prints
 
 pub canonical_read : (p : ProfileValue) → is_profile p ≡ true → ReadsAs (canonical p) p
 canonical_read p h = record {

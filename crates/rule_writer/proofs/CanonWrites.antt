@@ -1,5 +1,6 @@
 -- The text of items, as it is written: item by item, and alternative by alternative.
-use Rattle.std.proofs.Common.{◌≡◌, ℕ, zero, suc, ◌+◌, ◌<◌, ◌≤◌, Bool, true, false, List, [], ◌∷◌, ◌++◌, length, map, get_or, Vec, Global, sym, ap, ◌∙◌, append_assoc, arith}
+use Rattle.std.proofs.Common.{◌≡◌, ℕ, zero, suc, ◌+◌, ◌<◌, ◌≤◌, Bool, true, false, List, [], ◌∷◌, ◌++◌, length, map, get_or, Vec, Global}
+use Rattle.std.proofs.Common.{sym, ap, ◌∙◌, append_assoc, arith}
 use Rattle.std.specs.Prelude.{codes}
 use Rattle.std.specs.List.{flat_map}
 use Rattle.std.proofs.lemmas.List.{length-append, length-map, get_or-map}
@@ -34,11 +35,13 @@ text-Group item alternatives e =
 pub length-Group : (item : Item) (alternatives : Vec (Vec Item Global) Global) → item ≡ v.Group alternatives
     → length (tokens item) ≡ length (with_commas (items_parts alternatives.items)) + 2
 length-Group item alternatives e =
-    let one : length (tokens item) ≡ suc (length (with_commas (items_parts alternatives.items) ++ closing ∷ [])) = ap length (ap tokens e ∙ tokens-Group alternatives) in
+    let one : length (tokens item) ≡ suc (length (with_commas (items_parts alternatives.items) ++ closing ∷ [])) =
+    ap length (ap tokens e ∙ tokens-Group alternatives) in
     omega (arith, length-append (with_commas (items_parts alternatives.items)) (closing ∷ []))
 
 -- an item has no more tokens than all items have
-pub length_item : (items : List Item) (i : ℕ) (item : Item) → i < length items → item ≡ get_or items i item → length (tokens item) ≤ length (tokens_of items)
+pub length_item : (items : List Item) (i : ℕ) (item : Item) → i < length items → item ≡ get_or items i item →
+    length (tokens item) ≤ length (tokens_of items)
 length_item [] i item lt e = absurd (omega arith)
 length_item (x ∷ items) zero item lt e =
     let same : length (tokens item) ≡ length (tokens x) = ap (λ y. length (tokens y)) e in
@@ -48,7 +51,8 @@ length_item (x ∷ items) (suc i) item lt e =
     omega (arith, length-append (tokens x) (tokens_of items))
 
 -- and an alternative no more than all alternatives
-length_part : (parts : List (List Token)) (i : ℕ) (part : List Token) → i < length parts → part ≡ get_or parts i part → length part ≤ length (with_commas parts)
+length_part : (parts : List (List Token)) (i : ℕ) (part : List Token) → i < length parts → part ≡ get_or parts i part →
+    length part ≤ length (with_commas parts)
 length_part [] i part lt e = absurd (omega arith)
 length_part (p ∷ []) zero part lt e = omega (arith, ap length e)
 length_part (p ∷ []) (suc i) part lt e = absurd (omega arith)
@@ -57,19 +61,25 @@ length_part (p ∷ q ∷ parts) (suc i) part lt e =
     let more = length_part (q ∷ parts) i part (omega arith) e in
     omega (arith, length-append p (between ∷ with_commas (q ∷ parts)))
 
-pub length_alternative : (alternatives : List (Vec Item Global)) (i : ℕ) (items : Vec Item Global) → i < length alternatives → items ≡ get_or alternatives i items
+pub length_alternative : (alternatives : List (Vec Item Global)) (i : ℕ) (items : Vec Item Global) → i < length alternatives →
+    items ≡ get_or alternatives i items
     → length (tokens_of items.items) ≤ length (with_commas (items_parts alternatives))
 length_alternative alternatives i items lt e =
     let there : i < length (items_parts alternatives) = omega (arith, length-map alternatives (λ items. tokens_of items.items)) in
     let part : tokens_of items.items ≡ get_or (items_parts alternatives) i (tokens_of items.items) =
-    ap (λ (x : Vec Item Global). tokens_of x.items) e ∙ sym (get_or-map (λ items. tokens_of items.items) alternatives i items (tokens_of items.items) lt) in
+    ap (λ (x : Vec Item Global). tokens_of x.items) e ∙ sym (get_or-map (λ items. tokens_of items.items) alternatives i items
+    (tokens_of items.items) lt) in
     length_part (items_parts alternatives) i (tokens_of items.items) there part
 
 -- a brace, the alternatives and a brace
-pub group_written : (item : Item) (alternatives : Vec (Vec Item Global) Global) (list : List (Vec Item Global)) (first second third last : List ℕ) → item ≡ v.Group alternatives → list ≡ alternatives.items
-    → second ≡ first ++ codes "{" → third ≡ second ++ flat_map token_text (with_commas (items_parts list)) → last ≡ third ++ codes "}" → last ≡ first ++ flat_map token_text (tokens item)
+pub group_written : (item : Item) (alternatives : Vec (Vec Item Global) Global) (list : List (Vec Item Global))
+    (first second third last : List ℕ) → item ≡ v.Group alternatives → list ≡ alternatives.items
+    → second ≡ first ++ codes "{" → third ≡ second ++ flat_map token_text (with_commas (items_parts list)) → last ≡ third ++ codes "}" →
+    last ≡ first ++ flat_map token_text (tokens item)
 group_written item alternatives list first second third last e f g h k =
     let middle : List ℕ = flat_map token_text (with_commas (items_parts alternatives.items)) in
-    let same : third ≡ second ++ middle = h ∙ ap (λ (x : List (Vec Item Global)). second ++ flat_map token_text (with_commas (items_parts x))) f in
+    let same : third ≡ second ++ middle =
+    h ∙ ap (λ (x : List (Vec Item Global)). second ++ flat_map token_text (with_commas (items_parts x))) f in
     let regrouped : ((first ++ codes "{") ++ middle) ++ codes "}" ≡ first ++ (codes "{" ++ (middle ++ codes "}")) = simp append_assoc in
-    k ∙ ap (λ (x : List ℕ). x ++ codes "}") (same ∙ ap (λ (x : List ℕ). x ++ middle) g) ∙ regrouped ∙ ap (λ (x : List ℕ). first ++ x) (sym (text-Group item alternatives e))
+    k ∙ ap (λ (x : List ℕ). x ++ codes "}") (same ∙ ap (λ (x : List ℕ). x ++ middle) g) ∙ regrouped ∙ ap (λ (x : List ℕ). first ++ x)
+    (sym (text-Group item alternatives e))

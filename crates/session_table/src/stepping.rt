@@ -24,7 +24,8 @@ impl Sessions {
         ask: Perms,
     ) -> Result<(), StepFault>
         ensures capacity { self.new.0 ≡ self.old.0 }
-        ensures ok { OnOk result (StepsIn (Begins (record { profile = profile.now; path = path.now; ask = ask })) number (session_in self.old) (session_in self.new)) }
+        ensures ok { OnOk result (StepsIn (Begins (record { profile = profile.now; path = path.now; ask = ask })) number
+            (session_in self.old) (session_in self.new)) }
         ensures err { OnErr result (session_in self.new ≡ session_in self.old) }
         ensures not_now { IfErr result (λ fault. fault ≡ StepFault.NotNow →
             ¬ (MayStep (Begins (record { profile = profile.now; path = path.now; ask = ask })) (session_in self.old number))) }
@@ -46,7 +47,8 @@ impl Sessions {
     ) -> Result<(), StepFault>
         requires { session_in self.old number ≡ new_session }
         ensures capacity { self.new.0 ≡ self.old.0 }
-        ensures ok { OnOk result (StepsIn (Begins (record { profile = profile.now; path = path.now; ask = ask })) number (session_in self.old) (session_in self.new)) }
+        ensures ok { OnOk result (StepsIn (Begins (record { profile = profile.now; path = path.now; ask = ask })) number
+            (session_in self.old) (session_in self.new)) }
         ensures err { OnErr result (session_in self.new ≡ session_in self.old) }
         ensures memory { IfErr result (λ fault. fault ≡ StepFault.NoMemory) }
     {
@@ -67,7 +69,8 @@ impl Sessions {
         ensures capacity { self.new.0 ≡ self.old.0 }
         ensures ok { OnOk result (StepsIn (ReadsPolicy policy.now) number (session_in self.old) (session_in self.new)) }
         ensures err { OnErr result (session_in self.new ≡ session_in self.old) }
-        ensures not_now { IfErr result (λ fault. fault ≡ StepFault.NotNow → ¬ (MayStep (ReadsPolicy policy.now) (session_in self.old number))) }
+        ensures not_now { IfErr result (λ fault. fault ≡ StepFault.NotNow →
+            ¬ (MayStep (ReadsPolicy policy.now) (session_in self.old number))) }
         ensures turn { IfErr result (λ fault. fault ≡ StepFault.NotNow → ¬ (IsBegun (session_in self.old number).stage)) }
     {
         match self.by_number.get_mut(&number) {
@@ -87,7 +90,8 @@ impl Sessions {
         ensures capacity { self.new.0 ≡ self.old.0 }
         ensures ok { OnOk result (StepsIn (ReadsCount self.old.0 keeper.now.1) number (session_in self.old) (session_in self.new)) }
         ensures err { OnErr result (session_in self.new ≡ session_in self.old) }
-        ensures not_now { IfErr result (λ fault. fault ≡ StepFault.NotNow → ¬ (MayStep (ReadsCount self.old.0 keeper.now.1) (session_in self.old number))) }
+        ensures not_now { IfErr result (λ fault. fault ≡ StepFault.NotNow →
+            ¬ (MayStep (ReadsCount self.old.0 keeper.now.1) (session_in self.old number))) }
         ensures turn { IfErr result (λ fault. fault ≡ StepFault.NotNow → ¬ (IsPoliced (session_in self.old number).stage)) }
     {
         match self.by_number.get_mut(&number) {
@@ -108,7 +112,8 @@ impl Sessions {
         ensures capacity { self.new.0 ≡ self.old.0 }
         ensures ok { OnOk result (StepsIn (ReadsCell self.old.0 keeper.now.1.cells) number (session_in self.old) (session_in self.new)) }
         ensures err { OnErr result (session_in self.new ≡ session_in self.old) }
-        ensures not_now { IfErr result (λ fault. fault ≡ StepFault.NotNow → ¬ (MayStep (ReadsCell self.old.0 keeper.now.1.cells) (session_in self.old number))) }
+        ensures not_now { IfErr result (λ fault. fault ≡ StepFault.NotNow →
+            ¬ (MayStep (ReadsCell self.old.0 keeper.now.1.cells) (session_in self.old number))) }
         ensures turn { IfErr result (λ fault. fault ≡ StepFault.NotNow → ¬ (IsReading (session_in self.old number).stage)) }
     {
         match self.by_number.get_mut(&number) {
@@ -129,11 +134,14 @@ impl Sessions {
         requires capacity { keeper.now.0 ≡ self.old.0 }
         requires long { length keeper.now.1.cells ≡ row_length self.old.0 }
         ensures capacity { self.new.0 ≡ self.old.0 }
-        ensures ok { IfOk result (λ count. (count ≤ most) × StepsIn (CellReads self.old.0 keeper.now.1.cells count) number (session_in self.old) (session_in self.new)) }
-        ensures all { IfOk result (λ count. count < most → ¬ (MayStep (ReadsCell self.old.0 keeper.now.1.cells) (session_in self.new number))) }
+        ensures ok { IfOk result (λ count. (count ≤ most) × StepsIn (CellReads self.old.0 keeper.now.1.cells count) number
+            (session_in self.old) (session_in self.new)) }
+        ensures all { IfOk result (λ count. count < most →
+            ¬ (MayStep (ReadsCell self.old.0 keeper.now.1.cells) (session_in self.new number))) }
         ensures turn { IfOk result (λ count. count < most → ¬ (IsReading (session_in self.new number).stage)) }
         ensures err { IfErr result (λ fault. (fault ≡ StepFault.NoMemory)
-            × ((count : ℕ) × (count < most) × StepsIn (CellReads self.old.0 keeper.now.1.cells count) number (session_in self.old) (session_in self.new))) }
+            × ((count : ℕ) × (count < most) × StepsIn (CellReads self.old.0 keeper.now.1.cells count) number (session_in self.old)
+            (session_in self.new))) }
     {
         match self.by_number.get_mut(&number) {
             Some(session) => session.read_cells(keeper, most, scratch),
@@ -147,7 +155,8 @@ impl Sessions {
         ensures capacity { self.new.0 ≡ self.old.0 }
         ensures ok { OnOk result (StepsIn (ChecksCount keeper.now.1) number (session_in self.old) (session_in self.new)) }
         ensures err { OnErr result (session_in self.new ≡ session_in self.old) }
-        ensures not_now { IfErr result (λ fault. fault ≡ StepFault.NotNow → ¬ (MayStep (ChecksCount keeper.now.1) (session_in self.old number))) }
+        ensures not_now { IfErr result (λ fault. fault ≡ StepFault.NotNow →
+            ¬ (MayStep (ChecksCount keeper.now.1) (session_in self.old number))) }
         ensures turn { IfErr result (λ fault. fault ≡ StepFault.NotNow → ¬ (IsWalked (session_in self.old number).stage)) }
     {
         match self.by_number.get_mut(&number) {

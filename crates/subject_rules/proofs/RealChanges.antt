@@ -48,7 +48,8 @@ module _ (chosen subject : Subject) (rule : SubjectRule) where
 
   rule_gained : is_restated chosen (shape_of rule) ≡ true → applies_to rule.applies_to subject ≡ false → GainsSome chosen subject rule
   rule_gained is not_applies =
-      let parts = and_parts (applies_to rule.applies_to chosen && is_read rule.path) (has_some (restated_perms rule.perms (is_some rule.target))) is in
+      let parts = and_parts (applies_to rule.applies_to chosen && is_read rule.path)
+      (has_some (restated_perms rule.perms (is_some rule.target))) is in
       let some = one_found (has (restated_perms rule.perms (is_some rule.target))) parts.1 in (
         some.0,
         λ unknown name says. true≢false (sym says.0 ∙ not_applies),

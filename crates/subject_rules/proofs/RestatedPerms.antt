@@ -1,5 +1,6 @@
 -- Permissions that are restated: all of them, except link that is bound to a target.
-use Rattle.std.proofs.Common.{◌≡◌, Bool, true, false, not, ◌&&◌, ⊎_elim, List, ℕ, Option, Some, None, IsTrue, is_some, refl, sym, ◌∙◌, subst, true≢false}
+use Rattle.std.proofs.Common.{◌≡◌, Bool, true, false, not, ◌&&◌, ⊎_elim, List, ℕ, Option, Some, None, IsTrue, is_some, refl, sym, ◌∙◌}
+use Rattle.std.proofs.Common.{subst, true≢false}
 use Rattle.std.proofs.lemmas.Bool.{and_parts, and_from, cases_Bool, not_from_false}
 use Rattle.names.specs.declared.permissions.Permission.{Permission}
 use Rattle.names.specs.declared.permissions.Permission.TheVariants.{Link}
@@ -10,7 +11,8 @@ use Rattle.subject_rules.specs.Judging.{IsTargetMet}
 use Rattle.subject_rules.specs.Restating.{has_some, restated_perms, without_link}
 use Rattle.subject_rules.specs.SubjectRules.{Unknown}
 
-pub held_before : (perms : Perms) (has_target : Bool) (p : Permission) → IsTrue (has (restated_perms perms has_target) p) → IsTrue (has perms p)
+pub held_before : (perms : Perms) (has_target : Bool) (p : Permission) → IsTrue (has (restated_perms perms has_target) p) →
+    IsTrue (has perms p)
 held_before perms true p h =
     (and_parts (has perms p) (not (has (only Link) p)) (sym (has-set_of (λ q. has perms q && not (has (only Link) q)) p) ∙ h)).0
 held_before perms false p h = h

@@ -1,5 +1,6 @@
 -- One rule, and what it is restated as.
-use Rattle.std.proofs.Common.{◌≡◌, ◌≢◌, Bool, true, not, ◌&&◌, ⊎_elim, List, [], ℕ, IsTrue, is_some, map, if◌then◌else◌, refl, sym, ap, ◌∙◌, subst, true≢false}
+use Rattle.std.proofs.Common.{◌≡◌, ◌≢◌, Bool, true, not, ◌&&◌, ⊎_elim, List, [], ℕ, IsTrue, is_some, map, if◌then◌else◌, refl, sym, ap}
+use Rattle.std.proofs.Common.{◌∙◌, subst, true≢false}
 use Rattle.std.specs.List.{Contains}
 use Rattle.std.proofs.lemmas.Bool.{and_parts, and_from, cases_Bool}
 use Rattle.names.specs.declared.permissions.Permission.{Permission}
@@ -11,7 +12,8 @@ use Rattle.subject_rules.specs.declared.effect.Change.TheVariants.{Exact}
 use Rattle.subject_rules.specs.declared.subject.Subject.{Subject}
 use Rattle.subject_rules.specs.Changes.{change, gained, left_out_change, lost, restated_change}
 use Rattle.subject_rules.specs.Judging.{SaysOf, TakesName}
-use Rattle.subject_rules.specs.Restating.{has_some, is_read, is_restated, loses_link, restated, restated_paths, restated_perms, shape_of, with_path}
+use Rattle.subject_rules.specs.Restating.{has_some, is_read, is_restated, loses_link, restated, restated_paths, restated_perms, shape_of}
+use Rattle.subject_rules.specs.Restating.{with_path}
 use Rattle.subject_rules.specs.SubjectRules.{SubjectPath, SubjectRule, Unknown, read, unread}
 use Rattle.subject_rules.specs.Subjects.{applies_to}
 use Rattle.subject_rules.proofs.RestatedPerms.{held_after, held_before, met, some_held}
@@ -45,7 +47,8 @@ module _ (chosen subject : Subject) (rule : SubjectRule) where
 
   -- what is restated is the rule with some path
   pub made : (value : RuleValue) → Contains (restated chosen rule) value →
-      (is_restated chosen (shape_of rule) ≡ true) × ((path : List Token) × Contains (restated_paths rule.path) path × (with_path rule path ≡ value))
+      (is_restated chosen (shape_of rule) ≡ true) × ((path : List Token) × Contains (restated_paths rule.path) path
+      × (with_path rule path ≡ value))
   made value here = ⊎_elim
       (λ is. (is, made_of_some (with_path rule) (restated_paths rule.path) value (subst (λ b. Contains (restated_if b) value) is here)))
       (λ isnt. absurd (nothing_in value (subst (λ b. Contains (restated_if b) value) isnt here)))
@@ -73,17 +76,20 @@ module _ (chosen subject : Subject) (rule : SubjectRule) where
   -- what the rule says is restated, if nothing is lost
   pub says_no_less : (unknown : Unknown) (p : Permission) (name : List ℕ) →
       change chosen subject (shape_of rule) ≢ lost rule.kind → SaysOf unknown subject p name rule →
-      (value : RuleValue) × Contains (restated chosen rule) value × (value.kind ≡ rule.kind) × IsTrue (holds value p) × Takes (pattern value) name
+      (value : RuleValue) × Contains (restated chosen rule) value × (value.kind ≡ rule.kind) × IsTrue (holds value p)
+      × Takes (pattern value) name
   says_no_less unknown p name no_loss says = ⊎_elim
       (λ is.
-      let first = and_parts (applies_to rule.applies_to chosen && is_read rule.path) (has_some (restated_perms rule.perms (is_some rule.target))) is in
+      let first = and_parts (applies_to rule.applies_to chosen && is_read rule.path)
+      (has_some (restated_perms rule.perms (is_some rule.target))) is in
       let path = taken_back unknown rule.path name (and_parts (applies_to rule.applies_to chosen) (is_read rule.path) first.0).1 says.2 in
       let keeps_link = ⊎_elim
       (λ loses. absurd (no_loss (ap change_if is ∙ ap gain_if says.0 ∙ ap loss_if loses)))
       (λ keeps. keeps)
       (cases_Bool (loses_link (shape_of rule))) in (
         with_path rule path.0,
-        subst (λ b. Contains (restated_if b) (with_path rule path.0)) (sym is) (some_made (with_path rule) (restated_paths rule.path) path.0 path.1),
+        subst (λ b. Contains (restated_if b) (with_path rule path.0)) (sym is)
+            (some_made (with_path rule) (restated_paths rule.path) path.0 path.1),
         refl,
         held_after rule.perms (is_some rule.target) p keeps_link says.1.0,
         path.2,

@@ -45,7 +45,8 @@ module _ (unknown : Unknown) (chosen subject : Subject) (rules : List SubjectRul
         some_from (λ rule. (rule.kind ≡ kind) × SaysOf unknown subject p name rule) rules origin.0 origin.1 (
           kind_is,
           says_no_more chosen subject origin.0 unknown p name found.0
-              (All-contains (λ rule. rule.kind ≡ kind → change chosen subject (shape_of rule) ≢ gained rule.kind) rules origin.0 none_gained origin.1 kind_is)
+              (All-contains (λ rule. rule.kind ≡ kind → change chosen subject (shape_of rule) ≢ gained rule.kind) rules origin.0
+              none_gained origin.1 kind_is)
               origin.2 found.1.2 found.1.3,
         )
 
@@ -54,7 +55,8 @@ module _ (unknown : Unknown) (chosen subject : Subject) (rules : List SubjectRul
         let rule = some.1 in
         let here : Contains rules rule = (some.0, some.2, some.3) in
         let value = says_no_less chosen subject rule unknown p name
-        (All-contains (λ rule. rule.kind ≡ kind → change chosen subject (shape_of rule) ≢ lost rule.kind) rules rule none_lost here some.4.0)
+        (All-contains (λ rule. rule.kind ≡ kind → change chosen subject (shape_of rule) ≢ lost rule.kind) rules rule
+        none_lost here some.4.0)
         some.4.1 in
         hit_of_rule (restated_all chosen rules) kind p name value.0
         (in_all_lists (restated chosen) rules rule value.0 here value.1, value.2 ∙ some.4.0, value.3, value.4)
@@ -99,16 +101,20 @@ module _ (unknown : Unknown) (chosen subject : Subject) (rules : List SubjectRul
     no_fewer_hits kind p (exact_not_lost kind exact),
   )
 
-  pub denied_by_narrower : (p : Permission) → NoneIsWider chosen subject rules → IsDenied unknown subject rules name p → IsHit (restated_all chosen rules) Deny p name
+  pub denied_by_narrower : (p : Permission) → NoneIsWider chosen subject rules → IsDenied unknown subject rules name p →
+      IsHit (restated_all chosen rules) Deny p name
   denied_by_narrower p none_wider = no_fewer_hits Deny p (not_lost Deny none_wider)
 
-  pub granted_by_narrower : (p : Permission) → NoneIsWider chosen subject rules → IsHit (restated_all chosen rules) Allow p name → IsGranted unknown subject rules name p
+  pub granted_by_narrower : (p : Permission) → NoneIsWider chosen subject rules → IsHit (restated_all chosen rules) Allow p name →
+      IsGranted unknown subject rules name p
   granted_by_narrower p none_wider = no_more_hits Allow p (not_gained Allow none_wider)
 
-  pub denied_by_wider : (p : Permission) → NoneIsNarrower chosen subject rules → IsHit (restated_all chosen rules) Deny p name → IsDenied unknown subject rules name p
+  pub denied_by_wider : (p : Permission) → NoneIsNarrower chosen subject rules → IsHit (restated_all chosen rules) Deny p name →
+      IsDenied unknown subject rules name p
   denied_by_wider p none_narrower = no_more_hits Deny p (not_gained Deny none_narrower)
 
-  pub granted_by_wider : (p : Permission) → NoneIsNarrower chosen subject rules → IsGranted unknown subject rules name p → IsHit (restated_all chosen rules) Allow p name
+  pub granted_by_wider : (p : Permission) → NoneIsNarrower chosen subject rules → IsGranted unknown subject rules name p →
+      IsHit (restated_all chosen rules) Allow p name
   granted_by_wider p none_narrower = no_fewer_hits Allow p (not_lost Allow none_narrower)
 
   module _ (mode : Mode) (ask : Perms) where

@@ -1,7 +1,8 @@
 -- Elements of a list, of what is made of each, and of the lists that are made of each.
 use Rattle.std.proofs.Common.{◌≡◌, ◌⊎◌, inl, inr, ⊎_elim, List, [], ◌∷◌, map, sym, subst, arith}
 use Rattle.std.specs.List.{Any, Contains, flat_map}
-use Rattle.std.proofs.lemmas.List.Elements.{Contains-append_left, Contains-append_right, Contains-append_cases, Contains-push, Contains-push_cases}
+use Rattle.std.proofs.lemmas.List.Elements.{Contains-append_left, Contains-append_right, Contains-append_cases, Contains-push}
+use Rattle.std.proofs.lemmas.List.Elements.{Contains-push_cases}
 
 module _ {X : Type 0} where
   pub some_from : (P : X → Type 0) (xs : List X) (x : X) → Contains xs x → P x → Any P xs

@@ -62,7 +62,8 @@ module _ (rules : List RuleValue) (name : List ℕ) (ask : Perms) where
 
 -- ---- lists of which some are left out
 
-module _ (left_out : RuleKind) (rules left : List RuleValue) (leaves : LeavesOut left_out rules left) (p : Permission) (name : List ℕ) where
+module _ (left_out : RuleKind) (rules left : List RuleValue) (leaves : LeavesOut left_out rules left) (p : Permission)
+    (name : List ℕ) where
   pub no_other_hits : (kind : RuleKind) → IsHit left kind p name → IsHit rules kind p name
   no_other_hits kind hit =
       let found = rule_of_hit left kind p name hit in

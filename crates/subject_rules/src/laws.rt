@@ -5,7 +5,8 @@ ghost use Rattle.names.specs.declared.permissions.Perms.{Perms};
 ghost use Rattle.rule_globs.specs.Rules.{RuleValue};
 ghost use Rattle.rule_globs.specs.Verdict.{IsVerdict};
 ghost use Rattle.subject_rules.specs.Causes.{GainsSome, LosesSome};
-ghost use Rattle.subject_rules.specs.Changes.{change, effect, for_everybody, gained, lost, mode_change, qualifier_alone, AreExact, NoneIsNarrower, NoneIsWider};
+ghost use Rattle.subject_rules.specs.Changes.{change, effect, for_everybody, gained, lost, mode_change, qualifier_alone, AreExact};
+ghost use Rattle.subject_rules.specs.Changes.{NoneIsNarrower, NoneIsWider};
 ghost use Rattle.subject_rules.specs.Judging.{IsAllowedTo, IsDenied, IsGranted};
 ghost use Rattle.subject_rules.specs.Lists.{IsHit, LeavesOut};
 ghost use Rattle.subject_rules.specs.Restating.{is_read, restated_all, shape_of, IsPlain};
@@ -31,7 +32,8 @@ pub fn exact_rules_say_the_same()
     ensures granted { (unknown : Unknown) (chosen subject : Subject) (rules : List SubjectRule) (name : List ℕ) (p : Permission) →
         AreExact chosen subject rules →
         IsHit (restated_all chosen rules) Allow p name ↔ IsGranted unknown subject rules name p }
-    ensures allowed { (unknown : Unknown) (mode : Mode) (chosen subject : Subject) (rules : List SubjectRule) (name : List ℕ) (ask : Perms) →
+    ensures allowed { (unknown : Unknown) (mode : Mode) (chosen subject : Subject) (rules : List SubjectRule)
+        (name : List ℕ) (ask : Perms) →
         AreExact chosen subject rules → mode_change mode ≡ Exact →
         IsVerdict (restated_all chosen rules) name ask Allowed ↔ IsAllowedTo unknown mode subject rules name ask }
 {
@@ -47,7 +49,8 @@ pub fn narrower_rules_allow_no_more()
     ensures granted { (unknown : Unknown) (chosen subject : Subject) (rules : List SubjectRule) (name : List ℕ) (p : Permission) →
         NoneIsWider chosen subject rules →
         IsHit (restated_all chosen rules) Allow p name → IsGranted unknown subject rules name p }
-    ensures allowed { (unknown : Unknown) (mode : Mode) (chosen subject : Subject) (rules : List SubjectRule) (name : List ℕ) (ask : Perms) →
+    ensures allowed { (unknown : Unknown) (mode : Mode) (chosen subject : Subject) (rules : List SubjectRule)
+        (name : List ℕ) (ask : Perms) →
         NoneIsWider chosen subject rules →
         IsVerdict (restated_all chosen rules) name ask Allowed → IsAllowedTo unknown mode subject rules name ask }
 {
@@ -63,7 +66,8 @@ pub fn wider_rules_allow_no_less()
     ensures granted { (unknown : Unknown) (chosen subject : Subject) (rules : List SubjectRule) (name : List ℕ) (p : Permission) →
         NoneIsNarrower chosen subject rules →
         IsGranted unknown subject rules name p → IsHit (restated_all chosen rules) Allow p name }
-    ensures allowed { (unknown : Unknown) (mode : Mode) (chosen subject : Subject) (rules : List SubjectRule) (name : List ℕ) (ask : Perms) →
+    ensures allowed { (unknown : Unknown) (mode : Mode) (chosen subject : Subject) (rules : List SubjectRule)
+        (name : List ℕ) (ask : Perms) →
         NoneIsNarrower chosen subject rules → mode_change mode ≢ Narrower →
         IsAllowedTo unknown mode subject rules name ask → IsVerdict (restated_all chosen rules) name ask Allowed }
 {}

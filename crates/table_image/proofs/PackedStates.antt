@@ -41,9 +41,11 @@ module _ (a : Automaton) (whole : IsWhole a) (t new : Table) (s number : ℕ) (r
     base = one_each t.base new.base (λ k. 256 * k) s packed.bases_long bases packed.base;
     record_at = λ k lt. ⊎_elim
         (λ below. ap (λ z. slice_get new.records z) (accept_kept k below)
-        ∙ record_kept t.records new.records r number numbered (slice_index_or t.accept k 0) (packed.accept k below) ∙ packed.record_at k below)
+        ∙ record_kept t.records new.records r number numbered (slice_index_or t.accept k 0) (packed.accept k below)
+        ∙ packed.record_at k below)
         (λ le. let here : k ≡ s = is_state k lt le in
-        ap (λ z. slice_get new.records z) (accept_new k here) ∙ numbered.at ∙ sym hits ∙ ap (λ z. slice_get a.records (source a z)) (sym here))
+        ap (λ z. slice_get new.records z) (accept_new k here) ∙ numbered.at ∙ sym hits ∙ ap (λ z. slice_get a.records (source a z))
+        (sym here))
         (cases_lt k s);
     accept = λ k lt. ⊎_elim
         (λ below. omega (arith, accept_kept k below, packed.accept k below, no_fewer t.records new.records r number numbered))
@@ -51,7 +53,12 @@ module _ (a : Automaton) (whole : IsWhole a) (t new : Table) (s number : ℕ) (r
         (cases_lt k s);
     next = row_each t.next new.next (λ k b. target a (source a k) b) s packed.nexts_long nexts packed.next;
     next_there = λ c lt. ⊎_elim
-        (λ below. omega (arith, kept t.next new.next 256 (λ b. target a (source a s) b) nexts c (omega (arith, below, packed.nexts_long)), packed.next_there c below))
+        (λ below. omega (
+          arith,
+          kept t.next new.next 256 (λ b. target a (source a s) b) nexts c
+              (omega (arith, below, packed.nexts_long)),
+          packed.next_there c below,
+        ))
         (λ le. let small : c - 256 * s < 256 = omega (arith, lt, le) in
         omega (
           arith,

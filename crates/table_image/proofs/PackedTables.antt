@@ -1,5 +1,6 @@
 -- The table of an automaton, once each state is packed.
-use Rattle.std.proofs.Common.{◌≡◌, ⊎_elim, ℕ, ◌+◌, ◌*◌, ◌<◌, ◌≤◌, ◌==◌, List, [], ◌∷◌, length, Some, suc, slice_get, slice_index_or, if◌then◌else◌, refl, sym, ap, ◌∙◌, arith, rules}
+use Rattle.std.proofs.Common.{◌≡◌, ⊎_elim, ℕ, ◌+◌, ◌*◌, ◌<◌, ◌≤◌, ◌==◌, List, [], ◌∷◌, length, Some, suc, slice_get, slice_index_or}
+use Rattle.std.proofs.Common.{if◌then◌else◌, refl, sym, ap, ◌∙◌, arith, rules}
 use Rattle.std.specs.Option.{option_and_then}
 use Rattle.std.proofs.lemmas.Option.{slice_get-get_or, slice_get_within, get_or_from_slice_get}
 use Rattle.glob_automaton.specs.Automata.{Automaton, IsWhole, target, goes_to}
@@ -21,7 +22,8 @@ there list i n lt is = slice_get-get_or list i 0 lt ∙ ap Some is
 step_from_cell : (t : Table) (s b base m : ℕ) → slice_get t.base s ≡ Some base → slice_get t.check (base + b) ≡ Some s →
     slice_get t.next (base + b) ≡ Some m → next_state t s b ≡ Some m
 step_from_cell t s b base m at owner next =
-    ap (λ o. option_and_then (λ z. option_and_then (λ w. if w == s then slice_get t.next (z + b) else slice_get t.default s) (slice_get t.check (z + b))) o) at
+    ap (λ o. option_and_then (λ z. option_and_then (λ w. if w == s then slice_get t.next (z + b) else slice_get t.default s)
+    (slice_get t.check (z + b))) o) at
     ∙ ap (λ o. option_and_then (λ w. if w == s then slice_get t.next (base + b) else slice_get t.default s) o) owner
     ∙ own
     ∙ next
@@ -29,7 +31,8 @@ step_from_cell t s b base m at owner next =
     own : (if s == s then slice_get t.next (base + b) else slice_get t.default s) ≡ slice_get t.next (base + b)
     own = search rules
 
-module _ (a : Automaton) (t : Table) (states : ℕ) (whole : IsWhole a) (two : 2 ≤ states) (all : length a.rows ≤ states) (few : states ≤ 16384)
+module _ (a : Automaton) (t : Table) (states : ℕ) (whole : IsWhole a) (two : 2 ≤ states) (all : length a.rows ≤ states)
+    (few : states ≤ 16384)
     (packed : IsPacked a t states) where
   bounds : InBounds t
   bounds = record {

@@ -18,7 +18,8 @@ goes_through t n bytes b None more at = cc
 goes_through t n bytes b (Some m) more at = more m at
 
 -- from a list's last state one goes on with one byte more
-goes_one_more : (t : Table) (s n : ℕ) (bytes : List ℕ) (b : ℕ) → state_from t s bytes ≡ Some n → state_from t s (bytes ++ b ∷ []) ≡ next_state t n b
+goes_one_more : (t : Table) (s n : ℕ) (bytes : List ℕ) (b : ℕ) → state_from t s bytes ≡ Some n → state_from t s (bytes ++ b ∷ [])
+    ≡ next_state t n b
 goes_one_more t s n [] b at = stays (next_state t s b) ∙ ap (λ (m : ℕ). next_state t m b) (same_Some s n at)
 goes_one_more t s n (c ∷ bytes) b at = goes_through t n bytes b (next_state t s c) (λ m there. goes_one_more t m n bytes b there) at
 

@@ -11,7 +11,8 @@ use Rattle.verdicts.specs.Least.{hits_list, hits_of, no_hit, record_of}
 use Rattle.verdicts.specs.declared.record.LeastHits.{LeastHits}
 use Rattle.verdicts.specs.declared.record.Record.{Record}
 use Rattle.tables.specs.Bounds.{InLimits, IsShaped}
-use Rattle.tables.specs.Images.{AreShort, HasImageFault, HasRoom, IsImageOf, IsShortRecord, IsWhole, header_of, hits_bytes, image_of, record_bytes, short_at, word_at, words}
+use Rattle.tables.specs.Images.{AreShort, HasImageFault, HasRoom, IsImageOf, IsShortRecord, IsWhole, header_of, hits_bytes, image_of}
+use Rattle.tables.specs.Images.{record_bytes, short_at, word_at, words}
 use Rattle.tables.specs.Tables.{Table, state_count, cell_count, record_count}
 use Rattle.tables.specs.declared.fault.ImageFault.{ImageFault}
 use Rattle.tables.specs.declared.fault.ImageFault.TheVariants as fault
@@ -20,13 +21,15 @@ use Rattle.tables.proofs.Joined.{same_parts}
 -- ---- what an image has
 
 abbrev parts_of : Table → List ℕ
-parts_of t = words t.default ++ (words t.base ++ (words t.accept ++ (words t.next ++ (words t.check ++ concat (map record_bytes t.records)))))
+parts_of t = words t.default
+    ++ (words t.base ++ (words t.accept ++ (words t.next ++ (words t.check ++ concat (map record_bytes t.records)))))
 
 regrouped : (h a b c d e f : List ℕ) → h ++ a ++ b ++ c ++ d ++ e ++ f ≡ h ++ (a ++ (b ++ (c ++ (d ++ (e ++ f)))))
 regrouped h a b c d e f = simp append_assoc
 
 image_parts : (t : Table) → image_of t ≡ header_of t ++ parts_of t
-image_parts t = regrouped (header_of t) (words t.default) (words t.base) (words t.accept) (words t.next) (words t.check) (concat (map record_bytes t.records))
+image_parts t = regrouped (header_of t) (words t.default) (words t.base) (words t.accept) (words t.next) (words t.check)
+    (concat (map record_bytes t.records))
 
 abbrev head : ℕ → ℕ → ℕ → List ℕ
 head s c r = codes "PTAB" ++ little_bytes 2 1 ++ little_bytes 2 0 ++ little_bytes 4 s ++ little_bytes 4 c ++ little_bytes 4 r
@@ -41,7 +44,8 @@ head_records : (s c r : ℕ) (rest : List ℕ) → r < 4294967296 → word_at (h
 head_records s c r rest lt = little_number-reads_back 4 r rest lt
 
 -- lists of one length each, joined
-concat_length : {X : Type 0} (f : X → List ℕ) (n : ℕ) → ((x : X) → length (f x) ≡ n) → (xs : List X) → length (concat (map f xs)) ≡ n * length xs
+concat_length : {X : Type 0} (f : X → List ℕ) (n : ℕ) → ((x : X) → length (f x) ≡ n) → (xs : List X) →
+    length (concat (map f xs)) ≡ n * length xs
 concat_length f n h [] = omega arith
 concat_length f n h (x ∷ xs) =
     length-append (f x) (concat (map f xs)) ∙ ap (λ z. z + length (concat (map f xs))) (h x) ∙ ap (λ z. n + z) (concat_length f n h xs)
@@ -99,12 +103,16 @@ image_is_whole bytes t image =
     let is : bytes ≡ header_of t ++ parts_of t = image.is ∙ image_parts t in
     let limits : InLimits (state_count t) (cell_count t) (record_count t) = image.limits in
     let s : word_at bytes 8 ≡ state_count t =
-    ap (λ z. word_at z 8) is ∙ head_states (state_count t) (cell_count t) (record_count t) (parts_of t) (let m = limits.most_states in omega (arith, m)) in
+    ap (λ z. word_at z 8) is ∙ head_states (state_count t) (cell_count t) (record_count t) (parts_of t) (let m = limits.most_states in
+    omega (arith, m)) in
     let c : word_at bytes 12 ≡ cell_count t =
-    ap (λ z. word_at z 12) is ∙ head_cells (state_count t) (cell_count t) (record_count t) (parts_of t) (let m = limits.most_cells in omega (arith, m)) in
+    ap (λ z. word_at z 12) is ∙ head_cells (state_count t) (cell_count t) (record_count t) (parts_of t) (let m = limits.most_cells in
+    omega (arith, m)) in
     let r : word_at bytes 16 ≡ record_count t =
-    ap (λ z. word_at z 16) is ∙ head_records (state_count t) (cell_count t) (record_count t) (parts_of t) (let m = limits.most_records in omega (arith, m)) in
-    let size : length bytes ≡ 20 + 12 * state_count t + 8 * cell_count t + 20 * record_count t = ap length is ∙ parts_length t image.shaped in (
+    ap (λ z. word_at z 16) is ∙ head_records (state_count t) (cell_count t) (record_count t) (parts_of t) (let m = limits.most_records in
+    omega (arith, m)) in
+    let size : length bytes ≡ 20 + 12 * state_count t + 8 * cell_count t + 20 * record_count t =
+    ap length is ∙ parts_length t image.shaped in (
       record {
         header = omega (arith, size);
         magic = ap (take 4) is;
@@ -178,7 +186,8 @@ record_one same made r q p s e =
     let lists : hits_list r ≡ hits_list q = concat_one hits_bytes AreShort 4 (λ x. refl) hits_one (hits_list r) (hits_list q) refl p s e in
     same r q (λ x. sym (made (hits_of r) x) ∙ ap (λ l. get_or l (index x) no_hit) lists ∙ made (hits_of q) x)
 
-words_one : (xs ys : List ℕ) → length xs ≡ length ys → All (λ n. n < 4294967296) xs → All (λ n. n < 4294967296) ys → words xs ≡ words ys → xs ≡ ys
+words_one : (xs ys : List ℕ) → length xs ≡ length ys → All (λ n. n < 4294967296) xs → All (λ n. n < 4294967296) ys →
+    words xs ≡ words ys → xs ≡ ys
 words_one = concat_one (little_bytes 4) (λ n. n < 4294967296) 4 (λ x. refl) word_one
 
 -- the words at the beginning, and what comes after them
@@ -206,8 +215,10 @@ one_table same made bytes t u i j =
     ≡ words u.base ++ (words u.accept ++ (words u.next ++ (words u.check ++ ru)))) =
     words_first t.default u.default (words t.base ++ (words t.accept ++ (words t.next ++ (words t.check ++ rt))))
     (words u.base ++ (words u.accept ++ (words u.next ++ (words u.check ++ ru)))) s p.defaults q.defaults e0 in
-    let e2 : (t.base ≡ u.base) × (words t.accept ++ (words t.next ++ (words t.check ++ rt)) ≡ words u.accept ++ (words u.next ++ (words u.check ++ ru))) =
-    words_first t.base u.base (words t.accept ++ (words t.next ++ (words t.check ++ rt))) (words u.accept ++ (words u.next ++ (words u.check ++ ru)))
+    let e2 : (t.base ≡ u.base) × (words t.accept ++ (words t.next ++ (words t.check ++ rt)) ≡ words u.accept
+    ++ (words u.next ++ (words u.check ++ ru))) =
+    words_first t.base u.base (words t.accept ++ (words t.next ++ (words t.check ++ rt)))
+    (words u.accept ++ (words u.next ++ (words u.check ++ ru)))
     (i.shaped.bases ∙ s ∙ sym j.shaped.bases) p.bases q.bases e1.1 in
     let e3 : (t.accept ≡ u.accept) × (words t.next ++ (words t.check ++ rt) ≡ words u.next ++ (words u.check ++ ru)) =
     words_first t.accept u.accept (words t.next ++ (words t.check ++ rt)) (words u.next ++ (words u.check ++ ru))

@@ -1,5 +1,6 @@
 -- Bytes with no fault are the image of the table that is read from them.
-use Rattle.std.proofs.Common.{◌≡◌, ⊎_elim, ℕ, zero, suc, ◌+◌, ◌*◌, ◌<◌, ◌≤◌, List, ◌++◌, length, map, take, drop, sym, ap, ◌∙◌, subst, arith, get_or}
+use Rattle.std.proofs.Common.{◌≡◌, ⊎_elim, ℕ, zero, suc, ◌+◌, ◌*◌, ◌<◌, ◌≤◌, List, ◌++◌, length, map, take, drop, sym, ap, ◌∙◌, subst}
+use Rattle.std.proofs.Common.{arith, get_or}
 use Rattle.std.specs.Prelude.{codes, All}
 use Rattle.std.specs.List.{concat}
 use Rattle.std.proofs.lemmas.Bool.{cases_lt}
@@ -14,7 +15,8 @@ use Rattle.tables.specs.Bounds.{InLimits}
 use Rattle.tables.specs.Images.{AreShort, HasRoom, IsImageOf, IsShortRecord, IsWhole, header_of, record_bytes, short_at, word_at, words}
 use Rattle.tables.specs.inner.Reading.{hits_at, record_at, records_at, table_at, words_at}
 use Rattle.tables.specs.Tables.{state_count, cell_count, record_count}
-use Rattle.tables.proofs.Pieces.{AreLow, length_records_at, length_words_at, low_rest, piece, records_back, short_back, take_both, word_back, words_back}
+use Rattle.tables.proofs.Pieces.{AreLow, length_records_at, length_words_at, low_rest, piece, records_back, short_back, take_both}
+use Rattle.tables.proofs.Pieces.{word_back, words_back}
 
 pub low_bytes : (bytes : List ℕ) → are_bytes bytes → AreLow bytes
 low_bytes bytes all k = ⊎_elim
@@ -38,15 +40,18 @@ module _ (bytes : List ℕ) (low : AreLow bytes) where
 
   words_room : (i n : ℕ) → All (λ x. x < 4294967296) (words_at bytes i n)
   words_room i zero = λ k d lt. absurd (omega (arith, lt))
-  words_room i (suc n) = All-push (λ x. x < 4294967296) (words_at bytes i n) (word_at bytes (i + 4 * n)) (words_room i n) (word_room (i + 4 * n))
+  words_room i (suc n) = All-push (λ x. x < 4294967296) (words_at bytes i n) (word_at bytes (i + 4 * n)) (words_room i n)
+      (word_room (i + 4 * n))
 
   record_room : (i : ℕ) → IsShortRecord (record_at bytes i)
   unfolding IsShortRecord hits_list record_at
-  record_room i = All-map AreShort (λ p. hits_at bytes (i + 4 * index p)) all_permissions (λ k d lt. hits_room (i + 4 * index (get_or all_permissions k d)))
+  record_room i = All-map AreShort (λ p. hits_at bytes (i + 4 * index p)) all_permissions
+      (λ k d lt. hits_room (i + 4 * index (get_or all_permissions k d)))
 
   records_room : (i n : ℕ) → All IsShortRecord (records_at bytes i n)
   records_room i zero = λ k d lt. absurd (omega (arith, lt))
-  records_room i (suc n) = All-push IsShortRecord (records_at bytes i n) (record_at bytes (i + 20 * n)) (records_room i n) (record_room (i + 20 * n))
+  records_room i (suc n) = All-push IsShortRecord (records_at bytes i n) (record_at bytes (i + 20 * n)) (records_room i n)
+      (record_room (i + 20 * n))
 
   table_room : HasRoom (table_at bytes)
   table_room =

@@ -3,7 +3,8 @@ ghost use Rattle.std.specs.Prelude.{◌≡◌, ◌⊎◌, All, ◌+◌, ◌*◌,
 ghost use Rattle.std.specs.List.{concat};
 ghost use Rattle.byteorder.specs.Endian.{little_bytes};
 ghost use Rattle.tables.specs.Bounds.{IsShaped, IsWithinLimits};
-ghost use Rattle.tables.specs.Images.{AreShort, AreWords, IsFirstImageFault, IsImageOf, IsShortRecord, IsWhole, header_of, hits_bytes, record_bytes, word_at, words};
+ghost use Rattle.tables.specs.Images.{AreShort, AreWords, IsFirstImageFault, IsImageOf, IsShortRecord, IsWhole, header_of, hits_bytes};
+ghost use Rattle.tables.specs.Images.{record_bytes, word_at, words};
 ghost use Rattle.tables.specs.inner.Reading.{hits_at, record_at, records_at, table_at, words_at};
 ghost use Rattle.tables.specs.Tables.{table_value};
 ghost use Rattle.tables.specs.declared.fault.ImageFault.TheVariants as fault;

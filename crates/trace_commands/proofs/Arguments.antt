@@ -27,11 +27,13 @@ asked_in_vain perms name text (Image f) e (inl p) = cc
 asked_in_vain perms name text (Image f) e (inr p) = cc
 
 -- good arguments aren't reported as bad ones
-judged_status : (ask : Perms) (name : List ℕ) (outcome : Result ProfileValue ReadFault) → (verdict_output ask name outcome).status ≢ BadArguments
+judged_status : (ask : Perms) (name : List ℕ) (outcome : Result ProfileValue ReadFault) →
+    (verdict_output ask name outcome).status ≢ BadArguments
 judged_status ask name (Ok profile) = λ e. cc
 judged_status ask name (Err f) = λ e. cc
 
-good_arguments : (perms name text : List ℕ) (ask : Perms) → ask_of perms name ≡ Ok ask → (judge_output perms name text).status ≢ BadArguments
+good_arguments : (perms name text : List ℕ) (ask : Perms) → ask_of perms name ≡ Ok ask →
+    (judge_output perms name text).status ≢ BadArguments
 good_arguments perms name text ask e = rw (e, judge_output) (judged_status ask name (outcome_of text))
 
 -- a fault that hides the text says only that the arguments are good

@@ -1,5 +1,6 @@
 -- The outcomes of `explain`: bad arguments, faults that the text says nothing about, texts that are refused, and answers.
-use Rattle.std.proofs.Common.{◌≡◌, ◌≢◌, ◌⊎◌, ℕ, List, [], ◌++◌, Option, Result, Ok, Err, refl, sym, subst, inl, inr, append_assoc, append-nil}
+use Rattle.std.proofs.Common.{◌≡◌, ◌≢◌, ◌⊎◌, ℕ, List, [], ◌++◌, Option, Result, Ok, Err, refl, sym, subst, inl, inr, append_assoc}
+use Rattle.std.proofs.Common.{append-nil}
 use Rattle.std.specs.Prelude.{codes, flat_map, filter}
 use Rattle.names.specs.Errors.{no_memory_text}
 use Rattle.names.specs.declared.permissions.Perms.{Perms}
@@ -28,7 +29,8 @@ use Rattle.trace_commands.specs.Judge.{ask_of, judge_output, verdict_output}
 -- ---- arguments
 
 -- bad arguments are reported as such, whatever the text
-pub asked_in_vain : (perms name text : List ℕ) (f : Fault) → ask_of perms name ≡ Err (fault_text f) → (f ≡ Permissions) ⊎ (f ≡ Name) → IsFaultOf (explain_output perms name text) f
+pub asked_in_vain : (perms name text : List ℕ) (f : Fault) → ask_of perms name ≡ Err (fault_text f) → (f ≡ Permissions) ⊎ (f ≡ Name) →
+    IsFaultOf (explain_output perms name text) f
 asked_in_vain perms name text Permissions e which = rw (e, explain_output) refl
 asked_in_vain perms name text Name e which = rw (e, explain_output) refl
 asked_in_vain perms name text Input e (inl p) = cc
@@ -43,42 +45,52 @@ asked_in_vain perms name text (Image f) e (inl p) = cc
 asked_in_vain perms name text (Image f) e (inr p) = cc
 
 -- good arguments aren't reported as bad ones
-pub explained_status : (ask : Perms) (name text : List ℕ) (outcome : Result ProfileValue ReadFault) → (explained_output ask name text outcome).status ≢ BadArguments
+pub explained_status : (ask : Perms) (name text : List ℕ) (outcome : Result ProfileValue ReadFault) →
+    (explained_output ask name text outcome).status ≢ BadArguments
 explained_status ask name text (Ok profile) = λ e. cc
 explained_status ask name text (Err f) = λ e. cc
 
 -- what is written with good arguments
-pub good_output : (perms name text : List ℕ) (ask : Perms) → ask_of perms name ≡ Ok ask → explain_output perms name text ≡ explained_output ask name text (outcome_of text)
+pub good_output : (perms name text : List ℕ) (ask : Perms) → ask_of perms name ≡ Ok ask → explain_output perms name text
+    ≡ explained_output ask name text (outcome_of text)
 good_output perms name text ask e = rw (e, explain_output) refl
 
-good_arguments : (perms name text : List ℕ) (ask : Perms) → ask_of perms name ≡ Ok ask → (explain_output perms name text).status ≢ BadArguments
+good_arguments : (perms name text : List ℕ) (ask : Perms) → ask_of perms name ≡ Ok ask →
+    (explain_output perms name text).status ≢ BadArguments
 good_arguments perms name text ask e = rw (good_output perms name text ask e) (explained_status ask name text (outcome_of text))
 
 -- a fault that hides the text says only that the arguments are good
-pub unread : (perms name text : List ℕ) (ask : Perms) (f : Fault) → ask_of perms name ≡ Ok ask → (f ≡ Input) ⊎ (f ≡ Memory) → IsFaultOf (explain_output perms name text) f
+pub unread : (perms name text : List ℕ) (ask : Perms) (f : Fault) → ask_of perms name ≡ Ok ask → (f ≡ Input) ⊎ (f ≡ Memory) →
+    IsFaultOf (explain_output perms name text) f
 unread perms name text ask f e (inl h) = rw h (good_arguments perms name text ask e)
 unread perms name text ask f e (inr h) = rw h (good_arguments perms name text ask e)
 
 -- ---- texts
 
 -- an answer
-pub answered_so : (streams : Streams) (ask : Perms) (name text : List ℕ) (profile : ProfileValue) (spans : List Span) (here lines bytes : List ℕ) (status : Status) → outcome_of text ≡ Ok profile → spans ≡ spans_of text → here ≡ name → bytes ≡ lines
-    → lines ≡ explanation text profile.rules spans here ask → Ends streams (whole_answer bytes) status → Ends streams (explained_output ask name text (outcome_of text)) status
+pub answered_so : (streams : Streams) (ask : Perms) (name text : List ℕ) (profile : ProfileValue) (spans : List Span)
+    (here lines bytes : List ℕ) (status : Status) → outcome_of text ≡ Ok profile → spans ≡ spans_of text → here ≡ name → bytes ≡ lines
+    → lines ≡ explanation text profile.rules spans here ask → Ends streams (whole_answer bytes) status →
+    Ends streams (explained_output ask name text (outcome_of text)) status
 answered_so streams ask name text profile spans here lines bytes status e1 e2 e3 e4 e5 h =
     let same : explained_output ask name text (outcome_of text) ≡ whole_answer bytes = rw (e1, e4, e5, e2, e3) refl in
     subst (λ (output : Output). Ends streams output status) (sym same) h
 
 -- out of memory
-pub forgotten : (ask : Perms) (name text : List ℕ) (answers before after : Option (List ℕ)) (status : Status) → IsTold before after no_memory_text NoMemory status
+pub forgotten : (ask : Perms) (name text : List ℕ) (answers before after : Option (List ℕ)) (status : Status) →
+    IsTold before after no_memory_text NoMemory status
     → Ends (told_alone answers before after) (explained_output ask name text (outcome_of text)) status
-forgotten ask name text answers before after status h = ends_told answers before after _ Memory status (explained_status ask name text (outcome_of text)) h
+forgotten ask name text answers before after status h = ends_told answers before after _ Memory status
+    (explained_status ask name text (outcome_of text)) h
 
-told_whole : (answers before after : Option (List ℕ)) (output : Output) (told : List ℕ) (status : Status) → output ≡ fault told Refused → IsTold before after told Refused status → Ends (told_alone answers before after) output status
+told_whole : (answers before after : Option (List ℕ)) (output : Output) (told : List ℕ) (status : Status) → output ≡ fault told Refused →
+    IsTold before after told Refused status → Ends (told_alone answers before after) output status
 told_whole answers before after output told status of (inl e) = rw e (nothing_yet answers output.answers)
 told_whole answers before after output told status of (inr h) = rw h.0 (written answers before after output told Refused of h.1)
 
 -- a text that is refused, or no memory to report where
-pub refused_so : (ask : Perms) (name text : List ℕ) (f : ReadFault) (answers before after : Option (List ℕ)) (status : Status) → f ≢ reading.NoMemory → (f ≡ reading.NoMemory) ⊎ (outcome_of text ≡ Err f)
+pub refused_so : (ask : Perms) (name text : List ℕ) (f : ReadFault) (answers before after : Option (List ℕ)) (status : Status) →
+    f ≢ reading.NoMemory → (f ≡ reading.NoMemory) ⊎ (outcome_of text ≡ Err f)
     → (IsTold before after (refusal_text text f) Refused status) ⊎ (IsTold before after no_memory_text NoMemory status)
     → Ends (told_alone answers before after) (explained_output ask name text (outcome_of text)) status
 refused_so ask name text f answers before after status other (inl m) told = absurd (other m)
@@ -91,11 +103,16 @@ refused_so ask name text f answers before after status other (inr e) (inl h) =
 same_faults : (one : List ℕ) → (more : List ℕ) × (one ≡ one ++ more)
 same_faults one = ([], sym (append-nil one))
 
-by_outcome : (ask : Perms) (name text : List ℕ) (outcome : Result ProfileValue ReadFault) → GoesOnFrom (verdict_output ask name outcome) (explained_output ask name text outcome)
+by_outcome : (ask : Perms) (name text : List ℕ) (outcome : Result ProfileValue ReadFault) → GoesOnFrom (verdict_output ask name outcome)
+    (explained_output ask name text outcome)
 unfolding explanation
 by_outcome ask name text (Ok profile) =
     let lines : List ℕ = flat_map (reason_line text profile.rules (spans_of text) name) (filter (has ask) all_permissions) in
-    record { status = refl; answers = (lines, sym (append_assoc (verdict_text (verdict profile.rules name ask)) (codes "\n") lines)); faults = same_faults [] }
+    record {
+      status = refl;
+      answers = (lines, sym (append_assoc (verdict_text (verdict profile.rules name ask)) (codes "\n") lines));
+      faults = same_faults [];
+    }
 by_outcome ask name text (Err f) = record {
   status = refl;
   answers = same_faults [];

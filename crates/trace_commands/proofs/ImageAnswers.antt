@@ -16,7 +16,8 @@ use Rattle.tables.specs.Tables.{Table, record_after}
 use Rattle.tables.specs.declared.fault.ImageFault.{ImageFault}
 use Rattle.trace_commands.specs.Judge.{ask_of}
 use Rattle.trace_report.specs.Output.{Output, fault, image_refusal, line, whole_answer}
-use Rattle.trace_commands.specs.Tables.{IsCheckOutput, IsImageOutput, IsImageRefused, IsMatchOutput, IsMatchOutputOf, IsMatchedOutput, IsVerdictOf, counts_text, match_text}
+use Rattle.trace_commands.specs.Tables.{IsCheckOutput, IsImageOutput, IsImageRefused, IsMatchOutput, IsMatchOutputOf, IsMatchedOutput}
+use Rattle.trace_commands.specs.Tables.{IsVerdictOf, counts_text, match_text}
 use Rattle.trace_report.specs.declared.status.Status.TheVariants.{Refused}
 
 -- what the laws of images, of tables and of records say
@@ -50,24 +51,30 @@ module _
   one_check image one other (inr (f, first, e)) (inl (u, so, h)) = absurd (loaded_or_refused image u f so first)
   one_check image one other (inr refused) (inr second) = one_refusal image one other refused second
 
-  module _ (one_verdict : (r : Record) (ask : Perms) (first second : Verdict) → IsTold r ask first → IsTold r ask second → first ≡ second) where
-    verdict_of_one : (t : Table) (name : List ℕ) (ask : Perms) (v w : Verdict) → IsVerdictOf t name ask v → IsVerdictOf t name ask w → v ≡ w
+  module _ (one_verdict : (r : Record) (ask : Perms) (first second : Verdict) → IsTold r ask first → IsTold r ask second →
+      first ≡ second) where
+    verdict_of_one : (t : Table) (name : List ℕ) (ask : Perms) (v w : Verdict) → IsVerdictOf t name ask v →
+        IsVerdictOf t name ask w → v ≡ w
     verdict_of_one t name ask v w (r, at, told) (s, there, so) =
         one_verdict r ask v w told (subst (λ (q : Record). IsTold q ask w) (same_Some s r (sym there ∙ at)) so)
 
-    one_matched : (ask : Perms) (name image : List ℕ) (one other : Output) → IsMatchedOutput ask name image one → IsMatchedOutput ask name image other → one ≡ other
+    one_matched : (ask : Perms) (name image : List ℕ) (one other : Output) → IsMatchedOutput ask name image one →
+        IsMatchedOutput ask name image other → one ≡ other
     one_matched ask name image one other (inl (t, loaded, v, told, e)) (inl (u, so, w, second, h)) =
         let here : IsVerdictOf t name ask w = subst (λ (x : Table). IsVerdictOf x name ask w) (one_table image u t so.0 loaded.0) second in
         e ∙ ap (λ (x : Verdict). whole_answer (match_text name x)) (verdict_of_one t name ask v w told here) ∙ sym h
-    one_matched ask name image one other (inl (t, loaded, v, told, e)) (inr (g, first, h)) = absurd (loaded_or_refused image t g loaded first)
+    one_matched ask name image one other (inl (t, loaded, v, told, e)) (inr (g, first, h)) =
+        absurd (loaded_or_refused image t g loaded first)
     one_matched ask name image one other (inr (f, first, e)) (inl (u, so, w, second, h)) = absurd (loaded_or_refused image u f so first)
     one_matched ask name image one other (inr refused) (inr second) = one_refusal image one other refused second
 
-    one_asked : (asked : Result Perms (List ℕ)) (name image : List ℕ) (one other : Output) → IsMatchOutputOf asked name image one → IsMatchOutputOf asked name image other → one ≡ other
+    one_asked : (asked : Result Perms (List ℕ)) (name image : List ℕ) (one other : Output) → IsMatchOutputOf asked name image one →
+        IsMatchOutputOf asked name image other → one ≡ other
     one_asked (Err told) name image one other e h = e ∙ sym h
     one_asked (Ok ask) name image one other e h = one_matched ask name image one other e h
 
-    pub one_match : (perms name image : List ℕ) (one other : Output) → IsMatchOutput perms name image one → IsMatchOutput perms name image other → one ≡ other
+    pub one_match : (perms name image : List ℕ) (one other : Output) → IsMatchOutput perms name image one →
+        IsMatchOutput perms name image other → one ≡ other
     one_match perms name image one other e h = one_asked (ask_of perms name) name image one other e h
 
   module _ (right : (rules : List RuleValue) (t : Table) → TellsLeastHits rules t → TellsVerdicts rules t) where
@@ -78,7 +85,8 @@ module _
         let same : u ≡ t = one_table bytes u t so.0 loaded.0 in
         let there : record_after t name ≡ Some r = subst (λ (x : Table). record_after x name ≡ Some r) same at in
         e ∙ ap (λ (x : Verdict). whole_answer (match_text name x)) (right profile.rules t least name r ask v small there told)
-    matched_right profile bytes t matched ask name small least loaded (inr (f, first, e)) = absurd (loaded_or_refused bytes t f loaded first)
+    matched_right profile bytes t matched ask name small least loaded (inr (f, first, e)) =
+        absurd (loaded_or_refused bytes t f loaded first)
 
     pub matched_by_image : (profile : ProfileValue) (image matched : Output) (ask : Perms) (name : List ℕ) → are_bytes name
         → IsImageOutput profile image → IsMatchedOutput ask name image.answers matched

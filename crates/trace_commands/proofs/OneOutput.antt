@@ -22,11 +22,13 @@ use Rattle.trace_report.specs.Fault.{fault_of_image, fault_text, fault_status}
 use Rattle.trace_commands.specs.Judge.{ask_of}
 use Rattle.trace_report.specs.Output.{Output, compile_refusal, fault, image_refusal, refusal, whole_answer}
 use Rattle.trace_report.specs.Streams.{Ends, EndsInOne, IsTold, Streams}
-use Rattle.trace_commands.specs.Tables.{IsCheckOutput, IsCompileOutput, IsCompileOutputOf, IsImageRefused, IsMatchOutput, IsMemoryOfWhole, IsMatchOutputOf, IsMatchedOutput}
+use Rattle.trace_commands.specs.Tables.{IsCheckOutput, IsCompileOutput, IsCompileOutputOf, IsImageRefused, IsMatchOutput, IsMemoryOfWhole}
+use Rattle.trace_commands.specs.Tables.{IsMatchOutputOf, IsMatchedOutput}
 use Rattle.trace_report.specs.declared.fault.Fault.{Fault}
 use Rattle.trace_report.specs.declared.fault.Fault.TheVariants.{Permissions, Name, Text, Compiling, Image, Input, Memory}
 use Rattle.trace_report.specs.declared.status.Status.{Status}
-use Rattle.trace_report.specs.declared.status.Status.TheVariants.{BadArguments, Done, FaultsFailed, InputFailed, NoMemory, OutputFailed, Refused, Unmet}
+use Rattle.trace_report.specs.declared.status.Status.TheVariants.{BadArguments, Done, FaultsFailed, InputFailed, NoMemory, OutputFailed}
+use Rattle.trace_report.specs.declared.status.Status.TheVariants.{Refused, Unmet}
 use Rattle.trace_report.proofs.Endings.{keeps, told_alone, written}
 
 -- answers and refusals don't report bad arguments
@@ -69,7 +71,8 @@ one_given streams Wanted output FaultsFailed good of h = inr (output, of, h)
 
 -- a command that reported its fault ends as it should
 pub one_told : (answers before after : Option (List ℕ)) (Wanted : Output → Type 0) (f : Fault) (status : Status)
-    → IsFaultOfOne Wanted f → IsTold before after (fault_text f) (fault_status f) status → EndsInOne (told_alone answers before after) Wanted status
+    → IsFaultOfOne Wanted f → IsTold before after (fault_text f) (fault_status f) status →
+    EndsInOne (told_alone answers before after) Wanted status
 one_told answers before after Wanted f status of (inl e) = rw e (inl (keeps answers))
 one_told answers before after Wanted Permissions status of (inr h) =
     rw h.0 (fault (fault_text Permissions) BadArguments, of, written answers before after _ (fault_text Permissions) BadArguments refl h.1)
@@ -110,7 +113,8 @@ pub match_in_vain : (perms name image : List ℕ) (f : Fault) → ask_of perms n
 match_in_vain perms name image f e which = asked_one (ask_of perms name) name image f e which
 
 -- good arguments: the wanted outputs are those for the permissions asked for
-asked_arguments : (asked : Result Perms (List ℕ)) (ask : Perms) (name image : List ℕ) → asked ≡ Ok ask → AreGood (IsMatchOutputOf asked name image)
+asked_arguments : (asked : Result Perms (List ℕ)) (ask : Perms) (name image : List ℕ) → asked ≡ Ok ask →
+    AreGood (IsMatchOutputOf asked name image)
 asked_arguments asked ask name image e = rw e (matched_arguments ask name image)
 
 pub match_arguments : (perms name image : List ℕ) (ask : Perms) → ask_of perms name ≡ Ok ask → AreGood (IsMatchOutput perms name image)
@@ -123,7 +127,8 @@ asked_answer asked ask name image result e h = rw e h
 pub match_answer : (perms name image name_here image_here : List ℕ) (ask : Perms) (result : Result (Vec ℕ Global) Fault)
     → name_here ≡ name → image_here ≡ image → ask_of perms name ≡ Ok ask
     → IsAnswered (IsMatchedOutput ask name_here image_here) result → IsAnswered (IsMatchOutput perms name image) result
-match_answer perms name image name_here image_here ask result n i e h = asked_answer (ask_of perms name) ask name image result e (rw (n, i) at h)
+match_answer perms name image name_here image_here ask result n i e h = asked_answer (ask_of perms name) ask name image result e
+    (rw (n, i) at h)
 
 -- the first fault of an image is reported
 told_fault : (image : List ℕ) (Wanted : Output → Type 0) (f : ImageFault)

@@ -27,7 +27,8 @@ good options text output is = no_arguments text is.0 output is.2
 pub out_of_memory : (options : ImportOptions) (text : List ℕ) (answers before after : Option (List ℕ)) (status : Status)
     → IsTold before after no_memory_text NoMemory status → EndsInOne (told_alone answers before after) (IsImportOutput options text) status
 out_of_memory options text answers before after status (inl e) = rw e (inl (keeps answers))
-out_of_memory options text answers before after status (inr h) = rw h.0 (record { answers = keeps answers; faults = h.1; arguments = good options text })
+out_of_memory options text answers before after status (inr h) =
+    rw h.0 (record { answers = keeps answers; faults = h.1; arguments = good options text })
 
 -- a refusal was reported, or out of memory
 pub refused_so : (options : ImportOptions) (text : List ℕ) (f : ImportFault) (answers before after : Option (List ℕ)) (status : Status)

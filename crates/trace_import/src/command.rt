@@ -142,7 +142,8 @@ fn told<F: Write>(faults: &mut F, bytes: &[u8], status: Status) -> Status
 
 /// Reports why a text is refused.
 fn refuse<F: Write>(alloc: Global, text: &[u8], fault: &ImportFault<'_>, faults: &mut F) -> Status
-    ensures { IsTold (F.contents faults.old) (F.contents faults.new) (refusal_of text.now (import_fault_value fault.now)) Status.Refused result
+    ensures { IsTold (F.contents faults.old) (F.contents faults.new) (refusal_of text.now (import_fault_value fault.now))
+        Status.Refused result
         ⊎ IsTold (F.contents faults.old) (F.contents faults.new) no_memory_text Status.NoMemory result }
 {
     match line_of(alloc, text, fault) {

@@ -1,5 +1,6 @@
 -- Facts that combine the statements about reading a command line.
-use Rattle.std.proofs.Common.{◌≡◌, ◌∙◌, Bool, true, false, List, [], ◌∷◌, Option, Some, None, Result, Ok, Err, IfErr, IsErrAnd, ℕ, refl, ap, ap₂, subst, sym, inl, inr, drop}
+use Rattle.std.proofs.Common.{◌≡◌, ◌∙◌, Bool, true, false, List, [], ◌∷◌, Option, Some, None, Result, Ok, Err, IfErr, IsErrAnd, ℕ, refl}
+use Rattle.std.proofs.Common.{ap, ap₂, subst, sym, inl, inr, drop}
 use Rattle.std.proofs.lemmas.Slice.Eq.{bytes_eq-Decides}
 use Rattle.std.specs.Prelude.{codes, is_some, option_map, unwrap_or}
 use Rattle.std.specs.Borrow.{Bor}
@@ -9,24 +10,30 @@ use Rattle.clap.proofs.WalkLemmas.{first_value-rows, raw_values-rows}
 use Rattle.clap.specs.declared.parser.matches.ArgMatches.TheViews.{out-ArgMatches, out-SubCommand}
 use Rattle.clap.specs.declared.parser.matches.ArgMatches.{ArgMatches}
 use Rattle.clap.specs.declared.parser.matches.Found.{Found}
-use Rattle.clap.specs.Words.{App, HasKind, HasMatchesOf, Row, Text, fault_of, first_value, found_of, matched_of, raw_values, is_simple_and_free, is_simple, rows_of, subcommand_name_of, subcommand_of, subcommand_rows_of}
+use Rattle.clap.specs.Words.{App, HasKind, HasMatchesOf, Row, Text, fault_of, first_value, found_of, matched_of, raw_values}
+use Rattle.clap.specs.Words.{is_simple_and_free, is_simple, rows_of, subcommand_name_of, subcommand_of, subcommand_rows_of}
 use Rattle.clap.specs.declared.error.Error.{Error}
-use Rattle.trace_line.specs.CommandLine.{CommandForm, LineValue, NumberOption, capacity, changes, command_named, commands, import_command, import_of, line_of, many_texts, no_text, numbers, one_text, opens, pair, sessions, storm, storm_by, text_given, texts_given}
-use Rattle.trace_line.specs.inner.Parser.{GivesLine, HasNumbers, IsLineFaultOf, IsReadAs, IsStormOf, flag_read, import_read, number_read, program_app}
+use Rattle.trace_line.specs.CommandLine.{CommandForm, LineValue, NumberOption, capacity, changes, command_named, commands, import_command}
+use Rattle.trace_line.specs.CommandLine.{import_of, line_of, many_texts, no_text, numbers, one_text, opens, pair, sessions, storm}
+use Rattle.trace_line.specs.CommandLine.{storm_by, text_given, texts_given}
+use Rattle.trace_line.specs.inner.Parser.{GivesLine, HasNumbers, IsLineFaultOf, IsReadAs, IsStormOf, flag_read, import_read, number_read}
+use Rattle.trace_line.specs.inner.Parser.{program_app}
 use Rattle.trace_line.specs.declared.line.LineFault.{LineFault}
 use Rattle.trace_line.specs.declared.line.LineFault.TheVariants.{Usage, NoMemory}
 use Rattle.trace_line.proofs.LineWalk.{ReadsAs, flat, line_parsed, parsed_of, program_read}
 
 -- ---- a parse that failed
 
-if_err : {T : Type 0} (r : Result T LineFault) (P Q : LineFault → Type 0) → ((fault : LineFault) → P fault → Q fault) → IsErrAnd r P → IfErr r Q
+if_err : {T : Type 0} (r : Result T LineFault) (P Q : LineFault → Type 0) → ((fault : LineFault) → P fault → Q fault) →
+    IsErrAnd r P → IfErr r Q
 if_err (Ok value) P Q f h = tt
 if_err (Err fault) P Q f h = f fault h
 
 abbrev Reads : List Text → Option (Option LineValue) → Type 0
 Reads words line = ReadsAs commands refl (drop 1 words) line
 
-faultless : (words : List Text) (line : Option (Option LineValue)) → Reads words line → is_some (flat line) ≡ true → fault_of program_app words ≡ []
+faultless : (words : List Text) (line : Option (Option LineValue)) → Reads words line → is_some (flat line) ≡ true →
+    fault_of program_app words ≡ []
 faultless words None h some = absurd (cc some)
 faultless words (Some line) h some = h.0
 
@@ -50,11 +57,13 @@ pub refused_line : {T : Type 0} (app : App) (words : List Text) (e : Error) (r :
 refused_line app words e r is has from =
     let kinds : HasKind (fault_of program_app words) e = rw (ap (λ (a : App). fault_of a words) is) at (has (rw is is_exact)) in
     if_err r (IsLineFaultOf e) (λ fault. is_some (line_of words) ≡ true → fault ≡ NoMemory)
-    (λ fault h some. memory_alone e fault (rw (faultless words (parsed_of words) (program_read words) (sym (ap is_some (line_parsed words)) ∙ some)) at kinds) h) from
+    (λ fault h some. memory_alone e fault
+    (rw (faultless words (parsed_of words) (program_read words) (sym (ap is_some (line_parsed words)) ∙ some)) at kinds) h) from
 
 -- ---- a parse that succeeded
 
-read_by : (words : List Text) (m : ArgMatches) (line : Option (Option LineValue)) → line_of words ≡ flat line → Reads words line → fault_of program_app words ≡ []
+read_by : (words : List Text) (m : ArgMatches) (line : Option (Option LineValue)) → line_of words ≡ flat line → Reads words line →
+    fault_of program_app words ≡ []
     → subcommand_rows_of m ≡ subcommand_of program_app words → IsReadAs words m
 read_by words m None is h quiet entered = absurd (h quiet)
 read_by words m (Some line) is h quiet entered = record {
@@ -66,10 +75,12 @@ read_by words m (Some line) is h quiet entered = record {
   gives = subst (λ (l : Option LineValue). GivesLine h.1.0.takes h.1.1 l) (sym is) h.1.4;
 }
 
-pub entered_line : (app : App) (words : List Text) (m : ArgMatches) → app ≡ program_app → (is_simple_and_free app ≡ true → fault_of app words ≡ [])
+pub entered_line : (app : App) (words : List Text) (m : ArgMatches) → app ≡ program_app →
+    (is_simple_and_free app ≡ true → fault_of app words ≡ [])
     → HasMatchesOf app words m → IsReadAs words m
 entered_line app words m is quiet matches =
-    read_by words m (parsed_of words) (line_parsed words) (program_read words) (sym (ap (λ (a : App). fault_of a words) is) ∙ quiet (rw is is_exact))
+    read_by words m (parsed_of words) (line_parsed words) (program_read words) (sym (ap (λ (a : App). fault_of a words) is)
+    ∙ quiet (rw is is_exact))
     ((matches (rw is is_plain)).1 ∙ ap (λ (a : App). subcommand_of a words) is)
 
 -- ---- the line, by the name of its command
@@ -85,8 +96,10 @@ pub record HasLine (words : List Text) (name : Text) (found : Found) : Type 0 wh
 
 -- the name and the rows of what is entered, from each of them
 pairs_of : {B : Type 0} (o : Option B) (name_of : B → Text) (rows_in : B → List Row) (name command : Text) (found rows : List Row)
-    → Some name ≡ option_map name_of o → Some found ≡ option_map (λ p. p.1) (option_map (λ b. let pair : Text × List Row = (name_of b, rows_in b) in pair) o)
-    → option_map (λ b. let pair : Text × List Row = (name_of b, rows_in b) in pair) o ≡ Some (command, rows) → (command ≡ name) × (rows ≡ found)
+    → Some name ≡ option_map name_of o → Some found ≡ option_map (λ p. p.1)
+    (option_map (λ b. let pair : Text × List Row = (name_of b, rows_in b) in pair) o)
+    → option_map (λ b. let pair : Text × List Row = (name_of b, rows_in b) in pair) o ≡ Some (command, rows) →
+    (command ≡ name) × (rows ≡ found)
 pairs_of None name_of rows_in name command found rows is_name is_found is = absurd (cc is_name)
 pairs_of (Some b) name_of rows_in name command found rows is_name is_found is =
     let pair : Text × List Row = (name_of b, rows_in b) in
@@ -99,11 +112,14 @@ pairs_of (Some b) name_of rows_in name command found rows is_name is_found is =
     )
 
 -- what `subcommand` returns for matches that are read
-pub opened_line : (words : List Text) (m : ArgMatches) (given : Option (Bor Text × Bor ArgMatches)) (it : Bor Text × Bor ArgMatches) → IsReadAs words m
+pub opened_line : (words : List Text) (m : ArgMatches) (given : Option (Bor Text × Bor ArgMatches)) (it : Bor Text × Bor ArgMatches) →
+    IsReadAs words m
     → given ≡ Some it → option_map (λ p. p.0.now) given ≡ subcommand_name_of m
-    → option_map (λ p. rows_of (found_of p.1.now)) given ≡ option_map (λ p. p.1) (subcommand_rows_of m) → HasLine words it.0.now (found_of it.1.now)
+    → option_map (λ p. rows_of (found_of p.1.now)) given ≡ option_map (λ p. p.1) (subcommand_rows_of m) →
+    HasLine words it.0.now (found_of it.1.now)
 opened_line words m given it read is names rows =
-    let same = pairs_of (out-ArgMatches m).subcommand (λ b. (out-SubCommand (box_value b)).name.now) (λ b. rows_of (found_of (out-SubCommand (box_value b)).matches))
+    let same = pairs_of (out-ArgMatches m).subcommand (λ b. (out-SubCommand (box_value b)).name.now)
+    (λ b. rows_of (found_of (out-SubCommand (box_value b)).matches))
     it.0.now read.command (rows_of (found_of it.1.now)) read.rows (rw is at names) (rw is at rows) read.entered in
     record {
       form = read.form;
@@ -113,26 +129,30 @@ opened_line words m given it read is names rows =
 
 module _ (words : List Text) (name : Text) (found : Found) (h : HasLine words name found) where
   -- what is found gives the line as the form of the command says
-  by_form : (known : Text) (form : CommandForm) → name ≡ known → command_named commands known ≡ Some form → GivesLine form.takes (rows_of found) (line_of words)
+  by_form : (known : Text) (form : CommandForm) → name ≡ known → command_named commands known ≡ Some form →
+      GivesLine form.takes (rows_of found) (line_of words)
   by_form known form is known_is =
       let same : Some h.form ≡ Some form = sym h.form_is ∙ ap (command_named commands) is ∙ known_is in
       let it : h.form ≡ form = cc same in
       subst (λ form. GivesLine form.takes (rows_of found) (line_of words)) it h.gives
 
   -- a command of two arguments
-  pub pair_first : (known : Text) (line : Text → Text → LineValue) → name ≡ known → command_named commands known ≡ Some (record { name = known; takes = pair line })
+  pub pair_first : (known : Text) (line : Text → Text → LineValue) → name ≡ known → command_named commands known
+      ≡ Some (record { name = known; takes = pair line })
       → is_some (first_value found (codes "PERMS")) ≡ true
   pair_first known line is form =
       let gives = by_form known (record { name = known; takes = pair line }) is form in
       ap is_some (first_value-rows found (codes "PERMS") ∙ gives.2)
 
-  pub pair_second : (known : Text) (line : Text → Text → LineValue) → name ≡ known → command_named commands known ≡ Some (record { name = known; takes = pair line })
+  pub pair_second : (known : Text) (line : Text → Text → LineValue) → name ≡ known → command_named commands known
+      ≡ Some (record { name = known; takes = pair line })
       → is_some (first_value found (codes "NAME")) ≡ true
   pair_second known line is form =
       let gives = by_form known (record { name = known; takes = pair line }) is form in
       ap is_some (first_value-rows found (codes "NAME") ∙ gives.3)
 
-  pub pair_line : (known : Text) (line : Text → Text → LineValue) → name ≡ known → command_named commands known ≡ Some (record { name = known; takes = pair line })
+  pub pair_line : (known : Text) (line : Text → Text → LineValue) → name ≡ known → command_named commands known
+      ≡ Some (record { name = known; takes = pair line })
       → (first second : Text) → first_value found (codes "PERMS") ≡ Some first → first_value found (codes "NAME") ≡ Some second
       → line_of words ≡ Some (line first second)
   pair_line known line is form first second is_first is_second =
@@ -209,18 +229,22 @@ module _ (words : List Text) (name : Text) (found : Found) (h : HasLine words na
       let owner : first_value found (codes "owner") ≡ text_given given (codes "owner") =
       first_value-rows found (codes "owner") ∙ gives.1 (record { name = codes "owner"; wants = one_text }) refl in
       let define : unwrap_or (option_map raw_values (matched_of found (codes "define"))) [] ≡ texts_given given (codes "define") =
-      ap (λ (o : Option (List Text)). unwrap_or o []) (raw_values-rows found (codes "define")) ∙ gives.1 (record { name = codes "define"; wants = many_texts }) refl in
+      ap (λ (o : Option (List Text)). unwrap_or o []) (raw_values-rows found (codes "define"))
+      ∙ gives.1 (record { name = codes "define"; wants = many_texts }) refl in
       let strict : unwrap_or (flag_read (codes "strict") (rows_of found)) false ≡ is_some (text_given given (codes "strict")) =
       ap (λ (o : Option Bool). unwrap_or o false) (gives.1 (record { name = codes "strict"; wants = no_text }) refl) in
       let texts : List Text = unwrap_or (option_map raw_values (matched_of found (codes "define"))) [] in
       let flag : Bool = unwrap_or (flag_read (codes "strict") (rows_of found)) false in
       ap₂ (λ (a b : Option Text). import_of a b texts flag) profile owner
-      ∙ ap₂ (λ (a : List Text) (b : Bool). import_of (text_given given (codes "profile")) (text_given given (codes "owner")) a b) define strict ∙ sym gives.2
+      ∙ ap₂ (λ (a : List Text) (b : Bool). import_of (text_given given (codes "profile")) (text_given given (codes "owner")) a b)
+      define strict ∙ sym gives.2
 
-  pub import_fault : {T : Type 0} (e : LineFault) (r : Result T LineFault) → name ≡ codes "import" → (is_some (import_read found) ≡ true → e ≡ NoMemory)
+  pub import_fault : {T : Type 0} (e : LineFault) (r : Result T LineFault) → name ≡ codes "import" →
+      (is_some (import_read found) ≡ true → e ≡ NoMemory)
       → IsErrAnd r (λ fault. fault ≡ e) → IfErr r (λ fault. is_some (line_of words) ≡ true → fault ≡ NoMemory)
   import_fault e r is memory from =
-      if_err r (λ fault. fault ≡ e) (λ fault. is_some (line_of words) ≡ true → fault ≡ NoMemory) (λ fault same some. same ∙ memory (ap is_some (import_line is) ∙ some)) from
+      if_err r (λ fault. fault ≡ e) (λ fault. is_some (line_of words) ≡ true → fault ≡ NoMemory)
+      (λ fault same some. same ∙ memory (ap is_some (import_line is) ∙ some)) from
 
   other_name : (known : Text) → (name ≡ known → ⊥) → bytes_eq known name ≡ false
   other_name known other = go (bytes_eq known name) refl
@@ -230,10 +254,25 @@ module _ (words : List Text) (name : Text) (found : Found) (h : HasLine words na
       go false e = e
 
   -- there is no other command
-  pub known_command : (name ≡ codes "judge" → ⊥) → (name ≡ codes "explain" → ⊥) → (name ≡ codes "run" → ⊥) → (name ≡ codes "test" → ⊥) → (name ≡ codes "compile" → ⊥)
+  pub known_command : (name ≡ codes "judge" → ⊥) → (name ≡ codes "explain" → ⊥) → (name ≡ codes "run" → ⊥) → (name ≡ codes "test" → ⊥) →
+      (name ≡ codes "compile" → ⊥)
       → (name ≡ codes "check" → ⊥) → (name ≡ codes "match" → ⊥) → (name ≡ codes "steps" → ⊥) → (name ≡ codes "storm" → ⊥)
       → (name ≡ codes "import" → ⊥) → ⊥
   known_command no_judge no_explain no_run no_test no_compile no_check no_match no_steps no_storm no_import =
       let none : command_named commands name ≡ None =
-      rw (other_name (codes "judge") no_judge, other_name (codes "explain") no_explain, other_name (codes "run") no_run, other_name (codes "test") no_test, other_name (codes "compile") no_compile, other_name (codes "check") no_check, other_name (codes "match") no_match, other_name (codes "steps") no_steps, other_name (codes "storm") no_storm, other_name (codes "import") no_import) refl in
+      rw (
+        other_name (codes "judge") no_judge,
+        other_name (codes "explain") no_explain,
+        other_name (codes "run") no_run,
+        other_name
+            (codes "test") no_test,
+        other_name (codes "compile") no_compile,
+        other_name (codes "check") no_check,
+        other_name (codes "match")
+            no_match,
+        other_name (codes "steps") no_steps,
+        other_name (codes "storm") no_storm,
+        other_name (codes "import") no_import,
+      )
+      refl in
       cc (none, h.form_is)

@@ -9,7 +9,8 @@ use Rattle.clap.specs.declared.parser.matches.Found.{Found}
 use Rattle.clap.proofs.WalkLemmas.{one_text-rows}
 use Rattle.trace_line.specs.inner.Parser.{flag_of, flag_read}
 
-flag_if : (text : Text) (r : Bool) → is_some (flag_of text) ≡ true → (text ≡ codes "true" → r ≡ true) → (text ≡ codes "false" → r ≡ false) → flag_of text ≡ Some r
+flag_if : (text : Text) (r : Bool) → is_some (flag_of text) ≡ true → (text ≡ codes "true" → r ≡ true) →
+    (text ≡ codes "false" → r ≡ false) → flag_of text ≡ Some r
 flag_if text r some given left = go (bytes_eq text (codes "true")) (bytes_eq text (codes "false")) refl refl
   where
     go : (is not : Bool) → bytes_eq text (codes "true") ≡ is → bytes_eq text (codes "false") ≡ not → flag_of text ≡ Some r
@@ -17,7 +18,8 @@ flag_if text r some given left = go (bytes_eq text (codes "true")) (bytes_eq tex
     go false true e f = rw (e, f) (ap Some (sym (left ((bytes_eq-Decides text (codes "false")).0 f))))
     go false false e f = absurd (cc (rw (e, f) at some))
 
-pub flag_given : (f : Found) (name : Text) (r : Bool) → is_some (flag_read name (rows_of f)) ≡ true → (one_text f name ≡ Some (codes "true") → r ≡ true)
+pub flag_given : (f : Found) (name : Text) (r : Bool) → is_some (flag_read name (rows_of f)) ≡ true →
+    (one_text f name ≡ Some (codes "true") → r ≡ true)
     → (one_text f name ≡ Some (codes "false") → r ≡ false) → flag_read name (rows_of f) ≡ Some r
 flag_given f name r some given left = go (one_of name (rows_of f)) (one_text-rows f name) some
   where

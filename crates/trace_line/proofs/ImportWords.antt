@@ -12,7 +12,8 @@ use Rattle.trace_line.proofs.OptionWalk.{options_walk}
 
 -- clap reads the words after the command's name as `given_by` says
 import_walk : (name : Text) (words : List Text)
-    → ComesTo (EndsAs import_options) (leaf_shape name (built_rules import_options)) [] (walk_at idle 1 false nothing_held) words (given_by import_options [] words)
+    → ComesTo (EndsAs import_options) (leaf_shape name (built_rules import_options)) [] (walk_at idle 1 false nothing_held) words
+    (given_by import_options [] words)
 import_walk name words = options_walk name import_options refl words
 
 -- no option is given
@@ -20,7 +21,8 @@ bare : line_of (codes "aa-trace" ∷ codes "import" ∷ []) ≡ Some (import_tex
 bare = refl
 
 -- in any order; variables in the order of the words, each cut at its first `=`
-all_of_them : line_of (codes "aa-trace" ∷ codes "import" ∷ codes "--define=a=b=c" ∷ codes "--strict" ∷ codes "--owner" ∷ codes "drop" ∷ codes "--define" ∷ codes "d_1=" ∷ codes "--profile=p" ∷ codes "--" ∷ [])
+all_of_them : line_of (codes "aa-trace" ∷ codes "import" ∷ codes "--define=a=b=c" ∷ codes "--strict" ∷ codes "--owner" ∷ codes
+    "drop" ∷ codes "--define" ∷ codes "d_1=" ∷ codes "--profile=p" ∷ codes "--" ∷ [])
     ≡ Some (import_text (Some (codes "p")) Drop ((codes "a", codes "b=c") ∷ (codes "d_1", []) ∷ []) true)
 unfolding chars
 all_of_them = refl
@@ -45,7 +47,8 @@ open_value : line_of (codes "aa-trace" ∷ codes "import" ∷ codes "--define=a=
 unfolding chars
 open_value = refl
 
-closed_value : line_of (codes "aa-trace" ∷ codes "import" ∷ codes "--define=a=b\\\\" ∷ []) ≡ Some (import_text None Keep ((codes "a", codes "b\\\\") ∷ []) false)
+closed_value : line_of (codes "aa-trace" ∷ codes "import" ∷ codes "--define=a=b\\\\" ∷ [])
+    ≡ Some (import_text None Keep ((codes "a", codes "b\\\\") ∷ []) false)
 unfolding chars
 closed_value = refl
 

@@ -1,14 +1,17 @@
 -- The outcome of clap's walk over words, at a command whose flags are at most `-h` or `--help`, and `-V` or `--version`.
-use Rattle.std.proofs.Common.{◌≡◌, ◌≢◌, ◌⊎◌, ℕ, ◌==◌, Bool, true, false, List, [], ◌∷◌, length, Option, Some, None, refl, sym, ◌∙◌, inl, inr}
+use Rattle.std.proofs.Common.{◌≡◌, ◌≢◌, ◌⊎◌, ℕ, ◌==◌, Bool, true, false, List, [], ◌∷◌, length, Option, Some, None, refl, sym, ◌∙◌, inl}
+use Rattle.std.proofs.Common.{inr}
 use Rattle.std.specs.Prelude.{slice_get, drop, encode_utf8, codes, fold, option_map}
 use Rattle.std.specs.Str.{bytes_eq, chars}
 use Rattle.clap.specs.Lexer.{name_and_value}
-use Rattle.clap.specs.Walk.{arg_by_index, arg_by_long, arg_by_short, plain, Held, Names, Row, Rule, Text, Waiting, Walk, idle, option, positional, value, walked, finished, settled, subcommand_met, to_positional}
+use Rattle.clap.specs.Walk.{arg_by_index, arg_by_long, arg_by_short, plain, Held, Names, Row, Rule, Text, Waiting, Walk, idle, option}
+use Rattle.clap.specs.Walk.{positional, value, walked, finished, settled, subcommand_met, to_positional}
 use Rattle.clap.specs.Simple.{Shape, help_rule, new_shape, version_rule}
 use Rattle.clap.specs.Kinds.{Kinds, or_else}
 use Rattle.clap.proofs.FaultLemmas.{fault_ends}
 use Rattle.clap.proofs.WalkLemmas.{bundle_ends}
-use Rattle.clap.specs.Faults.{long_fault, short_fault, walk_fault, turn_fault, step_fault, settle_fault, defaults_fault, check_fault, flags_fault}
+use Rattle.clap.specs.Faults.{long_fault, short_fault, walk_fault, turn_fault, step_fault, settle_fault, defaults_fault, check_fault}
+use Rattle.clap.specs.Faults.{flags_fault}
 use Rattle.clap.specs.declared.builder.value_parser.ValueParser.TheVariants.{String}
 use Rattle.clap.specs.declared.error.kind.ErrorKind.{ErrorKind}
 use Rattle.clap.specs.declared.error.kind.ErrorKind.TheVariants.{DisplayHelp, DisplayVersion, TooManyValues, UnknownArgument}
@@ -37,7 +40,14 @@ some_fault kinds h = λ e. let bad : h.0 ∷ h.1 ≡ [] = sym h.2 ∙ e in cc ba
 -- ---- the walk
 
 abbrev pub walk_at : Waiting → ℕ → Bool → Held → Walk
-walk_at waiting position is_trailing h = record { held = h; waiting = waiting; position = position; is_trailing = is_trailing; stopped = None }
+walk_at waiting position is_trailing h = record {
+  held = h;
+  waiting = waiting;
+  position = position;
+  is_trailing =
+      is_trailing;
+  stopped = None;
+}
 
 abbrev pub held : List Row → Option (Text × List Text) → Held
 held rows pending = record { rows = rows; pending = pending; skip = 0 }
@@ -60,7 +70,8 @@ ComesTo Has s turn w words None = faults_from s turn w words ≢ []
 ComesTo Has s turn w words (Some found) = (faults_from s turn w words ≡ []) × Has (finished s.rules (end_of s w words)) found
 
 -- what follows from what is found
-pub comes_as : {A B : Type 0} (Has : List Row → A → Type 0) (As : List Row → B → Type 0) (f : A → B) (s : Shape) (w : Walk) (words : List Text)
+pub comes_as : {A B : Type 0} (Has : List Row → A → Type 0) (As : List Row → B → Type 0) (f : A → B) (s : Shape)
+    (w : Walk) (words : List Text)
     → ((rows : List Row) (found : A) → Has rows found → As rows (f found)) → (found : Option A) → ComesTo Has s [] w words found
     → ComesTo As s [] w words (option_map f found)
 comes_as Has As f s w words to None h = h
@@ -70,7 +81,8 @@ comes_as Has As f s w words to (Some found) h = (h.0, to _ found h.1)
 
 -- a step without a fault
 pub step : {A : Type 0} (Has : List Row → A → Type 0) (s : Shape) (w next : Walk) (word : Text) (words : List Text) (found : Option A)
-    → turn_fault s [] w word ≡ [] → walked s.rules [] w word ≡ next → ComesTo Has s [] next words found → ComesTo Has s [] w (word ∷ words) found
+    → turn_fault s [] w word ≡ [] → walked s.rules [] w word ≡ next → ComesTo Has s [] next words found →
+    ComesTo Has s [] w (word ∷ words) found
 unfolding walk_fault
 step {A} Has s w next word words found quiet to h =
     let via : ComesTo Has s (turn_fault s [] w word) (walked s.rules [] w word) words found = rw (quiet, to) h in
@@ -80,7 +92,8 @@ step {A} Has s w next word words found quiet to h =
     ] via
 
 -- a step with a fault
-pub stop : {A : Type 0} (Has : List Row → A → Type 0) (s : Shape) (w : Walk) (word : Text) (words : List Text) → Some_of (turn_fault s [] w word)
+pub stop : {A : Type 0} (Has : List Row → A → Type 0) (s : Shape) (w : Walk) (word : Text) (words : List Text) →
+    Some_of (turn_fault s [] w word)
     → ComesTo Has s [] w (word ∷ words) None
 unfolding walk_fault
 stop Has s w word words fault = some_fault _ (in_first _ _ (in_first _ _ fault))
@@ -100,7 +113,15 @@ plain_turn s names i rows pending word none h = elim h.short [
   | inl short ↦ rw (none, h.dashes, h.long, short) refl
   | inr short ↦
       let first : None ≡ slice_get (chars short.0) 0 = rw short.2 refl in
-      rw (none, h.dashes, h.long, short.1, ← fault_ends s.rules s.args_override_self (length short.0) short.0 0 (held rows pending) first, ← bundle_ends s.rules (length short.0) short.0 0 plain (held rows pending) first) refl
+      rw (
+        none,
+        h.dashes,
+        h.long,
+        short.1,
+        ← fault_ends s.rules s.args_override_self (length short.0) short.0 0 (held rows pending)
+            first,
+        ← bundle_ends s.rules (length short.0) short.0 0 plain (held rows pending) first,
+      ) refl
 ]
 
 pub plain_walked : (s : Shape) (i : ℕ) (rows : List Row) (pending : Option (Text × List Text)) (word : Text) → IsPlainWord word
@@ -146,7 +167,8 @@ pub help_short : (x : ℕ) → IsToldOrNone (arg_by_short (help ∷ []) x)
 help_short x = help_short_if x (104 == x) refl
 
 -- in addition to help, the program has the version
-told_long_if : (name : Text) (help_is version_is : Bool) → bytes_eq (codes "help") name ≡ help_is → bytes_eq (codes "version") name ≡ version_is
+told_long_if : (name : Text) (help_is version_is : Bool) → bytes_eq (codes "help") name ≡ help_is →
+    bytes_eq (codes "version") name ≡ version_is
     → IsToldOrNone (arg_by_long (help ∷ version ∷ []) name)
 told_long_if name true is e f = inl (rw e refl)
 told_long_if name false true e f = inr (inl (rw (e, f) refl))
@@ -155,7 +177,8 @@ told_long_if name false false e f = inr (inr (rw (e, f) refl))
 pub told_long : (name : Text) → IsToldOrNone (arg_by_long (help ∷ version ∷ []) name)
 told_long name = told_long_if name (bytes_eq (codes "help") name) (bytes_eq (codes "version") name) refl refl
 
-told_short_if : (x : ℕ) (help_is version_is : Bool) → (104 == x) ≡ help_is → (86 == x) ≡ version_is → IsToldOrNone (arg_by_short (help ∷ version ∷ []) x)
+told_short_if : (x : ℕ) (help_is version_is : Bool) → (104 == x) ≡ help_is → (86 == x) ≡ version_is →
+    IsToldOrNone (arg_by_short (help ∷ version ∷ []) x)
 told_short_if x true is e f = inl (rw e refl)
 told_short_if x false true e f = inr (inl (rw (e, f) refl))
 told_short_if x false false e f = inr (inr (rw (e, f) refl))
@@ -178,7 +201,8 @@ long_is_fault s found given h (inr (inl is)) = rw is (version_fault s given h)
 long_is_fault s found given h (inr (inr is)) = rw is (UnknownArgument, [], refl)
 
 -- a long word that is a fault by itself
-pub long_turn : (s : Shape) (names : Names) (waiting : Waiting) (i : ℕ) (h : Held) (word : Text) → subcommand_met names waiting word ≡ None → (l : IsLongWord word)
+pub long_turn : (s : Shape) (names : Names) (waiting : Waiting) (i : ℕ) (h : Held) (word : Text) → subcommand_met names waiting word
+    ≡ None → (l : IsLongWord word)
     → Some_of (long_fault s.rules s.args_override_self (arg_by_long s.rules (name_and_value l.body).0) (name_and_value l.body).1 h)
     → Some_of (turn_fault s names (walk_at waiting i false h) word)
 long_turn s names waiting i h word none l fault = rw (none, l.dashes, l.long) (in_first _ _ fault)
@@ -200,7 +224,10 @@ flags_are_fault s alone [] h x xs e = absurd (cc e)
 flags_are_fault s alone (b ∷ rest) h x xs e =
     rw e (short_is_fault s (arg_by_short s.rules x) (drop (length (encode_utf8 x)) (b ∷ rest)) h _ (alone x))
 
-pub short_turn : (s : Shape) (names : Names) (waiting : Waiting) (i : ℕ) (rows : List Row) (pending : Option (Text × List Text)) (word : Text)
-    → subcommand_met names waiting word ≡ None → HasNoOtherShort s → IsShortWord word → Some_of (turn_fault s names (walk_at waiting i false (held rows pending)) word)
+pub short_turn : (s : Shape) (names : Names) (waiting : Waiting) (i : ℕ) (rows : List Row) (pending : Option (Text × List Text))
+    (word : Text)
+    → subcommand_met names waiting word ≡ None → HasNoOtherShort s → IsShortWord word →
+    Some_of (turn_fault s names (walk_at waiting i false (held rows pending)) word)
 short_turn s names waiting i rows pending word none alone is =
-    rw (none, is.dashes, is.long, is.short) (in_first _ _ (flags_are_fault s alone is.flags (held rows pending) is.first is.others is.chars_are))
+    rw (none, is.dashes, is.long, is.short)
+    (in_first _ _ (flags_are_fault s alone is.flags (held rows pending) is.first is.others is.chars_are))

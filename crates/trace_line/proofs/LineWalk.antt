@@ -1,23 +1,27 @@
 -- The outcome of clap's walk over the words at a program with commands of two arguments and commands of options.
-use Rattle.std.proofs.Common.{◌≡◌, ◌≢◌, ◌∙◌, ◌&&◌, ◌++◌, Bool, true, false, not, List, [], ◌∷◌, map, Option, Some, None, refl, ap, ap₂, subst, sym, drop, inl, inr, ◌⊎◌, append_assoc, append-nil}
+use Rattle.std.proofs.Common.{◌≡◌, ◌≢◌, ◌∙◌, ◌&&◌, ◌++◌, Bool, true, false, not, List, [], ◌∷◌, map, Option, Some, None, refl, ap, ap₂}
+use Rattle.std.proofs.Common.{subst, sym, drop, inl, inr, ◌⊎◌, append_assoc, append-nil}
 use Rattle.std.specs.Prelude.{is_some, codes, find, fold, option_and_then, option_map}
 use Rattle.std.specs.List.{list_all}
 use Rattle.std.specs.Option.{option_map_or, option_or}
 use Rattle.std.specs.Str.{bytes_eq}
 use Rattle.std.proofs.lemmas.Slice.Eq.{bytes_eq-Decides}
 use Rattle.clap.specs.Lexer.{name_and_value}
-use Rattle.clap.specs.Walk.{answers_to, arg_by_long, Names, Row, Rule, Text, idle, stop_after, subcommand_met, Walk, walked, walk_from, finished, nothing_held, settled}
+use Rattle.clap.specs.Walk.{answers_to, arg_by_long, Names, Row, Rule, Text, idle, stop_after, subcommand_met, Walk, walked, walk_from}
+use Rattle.clap.specs.Walk.{finished, nothing_held, settled}
 use Rattle.clap.specs.Simple.{App, Shape, built, built_leaf, help_shape, label_of, names_of, rows_at, entered}
 use Rattle.clap.specs.Kinds.{Kinds, or_else}
 use Rattle.clap.proofs.FaultLemmas.{stopped_fault}
 use Rattle.clap.proofs.WalkLemmas.{both, find-map}
 use Rattle.clap.specs.Faults.{built_fault, walk_fault, settle_fault, defaults_fault, check_fault, entered_fault, level_fault, turn_fault}
 use Rattle.clap.specs.declared.error.kind.ErrorKind.TheVariants.{DisplayHelp, InvalidSubcommand, MissingSubcommand, UnknownArgument}
-use Rattle.trace_line.specs.CommandLine.{Arguments, CommandForm, Given, LineValue, arguments_of, asks, command_named, commands, given_by, line_by, line_of, number_form, number_of, numbers, pair, pair_of}
+use Rattle.trace_line.specs.CommandLine.{Arguments, CommandForm, Given, LineValue, arguments_of, asks, command_named, commands, given_by}
+use Rattle.trace_line.specs.CommandLine.{line_by, line_of, number_form, number_of, numbers, pair, pair_of}
 use Rattle.trace_line.specs.inner.Parser.{GivesLine, program_app}
 use Rattle.trace_line.proofs.Named.{find_made, found_name, found_passes, or_false}
 use Rattle.trace_line.proofs.WordKinds.{Kind, is_dashes, is_long, is_short, is_plain, kind_of_word}
-use Rattle.trace_line.proofs.LeafWalk.{ComesTo, Some_of, comes_as, end_of, faults_from, in_first, leaf_shape, long_is_fault, long_turn, or_else-nil, plain_turn, short_turn, some_fault, told_long, told_short, walk_at}
+use Rattle.trace_line.proofs.LeafWalk.{ComesTo, Some_of, comes_as, end_of, faults_from, in_first, leaf_shape, long_is_fault, long_turn}
+use Rattle.trace_line.proofs.LeafWalk.{or_else-nil, plain_turn, short_turn, some_fault, told_long, told_short, walk_at}
 use Rattle.trace_line.proofs.PairWalk.{HasPair, pair_rules, pair_walk}
 use Rattle.trace_line.proofs.OptionEnds.{EndsAs, numbers_found, texts_found}
 use Rattle.trace_line.proofs.OptionRules.{are_sound, built_rules}
@@ -59,7 +63,8 @@ pair_flat : (line : Text → Text → LineValue) (asked : Option (Text × Text))
 pair_flat line None = refl
 pair_flat line (Some asked) = refl
 
-given_flat : (line : Given → LineValue) (given : Option Given) → option_map line given ≡ flat (option_map (λ given. Some (line given)) given)
+given_flat : (line : Given → LineValue) (given : Option Given) → option_map line given
+    ≡ flat (option_map (λ given. Some (line given)) given)
 given_flat line None = refl
 given_flat line (Some given) = refl
 
@@ -80,11 +85,13 @@ takes_walk name (pair line) sound words =
     (λ rows asked h. (asked.0, asked.1, h.0, h.1, refl)) (pair_of (arguments_of words)) (pair_walk name words)
 takes_walk name (numbers options line) sound words =
     let forms = map number_form options in
-    comes_as (EndsAs forms) (GivesLine (numbers options line)) (λ given. Some (line (number_of given))) (leaf_shape name (built_rules forms)) start words
-    (λ rows given h. (number_of given, numbers_found options rows given sound h, refl)) (given_by forms [] words) (options_walk name forms sound words)
+    comes_as (EndsAs forms) (GivesLine (numbers options line)) (λ given. Some (line (number_of given)))
+    (leaf_shape name (built_rules forms)) start words (λ rows given h. (number_of given, numbers_found options rows given sound h, refl))
+    (given_by forms [] words) (options_walk name forms sound words)
 takes_walk name (asks options line) sound words =
     comes_as (EndsAs options) (GivesLine (asks options line)) line (leaf_shape name (built_rules options)) start words
-    (λ rows given h. (given, texts_found options rows given sound h, refl)) (given_by options [] words) (options_walk name options sound words)
+    (λ rows given h. (given, texts_found options rows given sound h, refl)) (given_by options [] words)
+    (options_walk name options sound words)
 
 -- ---- a program with these commands, as it is built
 
@@ -127,14 +134,16 @@ module _ (forms : List CommandForm) (good : list_all is_good forms ≡ true) whe
   met_by : (word : Text) (command : Option CommandForm) → command_named forms word ≡ command
       → subcommand_met names idle word ≡ option_map (λ s. s.0) (option_map label_of (found_by word command))
   met_by word command is =
-      ap (option_map (λ (s : Text × List Text). s.0)) (sym (find-map (answers_to word) label_of program.subs) ∙ ap (option_map label_of) (find_leaf word forms
+      ap (option_map (λ (s : Text × List Text). s.0)) (sym (find-map (answers_to word) label_of program.subs) ∙ ap (option_map label_of)
+      (find_leaf word forms
       ∙ ap (found_by word) is))
 
   -- ---- the words after a command
 
   -- a command was met, and the words after it are kept
   stopped_walk : (w : Walk) (name : Text) (before words : List Text)
-      → fold (walked top.rules names) (record w { stopped = Some (name, before) }) words ≡ record w { stopped = Some (name, before ++ words) }
+      → fold (walked top.rules names) (record w { stopped = Some (name, before) }) words
+      ≡ record w { stopped = Some (name, before ++ words) }
   unfolding walked
   stopped_walk w name before [] = rw append-nil refl
   stopped_walk w name before (word ∷ words) = stopped_walk w name (before ++ word ∷ []) words ∙ rw append_assoc refl
@@ -159,12 +168,14 @@ module _ (forms : List CommandForm) (good : list_all is_good forms ≡ true) whe
 
   -- the words after a command that was met add no fault of the program's own
   behind : (name : Text) (words : List Text)
-      → whole (fold (walked top.rules names) (met name) words) (walk_fault top names (met name) words) ≡ whole (record (met name) { stopped = Some (name, words) }) []
+      → whole (fold (walked top.rules names) (met name) words) (walk_fault top names (met name) words)
+      ≡ whole (record (met name) { stopped = Some (name, words) }) []
   behind name words = ap₂ whole (stopped_walk (met name) name [] words) (stopped_fault top names (met name) (name, []) words)
 
   module _ (command : CommandForm) (is : command_named forms command.name ≡ Some command) where
     parts : (not (bytes_eq command.name (codes "help")) ≡ true) × (has_sound_options command.takes ≡ true)
-    parts = both (not (bytes_eq command.name (codes "help"))) (has_sound_options command.takes) (found_passes is_good _ forms command good is)
+    parts = both (not (bytes_eq command.name (codes "help"))) (has_sound_options command.takes)
+        (found_passes is_good _ forms command good is)
 
     not_help : bytes_eq command.name (codes "help") ≡ false
     not_help = go (bytes_eq command.name (codes "help")) parts.0
@@ -195,8 +206,10 @@ module _ (forms : List CommandForm) (good : list_all is_good forms ≡ true) whe
     faults_behind : (words : List Text) → faults (command.name ∷ words) ≡ faults_from (leaf command) [] start words
     unfolding walk_fault defaults_fault
     faults_behind words =
-        let over : Kinds → Walk → Kinds = λ turn w. whole (fold (walked top.rules names) w words) (or_else turn (walk_fault top names w words)) in
-        ap₂ over quiet walks ∙ behind command.name words ∙ ap (entered_whole words) found ∙ or_else-nil (faults_from (leaf command) [] start words)
+        let over : Kinds → Walk → Kinds = λ turn w. whole (fold (walked top.rules names) w words)
+        (or_else turn (walk_fault top names w words)) in
+        ap₂ over quiet walks ∙ behind command.name words ∙ ap (entered_whole words) found
+        ∙ or_else-nil (faults_from (leaf command) [] start words)
 
     -- the program's matches are the command's
     matches_behind : (words : List Text)
@@ -218,17 +231,20 @@ module _ (forms : List CommandForm) (good : list_all is_good forms ≡ true) whe
         inl (in_first _ _ (long_turn top names idle 1 nothing_held word none l
         (long_is_fault top (arg_by_long top.rules name) (name_and_value l.body).1 nothing_held (told_long name))))
     no_command words (is_short o s) = inl (in_first _ _ (short_turn top names idle 1 [] None word none told_short s))
-    no_command words (is_plain o h) = inl (in_first _ _ (UnknownArgument, InvalidSubcommand ∷ [], plain_turn top names 1 [] None word none h))
+    no_command words (is_plain o h) =
+        inl (in_first _ _ (UnknownArgument, InvalidSubcommand ∷ [], plain_turn top names 1 [] None word none h))
 
   -- `help` is answered with help
-  help_fault : (words : List Text) → subcommand_met names idle (codes "help") ≡ Some (codes "help") → Some_of (faults (codes "help" ∷ words))
+  help_fault : (words : List Text) → subcommand_met names idle (codes "help") ≡ Some (codes "help") →
+      Some_of (faults (codes "help" ∷ words))
   unfolding walk_fault
   help_fault words is =
       let turn : turn_fault top names start (codes "help") ≡ DisplayHelp ∷ InvalidSubcommand ∷ [] = rw is refl in
       in_first _ _ (in_first _ _ (DisplayHelp, InvalidSubcommand ∷ [], turn))
 
   -- after `--` no command is met
-  escaped_walk : subcommand_met names idle (codes "--") ≡ None → walked top.rules names start (codes "--") ≡ walk_at idle 1 true nothing_held
+  escaped_walk : subcommand_met names idle (codes "--") ≡ None → walked top.rules names start (codes "--")
+      ≡ walk_at idle 1 true nothing_held
   unfolding walked
   escaped_walk none = rw none refl
 
@@ -240,7 +256,8 @@ module _ (forms : List CommandForm) (good : list_all is_good forms ≡ true) whe
       (MissingSubcommand, [], ap₂ over quiet (escaped_walk none))
   escaped_fault (word ∷ words) none =
       let quiet : turn_fault top names start (codes "--") ≡ [] = rw none refl in
-      let over : Kinds → Walk → Kinds = λ turn w. or_else turn (or_else (turn_fault top names w word) (walk_fault top names (walked top.rules names w word) words)) in
+      let over : Kinds → Walk → Kinds =
+      λ turn w. or_else turn (or_else (turn_fault top names w word) (walk_fault top names (walked top.rules names w word) words)) in
       in_first _ _ (UnknownArgument, InvalidSubcommand ∷ [], ap₂ over quiet (escaped_walk none))
 
   -- ---- all the words
@@ -248,18 +265,31 @@ module _ (forms : List CommandForm) (good : list_all is_good forms ≡ true) whe
   -- the words have no fault and their matches give the line, if there is one; or they have a fault
   abbrev pub ReadsAs : List Text → Option (Option LineValue) → Type 0
   ReadsAs words None = faults words ≢ []
-  ReadsAs words (Some line) = (faults words ≡ []) × ((command : CommandForm) × (rows : List Row) × (command_named forms command.name ≡ Some command)
+  ReadsAs words (Some line) = (faults words ≡ [])
+      × ((command : CommandForm) × (rows : List Row) × (command_named forms command.name ≡ Some command)
       × (entered_by words ≡ Some (command.name, rows)) × GivesLine command.takes rows line)
 
-  behind_read : (command : CommandForm) → command_named forms command.name ≡ Some command → (words : List Text) (line : Option (Option LineValue))
+  behind_read : (command : CommandForm) → command_named forms command.name ≡ Some command →
+      (words : List Text) (line : Option (Option LineValue))
       → ComesTo (GivesLine command.takes) (leaf command) [] start words line → ReadsAs (command.name ∷ words) line
   behind_read command is words None h = rw (faults_behind command is words) h
-  behind_read command is words (Some line) h =
-      (faults_behind command is words ∙ h.0, (command, finished (rules_by command.takes) (end_of (leaf command) start words), is, matches_behind command is words, h.1))
+  behind_read command is words (Some line) h = (
+    faults_behind command is words
+        ∙ h.0,
+    (
+      command,
+      finished (rules_by command.takes) (end_of (leaf command) start words),
+      is,
+      matches_behind
+          command is words,
+      h.1,
+    ),
+  )
 
   command_read : (command : CommandForm) → command_named forms command.name ≡ Some command → (words : List Text)
       → ReadsAs (command.name ∷ words) (parsed_by command.takes words)
-  command_read command is words = behind_read command is words (parsed_by command.takes words) (takes_walk command.name command.takes (parts command is).1 words)
+  command_read command is words = behind_read command is words (parsed_by command.takes words)
+      (takes_walk command.name command.takes (parts command is).1 words)
 
   other_read : (word : Text) (words : List Text) → subcommand_met names idle word ≡ None → faults (word ∷ words) ≢ []
   other_read word words none = elim (no_command word none words (kind_of_word word)) [
@@ -268,7 +298,8 @@ module _ (forms : List CommandForm) (good : list_all is_good forms ≡ true) whe
         (escaped_fault words (ap (subcommand_met names idle) (sym dashes) ∙ none)))
   ]
 
-  help_or_other : (word : Text) (words : List Text) (is_help : Bool) → bytes_eq (codes "help") word ≡ is_help → command_named forms word ≡ None
+  help_or_other : (word : Text) (words : List Text) (is_help : Bool) → bytes_eq (codes "help") word ≡ is_help →
+      command_named forms word ≡ None
       → faults (word ∷ words) ≢ []
   help_or_other word words true e none =
       let same : codes "help" ≡ word = (bytes_eq-Decides (codes "help") word).0 e in
@@ -281,7 +312,8 @@ module _ (forms : List CommandForm) (good : list_all is_good forms ≡ true) whe
   first_read word words None is = help_or_other word words (bytes_eq (codes "help") word) refl is
   first_read word words (Some command) is =
       let name : command.name ≡ word = found_name (λ (c : CommandForm). c.name) word forms command is in
-      subst (λ w. ReadsAs (w ∷ words) (parsed_by command.takes words)) name (command_read command (ap (command_named forms) name ∙ is) words)
+      subst (λ w. ReadsAs (w ∷ words) (parsed_by command.takes words)) name
+      (command_read command (ap (command_named forms) name ∙ is) words)
 
   -- clap reads the words as the forms of the commands say
   pub words_read : (words : List Text) → ReadsAs words (parsed_in forms words)
@@ -295,7 +327,8 @@ parsed_of (first ∷ name ∷ words) = option_and_then (λ command. parsed_by co
 parsed_of _ = None
 
 named_flat : (words : List Text) (command : Option CommandForm)
-    → option_and_then (λ command. line_by command.takes words) command ≡ flat (option_and_then (λ command. parsed_by command.takes words) command)
+    → option_and_then (λ command. line_by command.takes words) command
+    ≡ flat (option_and_then (λ command. parsed_by command.takes words) command)
 named_flat words None = refl
 named_flat words (Some command) = line_flat command.takes words
 

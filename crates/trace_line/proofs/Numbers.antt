@@ -1,7 +1,9 @@
 -- What an option's text is read as.
-use Rattle.std.proofs.Common.{◌≡◌, ◌∙◌, ◌&&◌, ◌<◌, ◌≤◌, ◌^◌, ℕ, Bool, true, false, zero, suc, [], ◌∷◌, Option, Some, None, Result, Ok, Err, refl, sym, ap, arith}
+use Rattle.std.proofs.Common.{◌≡◌, ◌∙◌, ◌&&◌, ◌<◌, ◌≤◌, ◌^◌, ℕ, Bool, true, false, zero, suc, [], ◌∷◌, Option, Some, None, Result, Ok, Err}
+use Rattle.std.proofs.Common.{refl, sym, ap, arith}
 use Rattle.std.specs.Prelude.{int_le, is_some, nat_eq, nat_le, nat_lt, neg_ℤ, option_and_then, pos}
-use Rattle.std.specs.Str.Parse.{ExplainsUnsignedError, HasUnsignedDigitsIfOk, ParsesUnsigned, digits_value, without_leading_plus, without_leading_sign}
+use Rattle.std.specs.Str.Parse.{ExplainsUnsignedError, HasUnsignedDigitsIfOk, ParsesUnsigned, digits_value, without_leading_plus}
+use Rattle.std.specs.Str.Parse.{without_leading_sign}
 use Rattle.std.proofs.lemmas.Bool.{eqb-true, leb-true, le-leb, lt-ltb, ltb-true}
 use Rattle.clap.specs.Lexer.{without_minus}
 use Rattle.clap.specs.Matches.{ReadsOne, one_text}
@@ -31,21 +33,25 @@ pub reads_number : {E : Type 0} (G : Text → Result ℕ E → Type 0) (text : T
 reads_number G text (Some v) only h =
     let read = only text (Ok v) h in
     let most : digits_value 10 (without_leading_plus text) < 2 ^ 32 = read.0.1 in
-    let taken : is_small text ≡ true = Accepts-accepts false (Unsigned 0 4294967295) text (read.0.0, omega arith, omega arith, omega arith) in
+    let taken : is_small text ≡ true = Accepts-accepts false (Unsigned 0 4294967295) text
+    (read.0.0, omega arith, omega arith, omega arith) in
     small text taken ∙ ap Some (sym read.1)
 reads_number G text None only h = read_none text (is_small text) refl (λ e.
     let taken = accepts-Accepts false (Unsigned 0 4294967295) text e in
     let most : digits_value 10 (without_leading_plus text) ≤ 4294967295 = taken.3 in
     only text (Err h.0) h.1 (taken.0, omega arith))
 
-pub number_given : (f : Found) (name : Text) (r : Option ℕ) → is_some (number_read name (rows_of f)) ≡ true → ((text : Text) → one_text f name ≡ Some text
-    → ReadsOne (λ bs x. ParsesUnsigned 32 10 bs x × ExplainsUnsignedError 10 bs x × HasUnsignedDigitsIfOk bs x) text r) → number_read name (rows_of f) ≡ r
+pub number_given : (f : Found) (name : Text) (r : Option ℕ) → is_some (number_read name (rows_of f)) ≡ true →
+    ((text : Text) → one_text f name ≡ Some text
+    → ReadsOne (λ bs x. ParsesUnsigned 32 10 bs x × ExplainsUnsignedError 10 bs x × HasUnsignedDigitsIfOk bs x) text r) →
+    number_read name (rows_of f) ≡ r
 number_given f name r some reads = go (one_of name (rows_of f)) (one_text-rows f name) some
   where
     go : (o : Option Text) → one_text f name ≡ o → is_some (option_and_then small_number o) ≡ true → option_and_then small_number o ≡ r
     go None is some = absurd (cc some)
     go (Some text) is some =
-        reads_number (λ bs x. ParsesUnsigned 32 10 bs x × ExplainsUnsignedError 10 bs x × HasUnsignedDigitsIfOk bs x) text r (λ u x h. h.0) (reads text is)
+        reads_number (λ bs x. ParsesUnsigned 32 10 bs x × ExplainsUnsignedError 10 bs x × HasUnsignedDigitsIfOk bs x) text r
+        (λ u x h. h.0) (reads text is)
 
 -- ---- what an option takes
 
@@ -57,7 +63,8 @@ and_false false = refl
 plus_numeral : (x : ℕ) (xs : Text) → x ≡ 43 → is_numeral (x ∷ xs) ≡ false
 plus_numeral x xs e = rw e (and_false _)
 
-without_plus_if : (x : ℕ) (xs : Text) (plus : Bool) → nat_eq x 43 ≡ plus → is_numeral (x ∷ xs) ≡ true → without_leading_plus (x ∷ xs) ≡ x ∷ xs
+without_plus_if : (x : ℕ) (xs : Text) (plus : Bool) → nat_eq x 43 ≡ plus → is_numeral (x ∷ xs) ≡ true →
+    without_leading_plus (x ∷ xs) ≡ x ∷ xs
 without_plus_if x xs true e is = absurd (cc (plus_numeral x xs (eqb-true x 43 e), is))
 without_plus_if x xs false e is = rw e refl
 
@@ -84,9 +91,11 @@ taken_if : (o : NumberOption) (x : ℕ) (xs : Text) (minus : Bool) → nat_eq x 
     → small_number (without_minus (x ∷ xs)) ≡ Some (digits_value 10 (without_leading_sign (x ∷ xs)))
 taken_if o x xs true e below is =
     let n : ℕ = digits_value 10 xs in
-    let tests = both (is_numeral xs) (fits_i64 (neg_ℤ (pos n)) && (int_le (pos o.least) (neg_ℤ (pos n)) && int_le (neg_ℤ (pos n)) (pos o.most))) (rw e at is) in
+    let tests = both (is_numeral xs)
+    (fits_i64 (neg_ℤ (pos n)) && (int_le (pos o.least) (neg_ℤ (pos n)) && int_le (neg_ℤ (pos n)) (pos o.most))) (rw e at is) in
     let range = both (fits_i64 (neg_ℤ (pos n))) (int_le (pos o.least) (neg_ℤ (pos n)) && int_le (neg_ℤ (pos n)) (pos o.most)) tests.1 in
-    let none : n ≡ 0 = minus_zero o.least n (both (int_le (pos o.least) (neg_ℤ (pos n))) (int_le (neg_ℤ (pos n)) (pos o.most)) range.1).0 in
+    let none : n ≡ 0 = minus_zero o.least n
+    (both (int_le (pos o.least) (neg_ℤ (pos n))) (int_le (neg_ℤ (pos n)) (pos o.most)) range.1).0 in
     let plain : without_leading_plus xs ≡ xs = without_plus xs tests.0 in
     let numeral : is_numeral (without_leading_plus xs) ≡ true = ap is_numeral plain ∙ tests.0 in
     let zero_too : digits_value 10 (without_leading_plus xs) ≡ 0 = ap (digits_value 10) plain ∙ none in

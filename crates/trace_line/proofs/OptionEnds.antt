@@ -10,11 +10,13 @@ use Rattle.clap.specs.Walk.{Row, Rule, Text, all_of, default_rows, first_of, has
 use Rattle.clap.specs.Takes.{is_given}
 use Rattle.clap.specs.declared.parser.matches.ValueSource.TheVariants.{DefaultValue}
 use Rattle.clap.proofs.WalkLemmas.{both}
-use Rattle.trace_line.specs.CommandLine.{Given, NumberOption, OptionForm, Wants, is_number_of, many_texts, no_text, number_form, number_of, one_number, one_text, option_named, text_given, texts_given}
+use Rattle.trace_line.specs.CommandLine.{Given, NumberOption, OptionForm, Wants, is_number_of, many_texts, no_text, number_form, number_of}
+use Rattle.trace_line.specs.CommandLine.{one_number, one_text, option_named, text_given, texts_given}
 use Rattle.trace_line.specs.inner.Parser.{HasNumbers, HasTexts, flag_read}
 use Rattle.trace_line.proofs.Numbers.{taken_read}
 use Rattle.trace_line.proofs.LeafWalk.{help, leaf_shape}
-use Rattle.trace_line.proofs.OptionRules.{Are, are_sound, built_rule, built_rules, defaults_by, found_row, is_sound, reading_to, row_by, row_named, row_with, rows_often, rows_once, sound_named, with_other, with_same}
+use Rattle.trace_line.proofs.OptionRules.{Are, are_sound, built_rule, built_rules, defaults_by, found_row, is_sound, reading_to, row_by}
+use Rattle.trace_line.proofs.OptionRules.{row_named, row_with, rows_often, rows_once, sound_named, with_other, with_same}
 
 -- ---- defaults
 
@@ -38,7 +40,8 @@ ended o None = default_row o (defaults_by o.wants)
 default_here : (o : OptionForm) (rows : List Row) → row_named (with_default rows (built_rule o)) o.name ≡ ended o (row_named rows o.name)
 default_here o rows = go (row_named rows o.name) refl
   where
-    listed : (defaults : List Text) → row_named rows o.name ≡ None → row_named (default_rows o.name (reading_to o) defaults rows) o.name ≡ default_row o defaults
+    listed : (defaults : List Text) → row_named rows o.name ≡ None → row_named (default_rows o.name (reading_to o) defaults rows) o.name
+        ≡ default_row o defaults
     listed [] none = none
     listed (v ∷ vs) none =
         with_same o.name (reading_to o) DefaultValue (v ∷ vs) rows
@@ -48,14 +51,16 @@ default_here o rows = go (row_named rows o.name) refl
     go None none = rw (found_row o.name rows ∙ ap is_some none) (listed (defaults_by o.wants) none)
     go (Some r) some = rw (found_row o.name rows ∙ ap is_some some) some
 
-default_other : (p : OptionForm) (rows : List Row) (name : Text) → bytes_eq p.name name ≡ false → row_named (with_default rows (built_rule p)) name ≡ row_named rows name
+default_other : (p : OptionForm) (rows : List Row) (name : Text) → bytes_eq p.name name ≡ false →
+    row_named (with_default rows (built_rule p)) name ≡ row_named rows name
 default_other p rows name other = go (has_row p.name rows)
   where
     listed : (defaults : List Text) → row_named (default_rows p.name (reading_to p) defaults rows) name ≡ row_named rows name
     listed [] = refl
     listed (v ∷ vs) = with_other p.name (reading_to p) DefaultValue (v ∷ vs) name rows other
 
-    go : (has : Bool) → row_named (if has then rows else default_rows p.name (reading_to p) (defaults_by p.wants) rows) name ≡ row_named rows name
+    go : (has : Bool) → row_named (if has then rows else default_rows p.name (reading_to p) (defaults_by p.wants) rows) name
+        ≡ row_named rows name
     go true = refl
     go false = listed (defaults_by p.wants)
 
@@ -63,12 +68,14 @@ default_other p rows name other = go (has_row p.name rows)
 abbrev pub end_rows : List OptionForm → List Row → List Row
 end_rows options rows = fold with_default rows (built_rules options)
 
-others_end : (options : List OptionForm) (rows : List Row) (name : Text) → option_named options name ≡ None → row_named (end_rows options rows) name ≡ row_named rows name
+others_end : (options : List OptionForm) (rows : List Row) (name : Text) → option_named options name ≡ None →
+    row_named (end_rows options rows) name ≡ row_named rows name
 others_end [] rows name none = ap (λ (rs : List Row). row_named rs name) (no_default rows help refl)
 others_end (p ∷ options) rows name none = go (bytes_eq p.name name) refl none (others_end options (with_default rows (built_rule p)) name)
   where
     go : (same : Bool) → bytes_eq p.name name ≡ same → cond same (Some p) (option_named options name) ≡ None
-        → (option_named options name ≡ None → row_named (end_rows options (with_default rows (built_rule p))) name ≡ row_named (with_default rows (built_rule p)) name)
+        → (option_named options name ≡ None → row_named (end_rows options (with_default rows (built_rule p))) name
+        ≡ row_named (with_default rows (built_rule p)) name)
         → row_named (end_rows options (with_default rows (built_rule p))) name ≡ row_named rows name
     go true same is behind = absurd (cc is)
     go false other is behind = behind is ∙ default_other p rows name other
@@ -83,11 +90,13 @@ row_end [] rows o sound is = absurd (cc is)
 row_end (p ∷ options) rows o sound is =
     let here = both (is_sound p.wants) (not (is_some (option_named options p.name)) && are_sound options) sound in
     let rest = both (not (is_some (option_named options p.name))) (are_sound options) here.1 in
-    go (bytes_eq p.name o.name) refl (unnamed (option_named options p.name) rest.0) (λ at. row_end options (with_default rows (built_rule p)) o rest.1 at) is
+    go (bytes_eq p.name o.name) refl (unnamed (option_named options p.name) rest.0)
+    (λ at. row_end options (with_default rows (built_rule p)) o rest.1 at) is
   where
     go : (same : Bool) → bytes_eq p.name o.name ≡ same → option_named options p.name ≡ None
         → (option_named options o.name ≡ Some o
-        → row_named (end_rows options (with_default rows (built_rule p))) o.name ≡ ended o (row_named (with_default rows (built_rule p)) o.name))
+        → row_named (end_rows options (with_default rows (built_rule p))) o.name
+        ≡ ended o (row_named (with_default rows (built_rule p)) o.name))
         → cond same (Some p) (option_named options o.name) ≡ Some o
         → row_named (end_rows options (with_default rows (built_rule p))) o.name ≡ ended o (row_named rows o.name)
     go true same alone behind found =
@@ -103,7 +112,8 @@ row_end (p ∷ options) rows o sound is =
 abbrev pub EndsAs : List OptionForm → List Row → Given → Type 0
 EndsAs options rows given = (before : List Row) × (rows ≡ end_rows options before) × Are options before given
 
-found_end : (options : List OptionForm) (rows : List Row) (given : Given) (o : OptionForm) → are_sound options ≡ true → EndsAs options rows given
+found_end : (options : List OptionForm) (rows : List Row) (given : Given) (o : OptionForm) → are_sound options ≡ true →
+    EndsAs options rows given
     → option_named options o.name ≡ Some o → row_named rows o.name ≡ ended o (row_by o.name o.wants given)
 found_end options rows given o sound ends at =
     ap (λ (rs : List Row). row_named rs o.name) ends.1 ∙ row_end options ends.0 o sound at ∙ ap (ended o) (ends.2 o at).0
@@ -114,11 +124,13 @@ first_end rows name None found = rw found refl
 first_end rows name (Some text) found = rw found refl
 
 texts_end : (rows : List Row) (name : Text) (texts : List Text)
-    → row_named rows name ≡ ended (record { name = name; wants = many_texts }) (rows_often name many_texts texts) → unwrap_or (all_of name rows) [] ≡ texts
+    → row_named rows name ≡ ended (record { name = name; wants = many_texts }) (rows_often name many_texts texts) →
+    unwrap_or (all_of name rows) [] ≡ texts
 texts_end rows name [] found = rw found refl
 texts_end rows name (text ∷ texts) found = rw found refl
 
-flag_end : (rows : List Row) (name : Text) (said : Option Text) → row_named rows name ≡ ended (record { name = name; wants = no_text }) (rows_once name no_text said)
+flag_end : (rows : List Row) (name : Text) (said : Option Text) → row_named rows name ≡ ended (record { name = name; wants = no_text })
+    (rows_once name no_text said)
     → flag_read name rows ≡ Some (is_some said)
 flag_end rows name None found = rw found refl
 flag_end rows name (Some text) found = rw found refl
@@ -131,11 +143,13 @@ texts_by name many_texts rows given found = texts_end rows name (texts_given giv
 texts_by name no_text rows given found = flag_end rows name (text_given given name) found
 
 -- the rows have the texts that are given
-pub texts_found : (options : List OptionForm) (rows : List Row) (given : Given) → are_sound options ≡ true → EndsAs options rows given → (o : OptionForm)
+pub texts_found : (options : List OptionForm) (rows : List Row) (given : Given) → are_sound options ≡ true → EndsAs options rows given →
+    (o : OptionForm)
     → option_named options o.name ≡ Some o → HasTexts rows given o.name o.wants
 texts_found options rows given sound ends o at = texts_by o.name o.wants rows given (found_end options rows given o sound ends at)
 
-number_end : (rows : List Row) (n : NumberOption) (said : Option Text) → row_named rows n.name ≡ ended (number_form n) (rows_once n.name (one_number n) said)
+number_end : (rows : List Row) (n : NumberOption) (said : Option Text) → row_named rows n.name ≡ ended (number_form n)
+    (rows_once n.name (one_number n) said)
     → one_of n.name rows ≡ Some (without_minus (unwrap_or said n.default))
 number_end rows n None found = rw found refl
 number_end rows n (Some text) found = rw found refl
@@ -171,13 +185,16 @@ default_quiet o rows sound = by_wants o.name o.wants sound
     flag_if true = refl
     flag_if false = refl
 
-    by_wants : (name : Text) (wants : Wants) → is_sound wants ≡ true → default_fault rows (built_rule (record { name = name; wants = wants })) ≡ []
-    by_wants name (one_number n) is = quiet_if name n (has_row name rows) (both (is_number_of n n.default) (nat_lt n.most 4294967296) is).0 refl
+    by_wants : (name : Text) (wants : Wants) → is_sound wants ≡ true →
+        default_fault rows (built_rule (record { name = name; wants = wants })) ≡ []
+    by_wants name (one_number n) is = quiet_if name n (has_row name rows) (both (is_number_of n n.default) (nat_lt n.most 4294967296) is).0
+        refl
     by_wants name one_text is = none_if (has_row name rows)
     by_wants name many_texts is = none_if (has_row name rows)
     by_wants name no_text is = flag_if (has_row name rows)
 
-no_default_fault : (options : List OptionForm) (rows : List Row) → are_sound options ≡ true → defaults_fault rows (built_rules options) ≡ []
+no_default_fault : (options : List OptionForm) (rows : List Row) → are_sound options ≡ true →
+    defaults_fault rows (built_rules options) ≡ []
 unfolding defaults_fault
 no_default_fault [] rows sound = go (has_row help.id rows)
   where
@@ -189,7 +206,8 @@ no_default_fault (o ∷ options) rows sound =
     let rest = both (not (is_some (option_named options o.name))) (are_sound options) here.1 in
     rw (default_quiet o rows here.0) (no_default_fault options (with_default rows (built_rule o)) rest.1)
 
-no_required : (options : List OptionForm) (rows : List Row) → list_any (λ a. a.required && not (is_given a.id rows)) (built_rules options) ≡ false
+no_required : (options : List OptionForm) (rows : List Row) → list_any (λ a. a.required && not (is_given a.id rows))
+    (built_rules options) ≡ false
 no_required [] rows = refl
 no_required (o ∷ options) rows = no_required options rows
 

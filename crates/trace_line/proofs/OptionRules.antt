@@ -1,5 +1,6 @@
 -- The parser's rules of a list of options, and the rows of those that are given.
-use Rattle.std.proofs.Common.{◌≡◌, ◌∙◌, ◌&&◌, ◌||◌, ◌++◌, ℕ, Bool, cond, true, false, not, List, [], ◌∷◌, map, Option, Some, None, refl, ap, sym, subst, append-nil}
+use Rattle.std.proofs.Common.{◌≡◌, ◌∙◌, ◌&&◌, ◌||◌, ◌++◌, ℕ, Bool, cond, true, false, not, List, [], ◌∷◌, map, Option, Some, None, refl}
+use Rattle.std.proofs.Common.{ap, sym, subst, append-nil}
 use Rattle.std.specs.Prelude.{codes, if◌then◌else◌, find, is_some, nat_lt, option_map, pos, unwrap_or}
 use Rattle.std.specs.List.{filter}
 use Rattle.std.specs.Option.{option_or}
@@ -10,7 +11,8 @@ use Rattle.std.proofs.lemmas.List.Folds.{find-append}
 use Rattle.std.proofs.lemmas.Slice.Eq.{bytes_eq-Decides}
 use Rattle.clap.specs.Faults.{repeat_fault, use_fault, values_fault}
 use Rattle.clap.specs.Simple.{new_rule}
-use Rattle.clap.specs.Walk.{Row, Rule, Text, arg_by_id, arg_by_index, arg_by_long, arg_by_short, has_row, more_values, reading_by, stronger, used, with_values, without}
+use Rattle.clap.specs.Walk.{Row, Rule, Text, arg_by_id, arg_by_index, arg_by_long, arg_by_short, has_row, more_values, reading_by}
+use Rattle.clap.specs.Walk.{stronger, used, with_values, without}
 use Rattle.clap.specs.declared.builder.action.ArgAction.{ArgAction}
 use Rattle.clap.specs.declared.builder.action.ArgAction.TheVariants.{Append, Set, SetTrue}
 use Rattle.clap.specs.declared.builder.value_parser.Reading.{Reading}
@@ -20,7 +22,8 @@ use Rattle.clap.specs.declared.error.kind.ErrorKind.TheVariants.{ArgumentConflic
 use Rattle.clap.specs.declared.parser.matches.ValueSource.{ValueSource}
 use Rattle.clap.specs.declared.parser.matches.ValueSource.TheVariants.{CommandLine}
 use Rattle.clap.proofs.WalkLemmas.{both}
-use Rattle.trace_line.specs.CommandLine.{Given, NumberOption, OptionForm, Wants, is_number_of, many_texts, may_come, no_text, one_more, one_number, one_text, option_named, text_given, texts_given}
+use Rattle.trace_line.specs.CommandLine.{Given, NumberOption, OptionForm, Wants, is_number_of, many_texts, may_come, no_text, one_more}
+use Rattle.trace_line.specs.CommandLine.{one_number, one_text, option_named, text_given, texts_given}
 use Rattle.trace_line.proofs.Named.{find_made, or_false, same_name}
 use Rattle.trace_line.proofs.LeafWalk.{IsToldOrNone, Some_of, help, help_long, in_second}
 
@@ -83,9 +86,11 @@ by_id options name o is = find_made built_rule _ (λ o. bytes_eq o.name name) (�
 
 pub by_long : (options : List OptionForm) (name : Text) (o : OptionForm) → option_named options name ≡ Some o
     → arg_by_long (built_rules options) name ≡ Some (built_rule o)
-by_long options name o is = find_made built_rule _ (λ o. bytes_eq o.name name) (λ o. or_false (bytes_eq o.name name)) options (help ∷ []) ∙ rw is refl
+by_long options name o is = find_made built_rule _ (λ o. bytes_eq o.name name) (λ o. or_false (bytes_eq o.name name)) options (help ∷ [])
+    ∙ rw is refl
 
-pub no_long : (options : List OptionForm) (name : Text) → option_named options name ≡ None → IsToldOrNone (arg_by_long (built_rules options) name)
+pub no_long : (options : List OptionForm) (name : Text) → option_named options name ≡ None →
+    IsToldOrNone (arg_by_long (built_rules options) name)
 no_long options name none =
     let same : arg_by_long (built_rules options) name ≡ arg_by_long (help ∷ []) name =
     find_made built_rule _ (λ o. bytes_eq o.name name) (λ o. or_false (bytes_eq o.name name)) options (help ∷ []) ∙ rw none refl in
@@ -101,7 +106,8 @@ abbrev pub are_sound : List OptionForm → Bool
 are_sound [] = true
 are_sound (o ∷ options) = is_sound o.wants && (not (is_some (option_named options o.name)) && are_sound options)
 
-pub sound_named : (options : List OptionForm) (o : OptionForm) → are_sound options ≡ true → option_named options o.name ≡ Some o → is_sound o.wants ≡ true
+pub sound_named : (options : List OptionForm) (o : OptionForm) → are_sound options ≡ true → option_named options o.name ≡ Some o →
+    is_sound o.wants ≡ true
 sound_named [] o sound e = absurd (cc e)
 sound_named (p ∷ options) o sound e =
     let here = both (is_sound p.wants) (not (is_some (option_named options p.name)) && are_sound options) sound in
@@ -122,7 +128,8 @@ pub found_row : (name : Text) (rows : List Row) → has_row name rows ≡ is_som
 found_row name [] = refl
 found_row name (r ∷ rows) = go (bytes_eq r.id name) (found_row name rows)
   where
-    go : (b : Bool) → has_row name rows ≡ is_some (row_named rows name) → (b || has_row name rows) ≡ is_some (cond b (Some r) (row_named rows name))
+    go : (b : Bool) → has_row name rows ≡ is_some (row_named rows name) → (b || has_row name rows)
+        ≡ is_some (cond b (Some r) (row_named rows name))
     go true e = refl
     go false e = e
 
@@ -131,7 +138,8 @@ none_without : (id : Text) (rows : List Row) → has_row id rows ≡ false → w
 none_without id [] e = refl
 none_without id (r ∷ rows) e = go (bytes_eq r.id id) (λ fresh. none_without id rows fresh) e
   where
-    go : (b : Bool) → (has_row id rows ≡ false → without id rows ≡ rows) → (b || has_row id rows) ≡ false → cond b ([] ++ rows) (r ∷ without id rows) ≡ r ∷ rows
+    go : (b : Bool) → (has_row id rows ≡ false → without id rows ≡ rows) → (b || has_row id rows) ≡ false →
+        cond b ([] ++ rows) (r ∷ without id rows) ≡ r ∷ rows
     go true behind e = absurd (cc e)
     go false behind e = ap (λ (rs : List Row). r ∷ rs) (behind e)
 
@@ -145,19 +153,22 @@ pub with_same : (id : Text) (how : Reading) (s : ValueSource) (values : List Tex
 with_same id how s values [] = rw (same_name id) refl
 with_same id how s values (r ∷ rows) = go (bytes_eq r.id id) refl (with_same id how s values rows)
   where
-    go : (b : Bool) → bytes_eq r.id id ≡ b → row_named (with_values id how s values rows) id ≡ Some (row_with id how s values (row_named rows id))
+    go : (b : Bool) → bytes_eq r.id id ≡ b → row_named (with_values id how s values rows) id
+        ≡ Some (row_with id how s values (row_named rows id))
         → row_named (cond b (more_values s values r ++ rows) (r ∷ with_values id how s values rows)) id
         ≡ Some (row_with id how s values (cond b (Some r) (row_named rows id)))
     go true is behind = rw is refl
     go false is behind = rw is behind
 
-pub with_other : (id : Text) (how : Reading) (s : ValueSource) (values : List Text) (name : Text) (rows : List Row) → bytes_eq id name ≡ false
+pub with_other : (id : Text) (how : Reading) (s : ValueSource) (values : List Text) (name : Text) (rows : List Row) →
+    bytes_eq id name ≡ false
     → row_named (with_values id how s values rows) name ≡ row_named rows name
 with_other id how s values name [] other = rw other refl
 with_other id how s values name (r ∷ rows) other = go (bytes_eq r.id id) refl (with_other id how s values name rows other)
   where
     go : (b : Bool) → bytes_eq r.id id ≡ b → row_named (with_values id how s values rows) name ≡ row_named rows name
-        → row_named (cond b (more_values s values r ++ rows) (r ∷ with_values id how s values rows)) name ≡ cond (bytes_eq r.id name) (Some r) (row_named rows name)
+        → row_named (cond b (more_values s values r ++ rows) (r ∷ with_values id how s values rows)) name ≡ cond (bytes_eq r.id name)
+        (Some r) (row_named rows name)
     go true is behind =
         let none : bytes_eq r.id name ≡ false = ap (λ (i : Text). bytes_eq i name) ((bytes_eq-Decides r.id id).0 is) ∙ other in
         rw none refl
@@ -208,16 +219,20 @@ none_are options sound o is = no_row o.name o.wants (sound_named options o sound
 -- one more is given, of this name and of others
 text_new : (given : Given) (name text : Text) → text_given given name ≡ None → text_given (given ++ (name, text) ∷ []) name ≡ Some text
 text_new given name text none =
-    rw (find-append (λ (pair : Text × Text). bytes_eq pair.0 name) given ((name, text) ∷ [])) (go (find (λ pair. bytes_eq pair.0 name) given) none)
+    rw (find-append (λ (pair : Text × Text). bytes_eq pair.0 name) given ((name, text) ∷ []))
+    (go (find (λ pair. bytes_eq pair.0 name) given) none)
   where
     go : (found : Option (Text × Text)) → option_map (λ pair. pair.1) found ≡ None
-        → option_map (λ pair. pair.1) (option_or found (find (λ (pair : Text × Text). bytes_eq pair.0 name) ((name, text) ∷ []))) ≡ Some text
+        → option_map (λ pair. pair.1) (option_or found (find (λ (pair : Text × Text). bytes_eq pair.0 name) ((name, text) ∷ [])))
+        ≡ Some text
     go None e = rw (same_name name) refl
     go (Some pair) e = absurd (cc e)
 
-text_other : (given : Given) (name text other : Text) → bytes_eq name other ≡ false → text_given (given ++ (name, text) ∷ []) other ≡ text_given given other
+text_other : (given : Given) (name text other : Text) → bytes_eq name other ≡ false → text_given (given ++ (name, text) ∷ []) other
+    ≡ text_given given other
 text_other given name text other is =
-    rw (find-append (λ (pair : Text × Text). bytes_eq pair.0 other) given ((name, text) ∷ []), is) (go (find (λ pair. bytes_eq pair.0 other) given))
+    rw (find-append (λ (pair : Text × Text). bytes_eq pair.0 other) given ((name, text) ∷ []), is)
+    (go (find (λ pair. bytes_eq pair.0 other) given))
   where
     go : (found : Option (Text × Text)) → option_map (λ pair. pair.1) (option_or found None) ≡ option_map (λ pair. pair.1) found
     go None = refl
@@ -228,7 +243,8 @@ texts_new given name text =
     rw (filter-append (λ (pair : Text × Text). bytes_eq pair.0 name) given ((name, text) ∷ []), same_name name)
     (map-append (λ (pair : Text × Text). pair.1) (filter (λ pair. bytes_eq pair.0 name) given) ((name, text) ∷ []))
 
-texts_other : (given : Given) (name text other : Text) → bytes_eq name other ≡ false → texts_given (given ++ (name, text) ∷ []) other ≡ texts_given given other
+texts_other : (given : Given) (name text other : Text) → bytes_eq name other ≡ false → texts_given (given ++ (name, text) ∷ []) other
+    ≡ texts_given given other
 texts_other given name text other is =
     rw (filter-append (λ (pair : Text × Text). bytes_eq pair.0 other) given ((name, text) ∷ []), is)
     (ap (map (λ (pair : Text × Text). pair.1)) (append-nil (filter (λ pair. bytes_eq pair.0 other) given)))
@@ -246,10 +262,11 @@ abbrev pub reading_to : OptionForm → Reading
 reading_to o = reading_by (built_rule o)
 
 -- the rows after one more use
-more_rows : (options : List OptionForm) (given : Given) (rows : List Row) (o : OptionForm) (text : Text) (values : List Text) → option_named options o.name ≡ Some o
+more_rows : (options : List OptionForm) (given : Given) (rows : List Row) (o : OptionForm) (text : Text) (values : List Text) →
+    option_named options o.name ≡ Some o
     → Are options rows given
-    → Some (row_with o.name (reading_to o) CommandLine values (row_named rows o.name)) ≡ row_by o.name o.wants (given ++ (o.name, text) ∷ [])
-    → is_passed o.wants (text_given (given ++ (o.name, text) ∷ []) o.name) ≡ true
+    → Some (row_with o.name (reading_to o) CommandLine values (row_named rows o.name)) ≡ row_by o.name o.wants
+    (given ++ (o.name, text) ∷ []) → is_passed o.wants (text_given (given ++ (o.name, text) ∷ []) o.name) ≡ true
     → Are options (with_values o.name (reading_to o) CommandLine values rows) (given ++ (o.name, text) ∷ [])
 more_rows options given rows o text values at are row passed = λ p is. go p is (bytes_eq o.name p.name) refl
   where
@@ -266,10 +283,12 @@ more_rows options given rows o text values at are row passed = λ p is. go p is 
         let name : o.name ≡ p.name = (bytes_eq-Decides o.name p.name).0 same in
         let found : Some o ≡ Some p = sym at ∙ ap (option_named options) name ∙ is in
         let it : o ≡ p = cc found in
-        subst (λ (x : OptionForm). (row_named (with_values o.name (reading_to o) CommandLine values rows) x.name ≡ row_by x.name x.wants more)
+        subst (λ (x : OptionForm). (row_named (with_values o.name (reading_to o) CommandLine values rows) x.name
+        ≡ row_by x.name x.wants more)
         × (is_passed x.wants (text_given more x.name) ≡ true)) it (here, passed)
     go p is false other = (
-      with_other o.name (reading_to o) CommandLine values p.name rows other ∙ (are p is).0 ∙ sym (row_other p.wants given o.name text p.name other),
+      with_other o.name (reading_to o) CommandLine values p.name rows other ∙ (are p is).0
+          ∙ sym (row_other p.wants given o.name text p.name other),
       ap (is_passed p.wants) (text_other given o.name text p.name other) ∙ (are p is).1,
     )
 
@@ -283,11 +302,14 @@ more_given given o said = given ++ (o.name, unwrap_or said []) ∷ []
 
 -- the outcome of a use
 pub data Use (options : List OptionForm) (given : Given) (rows : List Row) (o : OptionForm) (said : Option Text) : Type 0 where
-  good : one_more options given (Some o.name) said ≡ Some (more_given given o said) → use_fault false (built_rule o) (said_values said) rows ≡ []
+  good : one_more options given (Some o.name) said ≡ Some (more_given given o said) → use_fault false (built_rule o)
+      (said_values said) rows ≡ []
       → Are options (used (built_rule o) (said_values said) rows) (more_given given o said) → Use options given rows o said
-  bad : one_more options given (Some o.name) said ≡ None → Some_of (use_fault false (built_rule o) (said_values said) rows) → Use options given rows o said
+  bad : one_more options given (Some o.name) said ≡ None → Some_of (use_fault false (built_rule o) (said_values said) rows) →
+      Use options given rows o said
 
-one_more_if : (options : List OptionForm) (given : Given) (o : OptionForm) (said : Option Text) (may : Bool) → option_named options o.name ≡ Some o
+one_more_if : (options : List OptionForm) (given : Given) (o : OptionForm) (said : Option Text) (may : Bool) →
+    option_named options o.name ≡ Some o
     → may_come given said o ≡ may → one_more options given (Some o.name) said ≡ (if may then Some (more_given given o said) else None)
 one_more_if options given o said may at is = rw (at, is) refl
 
@@ -298,15 +320,18 @@ module _ (options : List OptionForm) (given : Given) (rows : List Row) where
       option_named options name ≡ Some o → Are options rows given → Use options given rows o said
 
   -- an option that is given once, and wasn't yet
-  once_rows : (name : Text) (wants : Wants) (text : Text) → option_named options name ≡ Some (record { name = name; wants = wants }) → Are options rows given
-      → ((g : Given) → row_by name wants g ≡ rows_once name wants (text_given g name)) → text_given given name ≡ None → is_passed wants (Some text) ≡ true
-      → Are options (with_values name (reading_to (record { name = name; wants = wants })) CommandLine (stored wants text) rows) (given ++ (name, text) ∷ [])
+  once_rows : (name : Text) (wants : Wants) (text : Text) → option_named options name ≡ Some (record { name = name; wants = wants }) →
+      Are options rows given
+      → ((g : Given) → row_by name wants g ≡ rows_once name wants (text_given g name)) → text_given given name ≡ None →
+      is_passed wants (Some text) ≡ true → Are options (with_values name (reading_to (record { name = name; wants = wants })) CommandLine
+      (stored wants text) rows) (given ++ (name, text) ∷ [])
   once_rows name wants text at are once none passed =
       let o : OptionForm = record { name = name; wants = wants } in
       let new : text_given (given ++ (name, text) ∷ []) name ≡ Some text = text_new given name text none in
       let before : row_named rows name ≡ None = (are o at).0 ∙ once given ∙ ap (rows_once name wants) none in
       more_rows options given rows o text (stored wants text) at are
-      (ap (λ (r : Option Row). Some (row_with name (reading_to o) CommandLine (stored wants text) r)) before ∙ sym (once (given ++ (name, text) ∷ []) ∙ ap (rows_once name wants) new))
+      (ap (λ (r : Option Row). Some (row_with name (reading_to o) CommandLine (stored wants text) r)) before
+      ∙ sym (once (given ++ (name, text) ∷ []) ∙ ap (rows_once name wants) new))
       (ap (is_passed wants) new ∙ passed)
 
   rows_said : (name : Text) (wants : Wants) (said : Option Text) → is_some (rows_once name wants said) ≡ is_some said
@@ -314,19 +339,24 @@ module _ (options : List OptionForm) (given : Given) (rows : List Row) where
   rows_said name wants (Some text) = refl
 
   -- whether it has a row
-  has_once : (name : Text) (wants : Wants) (said : Option Text) → option_named options name ≡ Some (record { name = name; wants = wants }) → Are options rows given
-      → ((g : Given) → row_by name wants g ≡ rows_once name wants (text_given g name)) → text_given given name ≡ said → has_row name rows ≡ is_some said
+  has_once : (name : Text) (wants : Wants) (said : Option Text) → option_named options name
+      ≡ Some (record { name = name; wants = wants }) → Are options rows given
+      → ((g : Given) → row_by name wants g ≡ rows_once name wants (text_given g name)) → text_given given name ≡ said →
+      has_row name rows ≡ is_some said
   has_once name wants said at are once is =
-      found_row name rows ∙ ap is_some ((are (record { name = name; wants = wants }) at).0 ∙ once given ∙ ap (rows_once name wants) is) ∙ rows_said name wants said
+      found_row name rows ∙ ap is_some ((are (record { name = name; wants = wants }) at).0 ∙ once given ∙ ap (rows_once name wants) is)
+      ∙ rows_said name wants said
 
-  number_comes : (name : Text) (n : NumberOption) (text : Text) (number : Bool) (before : Option Text) → is_number_of n text ≡ number → text_given given name ≡ before
+  number_comes : (name : Text) (n : NumberOption) (text : Text) (number : Bool) (before : Option Text) → is_number_of n text ≡ number →
+      text_given given name ≡ before
       → Comes name (one_number n) (Some text)
   number_comes name n text true None number before at are =
       let o : OptionForm = record { name = name; wants = one_number n } in
       let fresh : has_row name rows ≡ false = has_once name (one_number n) None at are (λ g. refl) before in
       let after = once_rows name (one_number n) text at are (λ g. refl) before number in
       good (one_more_if options given o (Some text) true at (rw (number, before) refl)) (rw (fresh, number) refl)
-      (subst (λ (rs : List Row). Are options (with_values name (reading_to o) CommandLine (text ∷ []) rs) (given ++ (name, text) ∷ [])) (sym (none_without name rows fresh)) after)
+      (subst (λ (rs : List Row). Are options (with_values name (reading_to o) CommandLine (text ∷ []) rs) (given ++ (name, text) ∷ []))
+      (sym (none_without name rows fresh)) after)
   number_comes name n text true (Some said) number before at are =
       let o : OptionForm = record { name = name; wants = one_number n } in
       let there : has_row name rows ≡ true = has_once name (one_number n) (Some said) at are (λ g. refl) before in
@@ -343,14 +373,16 @@ module _ (options : List OptionForm) (given : Given) (rows : List Row) where
       let fresh : has_row name rows ≡ false = has_once name one_text None at are (λ g. refl) before in
       let after = once_rows name one_text text at are (λ g. refl) before refl in
       good (one_more_if options given o (Some text) true at (rw before refl)) (rw fresh refl)
-      (subst (λ (rs : List Row). Are options (with_values name (reading_to o) CommandLine (text ∷ []) rs) (given ++ (name, text) ∷ [])) (sym (none_without name rows fresh)) after)
+      (subst (λ (rs : List Row). Are options (with_values name (reading_to o) CommandLine (text ∷ []) rs) (given ++ (name, text) ∷ []))
+      (sym (none_without name rows fresh)) after)
   text_comes name text (Some said) before at are =
       let o : OptionForm = record { name = name; wants = one_text } in
       let there : has_row name rows ≡ true = has_once name one_text (Some said) at are (λ g. refl) before in
       bad (one_more_if options given o (Some text) false at (rw before refl)) (rw there (ArgumentConflict, [], refl))
 
   one_text_more : (name text : Text) (texts : List Text)
-      → Some (row_with name (reading_to (record { name = name; wants = many_texts })) CommandLine (text ∷ []) (rows_often name many_texts texts))
+      → Some (row_with name (reading_to (record { name = name; wants = many_texts })) CommandLine (text ∷ [])
+      (rows_often name many_texts texts))
       ≡ rows_often name many_texts (texts ++ text ∷ [])
   one_text_more name text [] = refl
   one_text_more name text (first ∷ texts) = refl
@@ -360,7 +392,8 @@ module _ (options : List OptionForm) (given : Given) (rows : List Row) where
       let o : OptionForm = record { name = name; wants = many_texts } in
       good (one_more_if options given o (Some text) true at refl) refl
       (more_rows options given rows o text (text ∷ []) at are
-      (ap (λ (r : Option Row). Some (row_with name (reading_to o) CommandLine (text ∷ []) r)) (are o at).0 ∙ one_text_more name text (texts_given given name)
+      (ap (λ (r : Option Row). Some (row_with name (reading_to o) CommandLine (text ∷ []) r)) (are o at).0 ∙ one_text_more name text
+      (texts_given given name)
       ∙ sym (ap (rows_often name many_texts) (texts_new given name text))) refl)
 
   flag_comes : (name : Text) (before : Option Text) → text_given given name ≡ before → Comes name no_text None
@@ -369,22 +402,27 @@ module _ (options : List OptionForm) (given : Given) (rows : List Row) where
       let fresh : has_row name rows ≡ false = has_once name no_text None at are (λ g. refl) before in
       let after = once_rows name no_text [] at are (λ g. refl) before refl in
       good (one_more_if options given o None true at (rw before refl)) (rw fresh refl)
-      (subst (λ (rs : List Row). Are options (with_values name (reading_to o) CommandLine (codes "true" ∷ []) rs) (given ++ (name, []) ∷ [])) (sym (none_without name rows fresh)) after)
+      (subst (λ (rs : List Row). Are options (with_values name (reading_to o) CommandLine (codes "true" ∷ []) rs)
+      (given ++ (name, []) ∷ [])) (sym (none_without name rows fresh)) after)
   flag_comes name (Some said) before at are =
       let o : OptionForm = record { name = name; wants = no_text } in
       let there : has_row name rows ≡ true = has_once name no_text (Some said) at are (λ g. refl) before in
       bad (one_more_if options given o None false at (rw before refl)) (rw there (ArgumentConflict, [], refl))
 
   use_by : (name : Text) (wants : Wants) (said : Option Text) → Comes name wants said
-  use_by name (one_number n) None at are = bad (one_more_if options given (record { name = name; wants = one_number n }) None false at refl) (InvalidValue, [], refl)
+  use_by name (one_number n) None at are = bad (one_more_if options given (record { name = name; wants = one_number n }) None false at
+      refl) (InvalidValue, [], refl)
   use_by name (one_number n) (Some text) at are = number_comes name n text (is_number_of n text) (text_given given name) refl refl at are
-  use_by name one_text None at are = bad (one_more_if options given (record { name = name; wants = one_text }) None false at refl) (InvalidValue, [], refl)
+  use_by name one_text None at are = bad (one_more_if options given (record { name = name; wants = one_text }) None false at refl)
+      (InvalidValue, [], refl)
   use_by name one_text (Some text) at are = text_comes name text (text_given given name) refl at are
-  use_by name many_texts None at are = bad (one_more_if options given (record { name = name; wants = many_texts }) None false at refl) (InvalidValue, [], refl)
+  use_by name many_texts None at are = bad (one_more_if options given (record { name = name; wants = many_texts }) None false at refl)
+      (InvalidValue, [], refl)
   use_by name many_texts (Some text) at are = texts_comes name text at are
   use_by name no_text None at are = flag_comes name (text_given given name) refl at are
   use_by name no_text (Some text) at are =
       bad (one_more_if options given (record { name = name; wants = no_text }) (Some text) false at refl) (WrongNumberOfValues, [], refl)
 
-  pub use_of : (o : OptionForm) (said : Option Text) → option_named options o.name ≡ Some o → Are options rows given → Use options given rows o said
+  pub use_of : (o : OptionForm) (said : Option Text) → option_named options o.name ≡ Some o → Are options rows given →
+      Use options given rows o said
   use_of o said at are = use_by o.name o.wants said at are

@@ -4,19 +4,23 @@ use Rattle.std.specs.Prelude.{codes, fold, option_and_then, slice_get}
 use Rattle.std.specs.Str.{bytes_eq, chars}
 use Rattle.clap.specs.Lexer.{long_of, name_and_value}
 use Rattle.clap.specs.Kinds.{Kinds, or_else}
-use Rattle.clap.specs.Walk.{Held, Row, Rule, Text, Waiting, Walk, arg_by_long, finished, idle, nothing_held, option, plain, reacted, settled, takes_values, used, walked, with_default}
+use Rattle.clap.specs.Walk.{Held, Row, Rule, Text, Waiting, Walk, arg_by_long, finished, idle, nothing_held, option, plain, reacted}
+use Rattle.clap.specs.Walk.{settled, takes_values, used, walked, with_default}
 use Rattle.clap.specs.Simple.{Shape}
 use Rattle.clap.proofs.FaultLemmas.{fault_ends}
 use Rattle.clap.proofs.WalkLemmas.{bundle_ends}
 use Rattle.clap.specs.Faults.{check_fault, defaults_fault, long_fault, option_fault, settle_fault, turn_fault, use_fault, walk_fault}
 use Rattle.clap.specs.declared.error.kind.ErrorKind.TheVariants.{InvalidValue, TooManyValues, UnknownArgument}
-use Rattle.trace_line.specs.CommandLine.{Given, OptionForm, Wants, given_by, is_option, is_wanted, many_texts, no_text, one_number, one_text, option_named}
+use Rattle.trace_line.specs.CommandLine.{Given, OptionForm, Wants, given_by, is_option, is_wanted, many_texts, no_text, one_number}
+use Rattle.trace_line.specs.CommandLine.{one_text, option_named}
 use Rattle.trace_line.proofs.Named.{found_name, same_name}
 use Rattle.trace_line.proofs.WordKinds.{IsLongWord, IsPlainWord, IsShortWord, is_dashes, is_long, is_plain, is_short, kind_of_word}
-use Rattle.trace_line.proofs.LeafWalk.{ComesTo, Some_of, end_fault, held, help_short, in_first, leaf_shape, long_is_fault, long_turn, no_names, or_else-nil, plain_turn, short_turn, step, stop, some_fault, walk_at}
+use Rattle.trace_line.proofs.LeafWalk.{ComesTo, Some_of, end_fault, held, help_short, in_first, leaf_shape, long_is_fault, long_turn}
+use Rattle.trace_line.proofs.LeafWalk.{no_names, or_else-nil, plain_turn, short_turn, step, stop, some_fault, walk_at}
 use Rattle.trace_line.proofs.GivenWords.{alone_first, behind_name, behind_use, joined_first, name_first, other_first, unknown_first}
 use Rattle.trace_line.proofs.OptionEnds.{EndsAs, no_end_fault}
-use Rattle.trace_line.proofs.OptionRules.{Are, are_sound, bad, built_rule, built_rules, by_id, by_index, by_long, by_short, count_by, good, more_given, no_long, none_are, said_values, use_of}
+use Rattle.trace_line.proofs.OptionRules.{Are, are_sound, bad, built_rule, built_rules, by_id, by_index, by_long, by_short, count_by, good}
+use Rattle.trace_line.proofs.OptionRules.{more_given, no_long, none_are, said_values, use_of}
 
 -- the option's name was read, with these values
 abbrev named : Text → List Text → Option (Text × List Text)
@@ -64,7 +68,8 @@ module _ (name : Text) (options : List OptionForm) (sound : are_sound options �
   bad_option a None h fault = fault
   bad_option a (Some text) h fault = in_first _ _ fault
 
-  bad_flag : (a : Rule) (given : Option Text) (h : Held) (takes : Bool) → takes_values a ≡ takes → IsBad h → Some_of (long_fault rules false (Some a) given h)
+  bad_flag : (a : Rule) (given : Option Text) (h : Held) (takes : Bool) → takes_values a ≡ takes → IsBad h →
+      Some_of (long_fault rules false (Some a) given h)
   bad_flag a given h true e fault = rw e (bad_option a given h fault)
   bad_flag a None h false e fault = rw e (in_first _ _ fault)
   bad_flag a (Some text) h false e fault = rw e (TooManyValues, [], refl)
@@ -73,9 +78,11 @@ module _ (name : Text) (options : List OptionForm) (sound : are_sound options �
   bad_found None given h fault = (UnknownArgument, [], refl)
   bad_found (Some a) given h fault = bad_flag a given h (takes_values a) refl fault
 
-  bad_long : (waiting : Waiting) (h : Held) (word : Text) → IsLongWord word → IsBad h → Some_of (turn_fault shape [] (walk_at waiting 1 false h) word)
+  bad_long : (waiting : Waiting) (h : Held) (word : Text) → IsLongWord word → IsBad h →
+      Some_of (turn_fault shape [] (walk_at waiting 1 false h) word)
   bad_long waiting h word l fault =
-      long_turn shape [] waiting 1 h word (no_names waiting word) l (bad_found (arg_by_long rules (name_and_value l.body).0) (name_and_value l.body).1 h fault)
+      long_turn shape [] waiting 1 h word (no_names waiting word) l (bad_found (arg_by_long rules (name_and_value l.body).0)
+      (name_and_value l.body).1 h fault)
 
   bad_end : (waiting : Waiting) (is_trailing : Bool) (h : Held) → IsBad h → Comes (walk_at waiting 1 is_trailing h) [] None
   unfolding walk_fault
@@ -102,13 +109,15 @@ module _ (name : Text) (options : List OptionForm) (sound : are_sound options �
 
   flags_turn : (waiting : Waiting) (rows : List Row) (p : Option (Text × List Text)) (word : Text) → IsShortWord word
       → Some_of (turn_fault shape [] (walk_at waiting 1 false (held rows p)) word)
-  flags_turn waiting rows p word is = short_turn shape [] waiting 1 rows p word (no_names waiting word) (λ x. rw (by_short options x) (help_short x)) is
+  flags_turn waiting rows p word is = short_turn shape [] waiting 1 rows p word (no_names waiting word)
+      (λ x. rw (by_short options x) (help_short x)) is
 
   plain_fault : (rows : List Row) (p : Option (Text × List Text)) (word : Text) → IsPlainWord word
       → Some_of (turn_fault shape [] (walk_at idle 1 false (held rows p)) word)
   plain_fault rows p word h = (UnknownArgument, [], plain_turn shape [] 1 rows p word refl h ∙ rw (by_index options 1) refl)
 
-  bad_idle : (rows : List Row) (p : Option (Text × List Text)) (words : List Text) → IsBad (held rows p) → Comes (walk_at idle 1 false (held rows p)) words None
+  bad_idle : (rows : List Row) (p : Option (Text × List Text)) (words : List Text) → IsBad (held rows p) →
+      Comes (walk_at idle 1 false (held rows p)) words None
   bad_idle rows p [] fault = bad_end idle false (held rows p) fault
   bad_idle rows p (word ∷ words) fault =
       let w = walk_at idle 1 false (held rows p) in
@@ -132,7 +141,8 @@ module _ (name : Text) (options : List OptionForm) (sound : are_sound options �
   record Walks (words : List Text) : Type 0 where
     between : (given : Given) (rows : List Row) (p : Option (Text × List Text)) → Holds given (held rows p)
         → Comes (walk_at idle 1 false (held rows p)) words (given_by options given words)
-    behind : (given : Given) (o : OptionForm) (rows : List Row) → option_named options o.name ≡ Some o → is_wanted o.wants None ≡ false → Are options rows given
+    behind : (given : Given) (o : OptionForm) (rows : List Row) → option_named options o.name ≡ Some o → is_wanted o.wants None ≡ false →
+        Are options rows given
         → Comes (walk_at (option o.name) 1 false (held rows (named o.name []))) words (behind_name options given o.name words)
 
   good_end : (given : Given) (h : Held) (is_trailing : Bool) → Holds given h → Comes (walk_at idle 1 is_trailing h) [] (Some given)
@@ -140,8 +150,10 @@ module _ (name : Text) (options : List OptionForm) (sound : are_sound options �
   good_end given h is_trailing holds =
       let faults : Kinds → Held → Kinds = λ first end. or_else first (or_else (defaults_fault end.rows rules)
       (check_fault shape (fold with_default end.rows rules) false)) in
-      let quiet : end_fault shape h ≡ [] = ap₂ faults holds.quiet holds.settles ∙ no_end_fault name options holds.rows (fold with_default holds.rows rules) sound in
-      let rows : finished rules h ≡ fold with_default holds.rows rules = ap (λ (end : Held). fold with_default end.rows rules) holds.settles in
+      let quiet : end_fault shape h ≡ [] = ap₂ faults holds.quiet holds.settles ∙ no_end_fault name options holds.rows
+      (fold with_default holds.rows rules) sound in
+      let rows : finished rules h ≡ fold with_default holds.rows rules =
+      ap (λ (end : Held). fold with_default end.rows rules) holds.settles in
       (quiet, (holds.rows, rows, holds.are))
 
   good_escaped : (given : Given) (h : Held) (words : List Text) → Holds given h
@@ -157,7 +169,8 @@ module _ (name : Text) (options : List OptionForm) (sound : are_sound options �
         ≡ or_else (settle_fault rules false h) (use_fault false (built_rule o) (said_values said) (settled rules h).rows)
     to : walked rules [] (walk_at idle 1 false h) word ≡ walk_at idle 1 false (reacted rules (built_rule o) (said_values said) h)
 
-  module _ (h : Held) (word : Text) (l : IsLongWord word) (o : OptionForm) (is : option_named options (name_and_value l.body).0 ≡ Some o) where
+  module _ (h : Held) (word : Text) (l : IsLongWord word) (o : OptionForm)
+      (is : option_named options (name_and_value l.body).0 ≡ Some o) where
     joined_whole : (text : Text) → (name_and_value l.body).1 ≡ Some text → is_wanted o.wants None ≡ false → IsWhole h word o (Some text)
     unfolding walked
     joined_whole text e wanted = record {
@@ -173,10 +186,13 @@ module _ (name : Text) (options : List OptionForm) (sound : are_sound options �
     }
 
     -- a text for an option that wants none
-    text_fault : (text : Text) → (name_and_value l.body).1 ≡ Some text → is_wanted o.wants None ≡ true → Some_of (turn_fault shape [] (walk_at idle 1 false h) word)
-    text_fault text e wanted = rw (l.dashes, l.long, by_long options (name_and_value l.body).0 o is, e, no_value o.wants wanted) (TooManyValues, [], refl)
+    text_fault : (text : Text) → (name_and_value l.body).1 ≡ Some text → is_wanted o.wants None ≡ true →
+        Some_of (turn_fault shape [] (walk_at idle 1 false h) word)
+    text_fault text e wanted = rw (l.dashes, l.long, by_long options (name_and_value l.body).0 o is, e, no_value o.wants wanted)
+        (TooManyValues, [], refl)
 
-    name_turn : (name_and_value l.body).1 ≡ None → is_wanted o.wants None ≡ false → turn_fault shape [] (walk_at idle 1 false h) word ≡ settle_fault rules false h
+    name_turn : (name_and_value l.body).1 ≡ None → is_wanted o.wants None ≡ false → turn_fault shape [] (walk_at idle 1 false h) word
+        ≡ settle_fault rules false h
     name_turn e wanted = rw (l.dashes, l.long, by_long options (name_and_value l.body).0 o is, e, one_value o.wants wanted) (or_else-nil _)
 
     name_walked : (name_and_value l.body).1 ≡ None → is_wanted o.wants None ≡ false → walked rules [] (walk_at idle 1 false h) word
@@ -185,7 +201,8 @@ module _ (name : Text) (options : List OptionForm) (sound : are_sound options �
     name_walked e wanted = rw (l.dashes, l.long, by_long options (name_and_value l.body).0 o is, e, one_value o.wants wanted) refl
 
   -- after a whole use
-  whole_comes : (given : Given) (rows : List Row) (p : Option (Text × List Text)) (word : Text) (words : List Text) (o : OptionForm) (said : Option Text)
+  whole_comes : (given : Given) (rows : List Row) (p : Option (Text × List Text)) (word : Text) (words : List Text) (o : OptionForm)
+      (said : Option Text)
       → option_named options o.name ≡ Some o → IsWhole (held rows p) word o said → Holds given (held rows p) → Walks words
       → Comes (walk_at idle 1 false (held rows p)) (word ∷ words) (behind_use options given o.name said words)
   whole_comes given rows p word words o said at whole holds walks =
@@ -200,15 +217,20 @@ module _ (name : Text) (options : List OptionForm) (sound : are_sound options �
             let no_fault : turn_fault shape [] w word ≡ [] = whole.turn ∙ ap₂ or_else holds.quiet (used_on ∙ quiet) in
             let next : walked rules [] w word ≡ walk_at idle 1 false (held after None) =
             whole.to ∙ ap (λ (end : Held). walk_at idle 1 false (held (used (built_rule o) values end.rows) None)) holds.settles in
-            let holds_more : Holds (more_given given o said) (held after None) = record { rows = after; quiet = refl; settles = refl; are = are } in
+            let holds_more : Holds (more_given given o said) (held after None) =
+            record { rows = after; quiet = refl; settles = refl; are = are } in
             subst (λ one. Comes w (word ∷ words) (option_and_then (λ more. given_by options more words) one)) (sym one)
-            (step Has shape w (walk_at idle 1 false (held after None)) word words _ no_fault next (walks.between (more_given given o said) after None holds_more))
+            (step Has shape w (walk_at idle 1 false (held after None)) word words _ no_fault next
+            (walks.between (more_given given o said) after None holds_more))
         | bad one fault ↦
-            let found : Some_of (turn_fault shape [] w word) = (fault.0, fault.1, whole.turn ∙ ap₂ or_else holds.quiet (used_on ∙ fault.2)) in
-            subst (λ one. Comes w (word ∷ words) (option_and_then (λ more. given_by options more words) one)) (sym one) (stop Has shape w word words found)
+            let found : Some_of (turn_fault shape [] w word) =
+            (fault.0, fault.1, whole.turn ∙ ap₂ or_else holds.quiet (used_on ∙ fault.2)) in
+            subst (λ one. Comes w (word ∷ words) (option_and_then (λ more. given_by options more words) one)) (sym one)
+            (stop Has shape w word words found)
       ]
 
-  module _ (given : Given) (rows : List Row) (p : Option (Text × List Text)) (word : Text) (words : List Text) (l : IsLongWord word) (o : OptionForm)
+  module _ (given : Given) (rows : List Row) (p : Option (Text × List Text)) (word : Text) (words : List Text) (l : IsLongWord word)
+      (o : OptionForm)
       (is : option_named options (name_and_value l.body).0 ≡ Some o) (holds : Holds given (held rows p)) (walks : Walks words) where
     abbrev here : Walk
     here = walk_at idle 1 false (held rows p)
@@ -220,7 +242,8 @@ module _ (name : Text) (options : List OptionForm) (sound : are_sound options �
     at = ap (option_named options) has_name ∙ is
 
     -- a use that is whole
-    said_comes : (said : Option Text) → given_by options given (word ∷ words) ≡ behind_use options given (name_and_value l.body).0 said words
+    said_comes : (said : Option Text) → given_by options given (word ∷ words) ≡ behind_use options given
+        (name_and_value l.body).0 said words
         → IsWhole (held rows p) word o said → Comes here (word ∷ words) (given_by options given (word ∷ words))
     said_comes said same whole =
         let so : given_by options given (word ∷ words) ≡ behind_use options given o.name said words =
@@ -228,41 +251,50 @@ module _ (name : Text) (options : List OptionForm) (sound : are_sound options �
         subst (λ found. Comes here (word ∷ words) found) (sym so) (whole_comes given rows p word words o said at whole holds walks)
 
     -- `--NAME`, which waits for a text
-    name_comes : (name_and_value l.body).1 ≡ None → is_wanted o.wants None ≡ false → Comes here (word ∷ words) (given_by options given (word ∷ words))
+    name_comes : (name_and_value l.body).1 ≡ None → is_wanted o.wants None ≡ false →
+        Comes here (word ∷ words) (given_by options given (word ∷ words))
     name_comes e wanted =
         let h : Held = held rows p in
         let same : given_by options given (word ∷ words) ≡ behind_name options given o.name words =
         name_first options given word (name_and_value l.body) o words l.dashes l.long e is wanted
         ∙ ap (λ (n : Text). behind_name options given n words) (sym has_name) in
-        let next : walked rules [] here word ≡ walk_at (option o.name) 1 false (held holds.rows (named o.name [])) = name_walked h word l o is e wanted
+        let next : walked rules [] here word ≡ walk_at (option o.name) 1 false (held holds.rows (named o.name [])) =
+        name_walked h word l o is e wanted
         ∙ ap (λ (end : Held). walk_at (option o.name) 1 false (record end { pending = named o.name [] })) holds.settles in
         subst (λ found. Comes here (word ∷ words) found) (sym same)
         (step Has shape here (walk_at (option o.name) 1 false (held holds.rows (named o.name []))) word words _
         (name_turn h word l o is e wanted ∙ holds.quiet) next (walks.behind given o holds.rows at wanted holds.are))
 
     -- `--NAME=TEXT`, where no text is wanted
-    refused_comes : (text : Text) → (name_and_value l.body).1 ≡ Some text → is_wanted o.wants None ≡ true → Comes here (word ∷ words) (given_by options given (word ∷ words))
+    refused_comes : (text : Text) → (name_and_value l.body).1 ≡ Some text → is_wanted o.wants None ≡ true →
+        Comes here (word ∷ words) (given_by options given (word ∷ words))
     refused_comes text e wanted =
         let none : given_by options given (word ∷ words) ≡ None =
-        joined_first options given word (name_and_value l.body) text words l.dashes l.long e ∙ rw (is, not_wanted o.wants text wanted) refl in
-        subst (λ found. Comes here (word ∷ words) found) (sym none) (stop Has shape here word words (text_fault (held rows p) word l o is text e wanted))
+        joined_first options given word (name_and_value l.body) text words l.dashes l.long e
+        ∙ rw (is, not_wanted o.wants text wanted) refl in
+        subst (λ found. Comes here (word ∷ words) found) (sym none)
+        (stop Has shape here word words (text_fault (held rows p) word l o is text e wanted))
 
     option_comes : (text : Option Text) (alone : Bool) → (name_and_value l.body).1 ≡ text → is_wanted o.wants None ≡ alone
         → Comes here (word ∷ words) (given_by options given (word ∷ words))
     option_comes None false e wanted = name_comes e wanted
     option_comes None true e wanted =
-        said_comes None (alone_first options given word (name_and_value l.body) o words l.dashes l.long e is wanted) (alone_whole (held rows p) word l o is e wanted)
+        said_comes None (alone_first options given word (name_and_value l.body) o words l.dashes l.long e is wanted)
+        (alone_whole (held rows p) word l o is e wanted)
     option_comes (Some text) false e wanted =
-        said_comes (Some text) (joined_first options given word (name_and_value l.body) text words l.dashes l.long e) (joined_whole (held rows p) word l o is text e wanted)
+        said_comes (Some text) (joined_first options given word (name_and_value l.body) text words l.dashes l.long e)
+        (joined_whole (held rows p) word l o is text e wanted)
     option_comes (Some text) true e wanted = refused_comes text e wanted
 
   -- a word of two hyphens and a name
   long_comes : (given : Given) (rows : List Row) (p : Option (Text × List Text)) (word : Text) (words : List Text) (l : IsLongWord word)
       (found : Option OptionForm) → option_named options (name_and_value l.body).0 ≡ found
-      → Holds given (held rows p) → Walks words → Comes (walk_at idle 1 false (held rows p)) (word ∷ words) (given_by options given (word ∷ words))
+      → Holds given (held rows p) → Walks words → Comes (walk_at idle 1 false (held rows p)) (word ∷ words)
+      (given_by options given (word ∷ words))
   long_comes given rows p word words l None is holds walks =
       let name : Text = (name_and_value l.body).0 in
-      let none : given_by options given (word ∷ words) ≡ None = unknown_first options given word (name_and_value l.body) words l.dashes l.long is in
+      let none : given_by options given (word ∷ words) ≡ None = unknown_first options given word (name_and_value l.body)
+      words l.dashes l.long is in
       subst (λ found. Comes (walk_at idle 1 false (held rows p)) (word ∷ words) found) (sym none)
       (stop Has shape (walk_at idle 1 false (held rows p)) word words (long_turn shape [] idle 1 (held rows p) word refl l
       (long_is_fault shape (arg_by_long rules name) (name_and_value l.body).1 (held rows p) (no_long options name is))))
@@ -276,10 +308,12 @@ module _ (name : Text) (options : List OptionForm) (sound : are_sound options �
       let w = walk_at idle 1 false h in
       let with : Text → Type 0 = λ word. Comes w (word ∷ words) (given_by options given (word ∷ words)) in
       let nothing : long_of word ≡ None → Some_of (turn_fault shape [] w word) → bytes_eq word (codes "--") ≡ false → with word =
-      λ long fault dashes. subst (λ found. Comes w (word ∷ words) found) (sym (other_first options given word words dashes long)) (stop Has shape w word words fault) in
+      λ long fault dashes. subst (λ found. Comes w (word ∷ words) found) (sym (other_first options given word words dashes long))
+      (stop Has shape w word words fault) in
       elim (kind_of_word word) [
         | is_dashes e ↦ subst with (sym e)
-            (step Has shape w (walk_at idle 1 true h) (codes "--") words _ (dashes_quiet idle h) (dashes_walked idle h) (good_escaped given h words holds))
+            (step Has shape w (walk_at idle 1 true h) (codes "--") words _ (dashes_quiet idle h) (dashes_walked idle h)
+            (good_escaped given h words holds))
         | is_long o l ↦ long_comes given rows p word words l (option_named options (name_and_value l.body).0) refl holds walks
         | is_short o s ↦ nothing s.long (flags_turn idle rows p word s) s.dashes
         | is_plain o h ↦ nothing h.long (plain_fault rows p word h) h.dashes
@@ -290,7 +324,8 @@ module _ (name : Text) (options : List OptionForm) (sound : are_sound options �
   abbrev waits : List Row → OptionForm → Held
   waits rows o = held rows (named o.name [])
 
-  module _ (given : Given) (o : OptionForm) (rows : List Row) (at : option_named options o.name ≡ Some o) (wanted : is_wanted o.wants None ≡ false) where
+  module _ (given : Given) (o : OptionForm) (rows : List Row) (at : option_named options o.name ≡ Some o)
+      (wanted : is_wanted o.wants None ≡ false) where
     one : count_by o.wants ≡ 1
     one = one_value o.wants wanted
 
@@ -302,7 +337,14 @@ module _ (name : Text) (options : List OptionForm) (sound : are_sound options �
       | inl none ↦ rw (h.dashes, h.long, none) refl
       | inr short ↦
           let first : None ≡ slice_get (chars short.0) 0 = rw short.2 refl in
-          rw (h.dashes, h.long, short.1, ← fault_ends rules false (length short.0) short.0 0 (waits rows o) first, ← bundle_ends rules (length short.0) short.0 0 plain (waits rows o) first) refl
+          rw (
+            h.dashes,
+            h.long,
+            short.1,
+            ← fault_ends rules false (length short.0) short.0 0 (waits rows o) first,
+            ← bundle_ends rules
+                (length short.0) short.0 0 plain (waits rows o) first,
+          ) refl
     ]
 
     waiting_walked : (word : Text) → IsPlainWord word → walked rules [] (walk_at (option o.name) 1 false (waits rows o)) word
@@ -312,7 +354,16 @@ module _ (name : Text) (options : List OptionForm) (sound : are_sound options �
       | inl none ↦ rw (h.dashes, h.long, none, by_id options o.name o at, same_name o.name, one) refl
       | inr short ↦
           let first : None ≡ slice_get (chars short.0) 0 = rw short.2 refl in
-          rw (h.dashes, h.long, short.1, ← bundle_ends rules (length short.0) short.0 0 plain (waits rows o) first, by_id options o.name o at, same_name o.name, one) refl
+          rw (
+            h.dashes,
+            h.long,
+            short.1,
+            ← bundle_ends rules (length short.0) short.0 0 plain (waits rows o) first,
+            by_id options o.name o
+                at,
+            same_name o.name,
+            one,
+          ) refl
     ]
 
     -- a word that may be the option's text
@@ -321,7 +372,8 @@ module _ (name : Text) (options : List OptionForm) (sound : are_sound options �
     text_comes text words are walks =
         let h : Held = held rows (named o.name (text ∷ [])) in
         let w = walk_at idle 1 false h in
-        let settles_by : settle_fault rules false h ≡ use_fault false (built_rule o) (text ∷ []) rows = rw (by_id options o.name o at) refl in
+        let settles_by : settle_fault rules false h ≡ use_fault false (built_rule o) (text ∷ []) rows =
+        rw (by_id options o.name o at) refl in
         let settles_to : settled rules h ≡ held (used (built_rule o) (text ∷ []) rows) None = rw (by_id options o.name o at) refl in
         elim (use_of options given rows o (Some text) at are) [
           | good one quiet are_more ↦
@@ -332,7 +384,8 @@ module _ (name : Text) (options : List OptionForm) (sound : are_sound options �
                 settles = settles_to;
                 are = are_more;
               } in
-              subst (λ one. Comes w words (option_and_then (λ more. given_by options more words) one)) (sym one) (walks.between more rows (named o.name (text ∷ [])) holds)
+              subst (λ one. Comes w words (option_and_then (λ more. given_by options more words) one)) (sym one)
+              (walks.between more rows (named o.name (text ∷ [])) holds)
           | bad one fault ↦
               subst (λ one. Comes w words (option_and_then (λ more. given_by options more words) one)) (sym one)
               (bad_idle rows (named o.name (text ∷ [])) words (fault.0, fault.1, settles_by ∙ fault.2))
@@ -348,7 +401,8 @@ module _ (name : Text) (options : List OptionForm) (sound : are_sound options �
         let h : Held = waits rows o in
         let w = walk_at (option o.name) 1 false h in
         let with : Text → Type 0 = λ word. Comes w (word ∷ words) (behind_name options given o.name (word ∷ words)) in
-        let none : (word : Text) → is_option word ≡ true → behind_name options given o.name (word ∷ words) ≡ None = λ word is. rw (is, at, wanted) refl in
+        let none : (word : Text) → is_option word ≡ true → behind_name options given o.name (word ∷ words) ≡ None =
+        λ word is. rw (is, at, wanted) refl in
         let unread : (word : Text) → is_option word ≡ true → Comes w (word ∷ words) None → with word =
         λ word is comes. subst (λ found. Comes w (word ∷ words) found) (sym (none word is)) comes in
         elim (kind_of_word word) [
@@ -357,9 +411,11 @@ module _ (name : Text) (options : List OptionForm) (sound : are_sound options �
           | is_short is s ↦ unread word is (stop Has shape w word words (flags_turn (option o.name) rows (named o.name []) word s))
           | is_plain is plain_word ↦
               let next = walk_at idle 1 false (held rows (named o.name (word ∷ []))) in
-              let same : behind_name options given o.name (word ∷ words) ≡ behind_use options given o.name (Some word) words = rw is refl in
+              let same : behind_name options given o.name (word ∷ words) ≡ behind_use options given o.name (Some word) words =
+              rw is refl in
               subst (λ found. Comes w (word ∷ words) found) (sym same)
-              (step Has shape w next word words _ (waiting_turn word plain_word) (waiting_walked word plain_word) (text_comes word words are walks))
+              (step Has shape w next word words _ (waiting_turn word plain_word) (waiting_walked word plain_word)
+              (text_comes word words are walks))
         ]
 
   walks_of : (words : List Text) → Walks words
@@ -374,4 +430,5 @@ module _ (name : Text) (options : List OptionForm) (sound : are_sound options �
 
   -- clap reads the words after the command's name as `given_by` says
   pub options_walk : (words : List Text) → Comes (walk_at idle 1 false nothing_held) words (given_by options [] words)
-  options_walk words = (walks_of words).between [] [] None (record { rows = []; quiet = refl; settles = refl; are = none_are options sound })
+  options_walk words = (walks_of words).between [] [] None
+      (record { rows = []; quiet = refl; settles = refl; are = none_are options sound })

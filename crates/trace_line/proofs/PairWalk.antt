@@ -11,7 +11,8 @@ use Rattle.clap.specs.declared.builder.value_parser.ValueParser.TheVariants.{Str
 use Rattle.clap.specs.declared.error.kind.ErrorKind.TheVariants.{UnknownArgument}
 use Rattle.trace_line.specs.CommandLine.{is_option, arguments_of, pair_of}
 use Rattle.trace_line.proofs.WordKinds.{IsLongWord, IsShortWord, is_dashes, is_long, is_short, is_plain, kind_of_word}
-use Rattle.trace_line.proofs.LeafWalk.{ComesTo, Some_of, held, help, help_long, help_short, leaf_shape, long_is_fault, long_turn, plain_turn, plain_walked, short_turn, step, stop, walk_at}
+use Rattle.trace_line.proofs.LeafWalk.{ComesTo, Some_of, held, help, help_long, help_short, leaf_shape, long_is_fault, long_turn}
+use Rattle.trace_line.proofs.LeafWalk.{plain_turn, plain_walked, short_turn, step, stop, walk_at}
 
 -- ---- the command as it is built
 
@@ -36,7 +37,8 @@ one_held p = held [] (Some (codes "PERMS", p ∷ []))
 abbrev two_held : Text → Text → Held
 two_held p n = pushed (codes "NAME") n (settled pair_rules (one_held p))
 
-arguments_option : (word : Text) (words : List Text) → bytes_eq word (codes "--") ≡ false → is_option word ≡ true → arguments_of (word ∷ words) ≡ None
+arguments_option : (word : Text) (words : List Text) → bytes_eq word (codes "--") ≡ false → is_option word ≡ true →
+    arguments_of (word ∷ words) ≡ None
 arguments_option word words dashes is = rw (dashes, is) refl
 
 arguments_plain : (word : Text) (words : List Text) → bytes_eq word (codes "--") ≡ false → is_option word ≡ false
@@ -77,13 +79,15 @@ module _ (name : Text) where
   unfolding walk_fault defaults_fault walked
   escaped_one p [] = λ e. cc
   escaped_one p (word ∷ words) =
-      step HasPair shape (walk_at idle 2 true (one_held p)) (walk_at idle 3 true (two_held p word)) word words _ refl refl (escaped_two p word words)
+      step HasPair shape (walk_at idle 2 true (one_held p)) (walk_at idle 3 true (two_held p word)) word words _ refl refl
+      (escaped_two p word words)
 
   escaped_none : (words : List Text) → Comes (walk_at idle 1 true nothing_held) words (pair_of (Some words))
   unfolding walk_fault defaults_fault walked
   escaped_none [] = λ e. cc
   escaped_none (word ∷ words) =
-      step HasPair shape (walk_at idle 1 true nothing_held) (walk_at idle 2 true (one_held word)) word words _ refl refl (escaped_one word words)
+      step HasPair shape (walk_at idle 1 true nothing_held) (walk_at idle 2 true (one_held word)) word words _ refl refl
+      (escaped_one word words)
 
   -- the result of the arguments after these
   abbrev line_behind : List Text → Option (List Text) → Option (Text × Text)
@@ -91,7 +95,8 @@ module _ (name : Text) where
 
   -- an option, at any position
   refused_option : (i : ℕ) (rows : List Row) (pending : Option (Text × List Text)) (before : List Text) (word : Text) (words : List Text)
-      → bytes_eq word (codes "--") ≡ false → is_option word ≡ true → Some_of (turn_fault shape [] (walk_at idle i false (held rows pending)) word)
+      → bytes_eq word (codes "--") ≡ false → is_option word ≡ true →
+      Some_of (turn_fault shape [] (walk_at idle i false (held rows pending)) word)
       → Comes (walk_at idle i false (held rows pending)) (word ∷ words) (line_behind before (arguments_of (word ∷ words)))
   refused_option i rows pending before word words dashes is fault =
       rw (arguments_option word words dashes is) (stop HasPair shape (walk_at idle i false (held rows pending)) word words fault)
@@ -102,7 +107,8 @@ module _ (name : Text) where
   three_or_more p n word (Some words) = refl
 
   -- before any `--`, by the number of arguments so far
-  free_two : (p n : Text) (words : List Text) → Comes (walk_at idle 3 false (two_held p n)) words (line_behind (p ∷ n ∷ []) (arguments_of words))
+  free_two : (p n : Text) (words : List Text) → Comes (walk_at idle 3 false (two_held p n)) words
+      (line_behind (p ∷ n ∷ []) (arguments_of words))
   unfolding walk_fault defaults_fault walked
   free_two p n [] = (refl, (refl, refl))
   free_two p n (word ∷ words) =
@@ -110,7 +116,8 @@ module _ (name : Text) where
       let pending : Option (Text × List Text) = (two_held p n).pending in
       let w = walk_at idle 3 false (two_held p n) in
       elim (kind_of_word word) [
-        | is_dashes e ↦ rw e (step HasPair shape w (walk_at idle 3 true (two_held p n)) (codes "--") words _ refl refl (escaped_two p n words))
+        | is_dashes e ↦ rw e (step HasPair shape w (walk_at idle 3 true (two_held p n)) (codes "--") words _ refl refl
+            (escaped_two p n words))
         | is_long o l ↦ refused_option 3 rows pending (p ∷ n ∷ []) word words l.dashes o (long_comes 3 rows pending word l)
         | is_short o s ↦ refused_option 3 rows pending (p ∷ n ∷ []) word words s.dashes o (short_comes 3 rows pending word s)
         | is_plain o h ↦ rw (arguments_plain word words h.dashes o, three_or_more p n word (arguments_of words))
@@ -118,7 +125,8 @@ module _ (name : Text) where
       ]
 
   -- the word is the second argument
-  one_more : (p word : Text) (o : Option (List Text)) → line_behind (p ∷ []) (option_map (λ others. word ∷ others) o) ≡ line_behind (p ∷ word ∷ []) o
+  one_more : (p word : Text) (o : Option (List Text)) → line_behind (p ∷ []) (option_map (λ others. word ∷ others) o)
+      ≡ line_behind (p ∷ word ∷ []) o
   one_more p word None = refl
   one_more p word (Some words) = refl
 
@@ -133,7 +141,8 @@ module _ (name : Text) where
         | is_dashes e ↦ rw e (step HasPair shape w (walk_at idle 2 true (one_held p)) (codes "--") words _ refl refl (escaped_one p words))
         | is_long o l ↦ refused_option 2 rows pending (p ∷ []) word words l.dashes o (long_comes 2 rows pending word l)
         | is_short o s ↦ refused_option 2 rows pending (p ∷ []) word words s.dashes o (short_comes 2 rows pending word s)
-        | is_plain o h ↦ rw (arguments_plain word words h.dashes o, one_more p word (arguments_of words)) (step HasPair shape w (walk_at idle 3 false (two_held p word)) word words _
+        | is_plain o h ↦ rw (arguments_plain word words h.dashes o, one_more p word (arguments_of words))
+            (step HasPair shape w (walk_at idle 3 false (two_held p word)) word words _
             (plain_turn shape [] 2 rows pending word refl h) (plain_walked shape 2 rows pending word h) (free_two p word words))
       ]
 
@@ -156,7 +165,8 @@ module _ (name : Text) where
         | is_dashes e ↦ rw e (step HasPair shape w (walk_at idle 1 true nothing_held) (codes "--") words _ refl refl (escaped_none words))
         | is_long o l ↦ refused_option 1 [] None [] word words l.dashes o (long_comes 1 [] None word l)
         | is_short o s ↦ refused_option 1 [] None [] word words s.dashes o (short_comes 1 [] None word s)
-        | is_plain o h ↦ rw (arguments_plain word words h.dashes o, first_one word (arguments_of words)) (step HasPair shape w (walk_at idle 2 false (one_held word)) word words _
+        | is_plain o h ↦ rw (arguments_plain word words h.dashes o, first_one word (arguments_of words))
+            (step HasPair shape w (walk_at idle 2 false (one_held word)) word words _
             (plain_turn shape [] 1 [] None word refl h) (plain_walked shape 1 [] None word h) (free_one word words))
       ]
 

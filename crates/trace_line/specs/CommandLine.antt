@@ -1,5 +1,6 @@
 -- What the words of a command line ask for.
-use Rattle.std.specs.Prelude.{ℕ, ◌&&◌, ◌||◌, Bool, true, false, not, List, [], ◌∷◌, ◌++◌, map, ◌==◌, Option, Some, None, option_and_then, option_map, unwrap_or, is_some, pos, slice_get, codes, find, if◌then◌else◌}
+use Rattle.std.specs.Prelude.{ℕ, ◌&&◌, ◌||◌, Bool, true, false, not, List, [], ◌∷◌, ◌++◌, map, ◌==◌, Option, Some, None, option_and_then}
+use Rattle.std.specs.Prelude.{option_map, unwrap_or, is_some, pos, slice_get, codes, find, if◌then◌else◌}
 use Rattle.std.specs.Char.{is_ascii_alphabetic, is_ascii_alphanumeric}
 use Rattle.std.specs.List.{filter, list_all}
 use Rattle.std.specs.Option.{option_map_or}
@@ -40,7 +41,8 @@ abbrev pub define_value : Define → List ℕ × List ℕ
 define_value define = (define.variable.now, define.value.now)
 
 abbrev pub import_value : ImportOptions → LineValue
-import_value asked = import_text (option_map (λ name. name.now) asked.profile) asked.owners (map define_value asked.defines.items) asked.strict
+import_value asked = import_text (option_map (λ name. name.now) asked.profile) asked.owners (map define_value asked.defines.items)
+    asked.strict
 
 abbrev pub line_value : Line → LineValue
 line_value (Judge perms name) = judge perms.now name.now
@@ -156,15 +158,18 @@ text_behind word = if is_option word then None else Some word
 -- The word is a complete option: it has the text, or none is wanted.
 abbrev pub is_whole : List OptionForm → List ℕ → Bool
 is_whole options word =
-    is_some (text_in word) || option_map_or (λ option. is_wanted option.wants None) (option_and_then (option_named options) (name_in word)) false
+    is_some (text_in word) || option_map_or (λ option. is_wanted option.wants None) (option_and_then (option_named options) (name_in word))
+    false
 
 -- The options that the words give after those given: `--NAME=TEXT`, or `--NAME` and `TEXT`, or `--NAME` alone, in any order. A `--`
 -- as the last word means nothing.
 abbrev pub given_by : List OptionForm → Given → List (List ℕ) → Option Given
 given_by options given [] = Some given
-given_by options given (word ∷ []) = if bytes_eq word (codes "--") then Some given else one_more options given (name_in word) (text_in word)
+given_by options given (word ∷ []) = if bytes_eq word (codes "--") then Some given else one_more options given
+    (name_in word) (text_in word)
 given_by options given (word ∷ next ∷ words) =
-    if is_whole options word then option_and_then (λ more. given_by options more (next ∷ words)) (one_more options given (name_in word) (text_in word))
+    if is_whole options word then option_and_then (λ more. given_by options more (next ∷ words))
+    (one_more options given (name_in word) (text_in word))
     else option_and_then (λ more. given_by options more words) (one_more options given (name_in word) (text_behind next))
 
 -- the number of an option, by the text that is given or by its default

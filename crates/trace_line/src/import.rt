@@ -2,7 +2,8 @@
 ghost use Rattle.std.specs.Prelude.{◌≡◌, ◌&&◌, ◌==◌, not, IfOk, IfErr, is_some, Some, false, true, map, codes, option_map};
 ghost use Rattle.std.specs.List.{list_all};
 ghost use Rattle.clap.specs.Words.{found_of, rows_of};
-ghost use Rattle.trace_line.specs.CommandLine.{begins_with_letter, define_of, define_value, defines_of, ends_open, import_value, is_name_byte, is_value, is_variable, owners_of};
+ghost use Rattle.trace_line.specs.CommandLine.{begins_with_letter, define_of, define_value, defines_of, ends_open, import_value};
+ghost use Rattle.trace_line.specs.CommandLine.{is_name_byte, is_value, is_variable, owners_of};
 ghost use Rattle.trace_line.specs.inner.Parser.{flag_read, import_read};
 
 use crate::line::LineFault;

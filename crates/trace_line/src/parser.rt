@@ -2,7 +2,8 @@
 ghost use Rattle.std.specs.Prelude.{◌≡◌, IfOk, true, false, map, fold, codes};
 ghost use Rattle.clap.specs.Words.{app_of, rule_of, with_subcommand};
 ghost use Rattle.trace_line.specs.CommandLine.{import_options, profile_commands, script_commands, image_commands, event_commands};
-ghost use Rattle.trace_line.specs.inner.Parser.{flag_rule, number_option, number_rule, numbers_app, options_app, pair_app, program_app, required_rule, text_rule, texts_rule, with_command};
+ghost use Rattle.trace_line.specs.inner.Parser.{flag_rule, number_option, number_rule, numbers_app, options_app, pair_app, program_app};
+ghost use Rattle.trace_line.specs.inner.Parser.{required_rule, text_rule, texts_rule, with_command};
 
 use clap::builder::ValueParser;
 use clap::{Arg, ArgAction, Command};

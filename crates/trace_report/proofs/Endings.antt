@@ -30,7 +30,13 @@ keeps (Some xs) = refl
 
 -- the streams of a command that reported a fault and wrote nothing else
 abbrev pub told_alone : Option (List ℕ) → Option (List ℕ) → Option (List ℕ) → Streams
-told_alone answers before after = record { answers_before = answers; answers_after = answers; faults_before = before; faults_after = after }
+told_alone answers before after = record {
+  answers_before = answers;
+  answers_after = answers;
+  faults_before =
+      before;
+  faults_after = after;
+}
 
 pub written : (answers before after : Option (List ℕ)) (output : Output) (told : List ℕ) (status : Status)
     → output ≡ fault told status → Appends before after (line told) → IsWritten (told_alone answers before after) output status
@@ -46,7 +52,8 @@ cut_short answers before after output told good h = record { answers = keeps ans
 
 -- a command that reported its fault ends as it should
 pub ends_told : (answers before after : Option (List ℕ)) (output : Output) (f : Fault) (status : Status)
-    → IsFaultOf output f → IsTold before after (fault_text f) (fault_status f) status → Ends (told_alone answers before after) output status
+    → IsFaultOf output f → IsTold before after (fault_text f) (fault_status f) status →
+    Ends (told_alone answers before after) output status
 ends_told answers before after output f status of (inl e) = rw e (nothing_yet answers output.answers)
 ends_told answers before after output Permissions status of (inr h) =
     rw h.0 (written answers before after output (fault_text Permissions) BadArguments of h.1)

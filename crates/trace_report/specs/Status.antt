@@ -1,7 +1,8 @@
 -- What the process ends with.
 use Rattle.std.specs.Prelude.{ℕ}
 use Rattle.trace_report.specs.declared.status.Status.{Status}
-use Rattle.trace_report.specs.declared.status.Status.TheVariants.{Done, Unmet, BadArguments, Refused, InputFailed, OutputFailed, FaultsFailed, NoMemory}
+use Rattle.trace_report.specs.declared.status.Status.TheVariants.{Done, Unmet, BadArguments, Refused, InputFailed, OutputFailed}
+use Rattle.trace_report.specs.declared.status.Status.TheVariants.{FaultsFailed, NoMemory}
 
 abbrev pub status_code : Status → ℕ
 status_code Done = 0

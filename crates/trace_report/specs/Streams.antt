@@ -4,7 +4,8 @@ use Rattle.std.specs.Prelude.{◌≡◌, ◌≢◌, ◌⊎◌, ℕ, List, ◌++�
 use Rattle.std.specs.Io.KnownBytes.{Keeps, Appends}
 use Rattle.trace_report.specs.Output.{Output, line}
 use Rattle.trace_report.specs.declared.status.Status.{Status}
-use Rattle.trace_report.specs.declared.status.Status.TheVariants.{Done, Unmet, BadArguments, Refused, InputFailed, OutputFailed, FaultsFailed, NoMemory}
+use Rattle.trace_report.specs.declared.status.Status.TheVariants.{Done, Unmet, BadArguments, Refused, InputFailed, OutputFailed}
+use Rattle.trace_report.specs.declared.status.Status.TheVariants.{FaultsFailed, NoMemory}
 
 -- the bytes of both output streams, before and after, where they are known
 pub record Streams : Type 0 where

@@ -1,5 +1,6 @@
 -- A line that is read off the front of a text, and the lines that are left.
-use Rattle.std.proofs.Common.{◌≡◌, ◌≢◌, ℕ, ◌-◌, ◌<◌, ◌≤◌, ◌==◌, Bool, true, false, cond, List, [], ◌∷◌, ◌++◌, length, Option, Some, None, refl, sym, ap, ◌∙◌, append_assoc, length-append, arith, suc, zero}
+use Rattle.std.proofs.Common.{◌≡◌, ◌≢◌, ℕ, ◌-◌, ◌<◌, ◌≤◌, ◌==◌, Bool, true, false, cond, List, [], ◌∷◌, ◌++◌, length, Option, Some, None}
+use Rattle.std.proofs.Common.{refl, sym, ap, ◌∙◌, append_assoc, length-append, arith, suc, zero}
 use Rattle.std.specs.Prelude.{All, IfSome, nat_eq}
 use Rattle.std.specs.List.{ends_with}
 use Rattle.std.specs.Io.{StopsAt, appended_bytes}
@@ -60,20 +61,24 @@ up_to_end known cleared front byte none differs stops taken = (left known taken,
     free : All (λ b. b ≢ 10) (front ++ byte ∷ [])
     free = All-append (λ b. b ≢ 10) front (byte ∷ []) before (alone byte differs)
 
-    left : (known : Option (List ℕ)) → IfSome known (λ xs. front ++ byte ∷ [] ≡ cleared ++ take_through 10 xs) → IfSome known (λ left. left ≡ front ++ byte ∷ [])
+    left : (known : Option (List ℕ)) → IfSome known (λ xs. front ++ byte ∷ [] ≡ cleared ++ take_through 10 xs) →
+        IfSome known (λ left. left ≡ front ++ byte ∷ [])
     left None h = tt
     left (Some xs) h =
         let taken : front ++ byte ∷ [] ≡ take_through 10 xs = h ∙ ap (λ l. l ++ take_through 10 xs) none in
         sym (through_all xs (rw taken at free)) ∙ sym taken
 
 -- what was taken, where nothing was kept from before
-taken_alone : (left after : Option (List ℕ)) (cleared read : List ℕ) → cleared ≡ [] → Consumes left after (appended_bytes cleared read) → Consumes left after read
+taken_alone : (left after : Option (List ℕ)) (cleared read : List ℕ) → cleared ≡ [] → Consumes left after (appended_bytes cleared read) →
+    Consumes left after read
 taken_alone left after cleared read none h = rw none at h
 
 -- a line that the end of the input closes
-pub last_read : (known after : Option (List ℕ)) (cleared read : List ℕ) → cleared ≡ [] → 0 < length read → ends_with nat_eq read (line_feed ∷ []) ≡ false
-    → StopsAt (appended_bytes cleared read) 10 → IfSome known (λ xs. read ≡ cleared ++ take_through 10 xs) → Consumes known after (appended_bytes cleared read)
-    → IfSome known (λ left. left ≡ read) × All (λ b. b ≢ line_feed) read × (0 < length read) × Consumes known after read
+pub last_read : (known after : Option (List ℕ)) (cleared read : List ℕ) → cleared ≡ [] → 0 < length read →
+    ends_with nat_eq read (line_feed ∷ []) ≡ false
+    → StopsAt (appended_bytes cleared read) 10 → IfSome known (λ xs. read ≡ cleared ++ take_through 10 xs) →
+    Consumes known after (appended_bytes cleared read) → IfSome known (λ left. left ≡ read) × All (λ b. b ≢ line_feed) read
+    × (0 < length read) × Consumes known after read
 last_read known after cleared read none some ends stops taken consumed =
     let (front, byte, split) = split_end read some in
     let closed = up_to_end known cleared front byte none (not_fed front byte (rw split at ends)) (rw split at stops) (rw split at taken) in
@@ -86,7 +91,8 @@ whole_line [] rest free = refl
 whole_line (b ∷ line) rest free =
     let differs : (b == line_feed) ≡ false = ne_eqb b 10 (free 0 0 (omega arith)) in
     let tail = whole_line line rest (All-tail (λ b. b ≢ line_feed) b line free) in
-    ap (λ e. cond e ([] ∷ lines_of ((line ++ line_feed ∷ []) ++ rest)) (onto_first_line b (lines_of ((line ++ line_feed ∷ []) ++ rest)))) differs
+    ap (λ e. cond e ([] ∷ lines_of ((line ++ line_feed ∷ []) ++ rest)) (onto_first_line b (lines_of ((line ++ line_feed ∷ []) ++ rest))))
+    differs
     ∙ ap (onto_first_line b) tail
 
 -- a line that the end of the text closes
@@ -101,14 +107,17 @@ last_line (b ∷ c ∷ line) free some =
     ∙ ap (onto_first_line b) (last_line (c ∷ line) (All-tail (λ b. b ≢ line_feed) b (c ∷ line) free) (omega arith))
 
 -- one line at most, where a line feed can only be the last byte
-part_ended : (front : List ℕ) (byte : ℕ) → All (λ b. b ≢ 10) front → (e : Bool) → (byte == 10) ≡ e → length (lines_of (front ++ byte ∷ [])) ≤ 1
+part_ended : (front : List ℕ) (byte : ℕ) → All (λ b. b ≢ 10) front → (e : Bool) → (byte == 10) ≡ e →
+    length (lines_of (front ++ byte ∷ [])) ≤ 1
 part_ended front byte free true e =
     let whole = ap length (whole_line front [] free) in
-    let ended : front ++ byte ∷ [] ≡ (front ++ line_feed ∷ []) ++ [] = ap (λ c. front ++ c ∷ []) (eqb-true byte 10 e) ∙ sym (append-nil (front ++ line_feed ∷ [])) in
+    let ended : front ++ byte ∷ [] ≡ (front ++ line_feed ∷ []) ++ [] = ap (λ c. front ++ c ∷ []) (eqb-true byte 10 e)
+    ∙ sym (append-nil (front ++ line_feed ∷ [])) in
     rw ended (omega (arith, whole))
 part_ended front byte free false e =
     let differs : byte ≢ 10 = λ q. let same = rw q at e in cc in
-    let last = ap length (last_line (front ++ byte ∷ []) (All-append (λ b. b ≢ 10) front (byte ∷ []) free (alone byte differs)) (omega (arith, length-append front (byte ∷ [])))) in
+    let last = ap length (last_line (front ++ byte ∷ []) (All-append (λ b. b ≢ 10) front (byte ∷ []) free (alone byte differs))
+    (omega (arith, length-append front (byte ∷ [])))) in
     omega (arith, last)
 
 part_at : (read front : List ℕ) (byte : ℕ) → read ≡ front ++ byte ∷ [] → StopsAt read 10 → length (lines_of read) ≤ 1
@@ -118,16 +127,19 @@ part_at read front byte split stops =
 
 pub part_of_line : (read : List ℕ) → StopsAt read 10 → length (lines_of read) ≤ 1
 part_of_line [] stops = omega arith
-part_of_line (b ∷ bytes) stops = let (front, byte, split) = split_end (b ∷ bytes) (omega arith) in part_at (b ∷ bytes) front byte split stops
+part_of_line (b ∷ bytes) stops = let (front, byte, split) = split_end (b ∷ bytes) (omega arith) in
+    part_at (b ∷ bytes) front byte split stops
 
 -- what was taken at a failure
-pub part_read : (left after : Option (List ℕ)) (cleared read : List ℕ) → cleared ≡ [] → StopsAt (appended_bytes cleared read) 10 → Consumes left after (appended_bytes cleared read)
+pub part_read : (left after : Option (List ℕ)) (cleared read : List ℕ) → cleared ≡ [] → StopsAt (appended_bytes cleared read) 10 →
+    Consumes left after (appended_bytes cleared read)
     → Consumes left after read × (length (lines_of read) ≤ 1)
 part_read left after cleared read none stops consumed =
     (taken_alone left after cleared read none consumed, part_of_line read (rw none at stops))
 
 -- a failure to read, by the stop that reports it
-pub stopped_reading : (left after : Option (List ℕ)) (line : List ℕ) (error : Error) (result : Result LineRead Stop) → IsErrAnd result (IsStopOfReading error) → IsPartRead left after line
+pub stopped_reading : (left after : Option (List ℕ)) (line : List ℕ) (error : Error) (result : Result LineRead Stop) →
+    IsErrAnd result (IsStopOfReading error) → IsPartRead left after line
     → IsLineRead left after line result
 stopped_reading left after line error (Ok read) is part = absurd is
 stopped_reading left after line error (Err (NoCommand number)) is part = absurd is

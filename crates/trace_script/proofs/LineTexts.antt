@@ -1,5 +1,6 @@
 -- The lines of a text, put together again.
-use Rattle.std.proofs.Common.{◌≡◌, ◌⊎◌, inl, inr, ℕ, ◌==◌, Bool, true, false, cond, List, [], ◌∷◌, ◌++◌, length, refl, ap, ◌∙◌, sym, length-append, arith}
+use Rattle.std.proofs.Common.{◌≡◌, ◌⊎◌, inl, inr, ℕ, ◌==◌, Bool, true, false, cond, List, [], ◌∷◌, ◌++◌, length, refl, ap, ◌∙◌, sym}
+use Rattle.std.proofs.Common.{length-append, arith}
 use Rattle.std.proofs.lemmas.Bool.{eqb-true}
 use Rattle.trace_script.specs.RunOutput.{text_of_lines}
 use Rattle.trace_script.specs.Script.{line_feed, lines_of, onto_first_line}
@@ -21,6 +22,7 @@ pub lines_again : (text : List ℕ) → (text_of_lines (lines_of text) ≡ text)
 lines_again [] = inl refl
 lines_again (b ∷ text) = by (lines_again text) (b == line_feed) refl
   where
-    by : IsAgain (lines_of text) text → (fed : Bool) → (b == line_feed) ≡ fed → IsAgain (cond fed ([] ∷ lines_of text) (onto_first_line b (lines_of text))) (b ∷ text)
+    by : IsAgain (lines_of text) text → (fed : Bool) → (b == line_feed) ≡ fed →
+        IsAgain (cond fed ([] ∷ lines_of text) (onto_first_line b (lines_of text))) (b ∷ text)
     by again true e = fed_again b (lines_of text) text (eqb-true b 10 e) again
     by again false e = onto_again b (lines_of text) text again

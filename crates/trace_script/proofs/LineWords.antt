@@ -1,5 +1,6 @@
 -- The words of a line, taken one by one from its front.
-use Rattle.std.proofs.Common.{ℕ, ◌==◌, ◌≡◌, ◌<◌, ◌≤◌, ◌+◌, ◌-◌, Bool, true, false, List, [], ◌∷◌, length, filter, not, drop, get_or, arith, sym, ap, refl, ◌∙◌, cond, take_all, suc, inl, inr}
+use Rattle.std.proofs.Common.{ℕ, ◌==◌, ◌≡◌, ◌<◌, ◌≤◌, ◌+◌, ◌-◌, Bool, true, false, List, [], ◌∷◌, length, filter, not, drop, get_or, arith}
+use Rattle.std.proofs.Common.{sym, ap, refl, ◌∙◌, cond, take_all, suc, inl, inr}
 use Rattle.std.specs.List.{slice_split, prefix_len, position_or_len, before_first, after_first}
 use Rattle.std.proofs.lemmas.Bool.{cases_lt, ne_eqb, false≢true}
 use Rattle.std.proofs.lemmas.List.{drop_more, drop_all, length-drop, get_or-drop, length-take-le, length-take}
@@ -24,7 +25,8 @@ past_blanks : (xs : List ℕ) → words_of xs ≡ words_of (drop (prefix_len is_
 past_blanks [] = refl
 past_blanks (x ∷ xs) = by (past_blanks xs) (is_blank x) refl
   where
-    by : words_of xs ≡ words_of (drop (prefix_len is_blank xs) xs) → (b : Bool) → is_blank x ≡ b → words_of (x ∷ xs) ≡ words_of (drop (cond b (1 + prefix_len is_blank xs) 0) (x ∷ xs))
+    by : words_of xs ≡ words_of (drop (prefix_len is_blank xs) xs) → (b : Bool) → is_blank x ≡ b → words_of (x ∷ xs)
+        ≡ words_of (drop (cond b (1 + prefix_len is_blank xs) 0) (x ∷ xs))
     by rest true e =
         let next : suc (prefix_len is_blank xs) ≡ 1 + prefix_len is_blank xs = omega arith in
         past_blank x xs e ∙ rest ∙ ap (λ k. words_of (drop k (x ∷ xs))) next
@@ -43,7 +45,8 @@ module _ (xs : List ℕ) where
       let long = length-take-le n xs (omega arith) in
       let after = slice_split is_blank (after_first is_blank xs) in
       let here = ap non_empty (slice_split_first is_blank xs 0 h) ∙ kept front after (omega arith) in
-      let there = ap (slice_split is_blank) (drop_more xs n 0 h) ∙ slice_split-cons_yes is_blank (get_or xs n 0) (drop (n + 1) xs) (passes_at_first is_blank xs 0 h) in
+      let there = ap (slice_split is_blank) (drop_more xs n 0 h) ∙ slice_split-cons_yes is_blank (get_or xs n 0) (drop (n + 1) xs)
+      (passes_at_first is_blank xs 0 h) in
       here ∙ ap (λ ps. front ∷ non_empty ps) (sym there)
 
   alone : 0 < n → length xs ≤ n → words_of xs ≡ front ∷ words_of (drop n xs)
@@ -80,13 +83,16 @@ module _ (xs : List ℕ) where
           ap (λ k. get_or rest k 0) start ∙ get_or-drop (prefix_len is_blank xs) xs 0 0 ∙ ap (λ k. get_or xs k 0) (omega arith) in
           false≢true (sym none ∙ ap is_blank (sym same) ∙ blank)
 
-  pub step_at_word : (front left : List ℕ) → front ≡ before_first is_blank rest → left ≡ drop (position_or_len is_blank rest) rest → 0 < length front → words_of xs ≡ front ∷ words_of left
+  pub step_at_word : (front left : List ℕ) → front ≡ before_first is_blank rest → left ≡ drop (position_or_len is_blank rest) rest →
+      0 < length front → words_of xs ≡ front ∷ words_of left
   step_at_word front left e f some =
       let size : length (before_first is_blank rest) ≤ length rest = omega (arith, length-take (position_or_len is_blank rest) rest) in
       let more : 0 < length rest = omega (arith, ap length e) in
-      past_blanks xs ∙ first_word rest (runs_on more) ∙ ap (λ l. l ∷ words_of (drop (position_or_len is_blank rest) rest)) (sym e) ∙ ap (λ l. front ∷ words_of l) (sym f)
+      past_blanks xs ∙ first_word rest (runs_on more) ∙ ap (λ l. l ∷ words_of (drop (position_or_len is_blank rest) rest)) (sym e)
+      ∙ ap (λ l. front ∷ words_of l) (sym f)
 
-  pub step_at_end : (front left : List ℕ) → front ≡ before_first is_blank rest → left ≡ drop (position_or_len is_blank rest) rest → length front ≡ 0 → (words_of xs ≡ []) × (words_of left ≡ [])
+  pub step_at_end : (front left : List ℕ) → front ≡ before_first is_blank rest → left ≡ drop (position_or_len is_blank rest) rest →
+      length front ≡ 0 → (words_of xs ≡ []) × (words_of left ≡ [])
   step_at_end front left e f none = elim (cases_lt 0 (length rest)) [ inl h ↦ absurd (more h) | inr h ↦ ended h ]
     where
       more : 0 < length rest → ⊥

@@ -18,6 +18,7 @@ answered_text (no_profile policy) = codes "no profile policy " ++ decimal policy
 
 abbrev pub link_answered_text : LinkAnswered → List ℕ
 link_answered_text (linking.made j tree policy) = codes "linked" ++ versions_text j.node tree policy
-link_answered_text (linking.not_allowed j tree policy) = link_verdict_text j.verdict ++ codes " " ++ j.name ++ versions_text j.node tree policy
+link_answered_text (linking.not_allowed j tree policy) = link_verdict_text j.verdict ++ codes " " ++ j.name
+    ++ versions_text j.node tree policy
 link_answered_text (linking.failed errno tree) = errno_text errno ++ codes " tree " ++ decimal tree
 link_answered_text (linking.no_profile policy) = codes "no profile policy " ++ decimal policy

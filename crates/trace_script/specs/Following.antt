@@ -7,7 +7,8 @@ use Rattle.trace_script.specs.declared.stop.Stop.{Stop}
 use Rattle.trace_script.specs.declared.stop.Stop.TheVariants.{NoCommand, Input, TooLong, Memory, Output}
 use Rattle.trace_script.specs.Engine.{section_value, IsTooLong}
 use Rattle.trace_script.specs.RunOutput.{text_of_lines}
-use Rattle.trace_script.specs.Script.{Section, outside, within, ignored, opens_policy, command, no_command, is_end, line_feed, lines_of, Grammar, ScriptOf, script_by}
+use Rattle.trace_script.specs.Script.{Section, outside, within, ignored, opens_policy, command, no_command, is_end, line_feed, lines_of}
+use Rattle.trace_script.specs.Script.{Grammar, ScriptOf, script_by}
 
 -- the lines that a command prints, and the state that it leads to
 pub record Step (S : Type 0) : Type 0 where
@@ -41,7 +42,8 @@ done_line step = record { section = outside; state = step.state; lines = step.li
 -- a line was followed, or following stopped at it
 abbrev pub IsLineFollowed : {S : Type 0} → Result (Followed S) ℕ → S → Option (List ℕ) → Option (List ℕ) → Result SectionHere Stop → Type 0
 IsLineFollowed {S = S} wanted state before after (Ok section) =
-    (f : Followed S) × (wanted ≡ Ok f) × (section_value section ≡ f.section) × (state ≡ f.state) × Appends before after (text_of_lines f.lines)
+    (f : Followed S) × (wanted ≡ Ok f) × (section_value section ≡ f.section) × (state ≡ f.state) × Appends before after
+    (text_of_lines f.lines)
 IsLineFollowed wanted state before after (Err (NoCommand number)) = (wanted ≡ Err number) × Keeps before after
 IsLineFollowed wanted state before after (Err Input) = ⊥
 IsLineFollowed wanted state before after (Err TooLong) = ⊥
@@ -83,16 +85,20 @@ module _ {C S : Type 0} (engine : Engine C S) where
   -- what the first commands print was printed, those of all commands that were read except perhaps the last
   abbrev pub IsShort : S → Option (List ℕ) → Option (List ℕ) → List ℕ → Option (List ℕ) → Option (List ℕ) → Type 0
   IsShort state left left_after text before after =
-      (count : ℕ) × CommandsRead left left_after count × Appends before after (text_of_lines (lines_by state (take count (script text).commands)))
+      (count : ℕ) × CommandsRead left left_after count × Appends before after
+      (text_of_lines (lines_by state (take count (script text).commands)))
 
   -- what the commands of a script print was printed, or what the first ones print, and why there is no more
-  abbrev pub IsFollowed : {T : Type 0} → S → Option (List ℕ) → Option (List ℕ) → List ℕ → S → Option (List ℕ) → Option (List ℕ) → Result T Stop → Type 0
+  abbrev pub IsFollowed : {T : Type 0} → S → Option (List ℕ) → Option (List ℕ) → List ℕ → S → Option (List ℕ) → Option (List ℕ) →
+      Result T Stop → Type 0
   IsFollowed state left left_after text now before after (Ok done) =
-      ((script text).stopped ≡ None) × (now ≡ state_by state (script text).commands) × Appends before after (text_of_lines (lines_by state (script text).commands))
-      × Consumes left left_after text
+      ((script text).stopped ≡ None) × (now ≡ state_by state (script text).commands) × Appends before after
+      (text_of_lines (lines_by state (script text).commands)) × Consumes left left_after text
   IsFollowed state left left_after text now before after (Err (NoCommand number)) =
       ((script text).stopped ≡ Some number) × Appends before after (text_of_lines (lines_by state (script text).commands))
   IsFollowed state left left_after text now before after (Err Input) = IsShort state left left_after text before after
-  IsFollowed state left left_after text now before after (Err TooLong) = IsTooLong left left_after × IsShort state left left_after text before after
+  IsFollowed state left left_after text now before after (Err TooLong) = IsTooLong left left_after
+      × IsShort state left left_after text before after
   IsFollowed state left left_after text now before after (Err Memory) = IsShort state left left_after text before after
-  IsFollowed state left left_after text now before after (Err Output) = AppendsFront before after (text_of_lines (lines_by state (script text).commands))
+  IsFollowed state left left_after text now before after (Err Output) =
+      AppendsFront before after (text_of_lines (lines_by state (script text).commands))

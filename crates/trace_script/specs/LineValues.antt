@@ -5,7 +5,8 @@ use Rattle.trace_script.specs.declared.line.Command.{Command as CommandHere}
 use Rattle.trace_script.specs.declared.line.Command.TheVariants.{Remove, Alter, JudgeOpen, JudgeLink}
 use Rattle.trace_script.specs.declared.line.ChangeWords.{ChangeWords as ChangeWordsHere}
 use Rattle.trace_script.specs.declared.line.ChangeWords.TheVariants.{Mkdir, Create, Symlink, Link, Unlink, Rmdir, Rename}
-use Rattle.trace_script.specs.Script.{ChangeWords, Command, LineKind, LineOf, mkdir, create, symlink, link, unlink, rmdir, rename, remove, alter, judge_open, judge_link, ignored, opens_policy, command, no_command}
+use Rattle.trace_script.specs.Script.{ChangeWords, Command, LineKind, LineOf, mkdir, create, symlink, link, unlink, rmdir, rename, remove}
+use Rattle.trace_script.specs.Script.{alter, judge_open, judge_link, ignored, opens_policy, command, no_command}
 
 abbrev pub change_words : ChangeWordsHere → ChangeWords
 change_words (Mkdir path) = mkdir path.now

@@ -1,7 +1,8 @@
 -- What `run` writes, apart from running out of memory and failures of the streams: a line for each command of the script. A test,
 -- `limit`, decides which profiles have too many states: there is one, and any two agree.
 use Rattle.names.specs.Errors.{no_memory_text}
-use Rattle.std.specs.Prelude.{ℕ, Bool, ◌+◌, ◌≤◌, Option, List, [], ◌∷◌, ◌++◌, map, take, length, codes, decimal, Some, None, Result, Ok, Err, if◌then◌else◌}
+use Rattle.std.specs.Prelude.{ℕ, Bool, ◌+◌, ◌≤◌, Option, List, [], ◌∷◌, ◌++◌, map, take, length, codes, decimal, Some, None, Result, Ok}
+use Rattle.std.specs.Prelude.{Err, if◌then◌else◌}
 use Rattle.std.specs.List.{concat}
 use Rattle.std.specs.Io.KnownBytes.{Appends, Consumes}
 use Rattle.glob_automaton.specs.Automata.{StateLimit}
@@ -17,11 +18,14 @@ use Rattle.rule_reader.specs.declared.fault.ReadFault.{ReadFault}
 use Rattle.rule_profile.specs.Profile.{ProfileValue}
 use Rattle.rule_reader.specs.Reading.{outcome_of}
 use Rattle.trace_report.specs.declared.status.Status.{Status}
-use Rattle.trace_report.specs.declared.status.Status.TheVariants.{Done, Unmet, BadArguments, Refused, InputFailed, OutputFailed, FaultsFailed, NoMemory}
+use Rattle.trace_report.specs.declared.status.Status.TheVariants.{Done, Unmet, BadArguments, Refused, InputFailed, OutputFailed}
+use Rattle.trace_report.specs.declared.status.Status.TheVariants.{FaultsFailed, NoMemory}
 use Rattle.trace_report.specs.Output.{Output, line, refusal, compile_refusal}
 use Rattle.trace_report.specs.Streams.{Streams, IsTextOf, IsWritten, AppendsFront}
-use Rattle.trace_script.specs.Script.{ChangeWords, Command, Script, mkdir, create, symlink, link, unlink, rmdir, rename, publish, remove, alter, judge_open, judge_link, script_of}
-use Rattle.mediation.specs.History.{History, new_history, with_deed, with_change, after_link, tree_version, policy_version, open_answer, link_answer}
+use Rattle.trace_script.specs.Script.{ChangeWords, Command, Script, mkdir, create, symlink, link, unlink, rmdir, rename, publish, remove}
+use Rattle.trace_script.specs.Script.{alter, judge_open, judge_link, script_of}
+use Rattle.mediation.specs.History.{History, new_history, with_deed, with_change, after_link, tree_version, policy_version, open_answer}
+use Rattle.mediation.specs.History.{link_answer}
 use Rattle.mediation.specs.Deeds.{published_rules, removed}
 use Rattle.mediation.specs.Opening.{path_of}
 use Rattle.mediation.specs.Linking.{LinkAnswered}
@@ -128,7 +132,8 @@ AnswersRead left_before left_after count =
 
 -- the first lines were written whole, those of all commands that were read except perhaps the last, and it is reported why there
 -- are no more
-pub record IsBrokenOff (streams : Streams) (left_before left_after : Option (List ℕ)) (lines : List (List ℕ)) (told : List ℕ) : Type 0 where
+pub record IsBrokenOff (streams : Streams) (left_before left_after : Option (List ℕ)) (lines : List (List ℕ))
+    (told : List ℕ) : Type 0 where
   pub count : ℕ
   pub read : AnswersRead left_before left_after count
   pub answers : Appends streams.answers_before streams.answers_after (text_of_lines (take count lines))
@@ -144,7 +149,8 @@ abbrev pub ScriptEnds : StateLimit → Streams → Option (List ℕ) → Option 
 ScriptEnds limit streams left_before left_after history text Done = IsWritten streams (script_output limit history (script_of text)) Done
 ScriptEnds limit streams left_before left_after history text Unmet = ⊥
 ScriptEnds limit streams left_before left_after history text BadArguments = ⊥
-ScriptEnds limit streams left_before left_after history text Refused = IsWritten streams (script_output limit history (script_of text)) Refused
+ScriptEnds limit streams left_before left_after history text Refused =
+    IsWritten streams (script_output limit history (script_of text)) Refused
 ScriptEnds limit streams left_before left_after history text InputFailed =
     IsBrokenOff streams left_before left_after (printed_lines limit history (script_of text).commands) (codes "refused: input")
 ScriptEnds limit streams left_before left_after history text NoMemory =
@@ -161,4 +167,5 @@ pub record ScriptEndsOver (streams : Streams) (left_before left_after : Option (
 
 -- How `run` ends. Bad arguments are found earlier.
 abbrev pub RunEnds : StateLimit → Streams → Option (List ℕ) → Option (List ℕ) → ℕ → List ℕ → Status → Type 0
-RunEnds limit streams left_before left_after capacity text status = ScriptEnds limit streams left_before left_after (new_history capacity) text status
+RunEnds limit streams left_before left_after capacity text status = ScriptEnds limit streams left_before left_after
+    (new_history capacity) text status

@@ -25,7 +25,8 @@ pub(crate) fn answer_command<B: Bench, A: Write>(
     answers: &mut A,
 ) -> Result<(), Stop>
     requires { MayChangePolicy (B.history bench.old).deeds }
-    ensures line { (limit : StateLimit) → IsDone (one_line_step (printed limit (B.history bench.old) (command_value command.entry))) (B.history bench.new)
+    ensures line { (limit : StateLimit) → IsDone (one_line_step (printed limit (B.history bench.old) (command_value command.entry)))
+        (B.history bench.new)
         (A.contents answers.old) (A.contents answers.new) result }
     ensures few { OnOk result (policy_version (B.history bench.new) ≤ policy_version (B.history bench.old) + 1) }
 {
@@ -40,7 +41,8 @@ pub fn command_line<B: Bench>(
     command: Command<'_>,
 ) -> Result<Vec<u8>, Stop>
     requires { MayChangePolicy (B.history bench.old).deeds }
-    ensures line { (limit : StateLimit) → IsComposed (printed limit (B.history bench.old) (command_value command.entry)) (B.history bench.new) result }
+    ensures line { (limit : StateLimit) → IsComposed (printed limit (B.history bench.old) (command_value command.entry))
+        (B.history bench.new) result }
     ensures few { OnOk result (policy_version (B.history bench.new) ≤ policy_version (B.history bench.old) + 1) }
 {
     match command {
@@ -59,7 +61,8 @@ pub(crate) fn answer_policy<B: Bench, A: Write>(
     answers: &mut A,
 ) -> Result<(), Stop>
     requires { MayChangePolicy (B.history bench.old).deeds }
-    ensures line { (limit : StateLimit) → IsDone (one_line_step (printed limit (B.history bench.old) (publish text.now))) (B.history bench.new)
+    ensures line { (limit : StateLimit) → IsDone (one_line_step (printed limit (B.history bench.old) (publish text.now)))
+        (B.history bench.new)
         (A.contents answers.old) (A.contents answers.new) result }
     ensures few { OnOk result (policy_version (B.history bench.new) ≤ policy_version (B.history bench.old) + 1) }
 {

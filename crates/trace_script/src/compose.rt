@@ -9,7 +9,8 @@ ghost use Rattle.rule_profile.specs.Profile.{profile_value};
 ghost use Rattle.trace_report.specs.Fault.{fault_text};
 ghost use Rattle.trace_script.specs.LineValues.{change_words};
 ghost use Rattle.mediation.specs.History.{MayChangePolicy, policy_version};
-ghost use Rattle.trace_script.specs.RunOutput.{printed, policy_printed, drop_printed, change_of, change_printed, open_printed, judged_printed};
+ghost use Rattle.trace_script.specs.RunOutput.{printed, policy_printed, drop_printed, change_of, change_printed, open_printed};
+ghost use Rattle.trace_script.specs.RunOutput.{judged_printed};
 ghost use Rattle.trace_script.specs.Script.{publish, link, rename};
 
 use crate::line::ChangeWords;
@@ -26,7 +27,8 @@ use trace_report::Fault;
 /// Publishes the profile of a text, if it is one, and composes the answer as a line.
 pub fn policy_line<B: Bench>(alloc: Global, bench: &mut B, text: &[u8]) -> Result<Vec<u8>, Stop>
     requires { MayChangePolicy (B.history bench.old).deeds }
-    ensures line { (limit : StateLimit) → IsComposed (printed limit (B.history bench.old) (publish text.now)) (B.history bench.new) result }
+    ensures line { (limit : StateLimit) → IsComposed (printed limit (B.history bench.old) (publish text.now))
+        (B.history bench.new) result }
     ensures few { OnOk result (policy_version (B.history bench.new) ≤ policy_version (B.history bench.old) + 1) }
 {
     match read(alloc, text) {
@@ -39,7 +41,8 @@ pub fn policy_line<B: Bench>(alloc: Global, bench: &mut B, text: &[u8]) -> Resul
 /// Publishes a profile, if it can be compiled. Its line is begun first, so that running out of memory there publishes nothing.
 fn profile_line<B: Bench>(alloc: Global, bench: &mut B, profile: Profile) -> Result<Vec<u8>, Stop>
     requires { MayChangePolicy (B.history bench.old).deeds }
-    ensures line { (limit : StateLimit) → IsComposed (policy_printed limit (B.history bench.old) (Ok (profile_value profile))) (B.history bench.new) result }
+    ensures line { (limit : StateLimit) → IsComposed (policy_printed limit (B.history bench.old) (Ok (profile_value profile)))
+        (B.history bench.new) result }
     ensures few { OnOk result (policy_version (B.history bench.new) ≤ policy_version (B.history bench.old) + 1) }
 {
     let line = joined(alloc, "policy ", profile.name(), " version ")?;

@@ -1,7 +1,8 @@
 //! What a line of a script says by itself.
 ghost use Rattle.std.specs.Prelude.{◌≡◌, bytes_eq, map};
 ghost use Rattle.names.specs.Permissions.{perms_of};
-ghost use Rattle.trace_script.specs.Script.{words_of, line_kind, is_comment, kind_of_words, kind_of_one, kind_of_two, kind_of_three, kind_of_four, kind_of_open};
+ghost use Rattle.trace_script.specs.Script.{words_of, line_kind, is_comment, kind_of_words, kind_of_one, kind_of_two, kind_of_three};
+ghost use Rattle.trace_script.specs.Script.{kind_of_four, kind_of_open};
 ghost use Rattle.trace_script.specs.LineValues.{kind_value};
 
 use crate::words::Words;

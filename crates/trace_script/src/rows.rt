@@ -16,11 +16,15 @@ pub fn commands_are_answered()
         ≡ (codes "ok " ++ decimal 1) ∷ (codes "ok " ++ decimal 2) ∷ (codes "ok " ++ decimal 3) ∷ [] }
     ensures comments { (limit : StateLimit) → run_lines limit 9 (codes "# a tree\n\nmkdir /a\n \t\n  #mkdir /c\nmkdir /b\n")
         ≡ (codes "ok " ++ decimal 1) ∷ (codes "ok " ++ decimal 2) ∷ [] }
-    ensures blanks { (limit : StateLimit) → run_lines limit 9 (codes "\tmkdir  /a \n mkdir\t/b\t") ≡ (codes "ok " ++ decimal 1) ∷ (codes "ok " ++ decimal 2) ∷ [] }
+    ensures blanks { (limit : StateLimit) → run_lines limit 9 (codes "\tmkdir  /a \n mkdir\t/b\t")
+        ≡ (codes "ok " ++ decimal 1) ∷ (codes "ok " ++ decimal 2) ∷ [] }
     ensures refused { (limit : StateLimit) → run_lines limit 9 (codes "mkdir /a\nmkdir /a\nmkdir a\ncreate /b/f\nmkdir /b")
         ≡ (codes "ok " ++ decimal 1) ∷ errno_text EEXIST ∷ errno_text EINVAL ∷ errno_text ENOENT ∷ (codes "ok " ++ decimal 2) ∷ [] }
-    ensures full { (limit : StateLimit) → run_lines limit 1 (codes "mkdir /a\nmkdir /b\n") ≡ (codes "ok " ++ decimal 1) ∷ errno_text ENOSPC ∷ [] }
-    ensures links { (limit : StateLimit) → run_lines limit 9 (codes "mkdir /a\nsymlink a /l\ncreate /l/f\nlink /l/f /g\nunlink /a/f\nrmdir /l\nrmdir /a\ncreate /l/f\nunlink /l\nlink /g /g\n")
+    ensures full { (limit : StateLimit) → run_lines limit 1 (codes "mkdir /a\nmkdir /b\n")
+        ≡ (codes "ok " ++ decimal 1) ∷ errno_text ENOSPC ∷ [] }
+    ensures links { (limit : StateLimit) →
+        run_lines limit 9 (codes
+        "mkdir /a\nsymlink a /l\ncreate /l/f\nlink /l/f /g\nunlink /a/f\nrmdir /l\nrmdir /a\ncreate /l/f\nunlink /l\nlink /g /g\n")
         ≡ (codes "ok " ++ decimal 1) ∷ (codes "ok " ++ decimal 2) ∷ (codes "ok " ++ decimal 3) ∷ (codes "ok " ++ decimal 4)
         ∷ (codes "ok " ++ decimal 5) ∷ errno_text ENOTDIR ∷ (codes "ok " ++ decimal 6) ∷ errno_text ENOENT ∷ (codes "ok " ++ decimal 7)
         ∷ errno_text EEXIST ∷ [] }
@@ -32,7 +36,8 @@ pub fn commands_are_answered()
 /// Opens, where a profile without rules is published.
 pub fn opens_are_answered()
     ensures { (limit : StateLimit) → let history = with_deed (new_history 9) (published_rules (record { name = codes "q"; rules = [] })) in
-        printed_lines limit history (script_of (codes "mkdir /a\ncreate /a/f\nopen q /a/./f r\nopen q /a rw\nopen q /a/g l\nopen q /a/g r\nopen p /a/g l\n")).commands
+        printed_lines limit history
+        (script_of (codes "mkdir /a\ncreate /a/f\nopen q /a/./f r\nopen q /a rw\nopen q /a/g l\nopen q /a/g r\nopen p /a/g l\n")).commands
         ≡ (codes "ok " ++ decimal 1) ∷ (codes "ok " ++ decimal 2)
         ∷ (codes "no rule for r /a/f node " ++ decimal 3 ++ codes " tree " ++ decimal 2 ++ codes " policy " ++ decimal 1)
         ∷ (codes "no rule for rw /a/ node " ++ decimal 2 ++ codes " tree " ++ decimal 2 ++ codes " policy " ++ decimal 1)
@@ -43,9 +48,11 @@ pub fn opens_are_answered()
 
 /// Judged links, where a profile of three rules is published.
 pub fn links_are_answered()
-    ensures { (limit : StateLimit) → let rules = allow_rule (codes "/f") (codes "rk") ∷ allow_rule (codes "/g") (codes "wrlm") ∷ allow_rule (codes "/h") (codes "rl") ∷ [] in
+    ensures { (limit : StateLimit) → let rules = allow_rule (codes "/f") (codes "rk") ∷ allow_rule (codes "/g") (codes "wrlm") ∷ allow_rule
+        (codes "/h") (codes "rl") ∷ [] in
         let history = with_deed (new_history 9) (published_rules (record { name = codes "q"; rules = rules })) in
-        printed_lines limit history (script_of (codes "create /f\njudged-link q /f /x\njudged-link q /f /g\njudged-link q /f /h\njudged-link q /f /h\njudged-link p f /h\njudged-link q /f h\nunlink /f\n")).commands
+        printed_lines limit history
+        (script_of (codes "create /f\njudged-link q /f /x\njudged-link q /f /g\njudged-link q /f /h\njudged-link q /f /h\njudged-link p f /h\njudged-link q /f h\nunlink /f\n")).commands
         ≡ (codes "ok " ++ decimal 1)
         ∷ (codes "no rule for l /x node " ++ decimal 2 ++ codes " tree " ++ decimal 1 ++ codes " policy " ++ decimal 1)
         ∷ (codes "wider by wm /g node " ++ decimal 2 ++ codes " tree " ++ decimal 1 ++ codes " policy " ++ decimal 1)
@@ -70,7 +77,8 @@ pub fn profiles_are_answered()
 /// Lines at which a script stops.
 pub fn scripts_stop()
     ensures unknown { (script_of (codes "mkdir /a\nlook /a\nmkdir /b\n")).stopped ≡ Some 2 }
-    ensures unknown_lines { (limit : StateLimit) → run_lines limit 9 (codes "mkdir /a\nlook /a\nmkdir /b\n") ≡ (codes "ok " ++ decimal 1) ∷ [] }
+    ensures unknown_lines { (limit : StateLimit) → run_lines limit 9 (codes "mkdir /a\nlook /a\nmkdir /b\n")
+        ≡ (codes "ok " ++ decimal 1) ∷ [] }
     ensures word_too_many { (script_of (codes "mkdir /a # a directory")).stopped ≡ Some 1 }
     ensures word_too_few { (script_of (codes "symlink a")).stopped ≡ Some 1 }
     ensures bad_permissions { (script_of (codes "\n\nopen q / x\n")).stopped ≡ Some 3 }

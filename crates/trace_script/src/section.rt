@@ -33,7 +33,8 @@ pub(crate) fn follow_line<B: Bench, A: Write>(
     answers: &mut A,
 ) -> Result<Section, Stop>
     requires { MayChangePolicy (B.history bench.old).deeds }
-    ensures line { (limit : StateLimit) → IsLineFollowed (followed (run_engine limit) (B.history bench.old) (section_value section) number line.now)
+    ensures line { (limit : StateLimit) →
+        IsLineFollowed (followed (run_engine limit) (B.history bench.old) (section_value section) number line.now)
         (B.history bench.new) (A.contents answers.old) (A.contents answers.new) result }
     ensures few { OnOk result (policy_version (B.history bench.new) ≤ policy_version (B.history bench.old) + 1) }
 {

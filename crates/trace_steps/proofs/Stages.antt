@@ -1,5 +1,6 @@
 -- Calls of sessions, led on event by event.
-use Rattle.std.proofs.Common.{◌≡◌, ℕ, zero, suc, ◌≤◌, cond, List, [], ◌∷◌, ◌++◌, length, Option, Some, None, Ok, refl, sym, ap, ◌∙◌, subst, inl, inr, arith, eq-eqb}
+use Rattle.std.proofs.Common.{◌≡◌, ℕ, zero, suc, ◌≤◌, cond, List, [], ◌∷◌, ◌++◌, length, Option, Some, None, Ok, refl, sym, ap, ◌∙◌, subst}
+use Rattle.std.proofs.Common.{inl, inr, arith, eq-eqb}
 use Rattle.std.specs.List.{All}
 use Rattle.std.proofs.lemmas.List.Elements.{All-append, All-cons, All-nil, All-head, All-tail}
 use Rattle.justification.specs.declared.answer.Answer.{Answer}
@@ -8,7 +9,8 @@ use Rattle.mediation.specs.Deeds.{policy_after}
 use Rattle.row_rule.specs.Row.{count_of}
 use Rattle.row_rule.specs.Steps.{newcomer, beginning, reading, ending}
 use Rattle.event_core.specs.Machine.{Call, Event, Policed, Stage, Machine, moved_on}
-use Rattle.event_core.specs.Machine.Event.{begin, read_policy, read_count, read_cell, check_count, answer, open_change, set_cell, close_change, publish}
+use Rattle.event_core.specs.Machine.Event.{begin, read_policy, read_count, read_cell, check_count, answer, open_change, set_cell}
+use Rattle.event_core.specs.Machine.Event.{close_change, publish}
 use Rattle.event_core.specs.Machine.Stage.{resting, begun, unpublished, policed, walking, checked}
 use Rattle.event_core.specs.Walking.{MayAnswer}
 use Rattle.event_core.specs.Takes.{Takes, after_policy}
@@ -22,7 +24,8 @@ abbrev pub stage_of : ℕ → Machine → Stage
 stage_of s m = (m.sessions s).stage
 
 pub stage_moved : (m : Machine) (s : ℕ) (stage : Stage) → stage_of s (moved_on m s stage) ≡ stage
-stage_moved m s stage = ap (λ (same : _). (cond same (record { name = (m.sessions s).name; stage = stage }) (m.sessions s)).stage) (eq-eqb s s refl)
+stage_moved m s stage = ap (λ (same : _). (cond same (record { name = (m.sessions s).name; stage = stage }) (m.sessions s)).stage)
+    (eq-eqb s s refl)
 
 -- ---- events that lead on
 
@@ -44,11 +47,13 @@ tells_nothing s (publish deeds) told leads = absurd leads
 pub led_nothing : (s : ℕ) (m : Machine) → IsLedOn s m m
 led_nothing s m = ([], All-nil (LeadsOn s), (refl, refl))
 
-pub led_more : (s : ℕ) (old mid new : Machine) (event : Event) (told : Option Answer) → LeadsOn s event → IsLedOn s old mid → Takes mid event told new → IsLedOn s old new
+pub led_more : (s : ℕ) (old mid new : Machine) (event : Event) (told : Option Answer) → LeadsOn s event → IsLedOn s old mid →
+    Takes mid event told new → IsLedOn s old new
 led_more s old mid new event told leads (events, all, runs) takes = (
   events ++ event ∷ [],
   All-append (LeadsOn s) events (event ∷ []) all (one_leads s event leads),
-  subst (λ (answers : List (ℕ × Answer)). Runs old (events ++ event ∷ []) answers new) (tells_nothing s event told leads) (run_snoc old events [] mid event told new runs takes),
+  subst (λ (answers : List (ℕ × Answer)). Runs old (events ++ event ∷ []) answers new) (tells_nothing s event told leads)
+      (run_snoc old events [] mid event told new runs takes),
 )
 
 pub led_on : (s : ℕ) (old mid new : Machine) → IsLedOn s old mid → IsLedOn s mid new → IsLedOn s old new
@@ -97,7 +102,8 @@ past_policed (walking p w None) other low = omega arith
 past_policed (unpublished call version) other low = omega arith
 past_policed (checked p w) other low = omega arith
 
-past_reading : (stage : Stage) → ¬ ((p : Policed) × (w : WalkerView) × (place : ℕ) × (stage ≡ walking p w (Some place))) → 3 ≤ rank stage → 4 ≤ rank stage
+past_reading : (stage : Stage) → ¬ ((p : Policed) × (w : WalkerView) × (place : ℕ) × (stage ≡ walking p w (Some place))) →
+    3 ≤ rank stage → 4 ≤ rank stage
 past_reading resting other low = absurd (omega arith)
 past_reading (begun call) other low = absurd (omega arith)
 past_reading (policed p) other low = absurd (omega arith)
@@ -125,12 +131,14 @@ walking_rank p w (Some place) = omega arith
 
 module _ (s : ℕ) (old mid new : Machine) where
   -- the session is where it was
-  same_stage : (least next : ℕ) → new ≡ mid → (least ≤ rank (stage_of s mid) → next ≤ rank (stage_of s mid)) → HasCome s least old mid → HasCome s next old new
+  same_stage : (least next : ℕ) → new ≡ mid → (least ≤ rank (stage_of s mid) → next ≤ rank (stage_of s mid)) → HasCome s least old mid →
+      HasCome s next old new
   same_stage least next same higher (inl (rests, nothing)) = inl (rests, same ∙ nothing)
   same_stage least next same higher (inr (led, low)) = rw same (inr (led, higher low))
 
   -- an event was taken that no session takes without having begun a call
-  moved : (event : Event) (told : Option Answer) (least next : ℕ) → LeadsOn s event → (stage_of s mid ≡ resting → ⊥) → next ≤ rank (stage_of s new)
+  moved : (event : Event) (told : Option Answer) (least next : ℕ) → LeadsOn s event → (stage_of s mid ≡ resting → ⊥) →
+      next ≤ rank (stage_of s new)
       → HasCome s least old mid → Takes mid event told new → HasCome s next old new
   moved event told least next leads busy high (inl (rests, nothing)) takes = absurd (busy (ap (stage_of s) nothing ∙ rests))
   moved event told least next leads busy high (inr (led, low)) takes = inr (led_more s old mid new event told leads led takes, high)
@@ -140,7 +148,8 @@ module _ (s : ℕ) (old mid new : Machine) where
   policy_read_on come (inl (Some told, (own, is, answers))) = cc
   policy_read_on come (inl (None, takes)) =
       let (call, begins, is) = takes in
-      let high : 2 ≤ rank (stage_of s new) = rw (is, stage_moved) (polled_rank call (length mid.deeds) (policy_after mid.deeds call.profile)) in
+      let high : 2 ≤ rank (stage_of s new) =
+      rw (is, stage_moved) (polled_rank call (length mid.deeds) (policy_after mid.deeds call.profile)) in
       moved (read_policy s) None 1 2 refl (λ rests. cc (rests, begins)) high come takes
 
   pub count_read_on : HasCome s 2 old mid → IsTurnTaken mid (read_count s) new → HasCome s 3 old new
@@ -188,28 +197,33 @@ module _ (s : ℕ) (old mid new : Machine) where
 abbrev GoesUp : Machine → Machine → ℕ → Type 0
 GoesUp m n s = (stage_of s m ≡ resting → ⊥) × (rank (stage_of s m) ≤ rank (stage_of s n))
 
-up : (m n : Machine) (s : ℕ) (from to : Stage) → stage_of s m ≡ from → stage_of s n ≡ to → (from ≡ resting → ⊥) → rank from ≤ rank to → GoesUp m n s
+up : (m n : Machine) (s : ℕ) (from to : Stage) → stage_of s m ≡ from → stage_of s n ≡ to → (from ≡ resting → ⊥) →
+    rank from ≤ rank to → GoesUp m n s
 up m n s from to starts ends busy high = ((λ rests. busy (sym starts ∙ rests)), rw (starts, ends) high)
 
 leads_up : (m n : Machine) (s : ℕ) (event : Event) (told : Option Answer) → LeadsOn s event → Takes m event told n → GoesUp m n s
 leads_up m n s (read_policy own) (Some told) leads (other, is, answers) = cc
 leads_up m n s (read_policy own) None leads (call, begins, is) =
     let to = after_policy call (length m.deeds) (policy_after m.deeds call.profile) in
-    subst (GoesUp m n) leads (up m n own (begun call) to begins (ap (stage_of own) is ∙ stage_moved m own to) (λ e. cc) (omega (arith, polled_rank call (length m.deeds) (policy_after m.deeds call.profile))))
+    subst (GoesUp m n) leads (up m n own (begun call) to begins (ap (stage_of own) is ∙ stage_moved m own to) (λ e. cc)
+    (omega (arith, polled_rank call (length m.deeds) (policy_after m.deeds call.profile))))
 leads_up m n s (read_count own) (Some told) leads (other, is, answers) = cc
 leads_up m n s (read_count own) None leads (p, next, begins, may, is) =
     let w = beginning newcomer (count_of m.keeper) m.keeper.history in
     let to = walking p w next in
-    subst (GoesUp m n) leads (up m n own (policed p) to begins (ap (stage_of own) is ∙ stage_moved m own to) (λ e. cc) (omega (arith, walking_rank p w next)))
+    subst (GoesUp m n) leads (up m n own (policed p) to begins (ap (stage_of own) is ∙ stage_moved m own to) (λ e. cc)
+    (omega (arith, walking_rank p w next)))
 leads_up m n s (read_cell own) (Some told) leads (other, is, answers) = cc
 leads_up m n s (read_cell own) None leads (p, w, place, word, next, begins, stands, may, is) =
     let w' = reading w (record { place = place; word = word }) in
     let to = walking p w' next in
-    subst (GoesUp m n) leads (up m n own (walking p w (Some place)) to begins (ap (stage_of own) is ∙ stage_moved m own to) (λ e. cc) (omega (arith, walking_rank p w' next)))
+    subst (GoesUp m n) leads (up m n own (walking p w (Some place)) to begins (ap (stage_of own) is ∙ stage_moved m own to) (λ e. cc)
+    (omega (arith, walking_rank p w' next)))
 leads_up m n s (check_count own) (Some told) leads (other, is, answers) = cc
 leads_up m n s (check_count own) None leads (p, w, begins, is) =
     let to = checked p (ending w (count_of m.keeper) m.keeper.history) in
-    subst (GoesUp m n) leads (up m n own (walking p w None) to begins (ap (stage_of own) is ∙ stage_moved m own to) (λ e. cc) (omega arith))
+    subst (GoesUp m n) leads (up m n own (walking p w None) to begins (ap (stage_of own) is ∙ stage_moved m own to)
+    (λ e. cc) (omega arith))
 leads_up m n s (begin own call) told leads takes = absurd leads
 leads_up m n s (answer own) told leads takes = absurd leads
 leads_up m n s (open_change change) told leads takes = absurd leads
@@ -226,7 +240,8 @@ runs_up s m n (event ∷ events) answers all (told, between, later, takes, runs,
     ((λ rests. absurd (here.0 rests)), omega (arith, here.1, rest.1))
 
 -- all cells are read
-pub cells_read_on : (s : ℕ) (old mid new : Machine) → HasCome s 3 old mid → IsLedOn s mid new → ¬ (HasTurn new (read_cell s)) → HasCome s 4 old new
+pub cells_read_on : (s : ℕ) (old mid new : Machine) → HasCome s 3 old mid → IsLedOn s mid new → ¬ (HasTurn new (read_cell s)) →
+    HasCome s 4 old new
 cells_read_on s old mid new (inl (rests, nothing)) (events, all, runs) other =
     inl (rests, (runs_up s mid new events [] all runs).0 (ap (stage_of s) nothing ∙ rests) ∙ nothing)
 cells_read_on s old mid new (inr (led, low)) (events, all, runs) other =

@@ -41,23 +41,63 @@ module _ (limit : StateLimit) (old new : Machine) (text : List ℕ) (left after 
   front_stands Memory h = short_stands h
   front_stands Output (count, lines, prints, front) = record { count = count; lines = lines; prints = prints; answers = front }
 
-  told_so : (stop : Stop) → Follows stop → Appends f t (line (stop_text stop)) → StepsEnd limit streams left after old new text (stop_status stop)
+  told_so : (stop : Stop) → Follows stop → Appends f t (line (stop_text stop)) → StepsEnd limit streams left after old new text
+      (stop_status stop)
   told_so (NoCommand number) (stopped, (lines, did, h)) told =
       let written : IsWritten streams (ended_output lines (Some number)) Refused = record { answers = h; faults = told; ends = refl } in
-      record { lines = lines; done = did; written = subst (λ (s : Option ℕ). IsWritten streams (ended_output lines s) Refused) (sym stopped) written }
-  told_so Input (count, lines, read, prints, h) told = record { count = count; read = read; lines = lines; prints = prints; answers = h; faults = told }
-  told_so TooLong (all, (count, lines, read, prints, h)) told = record { count = count; read = read; lines = lines; prints = prints; answers = h; faults = told }
-  told_so Memory (count, lines, read, prints, h) told = record { count = count; read = read; lines = lines; prints = prints; answers = h; faults = told }
+      record {
+        lines = lines;
+        done = did;
+        written = subst (λ (s : Option ℕ). IsWritten streams (ended_output lines s) Refused)
+            (sym stopped) written;
+      }
+  told_so Input (count, lines, read, prints, h) told = record {
+    count = count;
+    read = read;
+    lines = lines;
+    prints = prints;
+    answers =
+        h;
+    faults = told;
+  }
+  told_so TooLong (all, (count, lines, read, prints, h)) told = record {
+    count = count;
+    read = read;
+    lines = lines;
+    prints =
+        prints;
+    answers = h;
+    faults = told;
+  }
+  told_so Memory (count, lines, read, prints, h) told = record {
+    count = count;
+    read = read;
+    lines = lines;
+    prints = prints;
+    answers =
+        h;
+    faults = told;
+  }
   told_so Output h told = (front_stands Output h, told)
 
-  pub steps_end : (stop : Stop) (status : Status) → Follows stop → IsTold f t (stop_text stop) (stop_status stop) status → StepsEnd limit streams left after old new text status
-  steps_end stop status h (inl e) = subst (λ (status : Status). StepsEnd limit streams left after old new text status) (sym e) (front_stands stop h)
-  steps_end stop status h (inr (e, told)) = subst (λ (status : Status). StepsEnd limit streams left after old new text status) (sym e) (told_so stop h told)
+  pub steps_end : (stop : Stop) (status : Status) → Follows stop → IsTold f t (stop_text stop) (stop_status stop) status →
+      StepsEnd limit streams left after old new text status
+  steps_end stop status h (inl e) = subst (λ (status : Status). StepsEnd limit streams left after old new text status) (sym e)
+      (front_stands stop h)
+  steps_end stop status h (inr (e, told)) = subst (λ (status : Status). StepsEnd limit streams left after old new text status) (sym e)
+      (told_so stop h told)
 
 -- a script that was followed to its end
-pub steps_done : (limit : StateLimit) (old new : Machine) (text : List ℕ) (lines : Lines) (a b f : Option (List ℕ)) → (step_script text).stopped ≡ None → DoesAll limit old (step_script text).commands lines new
-    → Appends a b (text_of_lines lines) → IsWhole limit (record { answers_before = a; answers_after = b; faults_before = f; faults_after = f }) text old new Done
+pub steps_done : (limit : StateLimit) (old new : Machine) (text : List ℕ) (lines : Lines) (a b f : Option (List ℕ)) →
+    (step_script text).stopped ≡ None → DoesAll limit old (step_script text).commands lines new
+    → Appends a b (text_of_lines lines) →
+    IsWhole limit (record { answers_before = a; answers_after = b; faults_before = f; faults_after = f }) text old new Done
 steps_done limit old new text lines a b f stopped did h =
     let streams : Streams = record { answers_before = a; answers_after = b; faults_before = f; faults_after = f } in
     let written : IsWritten streams (ended_output lines None) Done = record { answers = h; faults = appends_nothing f; ends = refl } in
-    record { lines = lines; done = did; written = subst (λ (s : Option ℕ). IsWritten streams (ended_output lines s) Done) (sym stopped) written }
+    record {
+      lines = lines;
+      done = did;
+      written = subst (λ (s : Option ℕ). IsWritten streams (ended_output lines s) Done)
+          (sym stopped) written;
+    }

@@ -1,5 +1,6 @@
 -- A script of events that is followed line by line, over the bytes that are read.
-use Rattle.std.proofs.Common.{◌≡◌, ℕ, ◌+◌, ◌≤◌, List, [], ◌∷◌, ◌++◌, Option, Some, Result, Ok, Err, refl, sym, ap, ◌∙◌, append_assoc, arith, length, zero-add, add-zero, length-append, All, ◌≢◌}
+use Rattle.std.proofs.Common.{◌≡◌, ℕ, ◌+◌, ◌≤◌, List, [], ◌∷◌, ◌++◌, Option, Some, Result, Ok, Err, refl, sym, ap, ◌∙◌, append_assoc}
+use Rattle.std.proofs.Common.{arith, length, zero-add, add-zero, length-append, All, ◌≢◌}
 use Rattle.std.proofs.lemmas.List.{append-nil}
 use Rattle.std.proofs.Math.Seq.{take-append_seam}
 use Rattle.std.specs.Io.KnownBytes.{Keeps, Appends, Consumes}
@@ -26,7 +27,8 @@ use Rattle.trace_steps.specs.inner.Following.{IsLineFollowed, IsShort, IsFollowe
 use Rattle.trace_steps.proofs.Commands.{IsNext, from_line, next_line, no_line, did_more}
 
 -- these lines are written, and a front part of the next ones
-front_more : (a b c : Option (List ℕ)) (lines more : Lines) → Appends a b (text_of_lines lines) → AppendsFront b c (text_of_lines more) → AppendsFront a c (text_of_lines (lines ++ more))
+front_more : (a b c : Option (List ℕ)) (lines more : Lines) → Appends a b (text_of_lines lines) → AppendsFront b c (text_of_lines more) →
+    AppendsFront a c (text_of_lines (lines ++ more))
 front_more a b c lines more h (front, back, split, appended) = (
   text_of_lines lines ++ front,
   back,
@@ -40,7 +42,8 @@ pub record IsAhead (text : List ℕ) (section : Section) (before : ℕ) (done : 
   pub stopped : (step_script text).stopped ≡ (from_line section before left).stopped
 
 -- The lines that were read so far, and their outcome.
-pub record IsRunning (limit : StateLimit) (old : Machine) (left_first left answers_first answers : Option (List ℕ)) (now : Machine) (section : Section) (before : ℕ) : Type 0 where
+pub record IsRunning (limit : StateLimit) (old : Machine) (left_first left answers_first answers : Option (List ℕ)) (now : Machine)
+    (section : Section) (before : ℕ) : Type 0 where
   pub read : List ℕ
   pub done : List StepCommand
   pub lines : Lines
@@ -51,10 +54,13 @@ pub record IsRunning (limit : StateLimit) (old : Machine) (left_first left answe
   pub counted : (rest : List ℕ) → length (lines_of (read ++ rest)) ≡ before + length (lines_of rest)
 
 -- some text may have been read, and a script that is followed to here has this outcome
-abbrev pub Comes : {T : Type 0} → StateLimit → Machine → Option (List ℕ) → Option (List ℕ) → Machine → Option (List ℕ) → Option (List ℕ) → Result T Stop → Type 0
-Comes limit old left left_after new before after result = (text : List ℕ) × IsTextOf left text × IsFollowed limit old left left_after text new before after result
+abbrev pub Comes : {T : Type 0} → StateLimit → Machine → Option (List ℕ) → Option (List ℕ) → Machine → Option (List ℕ) → Option (List ℕ) →
+    Result T Stop → Type 0
+Comes limit old left left_after new before after result = (text : List ℕ) × IsTextOf left text × IsFollowed limit old left left_after text
+    new before after result
 
-pub running_start : (limit : StateLimit) (old : Machine) (left answers : Option (List ℕ)) → IsRunning limit old left left answers answers old outside 0
+pub running_start : (limit : StateLimit) (old : Machine) (left answers : Option (List ℕ)) →
+    IsRunning limit old left left answers answers old outside 0
 running_start limit old left answers = record {
   read = [];
   done = [];
@@ -67,27 +73,40 @@ running_start limit old left answers = record {
 }
 
 -- one more line
-ahead_next : (limit : StateLimit) (now new : Machine) (text : List ℕ) (section : Section) (before : ℕ) (done : List StepCommand) (line : List ℕ) (left : List (List ℕ)) (next : Section) (lines : Lines)
-    → IsAhead text section before done (line ∷ left) → (n : IsNext limit now new (λ ls. from_line section before (line ∷ ls)) (from_line next (before + 1)) lines)
+ahead_next : (limit : StateLimit) (now new : Machine) (text : List ℕ) (section : Section) (before : ℕ) (done : List StepCommand)
+    (line : List ℕ) (left : List (List ℕ)) (next : Section) (lines : Lines)
+    → IsAhead text section before done (line ∷ left) →
+    (n : IsNext limit now new (λ ls. from_line section before (line ∷ ls)) (from_line next (before + 1)) lines)
     → IsAhead text next (before + 1) (done ++ n.more) left
 ahead_next limit now new text section before done line left next lines ahead n = record {
-  commands = ahead.commands ∙ ap (λ (cs : List StepCommand). done ++ cs) (n.commands left) ∙ sym (append_assoc done n.more (from_line next (before + 1) left).commands);
+  commands = ahead.commands ∙ ap (λ (cs : List StepCommand). done ++ cs) (n.commands left)
+      ∙ sym (append_assoc done n.more (from_line next (before + 1) left).commands);
   stopped = ahead.stopped ∙ n.stopped left;
 }
 
 -- all commands of a text are done except those of the lines that are left
-still_few : (text : List ℕ) (section : Section) (before : ℕ) (done : List StepCommand) (left : List (List ℕ)) → IsAhead text section before done left → length left ≤ 1
+still_few : (text : List ℕ) (section : Section) (before : ℕ) (done : List StepCommand) (left : List (List ℕ)) →
+    IsAhead text section before done left → length left ≤ 1
     → length (step_script text).commands ≤ length done + 1
 still_few text section before done left ahead one =
-    omega (arith, ap length ahead.commands, length-append done (from_line section before left).commands, few_commands step_grammar before left section, one)
+    omega (
+      arith,
+      ap length ahead.commands,
+      length-append done (from_line section before left).commands,
+      few_commands step_grammar
+          before left section,
+      one,
+    )
 
 -- the first commands are done
-first_done : (limit : StateLimit) (old now : Machine) (text : List ℕ) (done rest : List StepCommand) (lines : Lines) → (step_script text).commands ≡ done ++ rest → DoesAll limit old done lines now
+first_done : (limit : StateLimit) (old now : Machine) (text : List ℕ) (done rest : List StepCommand) (lines : Lines) →
+    (step_script text).commands ≡ done ++ rest → DoesAll limit old done lines now
     → PrintsFirst limit text old (length done) lines
 first_done limit old now text done rest lines e did = record { new = now; done = rw (e, take-append_seam done rest) did }
 
 -- all of them are
-pub all_first : (limit : StateLimit) (old now : Machine) (text : List ℕ) (lines : Lines) → DoesAll limit old (step_script text).commands lines now → (count : ℕ) × PrintsFirst limit text old count lines
+pub all_first : (limit : StateLimit) (old now : Machine) (text : List ℕ) (lines : Lines) → DoesAll limit old (step_script text).commands
+    lines now → (count : ℕ) × PrintsFirst limit text old count lines
 all_first limit old now text lines did =
     let all = (step_script text).commands in
     (length all, first_done limit old now text all [] lines (sym (append-nil all)) did)
@@ -101,13 +120,16 @@ stopped_left : (section : Section) (before : ℕ) → (from_line section before 
 stopped_left outside before = refl
 stopped_left (within start text) before = refl
 
-whole_done : (limit : StateLimit) (old now : Machine) (text : List ℕ) (section : Section) (before : ℕ) (done : List StepCommand) (lines : Lines)
+whole_done : (limit : StateLimit) (old now : Machine) (text : List ℕ) (section : Section) (before : ℕ) (done : List StepCommand)
+    (lines : Lines)
     → IsAhead text section before done [] → DoesAll limit old done lines now → DoesAll limit old (step_script text).commands lines now
 whole_done limit old now text section before done lines ahead did = rw (ahead.commands, none_left section before, append-nil done) did
 
 -- all commands of a script were done, and then it ended
-closed : {T : Type 0} (limit : StateLimit) (old : Machine) (first after : Option (List ℕ)) (text : List ℕ) (now : Machine) (section : Section) (before : ℕ) (done : List StepCommand) (lines : Lines) (a b : Option (List ℕ)) (result : Result T Stop)
-    → IsAhead text section before done [] → DoesAll limit old done lines now → IsClosed section result → Appends a b (text_of_lines lines) → IsFollowed limit old first after text now a b result
+closed : {T : Type 0} (limit : StateLimit) (old : Machine) (first after : Option (List ℕ)) (text : List ℕ) (now : Machine)
+    (section : Section) (before : ℕ) (done : List StepCommand) (lines : Lines) (a b : Option (List ℕ)) (result : Result T Stop)
+    → IsAhead text section before done [] → DoesAll limit old done lines now → IsClosed section result →
+    Appends a b (text_of_lines lines) → IsFollowed limit old first after text now a b result
 closed limit old first after text now section before done lines a b result ahead did ends h = by result ends
   where
     all : DoesAll limit old (step_script text).commands lines now
@@ -124,9 +146,11 @@ closed limit old first after text now section before done lines a b result ahead
     by (Err Memory) ends = absurd ends
     by (Err Output) ends = absurd ends
 
-module _ (limit : StateLimit) (old : Machine) (first left a b : Option (List ℕ)) (now : Machine) (section : Section) (before : ℕ) (running : IsRunning limit old first left a b now section before) where
+module _ (limit : StateLimit) (old : Machine) (first left a b : Option (List ℕ)) (now : Machine) (section : Section) (before : ℕ)
+    (running : IsRunning limit old first left a b now section before) where
   -- a text that begins with what was read and a whole line
-  with_line : (line rest : List ℕ) → All (λ b. b ≢ line_feed) line → IsAhead (running.read ++ ((line ++ line_feed ∷ []) ++ rest)) section before running.done (line ∷ lines_of rest)
+  with_line : (line rest : List ℕ) → All (λ b. b ≢ line_feed) line → IsAhead (running.read ++ ((line ++ line_feed ∷ []) ++ rest)) section
+      before running.done (line ∷ lines_of rest)
   with_line line rest free = rw (whole_line line rest free) at (running.ahead ((line ++ line_feed ∷ []) ++ rest))
 
   pub running_next : (after_line : Option (List ℕ)) (line : List ℕ) (c : Option (List ℕ)) (after : Machine) (next : SectionHere)
@@ -138,7 +162,8 @@ module _ (limit : StateLimit) (old : Machine) (first left a b : Option (List ℕ
         read = running.read ++ part;
         done = running.done ++ n.more;
         lines = running.lines ++ lines;
-        ahead = λ rest. rw (append_assoc running.read part rest) (ahead_next limit now after _ section before running.done line (lines_of rest) (section_value next) lines (with_line line rest free) n);
+        ahead = λ rest. rw (append_assoc running.read part rest) (ahead_next limit now after _ section before running.done line
+            (lines_of rest) (section_value next) lines (with_line line rest free) n);
         did = did_more limit old now after running.done n.more running.lines lines running.did n.does;
         consumed = Consumes-more first left after_line running.read part running.consumed consumed;
         written = wrote_more a b c running.lines lines running.written appended;
@@ -151,8 +176,10 @@ module _ (limit : StateLimit) (old : Machine) (first left a b : Option (List ℕ
       }
 
   -- the commands so far are done, and nothing of the next one is written
-  short : (after_line : Option (List ℕ)) (taken rest : List ℕ) (line_left : List (List ℕ)) (c : Option (List ℕ)) → Consumes first after_line taken → IsAhead taken section before running.done line_left → length line_left ≤ 1
-      → (more : List StepCommand) → (step_script rest).commands ≡ running.done ++ more → Keeps b c → IsShort limit old first after_line rest a c
+  short : (after_line : Option (List ℕ)) (taken rest : List ℕ) (line_left : List (List ℕ)) (c : Option (List ℕ)) →
+      Consumes first after_line taken → IsAhead taken section before running.done line_left → length line_left ≤ 1
+      → (more : List StepCommand) → (step_script rest).commands ≡ running.done ++ more → Keeps b c →
+      IsShort limit old first after_line rest a c
   short after_line taken rest line_left c consumed here one more commands kept = (
     length running.done,
     running.lines,
@@ -162,17 +189,20 @@ module _ (limit : StateLimit) (old : Machine) (first left a b : Option (List ℕ
   )
 
   -- a part of a line was taken, and no line was followed since
-  running_short : (after_line : Option (List ℕ)) (part : List ℕ) → IsPartRead left after_line part → (text : List ℕ) × IsTextOf first text × IsShort limit old first after_line text a b
+  running_short : (after_line : Option (List ℕ)) (part : List ℕ) → IsPartRead left after_line part → (text : List ℕ) × IsTextOf first text
+      × IsShort limit old first after_line text a b
   running_short after_line part (consumed, one) =
       let text = text_at first left running.read running.consumed in (
         running.read ++ text.0,
         text.1,
-        short after_line (running.read ++ part) (running.read ++ text.0) (lines_of part) b (Consumes-more first left after_line running.read part running.consumed consumed) (running.ahead part) one
+        short after_line (running.read ++ part) (running.read ++ text.0) (lines_of part) b
+            (Consumes-more first left after_line running.read part running.consumed consumed) (running.ahead part) one
             _ (running.ahead text.0).commands (keeps b),
       )
 
   -- the reader failed, or there was no memory for a line
-  pub running_unread : (after_line : Option (List ℕ)) (line : List ℕ) (stop : Stop) → IsLineRead left after_line line (Err stop) → Comes {T = Unit {0}} limit old first after_line now a b (Err stop)
+  pub running_unread : (after_line : Option (List ℕ)) (line : List ℕ) (stop : Stop) → IsLineRead left after_line line (Err stop) →
+      Comes {T = Unit {0}} limit old first after_line now a b (Err stop)
   running_unread after_line line (NoCommand number) h = absurd h
   running_unread after_line line Input h = running_short after_line line h
   running_unread after_line line TooLong h = absurd h
@@ -183,27 +213,35 @@ module _ (limit : StateLimit) (old : Machine) (first left a b : Option (List ℕ
   pub running_over : before ≡ most_lines → Comes {T = Unit {0}} limit old first left now a b (Err TooLong)
   running_over all =
       let short = running_short left [] (consumes_nothing left, omega arith) in
-      let lines : length (lines_of running.read) ≡ before = ap (λ l. length (lines_of l)) (sym (append-nil running.read)) ∙ running.counted [] ∙ add-zero before in
+      let lines : length (lines_of running.read) ≡ before = ap (λ l. length (lines_of l)) (sym (append-nil running.read))
+      ∙ running.counted [] ∙ add-zero before in
       (short.0, short.1, ((running.read, running.consumed, lines ∙ all), short.2))
 
   -- following stopped at a line, which is the next one of a text
-  stopped_at : (after_line : Option (List ℕ)) (taken text line : List ℕ) (left_then : List (List ℕ)) (c : Option (List ℕ)) (after : Machine) (stop : Stop)
-      → Consumes first after_line taken → IsAhead taken section before running.done (line ∷ []) → IsAhead text section before running.done (line ∷ left_then)
-      → IsLineFollowed limit now section (before + 1) line after b c (Err stop) → IsFollowed limit old {T = Unit {0}} first after_line text after a c (Err stop)
+  stopped_at : (after_line : Option (List ℕ)) (taken text line : List ℕ) (left_then : List (List ℕ)) (c : Option (List ℕ))
+      (after : Machine) (stop : Stop)
+      → Consumes first after_line taken → IsAhead taken section before running.done (line ∷ []) →
+      IsAhead text section before running.done (line ∷ left_then) → IsLineFollowed limit now section (before + 1) line after b c
+      (Err stop) → IsFollowed limit old {T = Unit {0}} first after_line text after a c (Err stop)
   stopped_at after_line taken text line left_then c after (NoCommand number) consumed here ahead (is, none, told, same, kept) =
-      let ends : from_line section before (line ∷ left_then) ≡ stops_at (before + 1) = ap (λ (s : Section). from_line s before (line ∷ left_then)) is ∙ no_line limit now after before line outside [] none left_then in
-      let commands : (step_script text).commands ≡ running.done = ahead.commands ∙ ap (λ (s : ScriptOf StepCommand). running.done ++ s.commands) ends ∙ append-nil running.done in
-      let stopped : (step_script text).stopped ≡ Some number = ahead.stopped ∙ ap (λ (s : ScriptOf StepCommand). s.stopped) ends ∙ ap Some (sym told) in
+      let ends : from_line section before (line ∷ left_then) ≡ stops_at (before + 1) =
+      ap (λ (s : Section). from_line s before (line ∷ left_then)) is ∙ no_line limit now after before line outside [] none left_then in
+      let commands : (step_script text).commands ≡ running.done = ahead.commands ∙ ap (λ (s : ScriptOf StepCommand). running.done
+      ++ s.commands) ends ∙ append-nil running.done in
+      let stopped : (step_script text).stopped ≡ Some number = ahead.stopped ∙ ap (λ (s : ScriptOf StepCommand). s.stopped) ends
+      ∙ ap Some (sym told) in
       (stopped, (running.lines, rw (commands, same) running.did, Appends-kept a b c (text_of_lines running.lines) running.written kept))
   stopped_at after_line taken text line left_then c after Input consumed here ahead h = absurd h
   stopped_at after_line taken text line left_then c after TooLong consumed here ahead h = absurd h
-  stopped_at after_line taken text line left_then c after Memory consumed here ahead kept = short after_line taken text (line ∷ []) c consumed here (omega arith) _ ahead.commands kept
+  stopped_at after_line taken text line left_then c after Memory consumed here ahead kept = short after_line taken text (line ∷ []) c
+      consumed here (omega arith) _ ahead.commands kept
   stopped_at after_line taken text line left_then c after Output consumed here ahead (next, lines, does, front) =
       let n = next_line limit now after before line next lines section does in
       let on = ahead_next limit now after text section before running.done line left_then next lines ahead n in (
         length (running.done ++ n.more),
         running.lines ++ lines,
-        first_done limit old after text (running.done ++ n.more) _ (running.lines ++ lines) on.commands (did_more limit old now after running.done n.more running.lines lines running.did n.does),
+        first_done limit old after text (running.done ++ n.more) _ (running.lines ++ lines) on.commands
+            (did_more limit old now after running.done n.more running.lines lines running.did n.does),
         front_more a b c running.lines lines running.written front,
       )
 
@@ -217,7 +255,8 @@ module _ (limit : StateLimit) (old : Machine) (first left a b : Option (List ℕ
       let here = rw (append-nil part) at (with_line line [] free) in (
         running.read ++ (part ++ text.0),
         rw (append_assoc running.read part text.0) at text.1,
-        stopped_at after_line (running.read ++ part) (running.read ++ (part ++ text.0)) line (lines_of text.0) c after stop taken here (with_line line text.0 free) stopped,
+        stopped_at after_line (running.read ++ part) (running.read ++ (part ++ text.0)) line (lines_of text.0) c after stop taken here
+            (with_line line text.0 free) stopped,
       )
 
   -- it was the last line
@@ -228,26 +267,32 @@ module _ (limit : StateLimit) (old : Machine) (first left a b : Option (List ℕ
       let ahead = rw (last_line line free some) at (running.ahead line) in (
         running.read ++ line,
         text_ended first left running.read line running.consumed ended,
-        stopped_at after_line (running.read ++ line) (running.read ++ line) line [] c after stop (Consumes-more first left after_line running.read line running.consumed consumed) ahead ahead stopped,
+        stopped_at after_line (running.read ++ line) (running.read ++ line) line [] c after stop
+            (Consumes-more first left after_line running.read line running.consumed consumed) ahead ahead stopped,
       )
 
-  pub running_last : {T : Type 0} (after_line : Option (List ℕ)) (line : List ℕ) (c : Option (List ℕ)) (after : Machine) (next : SectionHere) (result : Result T Stop)
-      → IsLineRead left after_line line (Ok Last) → IsLineFollowed limit now section (before + 1) line after b c (Ok next) → IsClosed (section_value next) result
-      → Comes limit old first after_line after a c result
+  pub running_last : {T : Type 0} (after_line : Option (List ℕ)) (line : List ℕ) (c : Option (List ℕ)) (after : Machine)
+      (next : SectionHere) (result : Result T Stop)
+      → IsLineRead left after_line line (Ok Last) → IsLineFollowed limit now section (before + 1) line after b c (Ok next) →
+      IsClosed (section_value next) result → Comes limit old first after_line after a c result
   running_last after_line line c after next result (ended, free, some, consumed) (lines, does, appended) ends =
       let ahead = rw (last_line line free some) at (running.ahead line) in
       let n = next_line limit now after before line (section_value next) lines section does in
       let on = ahead_next limit now after _ section before running.done line [] (section_value next) lines ahead n in (
         running.read ++ line,
         text_ended first left running.read line running.consumed ended,
-        closed limit old first after_line _ after (section_value next) (before + 1) (running.done ++ n.more) (running.lines ++ lines) a c result on
-            (did_more limit old now after running.done n.more running.lines lines running.did n.does) ends (wrote_more a b c running.lines lines running.written appended),
+        closed limit old first after_line _ after (section_value next) (before + 1) (running.done ++ n.more)
+            (running.lines ++ lines) a c result on
+            (did_more limit old now after running.done n.more running.lines lines running.did n.does) ends
+            (wrote_more a b c running.lines lines running.written appended),
       )
 
-  pub running_end : {T : Type 0} (after_line : Option (List ℕ)) (line : List ℕ) (result : Result T Stop) → IsLineRead left after_line line (Ok End) → IsClosed section result
+  pub running_end : {T : Type 0} (after_line : Option (List ℕ)) (line : List ℕ) (result : Result T Stop) → IsLineRead left after_line line
+      (Ok End) → IsClosed section result
       → Comes limit old first after_line now a b result
   running_end after_line line result ended ends = (
     running.read ++ [],
     text_ended first left running.read [] running.consumed ended.0,
-    closed limit old first after_line _ now section before running.done running.lines a b result (running.ahead []) running.did ends running.written,
+    closed limit old first after_line _ now section before running.done running.lines a b result (running.ahead []) running.did
+        ends running.written,
   )

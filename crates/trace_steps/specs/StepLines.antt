@@ -1,7 +1,8 @@
 -- What each line of a script of events does to a machine, and what it prints. A line whose event isn't legal there prints
 -- `not now`, and does nothing.
 use Rattle.names.specs.Errors.{no_memory_text, errno_text}
-use Rattle.std.specs.Prelude.{◌≡◌, ◌⊎◌, ℕ, ◌<◌, ◌≤◌, ◌==◌, ◌&&◌, true, nat_lt, List, [], ◌∷◌, ◌++◌, length, replicate, Option, None, Result, Ok, Err, is_some, codes, decimal, if◌then◌else◌, MatchBool}
+use Rattle.std.specs.Prelude.{◌≡◌, ◌⊎◌, ℕ, ◌<◌, ◌≤◌, ◌==◌, ◌&&◌, true, nat_lt, List, [], ◌∷◌, ◌++◌, length, replicate, Option, None}
+use Rattle.std.specs.Prelude.{Result, Ok, Err, is_some, codes, decimal, if◌then◌else◌, MatchBool}
 use Rattle.std.specs.List.{All}
 use Rattle.glob_automaton.specs.Automata.{StateLimit}
 use Rattle.matcher.specs.declared.fault.MakeFault.TheVariants.{TooManyStates}
@@ -15,7 +16,8 @@ use Rattle.mediation.specs.Opening.{judged, failed, no_profile}
 use Rattle.justification.specs.declared.answer.Answer.{Answer}
 use Rattle.justification.specs.declared.answer.Answer.TheVariants.{Judged, Failed, NoProfile, Busy, NoEntry}
 use Rattle.event_core.specs.Machine.{Call, Event, Machine}
-use Rattle.event_core.specs.Machine.Event.{begin, read_policy, read_count, read_cell, check_count, answer, open_change, set_cell, close_change, publish}
+use Rattle.event_core.specs.Machine.Event.{begin, read_policy, read_count, read_cell, check_count, answer, open_change, set_cell}
+use Rattle.event_core.specs.Machine.Event.{close_change, publish}
 use Rattle.event_core.specs.Machine.Stage.{resting}
 use Rattle.event_core.specs.Takes.{Takes}
 use Rattle.event_core.specs.Runs.{Runs}
@@ -24,7 +26,8 @@ use Rattle.trace_report.specs.Output.{refusal, compile_refusal}
 use Rattle.trace_script.specs.AnswerText.{answered_text}
 use Rattle.trace_script.specs.RunOutput.{change_of}
 use Rattle.trace_script.specs.Script.{ChangeWords}
-use Rattle.trace_steps.specs.StepScript.{StepCommand, publish_text, remove_profile, alter_whole, open_whole, single, cells_read, finish, keep, cells_set, close}
+use Rattle.trace_steps.specs.StepScript.{StepCommand, publish_text, remove_profile, alter_whole, open_whole, single, cells_read, finish}
+use Rattle.trace_steps.specs.StepScript.{keep, cells_set, close}
 
 -- the lines that are printed
 abbrev pub Lines : Type 0
@@ -105,7 +108,8 @@ IsMade old change lines new = (opened : Machine) × Takes old (open_change chang
 
 -- an answer, with the name that was judged
 abbrev pub told_text : List ℕ → Answer → List ℕ
-told_text name (Judged verdict node tree policy) = answered_text (judged (record { name = name; node = node; verdict = verdict }) tree policy)
+told_text name (Judged verdict node tree policy) =
+    answered_text (judged (record { name = name; node = node; verdict = verdict }) tree policy)
 told_text name (Failed errno tree) = answered_text (failed errno tree)
 told_text name (NoProfile policy) = answered_text (no_profile policy)
 told_text name (Busy began ended) = codes "busy " ++ decimal began ++ codes " " ++ decimal ended
@@ -136,7 +140,8 @@ Finishes old s start lines new = (events : List Event) × (told : Answer) × All
 
 -- a session's call is finished; or it has begun none
 abbrev pub Goes : Machine → ℕ → Lines → Machine → Type 0
-Goes old s lines new = Finishes old s (decimal s ++ codes ": ") lines new ⊎ (((old.sessions s).stage ≡ resting) × OnlyPrints not_now old lines new)
+Goes old s lines new = Finishes old s (decimal s ++ codes ": ") lines new
+    ⊎ (((old.sessions s).stage ≡ resting) × OnlyPrints not_now old lines new)
 
 -- a whole call; or the session can't begin one
 abbrev pub OpensWhole : Machine → Call → Lines → Machine → Type 0
@@ -148,7 +153,8 @@ OpensWhole old call lines new =
 
 abbrev pub Does : StateLimit → Machine → StepCommand → Lines → Machine → Type 0
 Does limit old (publish_text text) lines new = PublishesText limit old (outcome_of text) lines new
-Does limit old (remove_profile name) lines new = Publishes old (removed name) (codes "policy " ++ name ++ codes " removed version ") lines new
+Does limit old (remove_profile name) lines new = Publishes old (removed name) (codes "policy " ++ name ++ codes " removed version ")
+    lines new
 Does limit old (alter_whole words) lines new = TriesNow old words (IsMade old) lines new
 Does limit old (open_whole call) lines new = OpensWhole old call lines new
 Does limit old (single event) lines new = TakesOne old event lines new

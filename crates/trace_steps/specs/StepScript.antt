@@ -1,6 +1,7 @@
 -- What a script of events says: the lines of a script of commands, except judged links, and lines for single events. The grammar is
 -- our own.
-use Rattle.std.specs.Prelude.{ℕ, ◌-◌, ◌^◌, ◌==◌, ◌&&◌, not, nat_lt, List, [], ◌∷◌, length, Option, Some, None, codes, bytes_eq, if◌then◌else◌}
+use Rattle.std.specs.Prelude.{ℕ, ◌-◌, ◌^◌, ◌==◌, ◌&&◌, not, nat_lt, List, [], ◌∷◌, length, Option, Some, None, codes, bytes_eq}
+use Rattle.std.specs.Prelude.{if◌then◌else◌}
 use Rattle.std.specs.Char.{is_ascii_digit}
 use Rattle.std.specs.List.{list_all}
 use Rattle.std.specs.Str.Parse.{digits_value}
@@ -8,7 +9,9 @@ use Rattle.names.specs.declared.permissions.Perms.{Perms}
 use Rattle.names.specs.Permissions.{perms_of}
 use Rattle.event_core.specs.Machine.{Call, Event}
 use Rattle.event_core.specs.Machine.Event.{begin, read_policy, read_count, check_count}
-use Rattle.trace_script.specs.Script.{ChangeWords, Command, publish, remove, alter, judge_open, judge_link, LineKind, LineOf, ignored, opens_policy, command, no_command, line_kind, Grammar, ScriptOf, outside, script_by, lines_of, words_of}
+use Rattle.trace_script.specs.Script.{ChangeWords, Command, publish, remove, alter, judge_open, judge_link, LineKind, LineOf, ignored}
+use Rattle.trace_script.specs.Script.{opens_policy, command, no_command, line_kind, Grammar, ScriptOf, outside, script_by, lines_of}
+use Rattle.trace_script.specs.Script.{words_of}
 
 pub data StepCommand : Type 0 where
   -- the text of a profile, which is published under the profile's name
@@ -48,7 +51,8 @@ session_of _ = None
 -- a number, in decimal digits alone, that fits 64 bits
 abbrev pub number_of : List ℕ → Option ℕ
 number_of word =
-    if not (length word == 0) && (list_all is_ascii_digit word && nat_lt (digits_value 10 word) (2 ^ 64)) then Some (digits_value 10 word) else None
+    if not (length word == 0) && (list_all is_ascii_digit word && nat_lt (digits_value 10 word) (2 ^ 64)) then
+    Some (digits_value 10 word) else None
 
 -- `policy-read S`, `count S`, `check S`, `go S`
 abbrev pub kind_of_session : List ℕ → Option ℕ → LineOf StepCommand

@@ -6,7 +6,8 @@ use Rattle.std.specs.Io.KnownBytes.{Appends, Consumes}
 use Rattle.glob_automaton.specs.Automata.{StateLimit}
 use Rattle.event_core.specs.Machine.{Machine}
 use Rattle.trace_report.specs.declared.status.Status.{Status}
-use Rattle.trace_report.specs.declared.status.Status.TheVariants.{Done, Unmet, BadArguments, Refused, InputFailed, OutputFailed, FaultsFailed, NoMemory}
+use Rattle.trace_report.specs.declared.status.Status.TheVariants.{Done, Unmet, BadArguments, Refused, InputFailed, OutputFailed}
+use Rattle.trace_report.specs.declared.status.Status.TheVariants.{FaultsFailed, NoMemory}
 use Rattle.trace_report.specs.Output.{line}
 use Rattle.trace_report.specs.Streams.{Streams, IsWritten, AppendsFront}
 use Rattle.trace_script.specs.RunOutput.{ended_output, text_of_lines}
@@ -31,7 +32,8 @@ pub record PrintsFirst (limit : StateLimit) (text : List ℕ) (old : Machine) (c
   pub done : DoesAll limit old (take count (step_script text).commands) lines new
 
 -- all commands that were read except the last are done and what they print is written, and why there are no more is reported
-pub record IsBrokenOff (limit : StateLimit) (streams : Streams) (left_before left_after : Option (List ℕ)) (text : List ℕ) (old : Machine) (told : List ℕ) : Type 0 where
+pub record IsBrokenOff (limit : StateLimit) (streams : Streams) (left_before left_after : Option (List ℕ)) (text : List ℕ) (old : Machine)
+    (told : List ℕ) : Type 0 where
   pub count : ℕ
   pub read : CommandsRead left_before left_after count
   pub lines : Lines
@@ -54,7 +56,8 @@ StepsEnd limit streams left_before left_after old new text BadArguments = ⊥
 StepsEnd limit streams left_before left_after old new text Refused = IsWhole limit streams text old new Refused
 StepsEnd limit streams left_before left_after old new text InputFailed =
     IsBrokenOff limit streams left_before left_after text old (codes "refused: input")
-StepsEnd limit streams left_before left_after old new text NoMemory = IsBrokenOff limit streams left_before left_after text old no_memory_text
+StepsEnd limit streams left_before left_after old new text NoMemory = IsBrokenOff limit streams left_before left_after
+    text old no_memory_text
 StepsEnd limit streams left_before left_after old new text OutputFailed =
     IsFront limit streams text old × Appends streams.faults_before streams.faults_after (line (codes "refused: output"))
 StepsEnd limit streams left_before left_after old new text FaultsFailed = IsFront limit streams text old

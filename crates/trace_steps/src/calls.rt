@@ -95,7 +95,8 @@ pub(crate) fn open_line<M: EventMachine>(
     path: &[u8],
     ask: Perms,
 ) -> Result<Vec<u8>, Stop>
-    ensures { HasLine (λ lines. OpensWhole (M.machine machine.old) (record { profile = profile.now; path = path.now; ask = ask }) lines (M.machine machine.new)) result }
+    ensures { HasLine (λ lines. OpensWhole (M.machine machine.old) (record { profile = profile.now; path = path.now; ask = ask }) lines
+        (M.machine machine.new)) result }
 {
     let begin = Event::Begin {
         session: FRESH_SESSION,

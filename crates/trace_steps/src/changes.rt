@@ -21,7 +21,8 @@ pub(crate) fn change_line<M: EventMachine>(
     machine: &mut M,
     words: ChangeWords<'_>,
 ) -> Result<Vec<u8>, Stop>
-    ensures { HasLine (λ lines. TriesNow (M.machine machine.old) (change_words words.entry) (IsMade (M.machine machine.old)) lines (M.machine machine.new)) result }
+    ensures { HasLine (λ lines. TriesNow (M.machine machine.old) (change_words words.entry) (IsMade (M.machine machine.old)) lines
+        (M.machine machine.new)) result }
 {
     if machine.has_open_change() {
         return not_now_line(alloc);
@@ -39,7 +40,8 @@ fn checked_change_line<M: EventMachine>(
     change: &Change<'_>,
 ) -> Result<Vec<u8>, Stop>
     requires { (M.machine machine.old).keeper.pending ≡ None }
-    ensures { HasLine (λ lines. Tries (M.machine machine.old) (Ok change.now) (IsMade (M.machine machine.old)) lines (M.machine machine.new)) result }
+    ensures { HasLine (λ lines. Tries (M.machine machine.old) (Ok change.now) (IsMade (M.machine machine.old)) lines
+        (M.machine machine.new)) result }
 {
     match open_change(machine, change)? {
         Ok(()) => close_open_change(alloc, machine),
@@ -53,7 +55,8 @@ pub(crate) fn keep<M: EventMachine>(
     machine: &mut M,
     words: ChangeWords<'_>,
 ) -> Result<Option<Vec<u8>>, Stop>
-    ensures { IsDone (λ lines. TriesNow (M.machine machine.old) (change_words words.entry) (IsOpened (M.machine machine.old)) lines (M.machine machine.new)) result }
+    ensures { IsDone (λ lines. TriesNow (M.machine machine.old) (change_words words.entry) (IsOpened (M.machine machine.old)) lines
+        (M.machine machine.new)) result }
 {
     if machine.has_open_change() {
         return Ok(Some(not_now_line(alloc)?));
@@ -71,7 +74,8 @@ fn keep_checked<M: EventMachine>(
     change: &Change<'_>,
 ) -> Result<Option<Vec<u8>>, Stop>
     requires { (M.machine machine.old).keeper.pending ≡ None }
-    ensures { IsDone (λ lines. Tries (M.machine machine.old) (Ok change.now) (IsOpened (M.machine machine.old)) lines (M.machine machine.new)) result }
+    ensures { IsDone (λ lines. Tries (M.machine machine.old) (Ok change.now) (IsOpened (M.machine machine.old)) lines
+        (M.machine machine.new)) result }
 {
     match open_change(machine, change)? {
         Ok(()) => Ok(None),

@@ -3,7 +3,9 @@ ghost use Rattle.std.specs.Prelude.{◌≡◌, ◌∷◌};
 ghost use Rattle.names.specs.Permissions.{perms_of};
 ghost use Rattle.trace_script.specs.LineValues.{command_value, kind_value};
 ghost use Rattle.trace_script.specs.Script.{words_of};
-ghost use Rattle.trace_steps.specs.StepScript.{step_kind, own_kind, own_kind_of_words, own_kind_of_one, own_kind_of_two, own_kind_of_three, own_kind_of_five, kind_of_keep, kind_of_session, kind_of_begin, whole_kind};
+ghost use Rattle.trace_steps.specs.StepScript.{step_kind, own_kind, own_kind_of_words, own_kind_of_one, own_kind_of_two};
+ghost use Rattle.trace_steps.specs.StepScript.{own_kind_of_three, own_kind_of_five, kind_of_keep, kind_of_session, kind_of_begin};
+ghost use Rattle.trace_steps.specs.StepScript.{whole_kind};
 ghost use Rattle.trace_steps.specs.inner.StepValues.{step_kind_value};
 
 use crate::numbers::{number_of, session_of};

@@ -19,7 +19,8 @@ pub(crate) fn do_command<M: EventMachine>(
     machine: &mut M,
     command: StepCommand<'_>,
 ) -> Result<Option<Vec<u8>>, Stop>
-    ensures { (limit : StateLimit) → IsDone (λ lines. Does limit (M.machine machine.old) (step_value command.entry) lines (M.machine machine.new)) result }
+    ensures { (limit : StateLimit) → IsDone (λ lines. Does limit (M.machine machine.old) (step_value command.entry) lines
+        (M.machine machine.new)) result }
 {
     match command {
         StepCommand::Remove(name) => Ok(Some(drop_line(alloc, machine, name)?)),

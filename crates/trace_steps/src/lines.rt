@@ -24,7 +24,8 @@ pub(crate) fn follow_line<M: EventMachine, A: Write>(
     line: &[u8],
     answers: &mut A,
 ) -> Result<Section, Stop>
-    ensures { (limit : StateLimit) → IsLineFollowed limit (M.machine machine.old) (section_value section) number line.now (M.machine machine.new)
+    ensures { (limit : StateLimit) → IsLineFollowed limit (M.machine machine.old) (section_value section) number line.now
+        (M.machine machine.new)
         (A.contents answers.old) (A.contents answers.new) result }
 {
     match section {
@@ -72,7 +73,8 @@ fn answer_command<M: EventMachine, A: Write>(
     command: StepCommand<'_>,
     answers: &mut A,
 ) -> Result<(), Stop>
-    ensures { (limit : StateLimit) → IsPrinted (λ lines. Does limit (M.machine machine.old) (step_value command.entry) lines (M.machine machine.new))
+    ensures { (limit : StateLimit) → IsPrinted (λ lines. Does limit (M.machine machine.old) (step_value command.entry) lines
+        (M.machine machine.new))
         (A.contents answers.old) (A.contents answers.new) result }
 {
     match do_command(alloc, machine, command)? {
@@ -88,7 +90,8 @@ fn answer_policy<M: EventMachine, A: Write>(
     text: &[u8],
     answers: &mut A,
 ) -> Result<(), Stop>
-    ensures { (limit : StateLimit) → IsPrinted (λ lines. Does limit (M.machine machine.old) (publish_text text.now) lines (M.machine machine.new))
+    ensures { (limit : StateLimit) → IsPrinted (λ lines. Does limit (M.machine machine.old) (publish_text text.now) lines
+        (M.machine machine.new))
         (A.contents answers.old) (A.contents answers.new) result }
 {
     let line = policy_line(alloc, machine, text)?;

@@ -24,7 +24,8 @@ pub(crate) fn policy_line<M: EventMachine>(
     machine: &mut M,
     text: &[u8],
 ) -> Result<Vec<u8>, Stop>
-    ensures { (limit : StateLimit) → HasLine (λ lines. PublishesText limit (M.machine machine.old) (outcome_of text.now) lines (M.machine machine.new)) result }
+    ensures { (limit : StateLimit) → HasLine (λ lines. PublishesText limit (M.machine machine.old) (outcome_of text.now) lines
+        (M.machine machine.new)) result }
 {
     match read(alloc, text) {
         Ok(profile) => profile_line(alloc, machine, profile),
@@ -39,7 +40,8 @@ fn profile_line<M: EventMachine>(
     machine: &mut M,
     profile: Profile,
 ) -> Result<Vec<u8>, Stop>
-    ensures { (limit : StateLimit) → HasLine (λ lines. PublishesText limit (M.machine machine.old) (Ok (profile_value profile)) lines (M.machine machine.new)) result }
+    ensures { (limit : StateLimit) → HasLine (λ lines. PublishesText limit (M.machine machine.old) (Ok (profile_value profile)) lines
+        (M.machine machine.new)) result }
 {
     let start = joined(alloc, "policy ", profile.name(), " version ")?;
     match CompiledProfile::make(alloc, profile) {
@@ -58,7 +60,8 @@ pub(crate) fn drop_line<M: EventMachine>(
     machine: &mut M,
     name: &[u8],
 ) -> Result<Vec<u8>, Stop>
-    ensures { HasLine (λ lines. Publishes (M.machine machine.old) (removed name.now) (codes "policy " ++ name.now ++ codes " removed version ") lines (M.machine machine.new)) result }
+    ensures { HasLine (λ lines. Publishes (M.machine machine.old) (removed name.now)
+        (codes "policy " ++ name.now ++ codes " removed version ") lines (M.machine machine.new)) result }
 {
     let start = joined(alloc, "policy ", name, " removed version ")?;
     let change = PolicyChange::Remove(Vec::from_slice(alloc, name)?);

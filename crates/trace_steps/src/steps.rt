@@ -44,7 +44,8 @@ fn follow<M: EventMachine, R: BufRead, A: Write>(
     answers: &mut A,
 ) -> Result<(), Stop>
     ensures { (limit : StateLimit) → (text : List ℕ) × IsTextOf (R.remaining input.old) text × IsFollowed limit (M.machine machine.old)
-        (R.remaining input.old) (R.remaining input.new) text (M.machine machine.new) (A.contents answers.old) (A.contents answers.new) result }
+        (R.remaining input.old) (R.remaining input.new) text (M.machine machine.new) (A.contents answers.old)
+        (A.contents answers.new) result }
 {
     let mut section = Section::Outside;
     let mut line = Vec::new(alloc);

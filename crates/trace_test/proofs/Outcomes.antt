@@ -1,5 +1,7 @@
 -- What the engine of a test prints and counts, by its expectations, and how a test ends.
-use Rattle.std.proofs.Common.{◌≡◌, ℕ, ◌+◌, ◌≤◌, ◌==◌, ◌&&◌, ◌<◌, Bool, true, false, cond, not, List, [], ◌∷◌, ◌++◌, length, map, filter, take, Option, Some, None, Result, Ok, Err, refl, sym, ap, ◌∙◌, arith, inl, inr, append-nil, append_assoc, take-append-drop, drop, take_all, subst, eq-eqb, zero-add}
+use Rattle.std.proofs.Common.{◌≡◌, ℕ, ◌+◌, ◌≤◌, ◌==◌, ◌&&◌, ◌<◌, Bool, true, false, cond, not, List, [], ◌∷◌, ◌++◌, length, map, filter}
+use Rattle.std.proofs.Common.{take, Option, Some, None, Result, Ok, Err, refl, sym, ap, ◌∙◌, arith, inl, inr, append-nil, append_assoc}
+use Rattle.std.proofs.Common.{take-append-drop, drop, take_all, subst, eq-eqb, zero-add}
 use Rattle.std.specs.Prelude.{count_by, if◌then◌else◌}
 use Rattle.std.specs.List.{list_all}
 use Rattle.std.specs.Io.KnownBytes.{Appends, Consumes}
@@ -18,7 +20,8 @@ use Rattle.trace_script.specs.Engine.{IsPut, stop_status, stop_text}
 use Rattle.trace_script.specs.Following.{IsFollowed, IsShort, lines_by, state_by}
 use Rattle.trace_script.specs.RunOutput.{printed, printed_lines, text_of_lines}
 use Rattle.trace_script.proofs.Following.{cut_at, lines_by-append, one_line, text_of_lines-append, wrote_more}
-use Rattle.trace_test.specs.TestOutput.{Expectation, TestEnds, all_lines, compared, count_text, expectations, failure_lines, failure_text, fails, holds, test_output, tested_output, tested_status}
+use Rattle.trace_test.specs.TestOutput.{Expectation, TestEnds, all_lines, compared, count_text, expectations, failure_lines, failure_text}
+use Rattle.trace_test.specs.TestOutput.{fails, holds, test_output, tested_output, tested_status}
 use Rattle.trace_test.specs.TestScript.{TestCommand, ask, expect, asked_of, test_script}
 use Rattle.trace_test.specs.inner.Testing.{IsShortTest, IsTested, Testing, first_testing, test_engine, with_answer, with_one}
 
@@ -43,7 +46,8 @@ module _ (limit : StateLimit) where
       e = now_of t number text
 
       by : (b : Bool) {later : List (List ℕ)} → later ≡ failure_lines (of t cs)
-          → map failure_text (cond b (e ∷ []) []) ++ later ≡ map failure_text (cond b (e ∷ filter fails (of t cs)) (filter fails (of t cs)))
+          → map failure_text (cond b (e ∷ []) []) ++ later ≡ map failure_text
+          (cond b (e ∷ filter fails (of t cs)) (filter fails (of t cs)))
       by true h = ap (λ lines. failure_text e ∷ lines) h
       by false h = h
 
@@ -57,7 +61,8 @@ module _ (limit : StateLimit) where
   held_are t (ask c ∷ cs) = held_are (with_answer t (printed limit t.history c)) cs
   held_are t (expect number text ∷ cs) =
       let next = with_one t (holds (now_of t number text)) in
-      let count : count_by holds (of t (expect number text ∷ cs)) ≡ (if holds (now_of t number text) then 1 else 0) + count_by holds (of next cs) =
+      let count : count_by holds (of t (expect number text ∷ cs)) ≡ (if holds (now_of t number text) then 1 else 0) + count_by holds
+      (of next cs) =
       count_first (now_of t number text) (of next cs) in
       omega (arith, held_are next cs, count)
 
@@ -83,7 +88,8 @@ all_held : (told : List Expectation) → list_all holds told ≡ true → count_
 all_held [] e = refl
 all_held (x ∷ told) e = count_first x told ∙ by (all_held told) (holds x) e
   where
-    by : (list_all holds told ≡ true → count_by holds told ≡ length told) → (b : Bool) → (b && list_all holds told) ≡ true → cond b 1 0 + count_by holds told ≡ length (x ∷ told)
+    by : (list_all holds told ≡ true → count_by holds told ≡ length told) → (b : Bool) → (b && list_all holds told) ≡ true →
+        cond b 1 0 + count_by holds told ≡ length (x ∷ told)
     by rest true e = omega (arith, rest e)
     by rest false e = cc
 
@@ -91,11 +97,13 @@ not_all_held : (told : List Expectation) → list_all holds told ≡ false → c
 not_all_held [] e = cc
 not_all_held (x ∷ told) e = rw (count_first x told) (by (not_all_held told) (holds x) e)
   where
-    by : (list_all holds told ≡ false → count_by holds told < length told) → (b : Bool) → (b && list_all holds told) ≡ false → cond b 1 0 + count_by holds told < length (x ∷ told)
+    by : (list_all holds told ≡ false → count_by holds told < length told) → (b : Bool) → (b && list_all holds told) ≡ false →
+        cond b 1 0 + count_by holds told < length (x ∷ told)
     by rest true e = omega (arith, rest e)
     by rest false e = omega (arith, count_by-le-length holds told)
 
-pub status_is : (told : List Expectation) (held total : ℕ) → held ≡ count_by holds told → total ≡ length told → cond (held == total) Done Unmet ≡ tested_status told
+pub status_is : (told : List Expectation) (held total : ℕ) → held ≡ count_by holds told → total ≡ length told →
+    cond (held == total) Done Unmet ≡ tested_status told
 status_is told held total h t = by (list_all holds told) refl
   where
     by : (all : Bool) → list_all holds told ≡ all → cond (held == total) Done Unmet ≡ cond all Done Unmet
@@ -104,7 +112,8 @@ status_is told held total h t = by (list_all holds told) refl
 
 -- ---- how a test ends
 
-module _ (limit : StateLimit) (history : History) (left after : Option (List ℕ)) (text : List ℕ) (now : Testing) (a b : Option (List ℕ)) where
+module _ (limit : StateLimit) (history : History) (left after : Option (List ℕ)) (text : List ℕ) (now : Testing)
+    (a b : Option (List ℕ)) where
   abbrev commands : List TestCommand
   commands = (test_script text).commands
 
@@ -115,13 +124,20 @@ module _ (limit : StateLimit) (history : History) (left after : Option (List ℕ
   short_test (count, read, appended) = (count, read, rw (test_lines_are limit history (take count commands)) at appended)
 
   -- what is reported of the expectations is a front part of what is written
-  failures_first : (stopped : Option ℕ) → AppendsFront a b (text_of_lines (failure_lines told)) → AppendsFront a b (tested_output told stopped).answers
+  failures_first : (stopped : Option ℕ) → AppendsFront a b (text_of_lines (failure_lines told)) →
+      AppendsFront a b (tested_output told stopped).answers
   failures_first (Some number) h = h
   failures_first None (front, back, split, appended) =
-      let last = text_of_lines (count_text (count_by holds told) (length told) ∷ []) in
-      (front, back ++ last, text_of_lines-append (failure_lines told) _ ∙ ap (λ l. l ++ last) split ∙ append_assoc front back last, appended)
+      let last = text_of_lines (count_text (count_by holds told) (length told) ∷ []) in (
+        front,
+        back ++ last,
+        text_of_lines-append (failure_lines told) _ ∙ ap (λ l. l ++ last) split
+            ∙ append_assoc front back last,
+        appended,
+      )
 
-  pub stopped_test : (stop : Stop) → IsFollowed (test_engine limit) {T = Unit {0}} (first_testing history) left after text now a b (Err stop) → IsTested limit history left after text a b (Err stop)
+  pub stopped_test : (stop : Stop) → IsFollowed (test_engine limit) {T = Unit {0}} (first_testing history) left after text now a b
+      (Err stop) → IsTested limit history left after text a b (Err stop)
   stopped_test (NoCommand number) (stopped, appended) = (stopped, rw (test_lines_are limit history commands) at appended)
   stopped_test Input h = short_test h
   stopped_test TooLong h = short_test h.1
@@ -150,21 +166,28 @@ module _ (limit : StateLimit) (history : History) (left after : Option (List ℕ
     count_is : count_text now.held now.total ≡ count
     count_is = ap (λ n. count_text n now.total) held_is ∙ ap (λ n. count_text (count_by holds told) n) total_told
 
-    pub whole_test : (c : Option (List ℕ)) (bytes : List ℕ) (status : Status) → status ≡ cond (now.held == now.total) Done Unmet → bytes ≡ line (count_text now.held now.total) → Appends b c bytes
+    pub whole_test : (c : Option (List ℕ)) (bytes : List ℕ) (status : Status) → status ≡ cond (now.held == now.total) Done Unmet →
+        bytes ≡ line (count_text now.held now.total) → Appends b c bytes
         → IsTested limit history left after text a c (Ok status)
     whole_test c bytes status ends e put =
         let lines = rw (test_lines_are limit history commands) at whole.2 in
-        let last : Appends b c (text_of_lines (count ∷ [])) = rw (← one_line count) (rw (e ∙ ap line count_is) at put) in
-        (whole.0, ends ∙ status_is told now.held now.total held_is total_told, wrote_more a b c (failure_lines told) (count ∷ []) lines last)
+        let last : Appends b c (text_of_lines (count ∷ [])) = rw (← one_line count) (rw (e ∙ ap line count_is) at put) in (
+          whole.0,
+          ends ∙ status_is told now.held now.total held_is total_told,
+          wrote_more a b c (failure_lines told)
+              (count ∷ []) lines last,
+        )
 
-    cut_last : (c : Option (List ℕ)) → AppendsFront b c (line count) → AppendsFront a c (test_output limit history (test_script text)).answers
+    cut_last : (c : Option (List ℕ)) → AppendsFront b c (line count) →
+        AppendsFront a c (test_output limit history (test_script text)).answers
     cut_last c front =
         let lines = rw (test_lines_are limit history commands) at whole.2 in
         let last : AppendsFront b c (text_of_lines (count ∷ [])) = rw (← one_line count) front in
         let P : Option ℕ → Type 0 = λ stopped. AppendsFront a c (tested_output told stopped).answers in
         subst P (sym whole.0) (cut_at a b c (all_lines told) (failure_lines told) (count ∷ []) [] refl lines last)
 
-    pub cut_test : (c : Option (List ℕ)) (bytes : List ℕ) (stop : Stop) → bytes ≡ line (count_text now.held now.total) → IsPut {T = Unit {0}} b c bytes (Err stop) → IsTested limit history left after text a c (Err stop)
+    pub cut_test : (c : Option (List ℕ)) (bytes : List ℕ) (stop : Stop) → bytes ≡ line (count_text now.held now.total) →
+        IsPut {T = Unit {0}} b c bytes (Err stop) → IsTested limit history left after text a c (Err stop)
     cut_test c bytes (NoCommand number) e put = absurd put
     cut_test c bytes Input e put = absurd put
     cut_test c bytes TooLong e put = absurd put
@@ -180,10 +203,13 @@ module _ (limit : StateLimit) (history : History) (text : List ℕ) (left after 
   abbrev quiet : Option (List ℕ) → Streams
   quiet f = record { answers_before = a; answers_after = b; faults_before = f; faults_after = f }
 
-  pub done_test : (f : Option (List ℕ)) (status : Status) → IsTested limit history left after text a b (Ok status) → TestEnds limit (quiet f) left after history text status
-  done_test f status (stopped, ends, answers) = subst (λ status. TestEnds limit (quiet f) left after history text status) (sym ends) (by (list_all holds expected) refl)
+  pub done_test : (f : Option (List ℕ)) (status : Status) → IsTested limit history left after text a b (Ok status) →
+      TestEnds limit (quiet f) left after history text status
+  done_test f status (stopped, ends, answers) = subst (λ status. TestEnds limit (quiet f) left after history text status) (sym ends)
+      (by (list_all holds expected) refl)
     where
-      written : (all : Bool) → list_all holds expected ≡ all → IsWritten (quiet f) (test_output limit history (test_script text)) (cond all Done Unmet)
+      written : (all : Bool) → list_all holds expected ≡ all → IsWritten (quiet f) (test_output limit history (test_script text))
+          (cond all Done Unmet)
       written all e =
           let P : Option ℕ → Type 0 = λ stopped. IsWritten (quiet f) (tested_output expected stopped) (cond all Done Unmet) in
           subst P (sym stopped) (record { answers = answers; faults = appends_nothing f; ends = ap (λ b. cond b Done Unmet) e })
@@ -197,7 +223,8 @@ module _ (limit : StateLimit) (history : History) (text : List ℕ) (left after 
     streams = record { answers_before = a; answers_after = b; faults_before = f; faults_after = t }
 
     -- what was written is a front part of what is to be written
-    first_stands : (count : ℕ) → Appends a b (text_of_lines (failure_lines (expectations limit history (take count (test_script text).commands))))
+    first_stands : (count : ℕ) →
+        Appends a b (text_of_lines (failure_lines (expectations limit history (take count (test_script text).commands))))
         → AppendsFront a b (test_output limit history (test_script text)).answers
     first_stands count h =
         let commands = (test_script text).commands in
@@ -216,7 +243,8 @@ module _ (limit : StateLimit) (history : History) (text : List ℕ) (left after 
         ) in
         failures_first limit history left after text (first_testing history) a b (test_script text).stopped front
 
-    front_stands : (stop : Stop) → IsTested limit history left after text a b (Err stop) → AppendsFront a b (test_output limit history (test_script text)).answers
+    front_stands : (stop : Stop) → IsTested limit history left after text a b (Err stop) →
+        AppendsFront a b (test_output limit history (test_script text)).answers
     front_stands (NoCommand number) (stopped, h) =
         let P : Option ℕ → Type 0 = λ stopped. AppendsFront a b (tested_output expected stopped).answers in
         subst P (sym stopped) (text_of_lines (failure_lines expected), [], sym (append-nil (text_of_lines (failure_lines expected))), h)
@@ -225,7 +253,8 @@ module _ (limit : StateLimit) (history : History) (text : List ℕ) (left after 
     front_stands Memory (count, read, h) = first_stands count h
     front_stands Output h = h
 
-    told_so : (stop : Stop) → IsTested limit history left after text a b (Err stop) → Appends f t (line (stop_text stop)) → TestEnds limit streams left after history text (stop_status stop)
+    told_so : (stop : Stop) → IsTested limit history left after text a b (Err stop) → Appends f t (line (stop_text stop)) →
+        TestEnds limit streams left after history text (stop_status stop)
     told_so (NoCommand number) (stopped, h) told =
         let P : Option ℕ → Type 0 = λ stopped. IsWritten streams (tested_output expected stopped) Refused in
         subst P (sym stopped) (record { answers = h; faults = told; ends = refl })
@@ -234,7 +263,9 @@ module _ (limit : StateLimit) (history : History) (text : List ℕ) (left after 
     told_so Memory (count, read, h) told = record { count = count; read = read; answers = h; faults = told }
     told_so Output h told = record { answers = h; faults = told }
 
-    pub told_test : (stop : Stop) (status : Status) → IsTested limit history left after text a b (Err stop) → IsTold f t (stop_text stop) (stop_status stop) status
+    pub told_test : (stop : Stop) (status : Status) → IsTested limit history left after text a b (Err stop) →
+        IsTold f t (stop_text stop) (stop_status stop) status
         → TestEnds limit streams left after history text status
     told_test stop status h (inl e) = subst (λ status. TestEnds limit streams left after history text status) (sym e) (front_stands stop h)
-    told_test stop status h (inr (e, told)) = subst (λ status. TestEnds limit streams left after history text status) (sym e) (told_so stop h told)
+    told_test stop status h (inr (e, told)) = subst (λ status. TestEnds limit streams left after history text status) (sym e)
+        (told_so stop h told)

@@ -16,15 +16,18 @@ module _ (limit : StateLimit) where
   script history number cs = woven number cs (printed_lines limit history cs)
 
   abbrev told : History → ℕ → Option (List ℕ) → List Command → List Expectation
-  told history number last cs = compared last (printed_lines limit history (asked_of (script history number cs))) (script history number cs)
+  told history number last cs = compared last (printed_lines limit history (asked_of (script history number cs)))
+      (script history number cs)
 
-  pub woven_count : (history : History) (number : ℕ) (last : Option (List ℕ)) (cs : List Command) → length (told history number last cs) ≡ length cs
+  pub woven_count : (history : History) (number : ℕ) (last : Option (List ℕ)) (cs : List Command) →
+      length (told history number last cs) ≡ length cs
   woven_count history number last [] = refl
   woven_count history number last (c ∷ cs) =
       let p = printed limit history c in
       ap suc (woven_count p.history (number + 2) (Some p.text) cs)
 
-  pub woven_hold : (history : History) (number : ℕ) (last : Option (List ℕ)) (cs : List Command) → list_all holds (told history number last cs) ≡ true
+  pub woven_hold : (history : History) (number : ℕ) (last : Option (List ℕ)) (cs : List Command) →
+      list_all holds (told history number last cs) ≡ true
   woven_hold history number last [] = refl
   woven_hold history number last (c ∷ cs) =
       let p = printed limit history c in

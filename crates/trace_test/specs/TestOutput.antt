@@ -1,13 +1,15 @@
 -- What `test` writes: the outcome of a script's expectations, by what `run` prints for its commands.
 use Rattle.names.specs.Errors.{no_memory_text}
-use Rattle.std.specs.Prelude.{ℕ, ◌+◌, ◌≤◌, Bool, false, not, List, [], ◌∷◌, ◌++◌, map, filter, count_by, take, length, codes, decimal, Option, Some, None, unwrap_or, bytes_eq, if◌then◌else◌}
+use Rattle.std.specs.Prelude.{ℕ, ◌+◌, ◌≤◌, Bool, false, not, List, [], ◌∷◌, ◌++◌, map, filter, count_by, take, length, codes, decimal}
+use Rattle.std.specs.Prelude.{Option, Some, None, unwrap_or, bytes_eq, if◌then◌else◌}
 use Rattle.std.specs.Char.{is_ascii_control}
 use Rattle.std.specs.List.{list_all}
 use Rattle.std.specs.Io.KnownBytes.{Appends, Consumes}
 use Rattle.glob_automaton.specs.Automata.{StateLimit}
 use Rattle.mediation.specs.History.{History, new_history}
 use Rattle.trace_report.specs.declared.status.Status.{Status}
-use Rattle.trace_report.specs.declared.status.Status.TheVariants.{Done, Unmet, BadArguments, Refused, InputFailed, OutputFailed, FaultsFailed, NoMemory}
+use Rattle.trace_report.specs.declared.status.Status.TheVariants.{Done, Unmet, BadArguments, Refused, InputFailed, OutputFailed}
+use Rattle.trace_report.specs.declared.status.Status.TheVariants.{FaultsFailed, NoMemory}
 use Rattle.trace_report.specs.Output.{Output, line}
 use Rattle.trace_report.specs.Streams.{Streams, IsWritten, AppendsFront}
 use Rattle.trace_script.specs.RunOutput.{IsCut, ended_output, printed_lines, text_of_lines}
@@ -26,7 +28,8 @@ pub record Expectation : Type 0 where
 -- each expectation with the last line before it, where the commands that are left have these lines
 abbrev pub compared : Option (List ℕ) → List (List ℕ) → List TestCommand → List Expectation
 compared last lines [] = []
-compared last lines (expect number text ∷ commands) = record { number = number; expected = text; got = last } ∷ compared last lines commands
+compared last lines (expect number text ∷ commands) = record { number = number; expected = text; got = last } ∷ compared
+    last lines commands
 compared last (answer ∷ lines) (ask c ∷ commands) = compared (Some answer) lines commands
 -- there is a line for each command
 compared last [] (ask c ∷ commands) = compared last [] commands
@@ -89,7 +92,8 @@ TestRead left_before left_after count =
 
 -- the lines of the first expectations were written, those of all commands that were read except perhaps the last, and why there
 -- are no more is reported
-pub record IsBrokenOff (limit : StateLimit) (streams : Streams) (left_before left_after : Option (List ℕ)) (history : History) (text told : List ℕ) : Type 0 where
+pub record IsBrokenOff (limit : StateLimit) (streams : Streams) (left_before left_after : Option (List ℕ)) (history : History)
+    (text told : List ℕ) : Type 0 where
   pub count : ℕ
   pub read : TestRead left_before left_after count
   pub answers : Appends streams.answers_before streams.answers_after
@@ -101,14 +105,17 @@ abbrev pub TestEnds : StateLimit → Streams → Option (List ℕ) → Option (L
 TestEnds limit streams left_before left_after history text Done = IsWritten streams (test_output limit history (test_script text)) Done
 TestEnds limit streams left_before left_after history text Unmet = IsWritten streams (test_output limit history (test_script text)) Unmet
 TestEnds limit streams left_before left_after history text BadArguments = ⊥
-TestEnds limit streams left_before left_after history text Refused = IsWritten streams (test_output limit history (test_script text)) Refused
+TestEnds limit streams left_before left_after history text Refused =
+    IsWritten streams (test_output limit history (test_script text)) Refused
 TestEnds limit streams left_before left_after history text InputFailed =
     IsBrokenOff limit streams left_before left_after history text (codes "refused: input")
-TestEnds limit streams left_before left_after history text NoMemory = IsBrokenOff limit streams left_before left_after history text no_memory_text
+TestEnds limit streams left_before left_after history text NoMemory = IsBrokenOff limit streams left_before left_after
+    history text no_memory_text
 TestEnds limit streams left_before left_after history text OutputFailed = IsCut streams (test_output limit history (test_script text))
 TestEnds limit streams left_before left_after history text FaultsFailed =
     AppendsFront streams.answers_before streams.answers_after (test_output limit history (test_script text)).answers
 
 -- How `test` ends on a tree that begins as the root alone, with room for `capacity` entries.
 abbrev pub TestEndsFrom : StateLimit → Streams → Option (List ℕ) → Option (List ℕ) → ℕ → List ℕ → Status → Type 0
-TestEndsFrom limit streams left_before left_after capacity text status = TestEnds limit streams left_before left_after (new_history capacity) text status
+TestEndsFrom limit streams left_before left_after capacity text status = TestEnds limit streams left_before left_after
+    (new_history capacity) text status

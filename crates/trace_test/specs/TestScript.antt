@@ -1,8 +1,10 @@
 -- What a test says: the lines of a script of `run`, in which words may be in quotes, and lines that expect an answer. The grammar
 -- is our own.
-use Rattle.std.specs.Prelude.{ℕ, ◌-◌, ◌==◌, ◌||◌, Bool, List, [], ◌∷◌, ◌++◌, length, take, drop, codes, Option, Some, None, option_map, bytes_eq, if◌then◌else◌}
+use Rattle.std.specs.Prelude.{ℕ, ◌-◌, ◌==◌, ◌||◌, Bool, List, [], ◌∷◌, ◌++◌, length, take, drop, codes, Option, Some, None, option_map}
+use Rattle.std.specs.Prelude.{bytes_eq, if◌then◌else◌}
 use Rattle.std.specs.List.{before_first, position_or_len, prefix_len, suffix_len}
-use Rattle.trace_script.specs.Script.{Command, publish, LineKind, LineOf, ignored, opens_policy, command, no_command, is_blank, is_comment, kind_of_words, Grammar, ScriptOf, outside, script_by, lines_of}
+use Rattle.trace_script.specs.Script.{Command, publish, LineKind, LineOf, ignored, opens_policy, command, no_command, is_blank, is_comment}
+use Rattle.trace_script.specs.Script.{kind_of_words, Grammar, ScriptOf, outside, script_by, lines_of}
 
 -- ---- words in quotes
 

@@ -152,7 +152,8 @@ fn expect<A: Write>(
     answers: &mut A,
 ) -> Result<(), Stop>
     requires { progress.old.total < 2 ^ 60 }
-    ensures done { (limit : StateLimit) (history : History) → IsDone (test_step limit (testing history progress.old) (expect number expected.now))
+    ensures done { (limit : StateLimit) (history : History) →
+        IsDone (test_step limit (testing history progress.old) (expect number expected.now))
         (testing history progress.new) (A.contents answers.old) (A.contents answers.new) result }
     ensures total { OnOk result (progress.new.total ≡ progress.old.total + 1) }
 {

@@ -35,7 +35,9 @@ pub fn lines_are_read()
 
 /// The lines of expectations that don't hold: one without a command before it, and two after the same command.
 pub fn expectations_are_told()
-    ensures { (limit : StateLimit) → map failure_text (expectations limit (new_history 9) (test_script (codes "expect ok 1\n# a directory\nmkdir /a\n\nexpect no\t1\nexpect 2\n")).commands)
+    ensures { (limit : StateLimit) →
+        map failure_text (expectations limit (new_history 9)
+        (test_script (codes "expect ok 1\n# a directory\nmkdir /a\n\nexpect no\t1\nexpect 2\n")).commands)
         ≡ (decimal 1 ++ codes ": expected ok 1, got nothing")
         ∷ (decimal 5 ++ codes ": expected no?1, got " ++ shown (codes "ok " ++ decimal 1))
         ∷ (decimal 6 ++ codes ": expected 2, got " ++ shown (codes "ok " ++ decimal 1)) ∷ [] }

@@ -49,7 +49,8 @@ fn test<B: Bench, R: BufRead, A: Write>(
 ) -> Result<Status, Stop>
     requires { policy_version (B.history bench.old) ≡ 0 }
     ensures { (limit : StateLimit) → (text : List ℕ) × IsTextOf (R.remaining input.old) text
-        × IsTested limit (B.history bench.old) (R.remaining input.old) (R.remaining input.new) text (A.contents answers.old) (A.contents answers.new) result }
+        × IsTested limit (B.history bench.old) (R.remaining input.old) (R.remaining input.new) text (A.contents answers.old)
+        (A.contents answers.new) result }
 {
     let mut progress = Progress::new();
     follow(alloc, bench, &mut progress, input, answers)?;

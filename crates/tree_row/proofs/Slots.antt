@@ -1,5 +1,6 @@
 -- What slots that encode a tree say about it.
-use Rattle.std.proofs.Common.{◌≡◌, ℕ, zero, suc, ◌<◌, ◌≢◌, Bool, true, List, Some, None, Option, sym, refl, ap, ◌∙◌, subst, arith, eq-eqb, ne_eqb}
+use Rattle.std.proofs.Common.{◌≡◌, ℕ, zero, suc, ◌<◌, ◌≢◌, Bool, true, List, Some, None, Option, sym, refl, ap, ◌∙◌, subst, arith, eq-eqb}
+use Rattle.std.proofs.Common.{ne_eqb}
 use Rattle.std.specs.Prelude.{if◌then◌else◌}
 use Rattle.std.specs.Option.{option_map}
 use mathlib.Core.Logic.{dite}
@@ -28,8 +29,10 @@ module _ (n : ℕ) (f : ℕ → Slot) (t : Tree) (enc : EncodesSlots n f t) wher
   pub used_past : (s : ℕ) → s < n → (f s).kind ≢ 0 → 0 < s → IsUsed n f s
   used_past s within filled past = record { past_root = past; within = within; used = filled }
 
-  pub found_there : (s d : ℕ) (c : List ℕ) → IsUsed n f s → (f (f s).parent).node ≡ d → (f s).component ≡ c → find t.entries d c ≡ Some (entry_at f s)
-  found_there s d c used up named = subst (λ (z : ℕ). find t.entries z c ≡ Some (entry_at f s)) up (subst (λ (z : List ℕ). find t.entries (f (f s).parent).node z ≡ Some (entry_at f s)) named (enc.there s used))
+  pub found_there : (s d : ℕ) (c : List ℕ) → IsUsed n f s → (f (f s).parent).node ≡ d → (f s).component ≡ c →
+      find t.entries d c ≡ Some (entry_at f s)
+  found_there s d c used up named = subst (λ (z : ℕ). find t.entries z c ≡ Some (entry_at f s)) up
+      (subst (λ (z : List ℕ). find t.entries (f (f s).parent).node z ≡ Some (entry_at f s)) named (enc.there s used))
 
   pub child_found : (d s : ℕ) (c : List ℕ) → IsChildSlot n f d c s → child_of t (spot_at f d) c ≡ Some (spot_at f s)
   child_found d s c h =
@@ -57,15 +60,18 @@ module _ (n : ℕ) (f : ℕ → Slot) (t : Tree) (well : WellFormed t) (enc : En
   pub one_directory : (p x : ℕ) → p < n → (f p).kind ≢ 0 → IsDirectorySlot n f x → (f x).node ≡ (f p).node → x ≡ p
   one_directory p x within filled hx same = dite (ℕ_discrete x 0)
       (λ x0. dite (ℕ_discrete p 0) (λ p0. x0 ∙ sym p0)
-      (λ p1. let a = past p (used_past n f t enc p within filled (omega arith)) in let b : (f x).node ≡ 1 = ap (λ (z : ℕ). (f z).node) x0 ∙ enc.root.node in absurd (omega arith)))
+      (λ p1. let a = past p (used_past n f t enc p within filled (omega arith)) in let b : (f x).node ≡ 1 = ap (λ (z : ℕ). (f z).node) x0
+      ∙ enc.root.node in absurd (omega arith)))
       (λ x1. let ux = directory_used x hx x1 in dite (ℕ_discrete p 0)
       (λ p0. let a = past x ux in let b : (f p).node ≡ 1 = ap (λ (z : ℕ). (f z).node) p0 ∙ enc.root.node in absurd (omega arith))
       (λ p1. let up = used_past n f t enc p within filled (omega arith) in
       enc.once x p ux up (well.one_entry _ _ _ _ _ _ (enc.there x ux) (enc.there p up) same (directory_kind x hx.kind))))
 
-  pub child_missing : (d : ℕ) (c : List ℕ) → d < n → (f d).kind ≢ 0 → ((s : ℕ) → ¬ (IsChildSlot n f d c s)) → child_of t (spot_at f d) c ≡ None
+  pub child_missing : (d : ℕ) (c : List ℕ) → d < n → (f d).kind ≢ 0 → ((s : ℕ) → ¬ (IsChildSlot n f d c s)) →
+      child_of t (spot_at f d) c ≡ None
   child_missing d c within filled none =
-      elim (find t.entries (node_at (spot_at f d)) c) as (λ (o : Option Entry). find t.entries (node_at (spot_at f d)) c ≡ o → option_map Held o ≡ None) [
+      elim (find t.entries (node_at (spot_at f d)) c) as (λ (o : Option Entry). find t.entries (node_at (spot_at f d)) c ≡ o →
+      option_map Held o ≡ None) [
         | None ↦ λ is. refl
         | Some e ↦ λ is.
             let (s, used, at_s) = enc.held (node_at (spot_at f d)) c e is in
@@ -77,11 +83,14 @@ module _ (n : ℕ) (f : ℕ → Slot) (t : Tree) (well : WellFormed t) (enc : En
 
   -- a directory's slot stands for the spot of its node
   pub directory_spot : (p : ℕ) → IsDirectorySlot n f p → spot_of t (f p).node ≡ spot_at f p
-  directory_spot zero h = ap (λ (b : Bool). if b then Root else elim (own_entry t.entries (f 0).node) as (λ _. Spot) [ None ↦ Root | Some e ↦ Held e ]) (eq-eqb (f 0).node root enc.root.node)
+  directory_spot zero h = ap (λ (b : Bool). if b then Root else elim (own_entry t.entries (f 0).node) as (λ _. Spot)
+      [ None ↦ Root | Some e ↦ Held e ]) (eq-eqb (f 0).node root enc.root.node)
   directory_spot (suc p) h =
       let used = directory_used (suc p) h (λ e. absurd (omega arith)) in
-      ap (λ (b : Bool). if b then Root else elim (own_entry t.entries (f (suc p)).node) as (λ _. Spot) [ None ↦ Root | Some e ↦ Held e ]) (ne_eqb (f (suc p)).node root (λ e. let a = past (suc p) used in absurd (omega arith)))
-      ∙ ap (λ (o : Option Entry). elim o as (λ _. Spot) [ None ↦ Root | Some e ↦ Held e ]) (placed_at t well _ _ _ (enc.there (suc p) used) (directory_kind (suc p) h.kind))
+      ap (λ (b : Bool). if b then Root else elim (own_entry t.entries (f (suc p)).node) as (λ _. Spot) [ None ↦ Root | Some e ↦ Held e ])
+      (ne_eqb (f (suc p)).node root (λ e. let a = past (suc p) used in absurd (omega arith)))
+      ∙ ap (λ (o : Option Entry). elim o as (λ _. Spot) [ None ↦ Root | Some e ↦ Held e ]) (placed_at t well _ _ _ (enc.there (suc p) used)
+      (directory_kind (suc p) h.kind))
 
   pub parent_is : (s : ℕ) → IsUsed n f s → directory_of t (spot_at f s) ≡ Some (spot_at f (f s).parent)
   parent_is s used = ap (directory_of t) (held_spot f s used.past_root) ∙ ap Some (directory_spot (f s).parent (enc.in_directory s used))

@@ -20,7 +20,8 @@ TellsEntryOf capacity may directory s is = (row : List ℕ) → may row → Tell
 -- of the rows that encode a tree
 abbrev pub TellsChild : ℕ → (List ℕ → Type 0) → ℕ → List ℕ → ℕ → Bool → Type 0
 TellsChild capacity may directory component s is =
-    (row : List ℕ) (w : World) → may row → EncodesWorld capacity row w → Tells is (IsChildSlot (capacity + 1) (slot_at row) directory component s)
+    (row : List ℕ) (w : World) → may row → EncodesWorld capacity row w →
+    Tells is (IsChildSlot (capacity + 1) (slot_at row) directory component s)
 
 -- the first of the free slots
 pub record IsFirstFree (n : ℕ) (f : ℕ → Slot) (s : ℕ) : Type 0 where

@@ -13,8 +13,10 @@ use crate::cells::Cells;
 
 /// A slot is free iff the tree has room for one more entry, and no tree has more entries than the row has slots for.
 pub fn slots_are_counted()
-    ensures free { (capacity s : ℕ) (row : List ℕ) (t : Tree) → WellFormed t → Encodes capacity row t → IsFree (capacity + 1) (slot_at row) s → has_room capacity t ≡ true }
-    ensures full { (capacity : ℕ) (row : List ℕ) (t : Tree) → WellFormed t → Encodes capacity row t → ((s : ℕ) → ¬ (IsFree (capacity + 1) (slot_at row) s)) → has_room capacity t ≡ false }
+    ensures free { (capacity s : ℕ) (row : List ℕ) (t : Tree) → WellFormed t → Encodes capacity row t →
+        IsFree (capacity + 1) (slot_at row) s → has_room capacity t ≡ true }
+    ensures full { (capacity : ℕ) (row : List ℕ) (t : Tree) → WellFormed t → Encodes capacity row t →
+        ((s : ℕ) → ¬ (IsFree (capacity + 1) (slot_at row) s)) → has_room capacity t ≡ false }
     ensures most { (capacity : ℕ) (row : List ℕ) (t : Tree) → WellFormed t → Encodes capacity row t → length t.entries ≤ capacity }
 {}
 
@@ -25,7 +27,8 @@ pub fn opening_row_encodes_root()
 
 /// A row encodes the entries of at most one tree: two trees that it encodes have the same entries at each place.
 pub fn one_row_one_tree()
-    ensures { (capacity : ℕ) (row : List ℕ) (t u : Tree) → Encodes capacity row t → Encodes capacity row u → (d : ℕ) (c : List ℕ) → find t.entries d c ≡ find u.entries d c }
+    ensures { (capacity : ℕ) (row : List ℕ) (t u : Tree) → Encodes capacity row t → Encodes capacity row u → (d : ℕ) (c : List ℕ) →
+        find t.entries d c ≡ find u.entries d c }
 {}
 
 /// In a row that may be the one that is read, a question about a slot has one answer.

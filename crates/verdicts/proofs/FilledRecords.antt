@@ -27,7 +27,8 @@ module _ (hits : Permission → LeastHits) where
         let one : q ≡ p = sym (there q q) ∙ ap (λ z. get_or all_permissions z q) here ∙ there p q in
         ap (λ b. if b then h else hits_of r q) same ∙ is ∙ ap hits (sym one))
         (λ other. ap (λ b. if b then h else hits_of r q) other
-        ∙ before q (let differs = eqb-false (index q) (index p) other in ⊎_elim (λ l. l) (λ le. absurd (differs (omega (arith, le, lt, at)))) (cases_lt (index q) i)))
+        ∙ before q (let differs = eqb-false (index q) (index p) other in
+        ⊎_elim (λ l. l) (λ le. absurd (differs (omega (arith, le, lt, at)))) (cases_lt (index q) i)))
         (cases_Bool (index q == index p))
 
   module _ (below : (p : Permission) → index p < permission_count)

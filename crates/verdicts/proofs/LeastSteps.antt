@@ -1,5 +1,6 @@
 -- The least of a set, as members are added.
-use Rattle.std.proofs.Common.{◌≡◌, ◌≢◌, ◌⊎◌, inl, inr, ⊎_elim, ℕ, ◌+◌, ◌<◌, ◌≤◌, IsTrue, true, false, true≢false, get_or, refl, sym, ap, ◌∙◌, subst, arith}
+use Rattle.std.proofs.Common.{◌≡◌, ◌≢◌, ◌⊎◌, inl, inr, ⊎_elim, ℕ, ◌+◌, ◌<◌, ◌≤◌, IsTrue, true, false, true≢false, get_or, refl, sym, ap}
+use Rattle.std.proofs.Common.{◌∙◌, subst, arith}
 use Rattle.std.proofs.lemmas.Bool.{cases_lt}
 use Rattle.names.specs.declared.permissions.Permission.{Permission}
 use Rattle.names.specs.declared.permissions.Perms.{Perms}
@@ -46,7 +47,8 @@ least-more S T n d k to here back nonzero least lesser = ⊎_elim
     ))
     lesser
 
-module _ (below : (p : Permission) → index p < permission_count) (there : (p d : Permission) → get_or all_permissions (index p) d ≡ p) where
+module _ (below : (p : Permission) → index p < permission_count) (there : (p d : Permission) →
+    get_or all_permissions (index p) d ≡ p) where
   -- two permissions at the same place are the same
   same_place : (p q : Permission) → index p ≡ index q → p ≡ q
   same_place p q e = sym (there p p) ∙ ap (λ i. get_or all_permissions i p) e ∙ there q p
@@ -81,7 +83,8 @@ module _ (below : (p : Permission) → index p < permission_count) (there : (p d
       least)
 
   -- all precede the end of the list
-  pub least-all : (r : Record) (ask : Perms) (i n : ℕ) → permission_count ≤ i → IsLeastOrNone (DeniedBefore r ask i) n → IsLeastOrNone (ToldDenied r ask) n
+  pub least-all : (r : Record) (ask : Perms) (i n : ℕ) → permission_count ≤ i → IsLeastOrNone (DeniedBefore r ask i) n →
+      IsLeastOrNone (ToldDenied r ask) n
   least-all r ask i n le least = least-same (DeniedBefore r ask i) (ToldDenied r ask) n
       (λ m s. (s.0, (s.1.0, s.1.2, s.1.3)))
       (λ m t. (t.0, (t.1.0, omega (arith, le, below t.1.0), t.1.1, t.1.2)))

@@ -19,7 +19,8 @@ module _ (r : Record) (ask : Perms) where
     pub missing-asked : (i : ℕ) (q : Permission) (h : LeastHits) (s t u : Perms) → index q ≡ i → h ≡ hits_of r q → has ask q ≡ true →
         u ≡ t → t ≡ (if h.allow == 0 then with_permission s q else s) → IsPassedBefore is_missing i s → IsPassedBefore is_missing (i + 1) u
     missing-asked i q h s t u at is asked same made before =
-        let told : is_missing q ≡ (h.allow == 0) = ap (λ (b : Bool). b && ((hits_of r q).allow == 0)) asked ∙ ap (λ (x : LeastHits). x.allow == 0) (sym is) in
+        let told : is_missing q ≡ (h.allow == 0) = ap (λ (b : Bool). b && ((hits_of r q).allow == 0)) asked
+        ∙ ap (λ (x : LeastHits). x.allow == 0) (sym is) in
         let chosen : u ≡ (if h.allow == 0 then with_permission s q else s) = same ∙ made in
         ⊎_elim
         (λ none. subst (IsPassedBefore is_missing (i + 1)) (sym (chosen ∙ ap (λ (b : Bool). if b then with_permission s q else s) none))

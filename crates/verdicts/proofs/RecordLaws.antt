@@ -20,9 +20,11 @@ module _ (only : (k : ℕ) (other : Permission) → k < permission_count → ind
   pub same_record : (r s : Record) → ((p : Permission) → hits_of r p ≡ hits_of s p) → r ≡ s
   same_record r s same = λ i. record {
     hits = same_hits r s same i;
-    each = is_prop→PathP (λ j. length (same_hits r s same j) ≡ permission_count) (λ j. ℕ_set (length (same_hits r s same j)) permission_count) r.each s.each i;
+    each = is_prop→PathP (λ j. length (same_hits r s same j) ≡ permission_count)
+        (λ j. ℕ_set (length (same_hits r s same j)) permission_count) r.each s.each i;
   }
 
-module _ (below : (p : Permission) → index p < permission_count) (there : (p other : Permission) → get_or all_permissions (index p) other ≡ p) where
+module _ (below : (p : Permission) → index p < permission_count) (there : (p other : Permission) →
+    get_or all_permissions (index p) other ≡ p) where
   pub hits_made : (hits : Permission → LeastHits) (p : Permission) → hits_of (record_of hits) p ≡ hits p
   hits_made hits p = get_or-map hits all_permissions (index p) p no_hit (below p) ∙ ap hits (there p p)

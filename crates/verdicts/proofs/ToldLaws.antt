@@ -1,5 +1,6 @@
 -- A record gives one verdict.
-use Rattle.std.proofs.Common.{subst, ◌≡◌, ◌≢◌, ◌==◌, ◌&&◌, ◌↔◌, ⊎_elim, ℕ, Bool, true, false, IsTrue, refl, sym, ap, ◌∙◌, arith, eq-eqb, true≢false}
+use Rattle.std.proofs.Common.{subst, ◌≡◌, ◌≢◌, ◌==◌, ◌&&◌, ◌↔◌, ⊎_elim, ℕ, Bool, true, false, IsTrue, refl, sym, ap, ◌∙◌, arith, eq-eqb}
+use Rattle.std.proofs.Common.{true≢false}
 use Rattle.std.proofs.lemmas.Bool.{and_parts, and_from, cases_Bool, eqb-true}
 use Rattle.names.specs.declared.permissions.Permission.{Permission}
 use Rattle.names.specs.declared.permissions.Permission.TheVariants.{Read, Write, Link, Lock, Map}
@@ -56,7 +57,8 @@ missing-told r ask missing p is =
     )
 
 -- nothing is missing
-pub told-allowed : (r : Record) (ask missing : Perms) (n : ℕ) → IsLeastOrNone (ToldDenied r ask) n → n ≡ 0 → missing ≡ set_of (has_no_allow r ask) →
+pub told-allowed : (r : Record) (ask missing : Perms) (n : ℕ) → IsLeastOrNone (ToldDenied r ask) n → n ≡ 0 →
+    missing ≡ set_of (has_no_allow r ask) →
     ((p : Permission) → has missing p ≡ false) → IsTold r ask Allowed
 told-allowed r ask missing n least zero is nothing = (
   nothing_told r ask n least zero,
@@ -91,7 +93,8 @@ some_member s not_empty = ⊎_elim
     (cases_Bool (has s Read))
 
 -- something is missing
-pub told-no_rule : (r : Record) (ask missing : Perms) (n : ℕ) → IsLeastOrNone (ToldDenied r ask) n → n ≡ 0 → missing ≡ set_of (has_no_allow r ask) →
+pub told-no_rule : (r : Record) (ask missing : Perms) (n : ℕ) → IsLeastOrNone (ToldDenied r ask) n → n ≡ 0 →
+    missing ≡ set_of (has_no_allow r ask) →
     (((p : Permission) → has missing p ≡ false) → ⊥) → IsTold r ask (NoRule missing)
 told-no_rule r ask missing n least zero is something = (
   nothing_told r ask n least zero,
@@ -100,10 +103,12 @@ told-no_rule r ask missing n least zero is something = (
 )
 
 -- for the grounds of a record, their verdict is the one that the record gives
-pub told-on : (r : Record) (ask : Perms) (g : Grounds) → IsLeastOrNone (ToldDenied r ask) g.rule → g.missing ≡ set_of (has_no_allow r ask) →
+pub told-on : (r : Record) (ask : Perms) (g : Grounds) → IsLeastOrNone (ToldDenied r ask) g.rule →
+    g.missing ≡ set_of (has_no_allow r ask) →
     (v : Verdict) → IsVerdictOn g v → IsTold r ask v
 told-on r ask g least is (Denied n) h = subst (λ m. IsTold r ask (Denied m)) (sym h.1) (told-denied r ask g.rule least h.0)
-told-on r ask g least is (NoRule m) h = subst (λ s. IsTold r ask (NoRule s)) (sym h.2) (told-no_rule r ask g.missing g.rule least h.0 is h.1)
+told-on r ask g least is (NoRule m) h = subst (λ s. IsTold r ask (NoRule s)) (sym h.2)
+    (told-no_rule r ask g.missing g.rule least h.0 is h.1)
 told-on r ask g least is Allowed h = told-allowed r ask g.missing g.rule least h.0 is h.1
 
 -- there is at most one verdict on given grounds

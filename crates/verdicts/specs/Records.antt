@@ -22,5 +22,6 @@ NothingToldDenied r ask = (n : ℕ) → ¬ (ToldDenied r ask n)
 abbrev pub IsTold : Record → Perms → Verdict → Type 0
 IsTold r ask (Denied n) = IsLeast (ToldDenied r ask) n
 IsTold r ask (NoRule missing) =
-    NothingToldDenied r ask × ((p : Permission) × IsTrue (has missing p)) × ((p : Permission) → IsTrue (has missing p) ↔ ToldMissing r ask p)
+    NothingToldDenied r ask × ((p : Permission) × IsTrue (has missing p))
+    × ((p : Permission) → IsTrue (has missing p) ↔ ToldMissing r ask p)
 IsTold r ask Allowed = NothingToldDenied r ask × ((p : Permission) → ¬ (ToldMissing r ask p))

@@ -27,5 +27,6 @@ small_tree = record { entries = a ∷ f ∷ l ∷ r ∷ d ∷ []; next = 7 }
 abbrev pub HasSmall : World → Type 0
 HasSmall w = w.tree ≡ small_tree
 
-pub stands_small : (t : Tree) (e : Entry) → t ≡ small_tree → find small_tree.entries e.of e.component ≡ Some e → find t.entries e.of e.component ≡ Some e
+pub stands_small : (t : Tree) (e : Entry) → t ≡ small_tree → find small_tree.entries e.of e.component ≡ Some e →
+    find t.entries e.of e.component ≡ Some e
 stands_small t e is there = subst (λ (u : Tree). find u.entries e.of e.component ≡ Some e) (sym is) there

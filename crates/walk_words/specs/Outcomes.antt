@@ -17,7 +17,8 @@ use Rattle.walk_words.specs.Words.{IsUnread}
 -- For each row that agrees with the words and each sound tree that the row encodes, the answer is this file, its name at the front
 -- of the room; or it is refused with this number; or there is no such row.
 abbrev pub Decides : ℕ → List Cell → List ℕ → (Tree → Result Reached Errno) → Outcome → Type 0
-Decides capacity reads room answer (outcome.Reached file) = (file.name_length ≤ 4095) × InEach capacity (Agrees reads) (λ row t. answer t ≡ Ok (reached_of room file))
+Decides capacity reads room answer (outcome.Reached file) = (file.name_length ≤ 4095) × InEach capacity (Agrees reads)
+    (λ row t. answer t ≡ Ok (reached_of room file))
 Decides capacity reads room answer (outcome.Refused errno) = InEach capacity (Agrees reads) (λ row t. answer t ≡ Err errno)
 Decides capacity reads room answer outcome.Torn = InEach capacity (Agrees reads) (λ row t. ⊥)
 

@@ -23,7 +23,8 @@ pub(crate) struct RowCells<'a> {
     ghost one_capacity: { row.now.0 ≡ words.0 },
     ghost few: { read ≤ most },
     ghost counted: { read ≤ length words.1 },
-    ghost own: { ReadsOn row.now.1 (take read words.1) (drop read words.1) } by { ReadsOn-prop row.now.1 (take read words.1) (drop read words.1) },
+    ghost own: { ReadsOn row.now.1 (take read words.1) (drop read words.1) } by { ReadsOn-prop row.now.1 (take read words.1)
+        (drop read words.1) },
     ghost honest: { IsHonest words.0 words.1 most read lack },
 }
 

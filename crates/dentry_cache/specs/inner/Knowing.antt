@@ -19,7 +19,14 @@ abbrev pub RowSeat : Type 0
 RowSeat = Seat (Unit {0}) View
 
 abbrev pub held : RowSeat → ℕ → Held
-held seat capacity = record { table = seat.table_id; capacity = capacity; count = count_of (keeper_of seat.me.0); history = (keeper_of seat.me.0).history; cells = (keeper_of seat.me.0).cells }
+held seat capacity = record {
+  table = seat.table_id;
+  capacity = capacity;
+  count = count_of (keeper_of seat.me.0);
+  history =
+      (keeper_of seat.me.0).history;
+  cells = (keeper_of seat.me.0).cells;
+}
 
 abbrev pub walk : RowSeat → ℕ → Walk
 walk seat capacity = record { table = seat.table_id; capacity = capacity; view = walker_of seat.me.0 }
@@ -65,4 +72,5 @@ pub record Countable (h : Held) (next : ℕ) : Type 0 where
 
 -- a plan of the change, and what the row encodes once it is set
 abbrev pub IsPlanned : Held → Change → List Cell → Type 0
-IsPlanned h change plan = IsPlan h.capacity h.cells h.history change plan × EncodesChanges h.capacity (write h.cells plan) (h.history ++ change ∷ [])
+IsPlanned h change plan = IsPlan h.capacity h.cells h.history change plan × EncodesChanges h.capacity (write h.cells plan)
+    (h.history ++ change ∷ [])

@@ -40,7 +40,8 @@ pub record AreAlike (chart : Chart) (least : List ℕ) : Type 0 where
 -- each byte that a place of the set takes alone is marked
 pub record AreNamed (chart : Chart) (set : List ℕ) (named : List Bool) : Type 0 where
   pub long : length named ≡ 256
-  pub each : (p b : ℕ) (place : ChartPlace) → Contains set p → slice_get chart.places.items p ≡ Some place → place.takes ≡ label.Byte b → b < 256 →
+  pub each : (p b : ℕ) (place : ChartPlace) → Contains set p → slice_get chart.places.items p ≡ Some place →
+      place.takes ≡ label.Byte b → b < 256 →
       slice_index_or named b false ≡ true
 
 -- two bytes are alike, and neither is marked

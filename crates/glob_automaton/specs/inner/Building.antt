@@ -1,5 +1,6 @@
 -- The states of a chart: its sets of live places, each reached by some bytes.
-use Rattle.std.specs.Prelude.{◌≡◌, ◌≢◌, ◌↔◌, ℕ, ◌+◌, ◌<◌, ◌≤◌, List, [], ◌∷◌, ◌++◌, length, Some, slice_get, slice_index_or, Contains, IsTrue}
+use Rattle.std.specs.Prelude.{◌≡◌, ◌≢◌, ◌↔◌, ℕ, ◌+◌, ◌<◌, ◌≤◌, List, [], ◌∷◌, ◌++◌, length, Some, slice_get, slice_index_or, Contains}
+use Rattle.std.specs.Prelude.{IsTrue}
 use Rattle.names.specs.declared.permissions.Permission.{Permission}
 use Rattle.names.specs.Permissions.{has}
 use Rattle.verdicts.specs.declared.kind.RuleKind.{RuleKind}
@@ -22,7 +23,8 @@ ArePlaces chart set = (q : ℕ) → Contains set q → q < length chart.places.i
 -- what is live before the first byte
 pub record IsStartOf (chart : Chart) (set : List ℕ) : Type 0 where
   pub ascending : IsAscending set
-  pub live : (q : ℕ) → Contains set q ↔ ((n : ℕ) × (d : ChartRule) × (slice_get chart.rules.items n ≡ Some d) × IsIn chart.entries.items d.start q)
+  pub live : (q : ℕ) → Contains set q ↔ ((n : ℕ) × (d : ChartRule) × (slice_get chart.rules.items n ≡ Some d)
+      × IsIn chart.entries.items d.start q)
 
 -- what is live after one byte more
 pub record IsStepOf (chart : Chart) (set : List ℕ) (b : ℕ) (next : List ℕ) : Type 0 where
@@ -33,11 +35,13 @@ pub record IsStepOf (chart : Chart) (set : List ℕ) (b : ℕ) (next : List ℕ)
 -- the set that is live after these bytes
 pub data IsReached : Chart → List ℕ → List ℕ → Type 0 where
   begins : (chart : Chart) (set : List ℕ) → IsStartOf chart set → IsReached chart [] set
-  goes_on : (chart : Chart) (bytes set next : List ℕ) (b : ℕ) → IsReached chart bytes set → b < 256 → IsStepOf chart set b next → IsReached chart (bytes ++ b ∷ []) next
+  goes_on : (chart : Chart) (bytes set next : List ℕ) (b : ℕ) → IsReached chart bytes set → b < 256 → IsStepOf chart set b next →
+      IsReached chart (bytes ++ b ∷ []) next
 
 -- n is the number of a rule of this kind that holds p and whose end is in the set
 abbrev pub EndsIn : Chart → List ℕ → RuleKind → Permission → ℕ → Type 0
-EndsIn chart set kind p n = (i : ℕ) × (d : ChartRule) × (n ≡ i + 1) × (slice_get chart.rules.items i ≡ Some d) × (d.kind ≡ kind) × IsTrue (has d.perms p) × Contains set d.end
+EndsIn chart set kind p n = (i : ℕ) × (d : ChartRule) × (n ≡ i + 1) × (slice_get chart.rules.items i ≡ Some d) × (d.kind ≡ kind)
+    × IsTrue (has d.perms p) × Contains set d.end
 
 abbrev pub IsRecordOf : Chart → List ℕ → Record → Type 0
 IsRecordOf chart set r = (p : Permission) →

@@ -10,9 +10,12 @@ use Rattle.glob_automaton.specs.declared.chart.Label.TheVariants as label
 pub data IsIn : List Entry → ℕ → ℕ → Type 0 where
   at_place : (entries : List Entry) (e q : ℕ) → slice_get entries e ≡ Some (entry.Place q) → IsIn entries e q
   at_run : (entries : List Entry) (e q behind : ℕ) → slice_get entries e ≡ Some (entry.Run q behind) → IsIn entries e q
-  past_run : (entries : List Entry) (e p behind q : ℕ) → slice_get entries e ≡ Some (entry.Run p behind) → IsIn entries behind q → IsIn entries e q
-  one_side : (entries : List Entry) (e one other q : ℕ) → slice_get entries e ≡ Some (entry.Either one other) → IsIn entries one q → IsIn entries e q
-  other_side : (entries : List Entry) (e one other q : ℕ) → slice_get entries e ≡ Some (entry.Either one other) → IsIn entries other q → IsIn entries e q
+  past_run : (entries : List Entry) (e p behind q : ℕ) → slice_get entries e ≡ Some (entry.Run p behind) → IsIn entries behind q →
+      IsIn entries e q
+  one_side : (entries : List Entry) (e one other q : ℕ) → slice_get entries e ≡ Some (entry.Either one other) → IsIn entries one q →
+      IsIn entries e q
+  other_side : (entries : List Entry) (e one other q : ℕ) → slice_get entries e ≡ Some (entry.Either one other) → IsIn entries other q →
+      IsIn entries e q
 
 -- an entry refers only to entries before it
 abbrev pub refers_below : ℕ → Entry → Type 0

@@ -55,9 +55,11 @@ pub record HasRule (chart : Chart) (rule : RuleValue) (drawn : ChartRule) : Type
   pub fits : drawn.end + places (pattern rule) < length chart.places.items
   pub starts : (q : ℕ) → IsIn chart.entries.items drawn.start q ↔ Starts (pattern rule) (drawn.end + 1) (λ r. r ≡ drawn.end) q
   pub start_there : drawn.start < length chart.entries.items
-  pub taken : (p b : ℕ) (place : ChartPlace) → drawn.end ≤ p → p ≤ drawn.end + places (pattern rule) → slice_get chart.places.items p ≡ Some place → b < 256 →
+  pub taken : (p b : ℕ) (place : ChartPlace) → drawn.end ≤ p → p ≤ drawn.end + places (pattern rule) → slice_get chart.places.items p
+      ≡ Some place → b < 256 →
       IsTrue (takes_byte chart.classes.items place.takes b) ↔ TakesAt (pattern rule) (drawn.end + 1) p b
-  pub goes : (p q : ℕ) (place : ChartPlace) → drawn.end < p → p ≤ drawn.end + places (pattern rule) → slice_get chart.places.items p ≡ Some place →
+  pub goes : (p q : ℕ) (place : ChartPlace) → drawn.end < p → p ≤ drawn.end + places (pattern rule) →
+      slice_get chart.places.items p ≡ Some place →
       IsIn chart.entries.items place.behind q ↔ Goes (pattern rule) (drawn.end + 1) (λ r. r ≡ drawn.end) p q
 
 -- each rule comes after the one before it, and nothing else is in the chart
@@ -70,7 +72,8 @@ HasRules chart at (rule ∷ rules) (d ∷ ds) = (d.end ≡ at) × HasRule chart 
 -- the chart of these rules: what it refers to is there
 pub record IsChartOf (rules : List RuleValue) (chart : Chart) : Type 0 where
   pub ordered : IsOrdered chart.entries.items
-  pub there : (p : ℕ) (place : ChartPlace) → slice_get chart.places.items p ≡ Some place → (place.behind < length chart.entries.items) × IsKnown chart place.takes
+  pub there : (p : ℕ) (place : ChartPlace) → slice_get chart.places.items p ≡ Some place → (place.behind < length chart.entries.items)
+      × IsKnown chart place.takes
   pub drawn : HasRules chart 0 rules chart.rules.items
 
 -- some rules are drawn, whichever

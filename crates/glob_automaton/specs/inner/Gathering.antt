@@ -11,7 +11,8 @@ use Rattle.glob_automaton.specs.inner.PlaceBits.{has_from, has_place, AreWithin}
 
 -- each closure has the places that are live at its entry
 abbrev pub AreClosures : List Entry → Closures → Type 0
-AreClosures entries closures = (e : ℕ) (c : Closure) → slice_get closures.closures.items e ≡ Some c → (q : ℕ) → (has_from c.first c.words.items q ≡ true) ↔ IsIn entries e q
+AreClosures entries closures = (e : ℕ) (c : Closure) → slice_get closures.closures.items e ≡ Some c → (q : ℕ) →
+    (has_from c.first c.words.items q ≡ true) ↔ IsIn entries e q
 
 -- what it takes to gather sets of a chart
 pub record IsGathering (chart : Chart) (g : Gathering) : Type 0 where

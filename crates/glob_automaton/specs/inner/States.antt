@@ -48,7 +48,8 @@ abbrev pub IsRowOfSet : Chart → List (List ℕ) → List ℕ → List TargetRa
 IsRowOfSet chart sets set row = IsRowOf (IsTargetOf chart sets set) row
 
 -- The first states have their rows and records. The sets may be more.
-pub record AreStates (chart : Chart) (sets : List (List ℕ)) (ranges : List TargetRange) (firsts : List ℕ) (records : List Record) (start state : ℕ) : Type 0 where
+pub record AreStates (chart : Chart) (sets : List (List ℕ)) (ranges : List TargetRange) (firsts : List ℕ) (records : List Record)
+    (start state : ℕ) : Type 0 where
   pub sets_few : AreFewSets chart sets
   pub start_there : start < length sets
   pub start_first : start ≤ 1

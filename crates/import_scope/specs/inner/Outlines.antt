@@ -63,4 +63,8 @@ head_stop s (item ∷ items) = elim (head_fault item.kind s item.parts) [ None �
 -- what was asked up to there
 abbrev pub all_asked : ScopeState → List ItemValue → List AskedValue
 all_asked s [] = []
-all_asked s (item ∷ items) = elim (head_fault item.kind s item.parts) [ None ↦ asks item.kind s item.parts ++ all_asked (behind s item) items | Some fault ↦ [] ]
+all_asked s (item ∷ items) = elim (head_fault item.kind s item.parts) [
+  | None ↦ asks item.kind s item.parts ++ all_asked (behind s item)
+      items
+  | Some fault ↦ []
+]

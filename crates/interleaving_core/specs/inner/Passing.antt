@@ -13,6 +13,7 @@ PassesBy old event answers new more =
     ⊎ (¬ (IsLawful old event) × (new ≡ old) × (more ≡ answers))
 
 -- If memory is refused, nothing changed, or it was taken.
-pub record IsPass {A B : Type 0} (old : Machine) (event : Event) (answers : List (ℕ × Answer)) (result : Result A B) (new : Machine) (more : List (ℕ × Answer)) : Type 0 where
+pub record IsPass {A B : Type 0} (old : Machine) (event : Event) (answers : List (ℕ × Answer)) (result : Result A B) (new : Machine)
+    (more : List (ℕ × Answer)) : Type 0 where
   pub ok : OnOk result (PassesBy old event answers new more)
   pub err : OnErr result ((new ≡ old) ⊎ ((told : Option Answer) × Takes old event told new))

@@ -19,7 +19,8 @@ Fits (File file) = file.name_length ≤ 4095
 abbrev pub IsReach : List Change → ℕ → List ℕ → Perms → List ℕ → Reach → Type 0
 IsReach changes version path ask room NoTree = (t : Tree) → ¬ (IsTreeAt changes version t)
 IsReach changes version path ask room (Failed errno) = (t : Tree) × IsTreeAt changes version t × (reached t path ask ≡ Err errno)
-IsReach changes version path ask room (File file) = (t : Tree) × IsTreeAt changes version t × (reached t path ask ≡ Ok (reached_of room file))
+IsReach changes version path ask room (File file) = (t : Tree) × IsTreeAt changes version t
+    × (reached t path ask ≡ Ok (reached_of room file))
 
 -- no file was reached, for this reason
 abbrev pub IsFailure : Reach → Errno → Type 0

@@ -84,7 +84,11 @@ walking_of w = walking (policed_of w.policed) (walker_of w) (next_of w.next)
 -- `count` readings of a cell lead from one walk to the other
 abbrev pub WalkReads : ℕ → List ℕ → ℕ → Walk → Walk → Type 0
 WalkReads capacity cells count old new =
-    (name : List ℕ) → CellReads capacity cells count record { name = name; stage = walking_of old } record { name = name; stage = walking_of new }
+    (name : List ℕ) → CellReads capacity cells count record { name = name; stage = walking_of old } record {
+      name =
+          name;
+      stage = walking_of new;
+    }
 
 -- At most `most` cells were read, and fewer only if none is needed or memory was refused.
 pub record ReadsSome (capacity : ℕ) (cells : List ℕ) (most : ℕ) (room : List ℕ) (old : Walk) (new : Readings) : Type 0 where

@@ -36,8 +36,10 @@ start_at text directory = if begins_with_slash text then Root else directory
 module _ {E : Type 0} (means : E → World → Spot) (w : World) (last : Last) where
   -- what a component of this directory led to gives this answer, with this many links left and these steps after it
   abbrev pub ArrivesAt : ℕ → ℕ → List Step → Walked → Arrival E → Type 0
-  ArrivesAt links d xs answer (arrival.Directory e) = (answer ≡ resolve w.tree last links (node_at (means e w)) xs) × IsDirectory w.tree (means e w)
-  ArrivesAt links d xs answer (arrival.Link e) = (text : List ℕ) × (kind_at (means e w) ≡ Link text) × (answer ≡ after_link w.tree last links (start_of text d) (steps_of text ++ xs))
+  ArrivesAt links d xs answer (arrival.Directory e) = (answer ≡ resolve w.tree last links (node_at (means e w)) xs)
+      × IsDirectory w.tree (means e w)
+  ArrivesAt links d xs answer (arrival.Link e) = (text : List ℕ) × (kind_at (means e w) ≡ Link text)
+      × (answer ≡ after_link w.tree last links (start_of text d) (steps_of text ++ xs))
   ArrivesAt links d xs answer (arrival.End e) = answer ≡ Ok (means e w)
 
   -- the walk that has come so far, with this text left, gives this answer

@@ -95,16 +95,19 @@ pub record MakesWay (old new : Store) (into : ℕ) (name : List ℕ) : Type 0 wh
 
 -- the entry of one place goes to another
 abbrev pub shifted : Store → ℕ → List ℕ → ℕ → List ℕ → ℕ → List ℕ → Option Node
-shifted s of c into name d q = if (into == d) && bytes_eq name q then stored_node s of c else (if (of == d) && bytes_eq c q then None else stored_node s d q)
+shifted s of c into name d q = if (into == d) && bytes_eq name q then stored_node s of c else
+    (if (of == d) && bytes_eq c q then None else stored_node s d q)
 
 pub record MovesOver (old new : Store) (of : ℕ) (c : List ℕ) (into : ℕ) (name : List ℕ) : Type 0 where
   pub nodes : (d : ℕ) (q : List ℕ) → stored_node new d q ≡ shifted old of c into name d q
-  pub parents : (d : ℕ) → stored_parent new d ≡ (if is_numbered (stored_node old of c) d then Some (Some (new_parent into name)) else stored_parent old d)
+  pub parents : (d : ℕ) → stored_parent new d ≡ (if is_numbered (stored_node old of c) d then Some (Some (new_parent into name))
+      else stored_parent old d)
 
 -- and what was there is removed, a directory with its entry
 pub record Shifts (old new : Store) (of : ℕ) (c : List ℕ) (into : ℕ) (name : List ℕ) : Type 0 where
   pub nodes : (d : ℕ) (q : List ℕ) → stored_node new d q ≡ shifted old of c into name d q
-  pub parents : (d : ℕ) → stored_parent new d ≡ (if is_numbered (stored_node old of c) d then Some (Some (new_parent into name)) else (if is_numbered (stored_node old into name) d then None else stored_parent old d))
+  pub parents : (d : ℕ) → stored_parent new d ≡ (if is_numbered (stored_node old of c) d then Some (Some (new_parent into name)) else
+      (if is_numbered (stored_node old into name) d then None else stored_parent old d))
 
 -- an entry goes, that of a directory with its directory
 pub record Leaves (old new : Store) (of : ℕ) (c : List ℕ) : Type 0 where

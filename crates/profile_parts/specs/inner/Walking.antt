@@ -1,5 +1,6 @@
 -- The tests of a path's tokens, in one pass from left to right: what is still wanted behind each place.
-use Rattle.std.specs.Prelude.{ℕ, suc, ◌-◌, List, [], ◌∷◌, length, option_and_then, Option, Some, None, Bool, true, false, not, ◌&&◌, ◌||◌, ◌==◌, nat_lt, if◌then◌else◌}
+use Rattle.std.specs.Prelude.{ℕ, suc, ◌-◌, List, [], ◌∷◌, length, option_and_then, Option, Some, None, Bool, true, false, not, ◌&&◌, ◌||◌}
+use Rattle.std.specs.Prelude.{◌==◌, nat_lt, if◌then◌else◌}
 use Rattle.std.specs.List.{list_all}
 use Rattle.rule_globs.specs.Glob.{is_slash}
 use Rattle.rule_globs.specs.Tokens.{Token, byte, any_byte, bracket, stars, opening, between, closing}

@@ -1,5 +1,6 @@
 -- The way from a first variable to the one whose list is being made; each list on it waits for the next.
-use Rattle.std.specs.Prelude.{◌≡◌, ◌≢◌, ◌<◌, ℕ, List, [], ◌∷◌, length, map, take, suc, ◌+◌, ◌⊎◌, IsSome, Option, Some, None, slice_get, unwrap_or, option_and_then, Bool, true, false, ◌==◌, Contains}
+use Rattle.std.specs.Prelude.{◌≡◌, ◌≢◌, ◌<◌, ℕ, List, [], ◌∷◌, length, map, take, suc, ◌+◌, ◌⊎◌, IsSome, Option, Some, None, slice_get}
+use Rattle.std.specs.Prelude.{unwrap_or, option_and_then, Bool, true, false, ◌==◌, Contains}
 use Rattle.std.specs.List.{list_any}
 use Rattle.std.specs.Option.{option_map_or}
 use Rattle.profile_variables.specs.Pieces.{Text}
@@ -29,7 +30,8 @@ pub record IsSound (variables : List Variable) (made : Made) : Type 0 where
   pub marks : length made.needs_first.items ≡ length variables
   pub levels : ℕ
   pub right : KnowsAll (known_in variables made.lists.items) (list_at levels variables)
-  pub free : (value : Text) → KnowsAll (free_in variables made.lists.items made.needs_first.items) (list_at levels (with_first_value variables value))
+  pub free : (value : Text) → KnowsAll (free_in variables made.lists.items made.needs_first.items)
+      (list_at levels (with_first_value variables value))
   pub noted : (place : ℕ) → is_marked made.needs_first.items place ≡ true → Contains made.needing_first.items place
   pub within : (place : ℕ) → Contains made.needing_first.items place → place < length variables
 

@@ -33,10 +33,12 @@ view_with cells history opened set = record { history = history; cells = cells; 
 abbrev pub IsOpenIn : ℕ → List Change → Option OpenChange → ℕ → Type 0
 IsOpenIn size history None set = Unit {0}
 IsOpenIn size history (Some o) set =
-    (o.target.events ≡ history ++ last_of o.target.events ∷ []) × (set ≤ length o.plan.items) × All (λ (cell : Cell). cell.place < size) o.plan.items
+    (o.target.events ≡ history ++ last_of o.target.events ∷ []) × (set ≤ length o.plan.items)
+    × All (λ (cell : Cell). cell.place < size) o.plan.items
 
 -- Once the cells that are left are set, the row encodes the tree after the changes that are then made.
-pub record IsKept (capacity : ℕ) (cells : List ℕ) (next version : ℕ) (history : List Change) (opened : Option OpenChange) (set : ℕ) : Type 0 where
+pub record IsKept (capacity : ℕ) (cells : List ℕ) (next version : ℕ) (history : List Change) (opened : Option OpenChange)
+    (set : ℕ) : Type 0 where
   pub tree : Tree
   pub made : tree_after capacity (target_of history (pending_of opened set)) ≡ Ok tree
   pub encodes : Encodes capacity (write cells (left_of (pending_of opened set))) tree

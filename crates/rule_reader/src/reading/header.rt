@@ -2,7 +2,8 @@
 ghost use Rattle.std.specs.Prelude.{◌≡◌, ℕ, List};
 ghost use Rattle.rule_reader.specs.inner.Gives.{Gives};
 ghost use Rattle.rule_reader.specs.ReadWords.{after_word};
-ghost use Rattle.rule_reader.specs.ReadHeader.{slash_name_at, name_at, attachment_at, brace_at, named_header_at, slash_header_at, header_at};
+ghost use Rattle.rule_reader.specs.ReadHeader.{slash_name_at, name_at, attachment_at, brace_at, named_header_at, slash_header_at};
+ghost use Rattle.rule_reader.specs.ReadHeader.{header_at};
 
 use super::local_fault::{Failure, FaultKind, fault_here};
 use super::name::{name_of, quoted_name_of};

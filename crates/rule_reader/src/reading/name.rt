@@ -35,7 +35,8 @@ fn name_byte(quoted: bool, escaped: bool, byte: u8) -> NameByte
 /// How many bytes at the front are a name's, `room` at most. The fault of a longer name is at its first byte.
 #[tactic(auto, unfolding(crate::specs::ReadWords::name_bytes))]
 fn name_length(quoted: bool, room: usize, bytes: &[u8]) -> Result<usize, Failure>
-    ensures gives { Gives (λ (n : ℕ). (take n bytes.now, drop n bytes.now)) result (name_bytes quoted (length bytes.now) false room bytes.now) }
+    ensures gives { Gives (λ (n : ℕ). (take n bytes.now, drop n bytes.now)) result
+        (name_bytes quoted (length bytes.now) false room bytes.now) }
     ensures fits { IfOk result (λ n. n ≤ length bytes.now) }
 {
     let mut escaped = false;

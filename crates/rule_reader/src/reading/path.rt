@@ -1,12 +1,14 @@
 //! The path of a rule.
-ghost use Rattle.std.specs.Prelude.{◌≡◌, ◌∷◌, ◌++◌, [], ℕ, List, map, false, option_map, length, drop, codes, IfOk, IfErr, IfSome, IsTrue, ◌≤◌};
+ghost use Rattle.std.specs.Prelude.{◌≡◌, ◌∷◌, ◌++◌, [], ℕ, List, map, false, option_map, length, drop, codes, IfOk, IfErr, IfSome, IsTrue};
+ghost use Rattle.std.specs.Prelude.{◌≤◌};
 ghost use Rattle.rule_reader.specs.inner.Building.{tokens_in, braces_in, token_value, StandsIn};
 ghost use Rattle.rule_globs.specs.Meaning.{meaning_of, stars_glob};
 ghost use Rattle.rule_reader.specs.inner.Gives.{Gives};
 ghost use Rattle.rule_profile.specs.Limits.{max_items};
 ghost use Rattle.rule_reader.specs.ReadWords.{after};
 ghost use Rattle.rule_globs.specs.Tokens.{tokens_of, all_full};
-ghost use Rattle.rule_reader.specs.ReadPaths.{braces_behind, path_ends, escaped_at, goes_on_at, slash_or_end, token_at, tokens_at, path_in, path_at};
+ghost use Rattle.rule_reader.specs.ReadPaths.{braces_behind, path_ends, escaped_at, goes_on_at, slash_or_end, token_at, tokens_at};
+ghost use Rattle.rule_reader.specs.ReadPaths.{path_in, path_at};
 ghost use Rattle.rule_reader.specs.PathText.{text_tokens};
 ghost use Rattle.rule_profile.specs.PathTokens.{is_plain_slash};
 ghost use Rattle.rule_profile.specs.Readable.{are_tokens};

@@ -82,7 +82,12 @@ pub(crate) fn word_of(bytes: &[u8]) -> Option<(&[u8], &[u8])>
 
 /// The fault of a word that is not supported, where `bytes` begins with it and `rest` is left after it.
 pub(crate) fn word_left_out(bytes: &[u8], word: &[u8], rest: &[u8]) -> Failure
-    ensures { result ≡ Failure.At (record { kind = FaultKind.LeftOut (length word.now); left = length bytes.now; settled = goes_on rest.now }) }
+    ensures { result ≡ Failure.At (record {
+      kind = FaultKind.LeftOut (length word.now);
+      left = length bytes.now;
+      settled =
+          goes_on rest.now;
+    }) }
 {
     fault_with_left(FaultKind::LeftOut(word.len()), bytes.len(), rest)
 }

@@ -1,16 +1,20 @@
 -- The program as its parser knows it, and what the parser finds.
-use Rattle.std.specs.Prelude.{◌≡◌, ℕ, Bool, true, false, List, [], ◌∷◌, map, fold, Option, Some, None, codes, option_and_then, option_map, pos, unwrap_or, is_some, ⊤, if◌then◌else◌}
+use Rattle.std.specs.Prelude.{◌≡◌, ℕ, Bool, true, false, List, [], ◌∷◌, map, fold, Option, Some, None, codes, option_and_then, option_map}
+use Rattle.std.specs.Prelude.{pos, unwrap_or, is_some, ⊤, if◌then◌else◌}
 use Rattle.std.specs.Str.{bytes_eq}
 use Rattle.std.specs.Str.Parse.{digits_value, without_leading_plus}
 use Rattle.clap.specs.ValueTests.{is_unsigned_in}
-use Rattle.clap.specs.Words.{App, Row, Rule, all_of, kind_of, new_app, new_rule, first_of, first_value, matched_of, one_of, raw_values, rows_of, subcommand_rows_of, with_rule, with_subcommand}
+use Rattle.clap.specs.Words.{App, Row, Rule, all_of, kind_of, new_app, new_rule, first_of, first_value, matched_of, one_of, raw_values}
+use Rattle.clap.specs.Words.{rows_of, subcommand_rows_of, with_rule, with_subcommand}
 use Rattle.clap.specs.declared.builder.action.ArgAction.TheVariants.{Append, SetTrue}
 use Rattle.clap.specs.declared.parser.matches.ArgMatches.{ArgMatches}
 use Rattle.clap.specs.declared.parser.matches.Found.{Found}
 use Rattle.clap.specs.declared.builder.value_parser.ValueParser.TheVariants.{Signed}
 use Rattle.clap.specs.declared.error.Error.{Error}
 use Rattle.clap.specs.declared.error.kind.ErrorKind.TheVariants.{OutOfMemory}
-use Rattle.trace_line.specs.CommandLine.{CommandForm, Given, LineValue, NumberOption, OptionForm, Arguments, Wants, asks, command_named, commands, import_of, line_of, many_texts, no_text, number_form, numbers, one_number, one_text, option_named, pair, storm, text_given, texts_given}
+use Rattle.trace_line.specs.CommandLine.{CommandForm, Given, LineValue, NumberOption, OptionForm, Arguments, Wants, asks, command_named}
+use Rattle.trace_line.specs.CommandLine.{commands, import_of, line_of, many_texts, no_text, number_form, numbers, one_number, one_text}
+use Rattle.trace_line.specs.CommandLine.{option_named, pair, storm, text_given, texts_given}
 use Rattle.trace_line.specs.declared.line.LineFault.{LineFault}
 use Rattle.trace_line.specs.declared.line.LineFault.TheVariants.{Usage, NoMemory}
 use Rattle.trace_line.specs.declared.parser.NumberOption as declared
@@ -101,7 +105,8 @@ HasNumbers options rows number = (option : NumberOption) → option_named (map n
 -- the three numbers of a storm are found
 abbrev pub IsStormOf : List Row → LineValue → Type 0
 IsStormOf rows value = (sessions : ℕ) × (opens : ℕ) × (changes : ℕ) × (number_read (codes "sessions") rows ≡ Some sessions)
-    × (number_read (codes "opens") rows ≡ Some opens) × (number_read (codes "changes") rows ≡ Some changes) × (value ≡ storm sessions opens changes)
+    × (number_read (codes "opens") rows ≡ Some opens) × (number_read (codes "changes") rows ≡ Some changes)
+    × (value ≡ storm sessions opens changes)
 
 abbrev pub flag_of : List ℕ → Option Bool
 flag_of text = if bytes_eq text (codes "true") then Some true else (if bytes_eq text (codes "false") then Some false else None)
@@ -130,7 +135,8 @@ GivesLine (pair line) rows value = (perms : List ℕ) × (name : List ℕ) × (f
     × (first_of (codes "NAME") rows ≡ Some name) × (value ≡ Some (line perms name))
 GivesLine (numbers options line) rows value = (number : NumberOption → ℕ) × HasNumbers options rows number × (value ≡ Some (line number))
 GivesLine (asks options line) rows value = (given : Given)
-    × ((option : OptionForm) → option_named options option.name ≡ Some option → HasTexts rows given option.name option.wants) × (value ≡ line given)
+    × ((option : OptionForm) → option_named options option.name ≡ Some option → HasTexts rows given option.name option.wants)
+    × (value ≡ line given)
 
 -- what the parser finds in words that it accepts: the command's name, and matches that give the line, if the words are one
 pub record IsReadAs (words : List (List ℕ)) (matches : ArgMatches) : Type 0 where

@@ -1,5 +1,6 @@
 -- What functions that do a command guarantee, and how far a call has come.
-use Rattle.std.specs.Prelude.{◌≡◌, ◌⊎◌, ℕ, zero, suc, ◌+◌, ◌≤◌, ◌==◌, List, [], ◌∷◌, ◌++◌, length, replicate, Option, Some, None, Result, Ok, Err, Vec, if◌then◌else◌}
+use Rattle.std.specs.Prelude.{◌≡◌, ◌⊎◌, ℕ, zero, suc, ◌+◌, ◌≤◌, ◌==◌, List, [], ◌∷◌, ◌++◌, length, replicate, Option, Some, None, Result}
+use Rattle.std.specs.Prelude.{Ok, Err, Vec, if◌then◌else◌}
 use Rattle.std.specs.List.{All, list_any}
 use Rattle.std.specs.declared.alloc.Global.{Global}
 use Rattle.names.specs.declared.errors.Errno.{Errno}
@@ -45,7 +46,8 @@ IsTurnTaken old event new = ((told : Option Answer) × Takes old event told new)
 
 -- a session's call was answered, or it has begun none
 abbrev pub IsAnswered : ℕ → Machine → Machine → Result (Option Answer) Stop → Type 0
-IsAnswered s old new (Ok (Some told)) = (events : List Event) × All (LeadsOn s) events × Runs old (events ++ answer s ∷ []) ((s, told) ∷ []) new
+IsAnswered s old new (Ok (Some told)) = (events : List Event) × All (LeadsOn s) events × Runs old (events ++ answer s ∷ [])
+    ((s, told) ∷ []) new
 IsAnswered s old new (Ok None) = ((old.sessions s).stage ≡ resting) × (new ≡ old)
 IsAnswered s old new (Err stop) = stop ≡ Memory
 

@@ -9,7 +9,8 @@ use Rattle.trace_script.specs.declared.stop.Stop.{Stop}
 use Rattle.trace_script.specs.declared.stop.Stop.TheVariants.{NoCommand, Input, TooLong, Memory, Output}
 use Rattle.trace_script.specs.Engine.{section_value, IsTooLong}
 use Rattle.trace_script.specs.RunOutput.{text_of_lines}
-use Rattle.trace_script.specs.Script.{Section, outside, within, LineOf, ignored, opens_policy, command, no_command, words_of, is_end, line_feed}
+use Rattle.trace_script.specs.Script.{Section, outside, within, LineOf, ignored, opens_policy, command, no_command, words_of, is_end}
+use Rattle.trace_script.specs.Script.{line_feed}
 use Rattle.trace_steps.specs.StepScript.{StepCommand, publish_text, step_kind, step_script}
 use Rattle.trace_steps.specs.StepLines.{Lines, Does, DoesAll}
 use Rattle.trace_steps.specs.StepsOutput.{CommandsRead, PrintsFirst}
@@ -50,14 +51,18 @@ module _ (limit : StateLimit) (old : Machine) where
   -- all commands that were read except the last are done
   abbrev pub IsShort : Option (List ℕ) → Option (List ℕ) → List ℕ → Option (List ℕ) → Option (List ℕ) → Type 0
   IsShort left left_after text before after =
-      (count : ℕ) × (lines : Lines) × CommandsRead left left_after count × PrintsFirst limit text old count lines × Appends before after (text_of_lines lines)
+      (count : ℕ) × (lines : Lines) × CommandsRead left left_after count × PrintsFirst limit text old count lines × Appends before after
+      (text_of_lines lines)
 
   -- the commands of a script are done, or the first ones, and there is a reason why there are no more
-  abbrev pub IsFollowed : {T : Type 0} → Option (List ℕ) → Option (List ℕ) → List ℕ → Machine → Option (List ℕ) → Option (List ℕ) → Result T Stop → Type 0
+  abbrev pub IsFollowed : {T : Type 0} → Option (List ℕ) → Option (List ℕ) → List ℕ → Machine → Option (List ℕ) → Option (List ℕ) →
+      Result T Stop → Type 0
   IsFollowed left left_after text new before after (Ok done) =
-      ((step_script text).stopped ≡ None) × ((lines : Lines) × DoesAll limit old (step_script text).commands lines new × Appends before after (text_of_lines lines))
+      ((step_script text).stopped ≡ None) × ((lines : Lines) × DoesAll limit old (step_script text).commands lines new
+      × Appends before after (text_of_lines lines))
   IsFollowed left left_after text new before after (Err (NoCommand number)) =
-      ((step_script text).stopped ≡ Some number) × ((lines : Lines) × DoesAll limit old (step_script text).commands lines new × Appends before after (text_of_lines lines))
+      ((step_script text).stopped ≡ Some number) × ((lines : Lines) × DoesAll limit old (step_script text).commands lines new
+      × Appends before after (text_of_lines lines))
   IsFollowed left left_after text new before after (Err Input) = IsShort left left_after text before after
   IsFollowed left left_after text new before after (Err TooLong) = IsTooLong left left_after × IsShort left left_after text before after
   IsFollowed left left_after text new before after (Err Memory) = IsShort left left_after text before after

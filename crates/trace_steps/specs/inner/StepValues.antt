@@ -4,8 +4,10 @@ use Rattle.trace_script.specs.LineValues.{change_words, kind_by}
 use Rattle.trace_script.specs.Script.{LineOf}
 use Rattle.event_core.specs.Coded.{event_of}
 use Rattle.trace_steps.specs.declared.command.StepCommand.{StepCommand as StepCommandHere}
-use Rattle.trace_steps.specs.declared.command.StepCommand.TheVariants.{Remove, Alter, Open, Single, ReadCells, Finish, Keep, SetCells, Close}
-use Rattle.trace_steps.specs.StepScript.{StepCommand, remove_profile, alter_whole, open_whole, single, cells_read, finish, keep, cells_set, close}
+use Rattle.trace_steps.specs.declared.command.StepCommand.TheVariants.{Remove, Alter, Open, Single, ReadCells, Finish, Keep, SetCells}
+use Rattle.trace_steps.specs.declared.command.StepCommand.TheVariants.{Close}
+use Rattle.trace_steps.specs.StepScript.{StepCommand, remove_profile, alter_whole, open_whole, single, cells_read, finish, keep, cells_set}
+use Rattle.trace_steps.specs.StepScript.{close}
 
 abbrev pub step_value : StepCommandHere → StepCommand
 step_value (Remove name) = remove_profile name.now

@@ -1,5 +1,6 @@
 -- What the engine knows between two lines, and what its commands do.
-use Rattle.std.specs.Prelude.{◌≡◌, ℕ, ◌+◌, Bool, true, List, [], ◌∷◌, take, Option, Some, None, option_map, Result, Ok, Err, Vec, if◌then◌else◌}
+use Rattle.std.specs.Prelude.{◌≡◌, ℕ, ◌+◌, Bool, true, List, [], ◌∷◌, take, Option, Some, None, option_map, Result, Ok, Err, Vec}
+use Rattle.std.specs.Prelude.{if◌then◌else◌}
 use Rattle.std.specs.Io.KnownBytes.{Appends}
 use Rattle.std.specs.declared.alloc.Global.{Global}
 use Rattle.glob_automaton.specs.Automata.{StateLimit}
@@ -85,13 +86,16 @@ IsShortTest limit history left left_after text before after = (count : ℕ) × T
     × Appends before after (text_of_lines (failure_lines (expectations limit history (take count (test_script text).commands))))
 
 -- a test was done, or some of it, and why there is no more
-abbrev pub IsTested : StateLimit → History → Option (List ℕ) → Option (List ℕ) → List ℕ → Option (List ℕ) → Option (List ℕ) → Result Status Stop → Type 0
+abbrev pub IsTested : StateLimit → History → Option (List ℕ) → Option (List ℕ) → List ℕ → Option (List ℕ) → Option (List ℕ) →
+    Result Status Stop → Type 0
 IsTested limit history left left_after text before after (Ok status) =
     ((test_script text).stopped ≡ None) × (status ≡ tested_status (expectations limit history (test_script text).commands))
     × Appends before after (text_of_lines (all_lines (expectations limit history (test_script text).commands)))
 IsTested limit history left left_after text before after (Err (NoCommand number)) =
-    ((test_script text).stopped ≡ Some number) × Appends before after (text_of_lines (failure_lines (expectations limit history (test_script text).commands)))
+    ((test_script text).stopped ≡ Some number) × Appends before after
+    (text_of_lines (failure_lines (expectations limit history (test_script text).commands)))
 IsTested limit history left left_after text before after (Err Input) = IsShortTest limit history left left_after text before after
 IsTested limit history left left_after text before after (Err TooLong) = IsShortTest limit history left left_after text before after
 IsTested limit history left left_after text before after (Err Memory) = IsShortTest limit history left left_after text before after
-IsTested limit history left left_after text before after (Err Output) = AppendsFront before after (test_output limit history (test_script text)).answers
+IsTested limit history left left_after text before after (Err Output) =
+    AppendsFront before after (test_output limit history (test_script text)).answers

@@ -24,7 +24,8 @@ end_by (Err (fault.Refused errno)) lacks = Ok (outcome.Refused errno)
 end_by (Err fault.Torn) (Some lacks) = Err lacks
 end_by (Err fault.Torn) None = Ok outcome.Torn
 
-read_prop : (row : List ℕ) (read : Cell) (before : List Cell) → IsProp ((slice_get row read.place ≡ Some read.word) × IsUnread before read.place)
+read_prop : (row : List ℕ) (read : Cell) (before : List Cell) →
+    IsProp ((slice_get row read.place ≡ Some read.word) × IsUnread before read.place)
 read_prop row read before = hlevel codes
 
 -- there is at most one proof that more words were read

@@ -14,11 +14,14 @@ unreachable-requires c =
 
 pub returns-in-Ok-from_slice-clause-end : goal.returns-in-Ok-from_slice-clause-end
 returns-in-Ok-from_slice-clause-end c =
-    let name : take c.in-Ok.file.name_length c.reach_file.new.room ≡ c.in-Ok-from_slice.name.items = grind (arith, c.in-Ok-from_slice.ensures.items) in
-    ap (λ (p : Plain). reached (tree_of p) c.args.path.now c.args.ask) (sym c.in-Ok.ensures.kept) ∙ c.in-Ok.ensures.answer (world_of c.reach_file.new.look) refl
+    let name : take c.in-Ok.file.name_length c.reach_file.new.room ≡ c.in-Ok-from_slice.name.items =
+    grind (arith, c.in-Ok-from_slice.ensures.items) in
+    ap (λ (p : Plain). reached (tree_of p) c.args.path.now c.args.ask) (sym c.in-Ok.ensures.kept) ∙ c.in-Ok.ensures.answer
+    (world_of c.reach_file.new.look) refl
     ∙ ap (λ bytes. Ok (record { name = bytes; node = c.in-Ok.file.node })) name
 
 pub returns-in-Err-Refused-clause-end : goal.returns-in-Err-Refused-clause-end
 returns-in-Err-Refused-clause-end c =
     ap (λ (p : Plain). reached (tree_of p) c.args.path.now c.args.ask) (sym c.in-Err-Refused.ensures.kept)
-    ∙ (rw c.in-Err-Refused.field-0-is at c.in-Err-Refused.ensures.fault) (world_of c.reach_file.new.look) refl ∙ ap Err (sym c.in-Err-Refused.errno-is)
+    ∙ (rw c.in-Err-Refused.field-0-is at c.in-Err-Refused.ensures.fault) (world_of c.reach_file.new.look) refl
+    ∙ ap Err (sym c.in-Err-Refused.errno-is)

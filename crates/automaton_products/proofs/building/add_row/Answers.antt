@@ -10,10 +10,12 @@ use Rattle.automaton_products.proofs.WalkSteps.{step_pair}
 use Rattle.automaton_products.proofs.building.add_row.Goals as goal
 
 pub row-first-requires : goal.row-first-requires
-row-first-requires c = (reached_within c.args.one.now c.args.other.now c.requires.whole_one c.requires.whole_other c.args.pair c.requires.met).0
+row-first-requires c = (reached_within c.args.one.now c.args.other.now c.requires.whole_one c.requires.whole_other
+    c.args.pair c.requires.met).0
 
 pub row-second-requires : goal.row-second-requires
-row-second-requires c = (reached_within c.args.one.now c.args.other.now c.requires.whole_one c.requires.whole_other c.args.pair c.requires.met).1
+row-second-requires c = (reached_within c.args.one.now c.args.other.now c.requires.whole_one c.requires.whole_other
+    c.args.pair c.requires.met).1
 
 pub number_of-requires-clause-met : goal.number_of-requires-clause-met
 number_of-requires-clause-met c =
@@ -22,10 +24,10 @@ number_of-requires-clause-met c =
     let here : from ≤ last = omega (arith, c.min-last.ensures, c.head-near.ensures.here, c.head-far.ensures.here) in
     let small : from < 256 = omega (arith, here, c.min-last.type_inv) in
     subst (IsReached c.args.one.now c.args.other.now)
-    (sym (step_pair c.args.one.now c.args.other.now c.args.pair c.loop-target.first.now c.loop-target.second.now from last c.head-near.result c.head-far.result
-    c.from.result c.from-in-loop-target.result c.head-near.ensures.target c.head-far.ensures.target
-    c.loop-target.invariant.first_targets c.loop-target.invariant.second_targets c.min-last.ensures c.from.ensures c.from-in-loop-target.ensures
-    from (omega arith) here small))
+    (sym (step_pair c.args.one.now c.args.other.now c.args.pair c.loop-target.first.now c.loop-target.second.now from last
+    c.head-near.result c.head-far.result c.from.result c.from-in-loop-target.result c.head-near.ensures.target c.head-far.ensures.target
+    c.loop-target.invariant.first_targets c.loop-target.invariant.second_targets c.min-last.ensures c.from.ensures
+    c.from-in-loop-target.ensures from (omega arith) here small))
     (reached_next c.args.one.now c.args.other.now c.requires.whole_one c.requires.whole_other c.args.pair from c.requires.met small)
 
 pub returns-then-last-clause-row : goal.returns-then-last-clause-row
@@ -44,13 +46,14 @@ returns-then-last-clause-row c =
     (λ d le within. c.in_ok-target.ensures.number ∙ ap Some
     (step_pair a b c.args.pair c.loop-target.first.now c.loop-target.second.now from last c.head-near.result c.head-far.result
     c.from.result c.from-in-loop-target.result c.head-near.ensures.target c.head-far.ensures.target
-    c.loop-target.invariant.first_targets c.loop-target.invariant.second_targets c.min-last.ensures c.from.ensures c.from-in-loop-target.ensures
-    d le within (omega (arith, within, c.min-last.type_inv))))
+    c.loop-target.invariant.first_targets c.loop-target.invariant.second_targets c.min-last.ensures c.from.ensures
+    c.from-in-loop-target.ensures d le within (omega (arith, within, c.min-last.type_inv))))
     c.args.ranges.now.items c.loop-target.ranges.items c.loop-target.invariant.so_far c.if-last.true)
 
 pub loop-target-smaller : goal.loop-target-smaller
 loop-target-smaller c =
-    let here : c.loop-target.from ≤ c.min-last.result = omega (arith, c.min-last.ensures, c.head-near.ensures.here, c.head-far.ensures.here) in
+    let here : c.loop-target.from ≤ c.min-last.result =
+    omega (arith, c.min-last.ensures, c.head-near.ensures.here, c.head-far.ensures.here) in
     omega (arith, here, c.min-last.type_inv)
 
 pub loop-target-preserved : goal.loop-target-preserved
@@ -69,15 +72,19 @@ loop-target-preserved c =
       kept = kept_through (pairs_of c.args.pairs.now) old new c.loop-target.invariant.kept c.in_ok-target.ensures.kept;
       first = c.rest_after-first.ensures.row more;
       second = c.rest_after-second.ensures.row more;
-      first_targets = λ d le small. c.rest_after-first.ensures.targets d (omega (arith, le)) ∙ c.loop-target.invariant.first_targets d (omega (arith, le, here)) small;
-      second_targets = λ d le small. c.rest_after-second.ensures.targets d (omega (arith, le)) ∙ c.loop-target.invariant.second_targets d (omega (arith, le, here)) small;
-      so_far = subst (λ (z : List TargetRange). IsSoFar (λ d t. slice_get new t ≡ Some (next_pair a b c.args.pair d)) c.args.ranges.now.items z (last + 1)) (sym c.in_ok-keep.ensures)
-          (one_range_more (λ d t. slice_get old t ≡ Some (next_pair a b c.args.pair d)) (λ d t. slice_get new t ≡ Some (next_pair a b c.args.pair d))
+      first_targets = λ d le small. c.rest_after-first.ensures.targets d (omega (arith, le)) ∙ c.loop-target.invariant.first_targets d
+          (omega (arith, le, here)) small;
+      second_targets = λ d le small. c.rest_after-second.ensures.targets d (omega (arith, le)) ∙ c.loop-target.invariant.second_targets d
+          (omega (arith, le, here)) small;
+      so_far = subst (λ (z : List TargetRange). IsSoFar (λ d t. slice_get new t ≡ Some (next_pair a b c.args.pair d))
+          c.args.ranges.now.items z (last + 1)) (sym c.in_ok-keep.ensures)
+          (one_range_more (λ d t. slice_get old t ≡ Some (next_pair a b c.args.pair d))
+          (λ d t. slice_get new t ≡ Some (next_pair a b c.args.pair d))
           (λ d t h. kept_at old new t (next_pair a b c.args.pair d) c.in_ok-target.ensures.kept h) from r here
           (λ d le within. c.in_ok-target.ensures.number ∙ ap Some
           (step_pair a b c.args.pair c.loop-target.first.now c.loop-target.second.now from last c.head-near.result c.head-far.result
           c.from.result c.from-in-loop-target.result c.head-near.ensures.target c.head-far.ensures.target
-          c.loop-target.invariant.first_targets c.loop-target.invariant.second_targets c.min-last.ensures c.from.ensures c.from-in-loop-target.ensures
-          d le within (omega (arith, within, c.min-last.type_inv))))
+          c.loop-target.invariant.first_targets c.loop-target.invariant.second_targets c.min-last.ensures c.from.ensures
+          c.from-in-loop-target.ensures d le within (omega (arith, within, c.min-last.type_inv))))
           c.args.ranges.now.items c.loop-target.ranges.items c.loop-target.invariant.so_far more);
     }

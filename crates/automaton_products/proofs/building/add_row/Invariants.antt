@@ -14,7 +14,8 @@ invariant-loop-target l = record {
   second : IsRowFrom l.from l.second;
   first_targets : (c : ℕ) → l.from ≤ c → c < 256 → target_in l.first c ≡ target l.one l.fn.pair.one c;
   second_targets : (c : ℕ) → l.from ≤ c → c < 256 → target_in l.second c ≡ target l.other l.fn.pair.other c;
-  so_far : IsSoFar (λ c t. slice_get (pairs_of l.pairs) t ≡ Some (next_pair l.one l.other l.fn.pair c)) l.fn.ranges.items l.ranges.items l.from;
+  so_far : IsSoFar (λ c t. slice_get (pairs_of l.pairs) t ≡ Some (next_pair l.one l.other l.fn.pair c)) l.fn.ranges.items
+      l.ranges.items l.from;
 }
 
 abbrev pub decreases-loop-target : goal.decreases-loop-target

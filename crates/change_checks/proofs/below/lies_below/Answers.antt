@@ -10,7 +10,8 @@ loop-step-init g c = record {
   narrows = λ w s. s;
   keeps = λ e k. k;
   known = c.requires.known;
-  climbs = λ w s. climb_start w.tree c.args.top (g.L.Look.means c.args.from w) w.sound (g.L.Look.stands c.args.look.now w c.args.from s c.requires.known) (c.requires.directory w s);
+  climbs = λ w s. climb_start w.tree c.args.top (g.L.Look.means c.args.from w) w.sound
+      (g.L.Look.stands c.args.look.now w c.args.from s c.requires.known) (c.requires.directory w s);
 }
 
 pub loop-step-preserved : goal.loop-step-preserved
@@ -27,8 +28,8 @@ loop-step-preserved g c =
       climbs = λ w s.
           let before = parent.narrows w s in
           let first = node.narrows w before in
-          climb_up w.tree c.args.top (look.means c.args.from w) (look.means c.loop-step.at w) (look.means c.in-Some.parent w) c.loop-step.step w.sound
-          (look.stands c.loop-step.look w c.loop-step.at first i.known) (i.climbs w first)
+          climb_up w.tree c.args.top (look.means c.args.from w) (look.means c.loop-step.at w) (look.means c.in-Some.parent w)
+          c.loop-step.step w.sound (look.stands c.loop-step.look w c.loop-step.at first i.known) (i.climbs w first)
           (parent.answer w s ∙ ap (option_map (λ e. look.means e w)) c.in-Some.is)
           (λ e. c.if-branch-top.false (sym (node.answer w before) ∙ e));
     }
@@ -37,7 +38,8 @@ pub returns-then-branch-top-clause-answer : goal.returns-then-branch-top-clause-
 returns-then-branch-top-clause-answer g c = λ w s.
     let look = g.L.Look in
     let climbs = c.loop-step.invariant.climbs w (c.in_ok-node.ensures.narrows w s) in
-    climb_here w.tree c.args.top (look.means c.args.from w) (look.means c.loop-step.at w) c.loop-step.step climbs (c.in_ok-node.ensures.answer w s ∙ c.if-branch-top.true)
+    climb_here w.tree c.args.top (look.means c.args.from w) (look.means c.loop-step.at w) c.loop-step.step climbs
+    (c.in_ok-node.ensures.answer w s ∙ c.if-branch-top.true)
 
 pub returns-in-None-clause-answer : goal.returns-in-None-clause-answer
 returns-in-None-clause-answer g c = λ w s.
@@ -45,5 +47,5 @@ returns-in-None-clause-answer g c = λ w s.
     let node = c.in_ok-node.ensures in
     let before = c.in_ok-parent.ensures.narrows w s in
     let none = c.in_ok-parent.ensures.answer w s ∙ ap (option_map (λ e. look.means e w)) c.in-None.is in
-    climb_root w.tree c.args.top (look.means c.args.from w) (look.means c.loop-step.at w) c.loop-step.step w.sound (c.loop-step.invariant.climbs w (node.narrows w before)) none
-    (λ e. c.if-branch-top.false (sym (node.answer w before) ∙ e))
+    climb_root w.tree c.args.top (look.means c.args.from w) (look.means c.loop-step.at w) c.loop-step.step w.sound
+    (c.loop-step.invariant.climbs w (node.narrows w before)) none (λ e. c.if-branch-top.false (sym (node.answer w before) ∙ e))

@@ -7,14 +7,19 @@ use Rattle.dentry_cache.proofs.changing.begin.Goals as goal
 pub set_cell-requires-clause-next : goal.set_cell-requires-clause-next
 set_cell-requires-clause-next c =
     let plan = c.args.plan.now in
-    let i = c.loop-i.i in
-    (c.args.change.now, drop (i + 1) plan, c.loop-i.invariant.pending ∙ ap (λ (p : Pending). Some p) (pending_next c.args.change.now plan i record { place = 0; word = 0 } (omega (arith, c.loop-i-test.true, c.requires.fewer))))
+    let i = c.loop-i.i in (
+      c.args.change.now,
+      drop (i + 1) plan,
+      c.loop-i.invariant.pending ∙ ap (λ (p : Pending). Some p)
+          (pending_next c.args.change.now plan i record { place = 0; word = 0 } (omega (arith, c.loop-i-test.true, c.requires.fewer))),
+    )
 
 pub loop-i-preserved : goal.loop-i-preserved
 loop-i-preserved c =
     let v = c.loop-i.invariant in
     let e = c.set_cell.ensures in
     let (history, pending, cells) =
-    one_more_set _ _ (keeper_of c.open.new.seat.me.0) c.args.change.now c.args.plan.now c.loop-i.i record { place = 0; word = 0 } (omega (arith, c.loop-i-test.true, c.requires.fewer))
+    one_more_set _ _ (keeper_of c.open.new.seat.me.0) c.args.change.now c.args.plan.now c.loop-i.i record { place = 0; word = 0 }
+    (omega (arith, c.loop-i-test.true, c.requires.fewer))
     e.told v.history v.pending v.cells in
     record { own = e.own ∙ v.own; role = e.role; history = history; pending = pending; cells = cells }

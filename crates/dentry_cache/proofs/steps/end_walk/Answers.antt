@@ -7,4 +7,5 @@ pub load-requires : goal.load-requires
 load-requires g c = (c.requires.own, c.requires.words, rw c.requires.picked (ends _ _ _ _ c.requires.role))
 
 pub returns-clause-told : goal.returns-clause-told
-returns-clause-told g c = subst (λ (n : ℕ). HasEnded n c.args.seat.now.me c.load.result c.load.new.seat.me) c.requires.picked c.load.ensures.2
+returns-clause-told g c = subst (λ (n : ℕ). HasEnded n c.args.seat.now.me c.load.result c.load.new.seat.me) c.requires.picked
+    c.load.ensures.2

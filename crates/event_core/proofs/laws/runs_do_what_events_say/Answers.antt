@@ -7,7 +7,8 @@ pub returns-clause-tree : goal.returns-clause-tree
 returns-clause-tree c capacity events answers m legal = (run_did (first capacity) events answers m legal).opened_are
 
 pub returns-clause-version : goal.returns-clause-version
-returns-clause-version c capacity events answers m legal = let h = (run_did (first capacity) events answers m legal).closed_are in omega (arith, h)
+returns-clause-version c capacity events answers m legal = let h = (run_did (first capacity) events answers m legal).closed_are in
+    omega (arith, h)
 
 pub returns-clause-policy : goal.returns-clause-policy
 returns-clause-policy c capacity events answers m legal = (run_did (first capacity) events answers m legal).deeds_are

@@ -8,7 +8,8 @@ use Rattle.flat_text.proofs.text.read_items.Given as goal
 
 abbrev pub invariant-loop-rest : goal.invariant-loop-rest
 invariant-loop-rest l = record {
-  so_far : (others : List ItemValue) (end : Option Stop) → ReadsFrom l.position l.rest others end → ReadsFrom at_start l.text (l.items.items ++ others) end;
+  so_far : (others : List ItemValue) (end : Option Stop) → ReadsFrom l.position l.rest others end →
+      ReadsFrom at_start l.text (l.items.items ++ others) end;
   few : l.position.depth + length l.rest ≤ length l.text;
 }
 

@@ -46,7 +46,8 @@ loop-byte-preserved-then-is_like_last c =
       sets = c.loop-byte.invariant.sets;
       kept = c.loop-byte.invariant.kept;
       others = c.loop-byte.invariant.others;
-      written = like_last chart set sets c.args.classes.now.least c.named_by-named.result c.requires.chart c.requires.alike c.named_by-named.ensures
+      written = like_last chart set sets c.args.classes.now.least c.named_by-named.result c.requires.chart c.requires.alike
+          c.named_by-named.ensures
           c.args.ranges.now.items c.loop-byte.ranges.items c.loop-byte.target byte (omega arith) like c.loop-byte.invariant.written;
     }
 
@@ -59,7 +60,8 @@ loop-byte-preserved-then-next-target c =
       sets = c.in_ok-next.ensures.sets;
       kept = keeps_on (lists_of c.args.sets.now) sets new c.loop-byte.invariant.kept c.in_ok-next.ensures.kept;
       others = c.in_ok-next.ensures.others;
-      written = same_range c.args.chart.now c.args.set.now sets new c.in_ok-next.ensures.kept c.args.ranges.now.items c.loop-byte.ranges.items c.loop-byte.target
+      written = same_range c.args.chart.now c.args.set.now sets new c.in_ok-next.ensures.kept c.args.ranges.now.items
+          c.loop-byte.ranges.items c.loop-byte.target
           c.in_ok-next.next c.loop-byte.byte c.loop-byte.invariant.written c.if-next-target.true c.in_ok-next.ensures.target;
     }
 
@@ -73,12 +75,14 @@ loop-byte-preserved c =
       sets = c.in_ok-next.ensures.sets;
       kept = keeps_on (lists_of c.args.sets.now) sets new c.loop-byte.invariant.kept c.in_ok-next.ensures.kept;
       others = c.in_ok-next.ensures.others;
-      written = one_more c.args.chart.now c.args.set.now sets new c.in_ok-next.ensures.kept c.args.ranges.now.items c.loop-byte.ranges.items c.keep.new.list.items
-          c.loop-byte.target c.in_ok-next.next c.loop-byte.byte small c.loop-byte.invariant.written c.in_ok-keep.ensures c.in_ok-next.ensures.target;
+      written = one_more c.args.chart.now c.args.set.now sets new c.in_ok-next.ensures.kept c.args.ranges.now.items
+          c.loop-byte.ranges.items c.keep.new.list.items
+          c.loop-byte.target c.in_ok-next.next c.loop-byte.byte small c.loop-byte.invariant.written c.in_ok-keep.ensures
+          c.in_ok-next.ensures.target;
     }
 
 pub returns-clause-row : goal.returns-clause-row
 returns-clause-row c =
     let all : c.loop-byte.byte ≡ 256 = omega (arith, c.loop-byte-test.false) in
-    whole_row c.args.chart.now c.args.set.now (lists_of c.loop-byte.sets) c.args.ranges.now.items c.loop-byte.ranges.items c.keep-2.new.list.items
-    c.loop-byte.target c.loop-byte.byte all c.loop-byte.invariant.written c.in_ok-keep-2.ensures
+    whole_row c.args.chart.now c.args.set.now (lists_of c.loop-byte.sets) c.args.ranges.now.items c.loop-byte.ranges.items
+    c.keep-2.new.list.items c.loop-byte.target c.loop-byte.byte all c.loop-byte.invariant.written c.in_ok-keep-2.ensures

@@ -17,17 +17,21 @@ loop-state-preserved c =
     let states = c.loop-state.states in
     let row = c.in_ok-add_row.ensures.row.0 in
     let first : List ℕ = states.firsts.items ++ length states.ranges.items ∷ [] in
-    let firsts : c.keep.new.list.items ≡ first = c.in_ok-keep.ensures ∙ ap (λ (z : ℕ). states.firsts.items ++ z ∷ []) c.count-first.ensures in
-    let one : AreStates chart new (states.ranges.items ++ row) first (states.records.items ++ c.record_of.result ∷ []) states.start (c.loop-state.state + 1) =
+    let firsts : c.keep.new.list.items ≡ first = c.in_ok-keep.ensures ∙ ap (λ (z : ℕ). states.firsts.items ++ z ∷ [])
+    c.count-first.ensures in
+    let one : AreStates chart new (states.ranges.items ++ row) first (states.records.items ++ c.record_of.result ∷ []) states.start
+    (c.loop-state.state + 1) =
     one_state_more chart sets new states.ranges.items row states.firsts.items states.records.items states.start c.loop-state.state set
-    c.record_of.result c.loop-state.invariant.1 (c.in_ok-copy.ensures.there.0 c.if-not-branch.false) (c.in_ok-copy.ensures.set c.if-not-branch.false)
-    c.in_ok-add_row.ensures.sets c.in_ok-add_row.ensures.kept
+    c.record_of.result c.loop-state.invariant.1 (c.in_ok-copy.ensures.there.0 c.if-not-branch.false)
+    (c.in_ok-copy.ensures.set c.if-not-branch.false) c.in_ok-add_row.ensures.sets c.in_ok-add_row.ensures.kept
     (subst (λ z. IsRowOfSet chart new z row) c.deref.ensures.value c.in_ok-add_row.ensures.row.2)
     (subst (λ z. IsRecordOf chart z c.record_of.result) c.deref-in-loop-state.ensures.value c.record_of.ensures) in (
       c.in_ok-add_row.ensures.gathering,
-      subst (λ (z : List TargetRange). AreStates chart new z c.keep.new.list.items c.keep-in-loop-state.new.list.items states.start (c.loop-state.state + 1))
+      subst (λ (z : List TargetRange). AreStates chart new z c.keep.new.list.items c.keep-in-loop-state.new.list.items states.start
+          (c.loop-state.state + 1))
           (sym c.in_ok-add_row.ensures.row.1)
-          (subst₂ (λ (x : List ℕ) (y : List Record). AreStates chart new (states.ranges.items ++ row) x y states.start (c.loop-state.state + 1)) (sym firsts)
+          (subst₂ (λ (x : List ℕ) (y : List Record). AreStates chart new (states.ranges.items ++ row) x y states.start
+          (c.loop-state.state + 1)) (sym firsts)
           (sym c.in_ok-keep-2.ensures) one),
     )
 

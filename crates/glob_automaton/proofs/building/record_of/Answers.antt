@@ -12,9 +12,11 @@ pub returns-then-contains : goal.returns-then-contains
 returns-then-contains c =
     let chart = c.args.chart.now in
     let rule = c.index.result.now in
-    let stands : slice_get chart.rules.items 0 ≡ Some rule = slice_get_read chart.rules.items _ 0 rule refl (omega (arith, c.requires)) c.index.ensures in
+    let stands : slice_get chart.rules.items 0 ≡ Some rule = slice_get_read chart.rules.items _ 0 rule refl (omega (arith, c.requires))
+    c.index.ensures in
     let made : c.with_rule.result ≡ record_with no_hits rule.kind rule.perms 1 =
     c.with_rule.ensures ∙ ap (λ (z : Record). record_with z rule.kind rule.perms 1) c.none.ensures in
     subst (IsRecordOf chart c.args.set.now) (sym made)
     (end_record c.records_are_their_hits.ensures.made chart c.args.set.now rule c.requires stands
-    (Contains-from_any {eq = λ a b. nat_eq b a} (λ x y e. sym (eqb-true y x e)) rule.end c.args.set.now (sym c.contains.ensures.value ∙ c.if-contains.true)))
+    (Contains-from_any {eq = λ a b. nat_eq b a} (λ x y e. sym (eqb-true y x e)) rule.end c.args.set.now
+    (sym c.contains.ensures.value ∙ c.if-contains.true)))

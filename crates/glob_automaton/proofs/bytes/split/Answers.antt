@@ -17,8 +17,8 @@ pub loop-byte-preserved : goal.loop-byte-preserved
 loop-byte-preserved c = elim c.match-other-old.branch [
   | in-Some w ↦ record {
     split = subst₂ (λ y z. SplitBefore c.args.least.now c.args.taken.now y z (c.loop-byte.byte + 1)) (sym w.other-is) (sym w.least-is)
-        (joined_step c.args.least.now c.args.taken.now c.loop-byte.other c.loop-byte.least c.loop-byte.byte w.in-Some.first c.loop-byte-test.true
-        c.loop-byte.invariant.split c.if-taken-byte.false w.in-Some.is);
+        (joined_step c.args.least.now c.args.taken.now c.loop-byte.other c.loop-byte.least c.loop-byte.byte w.in-Some.first
+        c.loop-byte-test.true c.loop-byte.invariant.split c.if-taken-byte.false w.in-Some.is);
   }
   | in-None w ↦ record {
     split = subst₂ (λ y z. SplitBefore c.args.least.now c.args.taken.now y z (c.loop-byte.byte + 1)) (sym w.other-is) (sym w.least-is)
@@ -28,4 +28,5 @@ loop-byte-preserved c = elim c.match-other-old.branch [
 ]
 
 pub returns : goal.returns
-returns c = all_parted c.args.least.now c.args.taken.now c.loop-byte.other c.loop-byte.least c.loop-byte.byte (omega (arith, c.loop-byte-test.false)) c.loop-byte.invariant.split
+returns c = all_parted c.args.least.now c.args.taken.now c.loop-byte.other c.loop-byte.least c.loop-byte.byte
+    (omega (arith, c.loop-byte-test.false)) c.loop-byte.invariant.split

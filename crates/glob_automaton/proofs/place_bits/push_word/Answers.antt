@@ -29,7 +29,12 @@ loop-bit-preserved c =
       places = λ q. (
         λ h. ⊎_elim
             (λ old. ⊎_elim (λ t. inl t) (λ t. inr (t.0, omega (arith, t.1, next.after), t.2)) ((c.loop-bit.invariant.places q).0 old))
-            (λ e. inr (omega (arith, e, next.small), omega (arith, e, next.small), ap (is_bit c.args.word) (omega (arith, e, next.small)) ∙ next.set))
+            (λ e. inr (
+              omega (arith, e, next.small),
+              omega (arith, e, next.small),
+              ap (is_bit c.args.word) (omega (arith, e, next.small))
+                  ∙ next.set,
+            ))
             ((c.in_ok-push.ensures.places q).0 h),
         λ h. (c.in_ok-push.ensures.places q).1 (⊎_elim
             (λ t. inl ((c.loop-bit.invariant.places q).1 (inl t)))

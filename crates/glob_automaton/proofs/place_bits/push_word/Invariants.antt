@@ -9,7 +9,8 @@ invariant-loop-bit l = record {
   small : l.from ≤ 64;
   sorted : IsAscending l.places.items;
   below : (q : ℕ) → Contains l.places.items q → q < 64 * l.index + l.from;
-  places : (q : ℕ) → Contains l.places.items q ↔ (Contains l.fn.places.items q ⊎ ((q / 64 ≡ l.index) × (q % 64 < l.from) × (is_bit l.word (q % 64) ≡ true)));
+  places : (q : ℕ) → Contains l.places.items q
+      ↔ (Contains l.fn.places.items q ⊎ ((q / 64 ≡ l.index) × (q % 64 < l.from) × (is_bit l.word (q % 64) ≡ true)));
 }
 
 abbrev pub decreases-loop-bit : goal.decreases-loop-bit

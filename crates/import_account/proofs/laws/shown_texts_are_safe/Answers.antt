@@ -7,9 +7,15 @@ use Rattle.import_account.proofs.laws.shown_texts_are_safe.Goals as goal
 
 short : (bytes : List ℕ) → length (shortened bytes) ≤ 72
 short bytes =
-    elim (nat_le (length bytes) 72) as (λ (b : Bool). nat_le (length bytes) 72 ≡ b → length (if b then bytes else take 70 bytes ++ codes "..") ≤ 72) [
+    elim (nat_le (length bytes) 72) as (λ (b : Bool). nat_le (length bytes) 72 ≡ b →
+    length (if b then bytes else take 70 bytes ++ codes "..") ≤ 72) [
       | true ↦ λ is. leb-true (length bytes) 72 is
-      | false ↦ λ is. omega (arith, length-append (take 70 bytes) (codes ".."), length-take-le 70 bytes (omega (arith, leb-false (length bytes) 72 is)))
+      | false ↦ λ is. omega (
+        arith,
+        length-append (take 70 bytes) (codes ".."),
+        length-take-le 70 bytes
+            (omega (arith, leb-false (length bytes) 72 is)),
+      )
     ] refl
 
 pub returns-clause-short : goal.returns-clause-short

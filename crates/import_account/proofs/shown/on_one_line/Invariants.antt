@@ -4,4 +4,5 @@ use Rattle.import_account.specs.ShownTexts.{on_one_line}
 use Rattle.import_account.proofs.shown.on_one_line.Given as goal
 
 abbrev pub invariant-loop-byte : goal.invariant-loop-byte
-invariant-loop-byte l = l.line.items ++ on_one_line (not (length l.line.items == 0)) l.gap (drop l.byte-index l.bytes) ≡ on_one_line false false l.bytes
+invariant-loop-byte l = l.line.items ++ on_one_line (not (length l.line.items == 0)) l.gap (drop l.byte-index l.bytes)
+    ≡ on_one_line false false l.bytes

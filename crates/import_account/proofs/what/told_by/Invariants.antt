@@ -5,4 +5,5 @@ use Rattle.import_account.specs.Whats.{what_word}
 use Rattle.import_account.proofs.what.told_by.Given as goal
 
 abbrev pub invariant-loop-what : goal.invariant-loop-what
-invariant-loop-what l = find (λ w. bytes_eq l.word (what_word w)) (drop l.what-index l.whats) ≡ find (λ w. bytes_eq l.word (what_word w)) l.whats
+invariant-loop-what l = find (λ w. bytes_eq l.word (what_word w)) (drop l.what-index l.whats)
+    ≡ find (λ w. bytes_eq l.word (what_word w)) l.whats

@@ -5,10 +5,13 @@ use Rattle.import_cut.proofs.ExactCuts.{told_of_all}
 use Rattle.import_cut.proofs.laws.exact_spans_mean_exact_rules.Goals as goal
 
 pub returns-clause-exact : goal.returns-clause-exact
-returns-clause-exact c reading choice before after item read h = told_of_all (λ (x : Change). x ≡ Exact) refl reading choice before after item read h
+returns-clause-exact c reading choice before after item read h = told_of_all (λ (x : Change). x ≡ Exact) refl reading choice
+    before after item read h
 
 pub returns-clause-not_wider : goal.returns-clause-not_wider
-returns-clause-not_wider c reading choice before after item read h = told_of_all (λ (x : Change). x ≢ Wider) (λ e. cc) reading choice before after item read h
+returns-clause-not_wider c reading choice before after item read h = told_of_all (λ (x : Change). x ≢ Wider) (λ e. cc) reading choice
+    before after item read h
 
 pub returns-clause-not_narrower : goal.returns-clause-not_narrower
-returns-clause-not_narrower c reading choice before after item read h = told_of_all (λ (x : Change). x ≢ Narrower) (λ e. cc) reading choice before after item read h
+returns-clause-not_narrower c reading choice before after item read h = told_of_all (λ (x : Change). x ≢ Narrower) (λ e. cc) reading choice
+    before after item read h

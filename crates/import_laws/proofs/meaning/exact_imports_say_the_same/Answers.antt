@@ -27,11 +27,14 @@ returns-clause-exact c options text value rules mode i m exact unknown name ask 
     let law = c.exact_spans_mean_exact_rules.ensures.exact in
     let plain = c.chosen_subject_gains_nothing.ensures.exact in
     let items = c.items_are_the_text.ensures.items text m.items _ m.read in
-    let told : Tells (λ (x : Change). x ≡ Exact) cut.spans = subst (λ (spans : List Span). Tells (λ (x : Change). x ≡ Exact) spans) m.spans exact in
+    let told : Tells (λ (x : Change). x ≡ Exact) cut.spans = subst (λ (spans : List Span). Tells (λ (x : Change). x ≡ Exact) spans)
+    m.spans exact in
     let all : AreExact options.subject options.subject rules =
     subst (λ (r : List SubjectRule). AreExact options.subject options.subject r) (sym m.rules_are)
-    (all_told (λ (x : Change). x ≡ Exact) refl variables choice (law reading choice) (plain options.subject) m.items cut.changes_profile cut.has_hat items told) in
-    let mode_exact : mode_change mode ≡ Exact = ap mode_change m.mode_is ∙ mode_told (λ (x : Change). x ≡ Exact) refl choice reading m.items items told in
+    (all_told (λ (x : Change). x ≡ Exact) refl variables choice (law reading choice) (plain options.subject) m.items cut.changes_profile
+    cut.has_hat items told) in
+    let mode_exact : mode_change mode ≡ Exact = ap mode_change m.mode_is ∙ mode_told (λ (x : Change). x ≡ Exact) refl choice reading
+    m.items items told in
     subst (λ (r : List RuleValue). IsVerdict r name ask Allowed ↔ IsAllowedTo unknown mode options.subject rules name ask)
     (sym (c.imports_are_restated_rules.ensures.rules options text value rules mode i m))
     (c.exact_rules_say_the_same.ensures.allowed unknown mode options.subject options.subject rules name ask all mode_exact)
@@ -45,12 +48,15 @@ returns-clause-narrower c options text value rules mode i m none_wider unknown n
     let law = c.exact_spans_mean_exact_rules.ensures.not_wider in
     let plain = c.chosen_subject_gains_nothing.ensures.exact in
     let items = c.items_are_the_text.ensures.items text m.items _ m.read in
-    let told : Tells (λ (x : Change). x ≢ Wider) cut.spans = subst (λ (spans : List Span). Tells (λ (x : Change). x ≢ Wider) spans) m.spans none_wider in
+    let told : Tells (λ (x : Change). x ≢ Wider) cut.spans = subst (λ (spans : List Span). Tells (λ (x : Change). x ≢ Wider) spans)
+    m.spans none_wider in
     let all : NoneIsWider options.subject options.subject rules =
     subst (λ (r : List SubjectRule). NoneIsWider options.subject options.subject r) (sym m.rules_are)
-    (all_told (λ (x : Change). x ≢ Wider) (λ e. cc) variables choice (law reading choice) (plain options.subject) m.items cut.changes_profile cut.has_hat items told) in
+    (all_told (λ (x : Change). x ≢ Wider) (λ e. cc) variables choice (law reading choice) (plain options.subject) m.items
+    cut.changes_profile cut.has_hat items told) in
     c.narrower_rules_allow_no_more.ensures.allowed unknown mode options.subject options.subject rules name ask all
-    (subst (λ (r : List RuleValue). IsVerdict r name ask Allowed) (c.imports_are_restated_rules.ensures.rules options text value rules mode i m) allowed)
+    (subst (λ (r : List RuleValue). IsVerdict r name ask Allowed) (c.imports_are_restated_rules.ensures.rules options text value
+    rules mode i m) allowed)
 
 pub returns-clause-wider : goal.returns-clause-wider
 returns-clause-wider c options text value rules mode i m none_narrower unknown name ask allowed =
@@ -61,11 +67,15 @@ returns-clause-wider c options text value rules mode i m none_narrower unknown n
     let law = c.exact_spans_mean_exact_rules.ensures.not_narrower in
     let plain = c.chosen_subject_gains_nothing.ensures.exact in
     let items = c.items_are_the_text.ensures.items text m.items _ m.read in
-    let told : Tells (λ (x : Change). x ≢ Narrower) cut.spans = subst (λ (spans : List Span). Tells (λ (x : Change). x ≢ Narrower) spans) m.spans none_narrower in
+    let told : Tells (λ (x : Change). x ≢ Narrower) cut.spans = subst (λ (spans : List Span). Tells (λ (x : Change). x ≢ Narrower) spans)
+    m.spans none_narrower in
     let all : NoneIsNarrower options.subject options.subject rules =
     subst (λ (r : List SubjectRule). NoneIsNarrower options.subject options.subject r) (sym m.rules_are)
-    (all_told (λ (x : Change). x ≢ Narrower) (λ e. cc) variables choice (law reading choice) (plain options.subject) m.items cut.changes_profile cut.has_hat items told) in
+    (all_told (λ (x : Change). x ≢ Narrower) (λ e. cc) variables choice (law reading choice) (plain options.subject) m.items
+    cut.changes_profile cut.has_hat items told) in
     let not_narrower : mode_change mode ≢ Narrower =
-    subst (λ (x : Mode). mode_change x ≢ Narrower) (sym m.mode_is) (mode_told (λ (x : Change). x ≢ Narrower) (λ e. cc) choice reading m.items items told) in
-    subst (λ (r : List RuleValue). IsVerdict r name ask Allowed) (sym (c.imports_are_restated_rules.ensures.rules options text value rules mode i m))
+    subst (λ (x : Mode). mode_change x ≢ Narrower) (sym m.mode_is) (mode_told (λ (x : Change). x ≢ Narrower) (λ e. cc) choice reading
+    m.items items told) in
+    subst (λ (r : List RuleValue). IsVerdict r name ask Allowed)
+    (sym (c.imports_are_restated_rules.ensures.rules options text value rules mode i m))
     (c.wider_rules_allow_no_less.ensures.allowed unknown mode options.subject options.subject rules name ask all not_narrower allowed)

@@ -20,7 +20,8 @@ use Rattle.import_laws.proofs.outcomes.imports_can_be_read.Goals as goal
 few_pass : (n : ℕ) → n ≤ 1024 → nat_le n 1024 ≡ true
 few_pass n h = grind (arith, nat_tests)
 
-is_readable : ((text : List ℕ) → list_all is_path (imported_paths text) ≡ true) → (options : ImportOptions) (text : List ℕ) (value : ImportValue)
+is_readable : ((text : List ℕ) → list_all is_path (imported_paths text) ≡ true) → (options : ImportOptions) (text : List ℕ)
+    (value : ImportValue)
     → Opened options text value → is_profile value.profile ≡ true
 is_readable readable options text value o =
     let choice = choice_of options o.head o.number in
@@ -42,7 +43,8 @@ is_readable readable options text value o =
 
 pub returns-clause-readable : goal.returns-clause-readable
 returns-clause-readable c options text value i =
-    is_readable (λ x. list_all-from_AllPass is_path (imported_paths x) (c.imported_paths_can_be_read.ensures.readable x)) options text value (opened options text value i)
+    is_readable (λ x. list_all-from_AllPass is_path (imported_paths x) (c.imported_paths_can_be_read.ensures.readable x)) options text
+    value (opened options text value i)
 
 pub returns-clause-again : goal.returns-clause-again
 returns-clause-again c options text value i =

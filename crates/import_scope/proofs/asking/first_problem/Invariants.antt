@@ -9,5 +9,6 @@ use Rattle.import_scope.proofs.asking.first_problem.Given as goal
 abbrev pub invariant-loop-question : goal.invariant-loop-question
 invariant-loop-question l = record {
   seen : l.seen.lists ≡ variables_within l.variables (name_at l.profiles l.seen.profile);
-  so_far : (end : Option Fault) → FirstProblem l.variables l.profiles (map asked_value (drop l.question-index l.asked)) end → FirstProblem l.variables l.profiles (map asked_value l.asked) end;
+  so_far : (end : Option Fault) → FirstProblem l.variables l.profiles (map asked_value (drop l.question-index l.asked)) end →
+      FirstProblem l.variables l.profiles (map asked_value l.asked) end;
 }

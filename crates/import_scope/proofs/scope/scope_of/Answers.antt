@@ -13,52 +13,66 @@ use Rattle.import_scope.proofs.Extending.{AreNamed, last_is_behind, named_last}
 use Rattle.import_scope.proofs.scope.scope_of.Goals as goal
 
 -- the first fault, of what the passes gave
-passed : (s : ScopeState) (all : List ItemValue) (state : ScopeState) (variables : List Variable) (heads : List Head) (asked : List AskedValue) (problem stop : Option Fault)
+passed : (s : ScopeState) (all : List ItemValue) (state : ScopeState) (variables : List Variable) (heads : List Head)
+    (asked : List AskedValue) (problem stop : Option Fault)
     → state ≡ last_state s all → variables ≡ state.declared → heads ≡ state.profiles → asked ≡ all_asked s all → stop ≡ head_stop s all
     → FirstProblem variables heads asked problem → FirstFault s all (first_of_two problem stop)
 passed s all state variables heads asked problem stop is vs hs asks ends h =
     let t = last_state s all in
-    let a : FirstProblem t.declared heads asked problem = subst (λ (x : List Variable). FirstProblem x heads asked problem) (vs ∙ ap (λ (x : ScopeState). x.declared) is) h in
-    let b : FirstProblem t.declared t.profiles asked problem = subst (λ (x : List Head). FirstProblem t.declared x asked problem) (hs ∙ ap (λ (x : ScopeState). x.profiles) is) a in
-    let d : FirstProblem t.declared t.profiles (all_asked s all) problem = subst (λ (x : List AskedValue). FirstProblem t.declared t.profiles x problem) asks b in
+    let a : FirstProblem t.declared heads asked problem = subst (λ (x : List Variable). FirstProblem x heads asked problem)
+    (vs ∙ ap (λ (x : ScopeState). x.declared) is) h in
+    let b : FirstProblem t.declared t.profiles asked problem = subst (λ (x : List Head). FirstProblem t.declared x asked problem)
+    (hs ∙ ap (λ (x : ScopeState). x.profiles) is) a in
+    let d : FirstProblem t.declared t.profiles (all_asked s all) problem =
+    subst (λ (x : List AskedValue). FirstProblem t.declared t.profiles x problem) asks b in
     subst (λ (x : Option Fault). FirstFault s all (first_of_two problem x)) (sym ends) (both_passes s all problem d)
 
 -- if no fault was returned, there is no stop
-no_stop : (s : ScopeState) (all : List ItemValue) (stop : Option ScopeFault) → option_map fault_value stop ≡ head_stop s all → stop ≡ None → head_stop s all ≡ None
+no_stop : (s : ScopeState) (all : List ItemValue) (stop : Option ScopeFault) → option_map fault_value stop ≡ head_stop s all →
+    stop ≡ None → head_stop s all ≡ None
 no_stop s all stop e none = sym e ∙ ap (option_map fault_value) none
 
 pub returns-in-Some-clause-fault : goal.returns-in-Some-clause-fault
 returns-in-Some-clause-fault c =
     let g = c.in_ok-outline.ensures in
     let s = at_start c.args.defines.now in
-    let p = passed s c.args.items.now _ c.deref.result.now c.deref-2.result.now (map asked_value c.deref-3.result.now) (option_map fault_value c.in_ok-fault.field-0) _ g.state (c.deref.ensures.value ∙ c.in_ok-variables.ensures) c.deref-2.ensures.value (ap (map asked_value) c.deref-3.ensures.value ∙ g.asked) g.stop c.in_ok-fault.ensures in
-    subst (λ (o : Option ScopeFault). FirstFault s c.args.items.now (first_of_two (option_map fault_value o) (option_map fault_value c.in_ok-outline.stop))) c.in-Some.is p
+    let p = passed s c.args.items.now _ c.deref.result.now c.deref-2.result.now (map asked_value c.deref-3.result.now)
+    (option_map fault_value c.in_ok-fault.field-0) _ g.state (c.deref.ensures.value ∙ c.in_ok-variables.ensures)
+    c.deref-2.ensures.value (ap (map asked_value) c.deref-3.ensures.value ∙ g.asked) g.stop c.in_ok-fault.ensures in
+    subst (λ (o : Option ScopeFault). FirstFault s c.args.items.now
+    (first_of_two (option_map fault_value o) (option_map fault_value c.in_ok-outline.stop))) c.in-Some.is p
 
 pub returns-in-Some-stop-clause-fault : goal.returns-in-Some-stop-clause-fault
 returns-in-Some-stop-clause-fault c =
     let g = c.in_ok-outline.ensures in
     let s = at_start c.args.defines.now in
-    let p = passed s c.args.items.now _ c.deref.result.now c.deref-2.result.now (map asked_value c.deref-3.result.now) (option_map fault_value c.in_ok-fault.field-0) _ g.state (c.deref.ensures.value ∙ c.in_ok-variables.ensures) c.deref-2.ensures.value (ap (map asked_value) c.deref-3.ensures.value ∙ g.asked) g.stop c.in_ok-fault.ensures in
+    let p = passed s c.args.items.now _ c.deref.result.now c.deref-2.result.now (map asked_value c.deref-3.result.now)
+    (option_map fault_value c.in_ok-fault.field-0) _ g.state (c.deref.ensures.value ∙ c.in_ok-variables.ensures)
+    c.deref-2.ensures.value (ap (map asked_value) c.deref-3.ensures.value ∙ g.asked) g.stop c.in_ok-fault.ensures in
     rw (c.in_default.is, c.in-Some-stop.is) at p
 
 pub returns-clause-faultless : goal.returns-clause-faultless
 returns-clause-faultless c =
     let g = c.in_ok-outline.ensures in
     let s = at_start c.args.defines.now in
-    let p = passed s c.args.items.now _ c.deref.result.now c.deref-2.result.now (map asked_value c.deref-3.result.now) (option_map fault_value c.in_ok-fault.field-0) _ g.state (c.deref.ensures.value ∙ c.in_ok-variables.ensures) c.deref-2.ensures.value (ap (map asked_value) c.deref-3.ensures.value ∙ g.asked) g.stop c.in_ok-fault.ensures in
+    let p = passed s c.args.items.now _ c.deref.result.now c.deref-2.result.now (map asked_value c.deref-3.result.now)
+    (option_map fault_value c.in_ok-fault.field-0) _ g.state (c.deref.ensures.value ∙ c.in_ok-variables.ensures)
+    c.deref-2.ensures.value (ap (map asked_value) c.deref-3.ensures.value ∙ g.asked) g.stop c.in_ok-fault.ensures in
     rw (c.in_default.is, c.in-None.is) at p
 
 pub returns-clause-variables : goal.returns-clause-variables
 returns-clause-variables c =
     let g = c.in_ok-outline.ensures in
     let s = at_start c.args.defines.now in
-    c.in_ok-variables.ensures ∙ ap (λ (x : ScopeState). x.declared) (g.state ∙ last_is_behind s c.args.items.now (no_stop s c.args.items.now c.in_ok-outline.stop g.stop c.in-None.is))
+    c.in_ok-variables.ensures ∙ ap (λ (x : ScopeState). x.declared)
+    (g.state ∙ last_is_behind s c.args.items.now (no_stop s c.args.items.now c.in_ok-outline.stop g.stop c.in-None.is))
 
 pub returns-clause-profiles : goal.returns-clause-profiles
 returns-clause-profiles c =
     let g = c.in_ok-outline.ensures in
     let s = at_start c.args.defines.now in
-    ap (λ (x : ScopeState). x.profiles) (g.state ∙ last_is_behind s c.args.items.now (no_stop s c.args.items.now c.in_ok-outline.stop g.stop c.in-None.is))
+    ap (λ (x : ScopeState). x.profiles)
+    (g.state ∙ last_is_behind s c.args.items.now (no_stop s c.args.items.now c.in_ok-outline.stop g.stop c.in-None.is))
 
 pub returns-clause-names : goal.returns-clause-names
 returns-clause-names c =

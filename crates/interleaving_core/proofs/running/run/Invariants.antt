@@ -8,4 +8,5 @@ use Rattle.interleaving_core.proofs.running.run.Given as goal
 
 -- the events before this one passed
 abbrev pub invariant-loop-event : goal.invariant-loop-event
-invariant-loop-event l = (taken : List Event) × Passes (machine_of l.fn.core) (map event_of (take l.event-index l.events)) taken l.answers.items (machine_of l.core)
+invariant-loop-event l = (taken : List Event) × Passes (machine_of l.fn.core) (map event_of (take l.event-index l.events)) taken
+    l.answers.items (machine_of l.core)

@@ -13,7 +13,8 @@ unreachable-requires c =
 
 pub returns-in-Ok-clause-ok : goal.returns-in-Ok-clause-ok
 returns-in-Ok-clause-ok c =
-    ap (λ (p : Plain). reached (tree_of p) c.args.path.now c.args.ask) (sym c.in-Ok.ensures.kept) ∙ c.in-Ok.ensures.answer (world_of c.reach_file.new.look) refl
+    ap (λ (p : Plain). reached (tree_of p) c.args.path.now c.args.ask) (sym c.in-Ok.ensures.kept) ∙ c.in-Ok.ensures.answer
+    (world_of c.reach_file.new.look) refl
 
 pub returns-in-Err-Refused-clause-err : goal.returns-in-Err-Refused-clause-err
 returns-in-Err-Refused-clause-err c =

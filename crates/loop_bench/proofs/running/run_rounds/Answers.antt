@@ -7,4 +7,9 @@ pub run_all-requires : goal.run_all-requires
 run_all-requires c =
     let names = c.args.names.now in
     let looked = looked_up names c.args.states.now in
-    omega (arith, c.loop-round.invariant.count, room c.loop-round._round c.args.rounds (length names) looked c.loop-round-test.true (few names c.args.states.now) c.requires)
+    omega (
+      arith,
+      c.loop-round.invariant.count,
+      room c.loop-round._round c.args.rounds (length names) looked c.loop-round-test.true
+          (few names c.args.states.now) c.requires,
+    )

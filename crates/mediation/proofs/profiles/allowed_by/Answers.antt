@@ -11,18 +11,21 @@ pub loop-permission-preserved : goal.loop-permission-preserved
 loop-permission-preserved c =
     let judge = judge_of c.args.profile.now in
     let test = is_allowed_by judge c.args.name.now in
-    let told = told_allowed judge c.args.name.now _ c.record_by-record.result c.tells_allowed.result c.record_by-record.ensures c.tells_allowed.ensures in
+    let told = told_allowed judge c.args.name.now _ c.record_by-record.result c.tells_allowed.result c.record_by-record.ensures
+    c.tells_allowed.ensures in
     let law = c.permissions_are_numbered.ensures in
     let i = c.loop-permission.permission-index in
     let at = law.only i Read c.loop-permission-test.true in
     elim c.if-tells_allowed.branch [
       | then-tells_allowed w ↦ record {
         passed = subst (IsPassedBefore test (i + 1)) (sym (w.perms-is ∙ w.with-perms.ensures))
-            (passed-more test law.there i _ c.loop-permission.perms at (sym told ∙ w.if-tells_allowed.true) c.loop-permission.invariant.passed);
+            (passed-more test law.there i _ c.loop-permission.perms at (sym told ∙ w.if-tells_allowed.true)
+            c.loop-permission.invariant.passed);
       }
       | else-tells_allowed w ↦ record {
         passed = subst (IsPassedBefore test (i + 1)) (sym w.perms-is)
-            (passed-same test law.there i _ c.loop-permission.perms at (sym told ∙ w.if-tells_allowed.false) c.loop-permission.invariant.passed);
+            (passed-same test law.there i _ c.loop-permission.perms at (sym told ∙ w.if-tells_allowed.false)
+            c.loop-permission.invariant.passed);
       }
     ]
 

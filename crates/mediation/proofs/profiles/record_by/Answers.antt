@@ -11,10 +11,12 @@ returns-in-Compiled c =
     let rules = (profile_value c.in-Compiled.compiled.profile).rules in
     let P : AnyProfile → Type 0 = λ profile. Tells (judge_of profile) c.args.name.now c.last_record.result in
     let tells = c.tables_of_rules_tell_their_verdicts.ensures rules c.table.result.now c.table.ensures.rules.least in
-    subst P (sym c.in-Compiled.is) (rules_tell rules c.table.result.now c.args.name.now c.last_record.result tells c.type_inv.name c.last_record.ensures)
+    subst P (sym c.in-Compiled.is) (rules_tell rules c.table.result.now c.args.name.now c.last_record.result tells c.type_inv.name
+    c.last_record.ensures)
 
 pub returns-in-Loaded : goal.returns-in-Loaded
 returns-in-Loaded c =
     let P : AnyProfile → Type 0 = λ profile. Tells (judge_of profile) c.args.name.now c.last_record-in-Loaded.result in
     subst P (sym c.in-Loaded.is)
-    (table_tells c.told_is_the_one_verdict.ensures.only c.in-Loaded.loaded c.args.name.now c.last_record-in-Loaded.result (rw c.table-in-Loaded.ensures at c.last_record-in-Loaded.ensures))
+    (table_tells c.told_is_the_one_verdict.ensures.only c.in-Loaded.loaded c.args.name.now c.last_record-in-Loaded.result
+    (rw c.table-in-Loaded.ensures at c.last_record-in-Loaded.ensures))

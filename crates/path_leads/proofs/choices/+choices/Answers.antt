@@ -15,13 +15,25 @@ groups_have_alternatives-chooses-requires t c = (
 
 pub chooses-each_chooses-requires : goal.chooses-each_chooses-requires
 chooses-each_chooses-requires t c = (
-  omega (arith, length-Group c.args.item.now c.in-Group.alternatives c.in-Group.is, ap (λ z. length (with_commas (items_parts z))) c.deref.ensures.value, c.decreases),
+  omega (
+    arith,
+    length-Group c.args.item.now c.in-Group.alternatives c.in-Group.is,
+    ap (λ z. length (with_commas (items_parts z)))
+        c.deref.ensures.value,
+    c.decreases,
+  ),
   tt,
 )
 
 pub each_chooses-groups_have_alternatives-requires : goal.each_chooses-groups_have_alternatives-requires
 each_chooses-groups_have_alternatives-requires t c = (
-  omega (arith, length_alternative c.args.alternatives.now c.loop-items.items-index c.items-item.result c.loop-items-test.true c.items-item.is, ap (λ z. length (tokens_of z)) c.deref.ensures.value, c.decreases),
+  omega (
+    arith,
+    length_alternative c.args.alternatives.now c.loop-items.items-index c.items-item.result c.loop-items-test.true
+        c.items-item.is,
+    ap (λ z. length (tokens_of z)) c.deref.ensures.value,
+    c.decreases,
+  ),
   tt,
 )
 

@@ -11,7 +11,8 @@ invariant-groups_have_alternatives-loop-item l = all_choose (drop l.item-index l
 
 abbrev pub invariant-each_chooses-loop-items : goal.invariant-each_chooses-loop-items
 invariant-each_chooses-loop-items l =
-    list_all (λ items. all_choose items.items) (drop l.items-index l.alternatives) ≡ list_all (λ items. all_choose items.items) l.alternatives
+    list_all (λ items. all_choose items.items) (drop l.items-index l.alternatives)
+    ≡ list_all (λ items. all_choose items.items) l.alternatives
 
 abbrev pub decreases-chooses : goal.decreases-chooses
 decreases-chooses l = 3 * length (tokens l.item.now)

@@ -13,13 +13,25 @@ put_copies-copy_of-requires t c = (
 
 pub copy_of-alternatives_copy-requires : goal.copy_of-alternatives_copy-requires
 copy_of-alternatives_copy-requires t c = (
-  omega (arith, length-Group c.args.item.now c.in-Group.alternatives c.in-Group.is, ap (λ z. length (with_commas (items_parts z))) c.deref.ensures.value, c.decreases),
+  omega (
+    arith,
+    length-Group c.args.item.now c.in-Group.alternatives c.in-Group.is,
+    ap (λ z. length (with_commas (items_parts z)))
+        c.deref.ensures.value,
+    c.decreases,
+  ),
   tt,
 )
 
 pub alternatives_copy-put_copies-requires : goal.alternatives_copy-put_copies-requires
 alternatives_copy-put_copies-requires t c = (
-  omega (arith, length_alternative c.args.alternatives.now c.loop-items.items-index c.items-item.result c.loop-items-test.true c.items-item.is, ap (λ z. length (tokens_of z)) c.deref.ensures.value, c.decreases),
+  omega (
+    arith,
+    length_alternative c.args.alternatives.now c.loop-items.items-index c.items-item.result c.loop-items-test.true
+        c.items-item.is,
+    ap (λ z. length (tokens_of z)) c.deref.ensures.value,
+    c.decreases,
+  ),
   tt,
 )
 

@@ -13,7 +13,8 @@ invariant-put_copies-loop-item l = record {
 abbrev pub invariant-alternatives_copy-loop-items : goal.invariant-alternatives_copy-loop-items
 invariant-alternatives_copy-loop-items l = record {
   tokens : items_parts l.copies.items ++ items_parts (drop l.items-index l.alternatives) ≡ items_parts l.alternatives;
-  full : map (λ items. all_full items.items) l.copies.items ++ map (λ items. all_full items.items) (drop l.items-index l.alternatives) ≡ map (λ items. all_full items.items) l.alternatives;
+  full : map (λ items. all_full items.items) l.copies.items ++ map (λ items. all_full items.items) (drop l.items-index l.alternatives)
+      ≡ map (λ items. all_full items.items) l.alternatives;
 }
 
 abbrev pub decreases-copy_of : goal.decreases-copy_of

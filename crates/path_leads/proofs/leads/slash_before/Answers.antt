@@ -12,14 +12,17 @@ returns-clause-tokens c =
     let bare = c.in_ok-without_slashes.field-0 in
     let follow = tokens_of c.args.follow.now in
     c.in_ok-put_copies.ensures.tokens
-    ∙ ap (λ row. row ++ follow) (before_tokens c.new-items.result.items c.put.new.items.items c.put-2.new.items.items bare c.new-items.ensures.items c.in_ok-put.ensures c.in_ok-put-2.ensures)
+    ∙ ap (λ row. row ++ follow) (before_tokens c.new-items.result.items c.put.new.items.items c.put-2.new.items.items bare
+    c.new-items.ensures.items c.in_ok-put.ensures c.in_ok-put-2.ensures)
     ∙ ap (λ row. byte 47 ∷ (opening ∷ row)) (append_assoc (with_commas (items_parts bare.items)) (closing ∷ []) follow)
     ∙ ap (λ rows. byte 47 ∷ (opening ∷ (with_commas rows ++ (closing ∷ follow)))) c.in_ok-without_slashes.ensures.tokens
 
 pub returns-clause-full : goal.returns-clause-full
 returns-clause-full c =
-    let parts = and_parts (list_all (λ items. all_full items.items) c.args.alternatives.now) (all_full c.args.follow.now) c.requires.full in
+    let parts = and_parts (list_all (λ items. all_full items.items) c.args.alternatives.now) (all_full c.args.follow.now)
+    c.requires.full in
     c.in_ok-put_copies.ensures.full
-    ∙ ap (λ b. b && all_full c.args.follow.now) (before_full c.new-items.result.items c.put.new.items.items c.put-2.new.items.items c.in_ok-without_slashes.field-0 c.args.alternatives.now
-    c.new-items.ensures.items c.in_ok-put.ensures c.in_ok-put-2.ensures c.in_ok-without_slashes.ensures.full c.requires.some parts.0)
+    ∙ ap (λ b. b && all_full c.args.follow.now) (before_full c.new-items.result.items c.put.new.items.items c.put-2.new.items.items
+    c.in_ok-without_slashes.field-0 c.args.alternatives.now c.new-items.ensures.items c.in_ok-put.ensures c.in_ok-put-2.ensures
+    c.in_ok-without_slashes.ensures.full c.requires.some parts.0)
     ∙ parts.1

@@ -8,6 +8,7 @@ use Rattle.path_leads.proofs.leads.split.Given as goal
 abbrev pub invariant-loop-items : goal.invariant-loop-items
 invariant-loop-items l = record {
   full : IsTrue (list_all (λ items. all_full items.items) (drop l.items-index l.alternatives) && all_full l.follow);
-  made : l.paths.items ++ map (λ items. tokens_of items.items ++ tokens_of l.follow) (drop l.items-index l.alternatives) ≡ map (λ items. tokens_of items.items ++ tokens_of l.follow) l.alternatives;
+  made : l.paths.items ++ map (λ items. tokens_of items.items ++ tokens_of l.follow) (drop l.items-index l.alternatives)
+      ≡ map (λ items. tokens_of items.items ++ tokens_of l.follow) l.alternatives;
   readable : list_all is_path l.paths.items ≡ true;
 }

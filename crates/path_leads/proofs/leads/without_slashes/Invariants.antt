@@ -8,6 +8,9 @@ use Rattle.path_leads.proofs.leads.without_slashes.Given as goal
 abbrev pub invariant-loop-items : goal.invariant-loop-items
 invariant-loop-items l = record {
   slashes : IsTrue (list_all gives_slash (map (λ items. tokens_of items.items) (drop l.items-index l.alternatives)));
-  tokens : map (λ items. tokens_of items.items) l.bare.items ++ map (drop 1) (map (λ items. tokens_of items.items) (drop l.items-index l.alternatives)) ≡ map (drop 1) (map (λ items. tokens_of items.items) l.alternatives);
-  full : map (λ items. all_full items.items) l.bare.items ++ map (λ items. all_full items.items) (drop l.items-index l.alternatives) ≡ map (λ items. all_full items.items) l.alternatives;
+  tokens : map (λ items. tokens_of items.items) l.bare.items ++ map (drop 1)
+      (map (λ items. tokens_of items.items) (drop l.items-index l.alternatives))
+      ≡ map (drop 1) (map (λ items. tokens_of items.items) l.alternatives);
+  full : map (λ items. all_full items.items) l.bare.items ++ map (λ items. all_full items.items) (drop l.items-index l.alternatives)
+      ≡ map (λ items. all_full items.items) l.alternatives;
 }

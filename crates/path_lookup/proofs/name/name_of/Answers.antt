@@ -13,7 +13,8 @@ pub loop-directory-init : goal.loop-directory-init
 loop-directory-init g c = elim c.match-branch-2.branch [
   | in-Directory b ↦
       let written : drop c.match-branch-2.start c.match-branch-2.room ≡ slash ∷ [] =
-      (λ i. drop (b.start-is i) (b.room-is i)) ∙ b.put_in_front-start.ensures.text ∙ ap (λ z. slash ∷ z) (drop_all 4096 c.args.room.now (omega arith)) in
+      (λ i. drop (b.start-is i) (b.room-is i)) ∙ b.put_in_front-start.ensures.text ∙ ap (λ z. slash ∷ z)
+      (drop_all 4096 c.args.room.now (omega arith)) in
       record {
         kept = search rules;
         narrows = search rules;
@@ -23,10 +24,12 @@ loop-directory-init g c = elim c.match-branch-2.branch [
         within = omega arith;
         name = λ w seen.
             let spot = g.L.Look.means c.args.entry w in
-            name_split w.tree spot ∙ ap (λ z. stem w.tree spot ++ z) (closing_directory spot (c.in_ok-kind.ensures.answer w seen ∙ b.in-Directory.is) ∙ sym written);
+            name_split w.tree spot ∙ ap (λ z. stem w.tree spot ++ z)
+            (closing_directory spot (c.in_ok-kind.ensures.answer w seen ∙ b.in-Directory.is) ∙ sym written);
       }
   | in-File b ↦
-      let written : drop c.match-branch-2.start c.match-branch-2.room ≡ [] = (λ i. drop (b.start-is i) (b.room-is i)) ∙ drop_all 4096 c.args.room.now (omega arith) in
+      let written : drop c.match-branch-2.start c.match-branch-2.room ≡ [] = (λ i. drop (b.start-is i) (b.room-is i))
+      ∙ drop_all 4096 c.args.room.now (omega arith) in
       record {
         kept = search rules;
         narrows = search rules;
@@ -36,7 +39,12 @@ loop-directory-init g c = elim c.match-branch-2.branch [
         within = omega arith;
         name = λ w seen.
             let spot = g.L.Look.means c.args.entry w in
-            name_split w.tree spot ∙ ap (λ z. stem w.tree spot ++ z) (closing_other spot (λ e. elim b.in-File.is [ inl p ↦ cc (sym e ∙ c.in_ok-kind.ensures.answer w seen ∙ p) | inr p ↦ cc (sym e ∙ c.in_ok-kind.ensures.answer w seen ∙ p) ]) ∙ sym written);
+            name_split w.tree spot ∙ ap (λ z. stem w.tree spot ++ z)
+            (closing_other spot (λ e. elim b.in-File.is [
+              | inl p ↦ cc (sym e ∙ c.in_ok-kind.ensures.answer w seen ∙ p)
+              | inr p ↦ cc
+                  (sym e ∙ c.in_ok-kind.ensures.answer w seen ∙ p)
+            ]) ∙ sym written);
       }
 ]
 
@@ -54,7 +62,8 @@ returns-in_err-start-clause-fault g c =
     let up = c.in_ok-directory.ensures.answer w before ∙ ap (option_map (λ e. look.means e w)) c.in-Some.is in
     ap judged
     (here.name w earlier
-    ∙ stem_up w.tree w.sound (look.means below w) (look.means c.in-Some.directory w) (look.stands _ w below earlier here.known) up (drop c.loop-directory.start c.loop-directory.room)))
+    ∙ stem_up w.tree w.sound (look.means below w) (look.means c.in-Some.directory w) (look.stands _ w below earlier here.known) up
+    (drop c.loop-directory.start c.loop-directory.room)))
     (c.in_err-start.ensures.fault front))
 
 pub loop-directory-preserved : goal.loop-directory-preserved
@@ -75,6 +84,7 @@ loop-directory-preserved g c =
           let earlier = c.in_ok-directory.ensures.narrows w before in
           let up = c.in_ok-directory.ensures.answer w before ∙ ap (option_map (λ e. look.means e w)) c.in-Some.is in
           here.name w earlier
-          ∙ stem_up w.tree w.sound (look.means below w) (look.means c.in-Some.directory w) (look.stands _ w below earlier here.known) up (drop c.loop-directory.start c.loop-directory.room)
+          ∙ stem_up w.tree w.sound (look.means below w) (look.means c.in-Some.directory w) (look.stands _ w below earlier here.known) up
+          (drop c.loop-directory.start c.loop-directory.room)
           ∙ ap (λ z. stem w.tree (look.means c.in-Some.directory w) ++ z) (sym (put.text w seen));
     }

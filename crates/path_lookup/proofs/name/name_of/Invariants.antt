@@ -13,7 +13,8 @@ invariant-loop-directory g l = record {
   known : g.L.Look.knows l.look l.below;
   some : 0 < l.start;
   within : l.start ≤ 4096;
-  name : (w : World) → g.L.Look.sees l.look w → name_of w.tree (g.L.Look.means l.fn.entry w) ≡ stem w.tree (g.L.Look.means l.below w) ++ drop l.start l.room;
+  name : (w : World) → g.L.Look.sees l.look w → name_of w.tree (g.L.Look.means l.fn.entry w) ≡ stem w.tree (g.L.Look.means l.below w)
+      ++ drop l.start l.room;
 }
 
 abbrev pub decreases-loop-directory : goal.decreases-loop-directory

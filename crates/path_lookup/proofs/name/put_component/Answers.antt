@@ -10,6 +10,8 @@ returns-then-length-eq0-clause-fault g c = λ front.
     let got = c.in_ok-length.ensures in
     inr (λ w seen.
     let before = got.narrows w seen in
-    let filled = has_component w.tree w.sound (look.means c.args.entry w) (look.stands _ w c.args.entry before c.requires.known) (c.requires.below w before) in
-    let empty : is_filled (take c.in_ok-length.length c.component.new.room) ≡ false = ap (λ n. is_filled (take n c.component.new.room)) c.if-length-eq0.true in
+    let filled = has_component w.tree w.sound (look.means c.args.entry w) (look.stands _ w c.args.entry before c.requires.known)
+    (c.requires.below w before) in
+    let empty : is_filled (take c.in_ok-length.length c.component.new.room) ≡ false = ap (λ n. is_filled (take n c.component.new.room))
+    c.if-length-eq0.true in
     true_is_false (sym filled ∙ ap is_filled (got.answer w seen) ∙ empty))

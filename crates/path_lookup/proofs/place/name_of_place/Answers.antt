@@ -17,7 +17,8 @@ returns-in_err-end-clause-fault g c =
     (λ w errno seen long.
     let before = c.in_err-end.ensures.narrows w seen in
     let spot = look.means directory w in
-    named_behind w.tree w.sound path parts spot c.in-Ok.ensures.ok.0 (look.stands _ w directory before got.known) (got.directory w before) (got.found w before)
+    named_behind w.tree w.sound path parts spot c.in-Ok.ensures.ok.0 (look.stands _ w directory before got.known) (got.directory w before)
+    (got.found w before)
     ∙ judged_more (name_of w.tree spot) parts.last.now errno long)
     c.in_err-end.ensures.fault)
 
@@ -29,7 +30,8 @@ returns-in-Ok-put_behind-clause-name g c = λ w seen.
     let got = c.in_ok-directory.ensures in
     let before = c.in_ok-end.ensures.narrows w seen in
     let spot = look.means directory w in
-    named_behind w.tree w.sound c.args.path.now parts spot c.in-Ok.ensures.ok.0 (look.stands _ w directory before got.known) (got.directory w before) (got.found w before)
+    named_behind w.tree w.sound c.args.path.now parts spot c.in-Ok.ensures.ok.0 (look.stands _ w directory before got.known)
+    (got.directory w before) (got.found w before)
     ∙ ap (λ z. judged (z ++ parts.last.now)) (judged_is (name_of w.tree spot) _ (c.in_ok-end.ensures.name w seen))
     ∙ c.in-Ok-put_behind.ensures.name
 
@@ -41,6 +43,7 @@ returns-in-Err-put_behind-clause-fault g c = λ w seen.
     let got = c.in_ok-directory.ensures in
     let before = c.in_ok-end.ensures.narrows w seen in
     let spot = look.means directory w in
-    named_behind w.tree w.sound c.args.path.now parts spot c.in-Ok.ensures.ok.0 (look.stands _ w directory before got.known) (got.directory w before) (got.found w before)
+    named_behind w.tree w.sound c.args.path.now parts spot c.in-Ok.ensures.ok.0 (look.stands _ w directory before got.known)
+    (got.directory w before) (got.found w before)
     ∙ ap (λ z. judged (z ++ parts.last.now)) (judged_is (name_of w.tree spot) _ (c.in_ok-end.ensures.name w seen))
     ∙ c.in-Err-put_behind.ensures.long

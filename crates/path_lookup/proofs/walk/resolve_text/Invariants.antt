@@ -13,7 +13,8 @@ invariant-loop-entry g l = record {
   known : g.L.Look.knows l.look l.directory;
   room : HasRoom (length l.scratch) l.links;
   directory : (w : World) → g.L.Look.sees l.look w → IsDirectory w.tree (g.L.Look.means l.directory w);
-  here : (w : World) → g.L.Look.sees l.look w → walk w.tree l.last l.text ≡ onward_from w l.last l.links (g.L.Look.means l.directory w) l.scratch;
+  here : (w : World) → g.L.Look.sees l.look w → walk w.tree l.last l.text ≡ onward_from w l.last l.links
+      (g.L.Look.means l.directory w) l.scratch;
 }
 
 abbrev pub decreases-loop-entry : goal.decreases-loop-entry

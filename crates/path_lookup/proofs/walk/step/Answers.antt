@@ -13,8 +13,9 @@ returns-in_err-arrival-clause-fault g c =
     let ends : is_last (steps_of c.in-Some.rest.now) ≡ c.is_empty.result = ends_here c.in-Some.rest.now ∙ sym c.is_empty.ensures in
     let look = g.L.Look in
     passed_on c.from_residual.result c.in_err-arrival.field-0.0 _ c.from_residual.ensures.1
-    (fault_along _ _ _ (λ w. onward_from w c.args.last c.args.links (look.means c.args.directory w) c.args.scratch.now) c.in_err-arrival.field-0.0
-    (λ w seen. ap (λ ps. resolve w.tree c.args.last c.args.links (node_at (look.means c.args.directory w)) (map step_of ps)) first)
+    (fault_along _ _ _ (λ w. onward_from w c.args.last c.args.links (look.means c.args.directory w) c.args.scratch.now)
+    c.in_err-arrival.field-0.0 (λ w seen. ap (λ ps. resolve w.tree c.args.last c.args.links (node_at (look.means c.args.directory w))
+    (map step_of ps)) first)
     (c.in_err-arrival.ensures.fault c.args.links (steps_of c.in-Some.rest.now) ends))
 
 pub returns-in-Directory-clause-answer : goal.returns-in-Directory-clause-answer
@@ -57,8 +58,10 @@ returns-in_ok-next-in-Link-2-clause-answer g c = λ w seen.
     let before = c.in_ok-next-in-Link-2.ensures.narrows w seen in
     let arrival = rw c.in-Link-2.is at c.in_ok-arrival.ensures.answer w before c.args.links (steps_of c.in-Some.rest.now) ends in
     let on =
-    followed w.tree c.args.last c.args.links (look.means c.args.directory w) (look.means c.in_ok-next-in-Link-2.next w) (look.means c.in-Link-2.link w) c.in-Some.rest.now c.skip.new.self c.follow.new.scratch _
-    (λ e. absurd (omega arith)) left c.in-Some.ensures.slash (c.requires.directory w (c.in_ok-arrival.ensures.narrows w before)) arrival (λ text kind. c.in_ok-next-in-Link-2.ensures.text w text seen kind) in (
+    followed w.tree c.args.last c.args.links (look.means c.args.directory w) (look.means c.in_ok-next-in-Link-2.next w)
+    (look.means c.in-Link-2.link w) c.in-Some.rest.now c.skip.new.self c.follow.new.scratch _
+    (λ e. absurd (omega arith)) left c.in-Some.ensures.slash (c.requires.directory w (c.in_ok-arrival.ensures.narrows w before)) arrival
+    (λ text kind. c.in_ok-next-in-Link-2.ensures.text w text seen kind) in (
       ap (λ ps. resolve w.tree c.args.last c.args.links (node_at (look.means c.args.directory w)) (map step_of ps)) first ∙ on.0,
       on.1,
     )

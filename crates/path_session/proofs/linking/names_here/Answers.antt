@@ -17,11 +17,13 @@ unreachable-requires c =
 pub returns-in-Ok-clause-answer : goal.returns-in-Ok-clause-answer
 returns-in-Ok-clause-answer c =
     let seen = c.look.ensures.sees in
-    ap (λ (t : Tree). judged_by_name (judge_of c.args.profile.now) t c.args.old.now (named_place t c.args.new.now)) (tree_is c.args.keeper.now seen)
+    ap (λ (t : Tree). judged_by_name (judge_of c.args.profile.now) t c.args.old.now (named_place t c.args.new.now))
+    (tree_is c.args.keeper.now seen)
     ∙ c.in-Ok.ensures.answer seen.world (sees _ _ seen (c.judge_names.ensures.kept ∙ c.look.ensures.cells))
 
 pub returns-in-Refused-clause-fault : goal.returns-in-Refused-clause-fault
 returns-in-Refused-clause-fault c =
     let seen = c.look.ensures.sees in
-    ap (λ (t : Tree). judged_by_name (judge_of c.args.profile.now) t c.args.old.now (named_place t c.args.new.now)) (tree_is c.args.keeper.now seen)
+    ap (λ (t : Tree). judged_by_name (judge_of c.args.profile.now) t c.args.old.now (named_place t c.args.new.now))
+    (tree_is c.args.keeper.now seen)
     ∙ (rw c.in-Refused.is at c.in-Err.ensures.fault) seen.world (sees _ _ seen (c.judge_names.ensures.kept ∙ c.look.ensures.cells))

@@ -2,7 +2,9 @@ use Rattle.path_session.proofs.Standing.{would_where_ok, would_not_where_err}
 use Rattle.path_session.proofs.linking.test_here.Goals as goal
 
 pub returns-clause-ok : goal.returns-clause-ok
-returns-clause-ok c = would_where_ok c.args.keeper.now c.look.ensures.sees c.args.change.now c.look.result.now.cells c.look.ensures.cells c.test.result c.test.ensures.ok
+returns-clause-ok c = would_where_ok c.args.keeper.now c.look.ensures.sees c.args.change.now c.look.result.now.cells c.look.ensures.cells
+    c.test.result c.test.ensures.ok
 
 pub returns-clause-err : goal.returns-clause-err
-returns-clause-err c = would_not_where_err c.args.keeper.now c.look.ensures.sees c.args.change.now c.look.result.now.cells c.look.ensures.cells c.test.result c.test.ensures.err
+returns-clause-err c = would_not_where_err c.args.keeper.now c.look.ensures.sees c.args.change.now c.look.result.now.cells
+    c.look.ensures.cells c.test.result c.test.ensures.err

@@ -23,7 +23,8 @@ returns-clause-ok c =
         half = half;
         tree = saw.world.tree;
         is_at = at;
-        end = rw w.file-is ((rw w.in-Ok-reached.is at c.reach_file-reached.ensures.answer) saw.world (look_sees _ _ _ c.into_cells.ensures saw));
+        end = rw w.file-is ((rw w.in-Ok-reached.is at c.reach_file-reached.ensures.answer) saw.world
+            (look_sees _ _ _ c.into_cells.ensures saw));
       }
       | in-Err-reached+in-Refused w ↦ record {
         version_is = version;

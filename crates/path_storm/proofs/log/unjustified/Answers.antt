@@ -9,10 +9,12 @@ loop-answer-preserved c =
     elim c.if-not-justifies.branch [
       | then-not-justifies w ↦ record {
         few = omega (arith, w.count-is);
-        counted = rw w.count-is (next_other _ c.args.answers.now c.loop-answer.answer-index _ c.loop-answer.count c.loop-answer-test.true so_far.counted w.if-not-justifies.ensures.1);
+        counted = rw w.count-is (next_other _ c.args.answers.now c.loop-answer.answer-index _ c.loop-answer.count c.loop-answer-test.true
+            so_far.counted w.if-not-justifies.ensures.1);
       }
       | else-not-justifies w ↦ record {
         few = omega (arith, w.count-is);
-        counted = rw w.count-is (next_holds _ c.args.answers.now c.loop-answer.answer-index _ c.loop-answer.count c.loop-answer-test.true so_far.counted (w.if-not-justifies.ensures.0 refl));
+        counted = rw w.count-is (next_holds _ c.args.answers.now c.loop-answer.answer-index _ c.loop-answer.count c.loop-answer-test.true
+            so_far.counted (w.if-not-justifies.ensures.0 refl));
       }
     ]

@@ -9,5 +9,6 @@ use Rattle.path_storm.proofs.log.unjustified.Given as goal
 abbrev pub invariant-loop-answer : goal.invariant-loop-answer
 invariant-loop-answer l = record {
   few : l.count ≤ l.answer-index;
-  counted : IsCountOfOthers (Justified PROFILE.now l.trail.path l.trail.ask l.trail.changes (map deed_of l.policy)) (take l.answer-index l.answers) l.count;
+  counted : IsCountOfOthers (Justified PROFILE.now l.trail.path l.trail.ask l.trail.changes (map deed_of l.policy))
+      (take l.answer-index l.answers) l.count;
 }

@@ -10,7 +10,8 @@ returns-clause-answers g c =
     let answers = c.in_ok-log.log.answers in
     let full = c.in_ok-log.ensures in
     IfOk-weaker c.report.result _ _
-    (λ report is. is.answers ∙ all_answers opens answers.items full.1 ∙ ap (λ n. n * opens) (sym answers.ok.0 ∙ full.0)) c.report.ensures.ok
+    (λ report is. is.answers ∙ all_answers opens answers.items full.1 ∙ ap (λ n. n * opens) (sym answers.ok.0 ∙ full.0))
+    c.report.ensures.ok
 
 pub returns-clause-told : goal.returns-clause-told
 returns-clause-told g c = IfOk-weaker c.report.result _ _ (λ report is. (c.in_ok-log.log, c.in_ok-log.ensures, is)) c.report.ensures.ok

@@ -8,7 +8,8 @@ use Rattle.policy_map.proofs.laws.last_change_of_a_name_stands.Goals as goal
 itself : (name : List ℕ) → bytes_eq name name ≡ true
 itself name = (bytes_eq-Decides name name).1 refl
 
-last : (deeds : List Deed) (deed : Deed) (name : List ℕ) → policy_after (deeds ++ deed ∷ []) name ≡ after_deed (policy_after deeds) deed name
+last : (deeds : List Deed) (deed : Deed) (name : List ℕ) → policy_after (deeds ++ deed ∷ []) name
+    ≡ after_deed (policy_after deeds) deed name
 last deeds deed name = ap (λ (p : Policy). p name) (after_both (λ n. None) deeds (deed ∷ []))
 
 pub returns-clause-published : goal.returns-clause-published

@@ -7,5 +7,6 @@ use Rattle.profile_import.proofs.added.push_change_of_hat.Goals as goal
 
 pub returns : goal.returns
 returns c =
-    let same = ap (λ (perms : Perms). c.args.rules.now.items ++ restated_at c.args.chosen (added_at c.args.place perms (codes "/proc/[0-9]*/attr/{,apparmor/}current"))) c.with.ensures in
+    let same = ap (λ (perms : Perms). c.args.rules.now.items ++ restated_at c.args.chosen
+    (added_at c.args.place perms (codes "/proc/[0-9]*/attr/{,apparmor/}current"))) c.with.ensures in
     then_so c.push_added.result (λ e. e ∙ same) c.push_added.ensures

@@ -7,5 +7,6 @@ use Rattle.profile_import.proofs.choosing.fitting.Given as goal
 abbrev pub invariant-loop-head : goal.invariant-loop-head
 invariant-loop-head l = record {
   counted : l.number ≡ l.head-index;
-  gathered : l.numbers.items ++ fitting (option_map (λ name. name.now) l.fn.asked) l.number (drop l.head-index l.heads) ≡ fitting (option_map (λ name. name.now) l.fn.asked) 0 l.heads;
+  gathered : l.numbers.items ++ fitting (option_map (λ name. name.now) l.fn.asked) l.number (drop l.head-index l.heads)
+      ≡ fitting (option_map (λ name. name.now) l.fn.asked) 0 l.heads;
 }

@@ -20,8 +20,12 @@ returns-in-Some-clause-too_many c =
     let later = drop (suc c.loop-item.item-index) c.args.items.now in
     let others = rules_in variables chosen later (cut_item (item_reading variables chosen item) item cut) in
     let left : drop c.loop-item.item-index c.args.items.now ≡ item ∷ later =
-    drop-cons c.args.items.now c.loop-item.item-index item c.loop-item-test.true ∙ ap (λ (x : ItemValue). x ∷ later) (sym c.item-item.is) in
-    let pushed = c.in_ok-take_item.ensures.rules ∙ ap (λ (v : List Variable). before ++ restated_rules chosen (rules_at v item cut)) c.loop-item.invariant.lists in
+    drop-cons c.args.items.now c.loop-item.item-index item c.loop-item-test.true ∙ ap (λ (x : ItemValue). x ∷ later)
+    (sym c.item-item.is) in
+    let pushed = c.in_ok-take_item.ensures.rules ∙ ap (λ (v : List Variable). before ++ restated_rules chosen (rules_at v item cut))
+    c.loop-item.invariant.lists in
     let all = rules_step chosen (rules_at variables item cut) others before now pushed
-    ∙ ap (λ (l : List ItemValue). before ++ restated_rules chosen (rules_in variables chosen l cut)) (sym left) ∙ c.loop-item.invariant.rules in
-    too_many_before now (restated_rules chosen others) _ c.in-Some.place all (ap one_too_many (sym c.deref.ensures.value) ∙ sym c.in-Some.ensures)
+    ∙ ap (λ (l : List ItemValue). before ++ restated_rules chosen (rules_in variables chosen l cut)) (sym left)
+    ∙ c.loop-item.invariant.rules in
+    too_many_before now (restated_rules chosen others) _ c.in-Some.place all (ap one_too_many (sym c.deref.ensures.value)
+    ∙ sym c.in-Some.ensures)

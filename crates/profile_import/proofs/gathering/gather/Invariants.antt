@@ -9,7 +9,8 @@ use Rattle.profile_import.proofs.gathering.gather.Given as goal
 abbrev pub invariant-loop-item : goal.invariant-loop-item
 invariant-loop-item l = record {
   lists : l.lists ≡ l.fn.lists;
-  cut : cut_items (item_reading l.fn.lists l.choice.subject) (drop l.item-index l.items) l.cut ≡ cut_items (item_reading l.fn.lists l.choice.subject) l.items (at_start l.choice);
+  cut : cut_items (item_reading l.fn.lists l.choice.subject) (drop l.item-index l.items) l.cut
+      ≡ cut_items (item_reading l.fn.lists l.choice.subject) l.items (at_start l.choice);
   rules : l.rules.items ++ restated_rules l.choice.subject (rules_in l.fn.lists l.choice.subject (drop l.item-index l.items) l.cut)
       ≡ restated_rules l.choice.subject (rules_in l.fn.lists l.choice.subject l.items (at_start l.choice));
 }

@@ -13,6 +13,7 @@ returns c =
     let start = at_start c.args.options.defines.now in
     let same = ap (λ stop. read_outcome c.args.options c.args.all items None (option_map stop_value stop)) (sym c.in-None.is) in
     tells_each {P = λ (outcome : Outcome). outcome ≡ items_outcome c.args.options (behind_all start items) items}
-    {Q = λ (outcome : Outcome). (fault : Option Fault) × FirstFault start items fault × (outcome ≡ read_outcome c.args.options c.args.all items fault (option_map stop_value c.args.stop))}
+    {Q = λ (outcome : Outcome). (fault : Option Fault) × FirstFault start items fault
+    × (outcome ≡ read_outcome c.args.options c.args.all items fault (option_map stop_value c.args.stop))}
     c.import_items.result (λ outcome e. (None, c.in-Ok.ensures.faultless, e ∙ same))
     (c.import_items.ensures (behind_all start items) c.in-Ok.ensures.variables c.in-Ok.ensures.profiles)

@@ -6,7 +6,8 @@ use Rattle.profile_import.proofs.placed.push_restated.Goals as goal
 
 pub loop-path-preserved : goal.loop-path-preserved
 loop-path-preserved c =
-    let left = subst (λ (paths : List (List Token)). All (λ path. IsTrue (is_path path)) paths) c.in-Some.ensures.steps.0 c.loop-path.invariant.readable in
+    let left = subst (λ (paths : List (List Token)). All (λ path. IsTrue (is_path path)) paths) c.in-Some.ensures.steps.0
+    c.loop-path.invariant.readable in
     record {
       pushed = pushed_more _ _ _ _ _ _ c.loop-path.invariant.pushed (search rules);
       readable = λ k d low. left (suc k) d (omega arith);

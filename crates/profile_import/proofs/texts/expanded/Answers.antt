@@ -8,4 +8,5 @@ returns-in-Ok-clause-text c = is_expanded c.args.lists.now c.args.path.now c.in-
 
 pub returns-in-Err-clause-text : goal.returns-in-Err-clause-text
 returns-in-Err-clause-text c =
-    then_each c.nothing_for.result (λ text h. h.0 ∙ fault_expanded c.args.lists.now c.args.path.now _ h.1 c.in-Err.ensures.fault) c.nothing_for.ensures
+    then_each c.nothing_for.result (λ text h. h.0 ∙ fault_expanded c.args.lists.now c.args.path.now _ h.1 c.in-Err.ensures.fault)
+    c.nothing_for.ensures

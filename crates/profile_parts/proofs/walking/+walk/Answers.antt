@@ -27,8 +27,10 @@ pub behind_item-returns-in_ok-behind_alternatives-in-Group : goal.behind_item-re
 behind_item-returns-in_ok-behind_alternatives-in-Group t c =
     let same : c.deref.result.now ≡ c.in-Group.alternatives.items = c.deref.ensures.value in
     let one : step opening c.args.place ≡ Some c.in_ok-behind_opening-in-Group.field-0 = sym c.in_ok-behind_opening-in-Group.ensures in
-    let all : walk (with_commas (parts_of c.in-Group.alternatives.items)) c.in_ok-behind_opening-in-Group.field-0 ≡ Some c.in_ok-behind_alternatives-in-Group.field-0 =
-    ap (λ list. walk (with_commas (parts_of list)) c.in_ok-behind_opening-in-Group.field-0) (sym same) ∙ sym c.in_ok-behind_alternatives-in-Group.ensures in
+    let all : walk (with_commas (parts_of c.in-Group.alternatives.items)) c.in_ok-behind_opening-in-Group.field-0
+    ≡ Some c.in_ok-behind_alternatives-in-Group.field-0 =
+    ap (λ list. walk (with_commas (parts_of list)) c.in_ok-behind_opening-in-Group.field-0) (sym same)
+    ∙ sym c.in_ok-behind_alternatives-in-Group.ensures in
     c.behind_closing.ensures
     ∙ sym (ap (λ x. walk (tokens x) c.args.place) c.in-Group.is ∙ group_step c.in-Group.alternatives c.args.place
     ∙ ap (λ o. option_and_then (step closing) (option_and_then (walk (with_commas (parts_of c.in-Group.alternatives.items))) o)) one
@@ -39,7 +41,8 @@ behind_item-returns-in_err-behind_alternatives-in-Group t c =
     let same : c.deref.result.now ≡ c.in-Group.alternatives.items = c.deref.ensures.value in
     let one : step opening c.args.place ≡ Some c.in_ok-behind_opening-in-Group.field-0 = sym c.in_ok-behind_opening-in-Group.ensures in
     let all : walk (with_commas (parts_of c.in-Group.alternatives.items)) c.in_ok-behind_opening-in-Group.field-0 ≡ None =
-    ap (λ list. walk (with_commas (parts_of list)) c.in_ok-behind_opening-in-Group.field-0) (sym same) ∙ sym c.in_err-behind_alternatives-in-Group.ensures in
+    ap (λ list. walk (with_commas (parts_of list)) c.in_ok-behind_opening-in-Group.field-0) (sym same)
+    ∙ sym c.in_err-behind_alternatives-in-Group.ensures in
     c.from_residual-in_err-behind_alternatives-in-Group.ensures
     ∙ sym (ap (λ x. walk (tokens x) c.args.place) c.in-Group.is ∙ group_step c.in-Group.alternatives c.args.place
     ∙ ap (λ o. option_and_then (step closing) (option_and_then (walk (with_commas (parts_of c.in-Group.alternatives.items))) o)) one
@@ -53,19 +56,37 @@ behind_items-behind_item-requires t c = (
 
 pub behind_item-behind_alternatives-requires : goal.behind_item-behind_alternatives-requires
 behind_item-behind_alternatives-requires t c = (
-  omega (arith, length-Group c.args.item.now c.in-Group.alternatives c.in-Group.is, ap (λ z. length (with_commas (parts_of z))) c.deref.ensures.value, c.decreases),
+  omega (
+    arith,
+    length-Group c.args.item.now c.in-Group.alternatives c.in-Group.is,
+    ap (λ z. length (with_commas (parts_of z)))
+        c.deref.ensures.value,
+    c.decreases,
+  ),
   tt,
 )
 
 pub behind_alternatives-behind_items-requires : goal.behind_alternatives-behind_items-requires
 behind_alternatives-behind_items-requires t c = (
-  omega (arith, length_alternative c.args.alternatives.now 0 c.first-item.result c.in-len1-up.len_at_least c.first-item.is, ap (λ z. length (tokens_of z)) c.deref.ensures.value, c.decreases),
+  omega (
+    arith,
+    length_alternative c.args.alternatives.now 0 c.first-item.result c.in-len1-up.len_at_least
+        c.first-item.is,
+    ap (λ z. length (tokens_of z)) c.deref.ensures.value,
+    c.decreases,
+  ),
   tt,
 )
 
 pub behind_alternatives-behind_items-requires-in-loop-items : goal.behind_alternatives-behind_items-requires-in-loop-items
 behind_alternatives-behind_items-requires-in-loop-items t c = (
-  omega (arith, length_other c.args.alternatives.now c.loop-items.items-index c.items-item.result c.in-len1-up.len_at_least c.loop-items-test.true c.items-item.is, ap (λ z. length (tokens_of z)) c.deref-in-loop-items.ensures.value, c.decreases),
+  omega (
+    arith,
+    length_other c.args.alternatives.now c.loop-items.items-index c.items-item.result c.in-len1-up.len_at_least
+        c.loop-items-test.true c.items-item.is,
+    ap (λ z. length (tokens_of z)) c.deref-in-loop-items.ensures.value,
+    c.decreases,
+  ),
   tt,
 )
 
@@ -82,10 +103,12 @@ behind_alternatives-returns-in_err-behind_between t c =
     let i = c.loop-items.items-index in
     let items = c.items-item.result in
     c.from_residual-in_err-behind_between.ensures
-    ∙ ap (λ o. option_and_then (walk_rest (parts_of (drop (i + 1) others))) (option_and_then (walk (tokens_of items.items)) o)) c.in_err-behind_between.ensures
+    ∙ ap (λ o. option_and_then (walk_rest (parts_of (drop (i + 1) others))) (option_and_then (walk (tokens_of items.items)) o))
+    c.in_err-behind_between.ensures
     ∙ sym (rest_step others i items c.loop-items.place c.loop-items-test.true c.items-item.is)
     ∙ c.loop-items.invariant
-    ∙ ap (option_and_then (walk_rest (parts_of others))) (c.in_ok-place.ensures ∙ ap (λ z. walk (tokens_of z) c.args.place) c.deref.ensures.value)
+    ∙ ap (option_and_then (walk_rest (parts_of others))) (c.in_ok-place.ensures ∙ ap (λ z. walk (tokens_of z) c.args.place)
+    c.deref.ensures.value)
     ∙ sym (all_parts c.args.alternatives.now c.first-item.result c.args.place c.in-len1-up.len_at_least c.first-item.is)
 
 pub behind_alternatives-returns-in_err-place-2 : goal.behind_alternatives-returns-in_err-place-2
@@ -95,11 +118,13 @@ behind_alternatives-returns-in_err-place-2 t c =
     let items = c.items-item.result in
     let rest = walk_rest (parts_of (drop (i + 1) others)) in
     c.from_residual-in_err-place-2.ensures
-    ∙ ap (option_and_then rest) (c.in_err-place-2.ensures ∙ ap (λ z. walk (tokens_of z) c.in_ok-behind_between.field-0) c.deref-in-loop-items.ensures.value)
+    ∙ ap (option_and_then rest) (c.in_err-place-2.ensures ∙ ap (λ z. walk (tokens_of z) c.in_ok-behind_between.field-0)
+    c.deref-in-loop-items.ensures.value)
     ∙ ap (λ o. option_and_then rest (option_and_then (walk (tokens_of items.items)) o)) c.in_ok-behind_between.ensures
     ∙ sym (rest_step others i items c.loop-items.place c.loop-items-test.true c.items-item.is)
     ∙ c.loop-items.invariant
-    ∙ ap (option_and_then (walk_rest (parts_of others))) (c.in_ok-place.ensures ∙ ap (λ z. walk (tokens_of z) c.args.place) c.deref.ensures.value)
+    ∙ ap (option_and_then (walk_rest (parts_of others))) (c.in_ok-place.ensures ∙ ap (λ z. walk (tokens_of z) c.args.place)
+    c.deref.ensures.value)
     ∙ sym (all_parts c.args.alternatives.now c.first-item.result c.args.place c.in-len1-up.len_at_least c.first-item.is)
 
 pub behind_alternatives-loop-items-preserved : goal.behind_alternatives-loop-items-preserved
@@ -108,7 +133,8 @@ behind_alternatives-loop-items-preserved t c =
     let i = c.loop-items.items-index in
     let items = c.items-item.result in
     let rest = walk_rest (parts_of (drop (i + 1) others)) in
-    ap (option_and_then rest) (c.in_ok-place-2.ensures ∙ ap (λ z. walk (tokens_of z) c.in_ok-behind_between.field-0) c.deref-in-loop-items.ensures.value)
+    ap (option_and_then rest) (c.in_ok-place-2.ensures ∙ ap (λ z. walk (tokens_of z) c.in_ok-behind_between.field-0)
+    c.deref-in-loop-items.ensures.value)
     ∙ ap (λ o. option_and_then rest (option_and_then (walk (tokens_of items.items)) o)) c.in_ok-behind_between.ensures
     ∙ sym (rest_step others i items c.loop-items.place c.loop-items-test.true c.items-item.is)
     ∙ c.loop-items.invariant
@@ -118,5 +144,6 @@ behind_alternatives-returns t c =
     let others = others_of c.args.alternatives.now in
     ap (λ l. walk_rest (parts_of l) c.loop-items.place) (sym (drop_of_length-le others c.loop-items-test.false))
     ∙ c.loop-items.invariant
-    ∙ ap (option_and_then (walk_rest (parts_of others))) (c.in_ok-place.ensures ∙ ap (λ z. walk (tokens_of z) c.args.place) c.deref.ensures.value)
+    ∙ ap (option_and_then (walk_rest (parts_of others))) (c.in_ok-place.ensures ∙ ap (λ z. walk (tokens_of z) c.args.place)
+    c.deref.ensures.value)
     ∙ sym (all_parts c.args.alternatives.now c.first-item.result c.args.place c.in-len1-up.len_at_least c.first-item.is)

@@ -7,6 +7,7 @@ use Rattle.profile_variables.proofs.adding.add_alternatives.Given as goal
 
 abbrev pub invariant-loop-place : goal.invariant-loop-place
 invariant-loop-place l = record {
-  whole : l.text.items ++ flat_map (λ other. 44 ∷ alternative l.slash_before l.slash_behind other) (drop l.place l.list) ≡ l.fn.text.items ++ alternatives l.slash_before l.slash_behind l.list;
+  whole : l.text.items ++ flat_map (λ other. 44 ∷ alternative l.slash_before l.slash_behind other) (drop l.place l.list) ≡ l.fn.text.items
+      ++ alternatives l.slash_before l.slash_behind l.list;
   short : length l.text.items ≤ most_bytes;
 }

@@ -22,18 +22,22 @@ loop-place-preserved c = λ q.
     let v = c.index-variables-place.result in
     let name : c.name-name.result.now ≡ v.name = c.name-name.ensures in
     let more : first_of_two (found old q) (cond (bytes_eq v.name q) (Some i) None) ≡ place_of (take (i + 1) c.args.variables.now) q =
-    ap (λ o. first_of_two o (cond (bytes_eq v.name q) (Some i) None)) (c.loop-place.invariant q) ∙ sym (place_more c.args.variables.now i v (omega arith) c.index-variables-place.is q) in
+    ap (λ o. first_of_two o (cond (bytes_eq v.name q) (Some i) None)) (c.loop-place.invariant q)
+    ∙ sym (place_more c.args.variables.now i v (omega arith) c.index-variables-place.is q) in
     elim c.if-is_none.branch [
       | then-is_none+in_ok-from_slice+in_ok-insert w ↦
           let key = w.in_ok-from_slice.field-0.items in
           let is : key ≡ v.name = w.in_ok-from_slice.ensures.items ∙ name in
-          let none : found old v.name ≡ None = ap (found old) (sym name) ∙ none_found c.get.result (found old c.name-name.result.now) c.is_none.result c.is_none.ensures w.if-is_none.true c.get.ensures.value in
+          let none : found old v.name ≡ None = ap (found old) (sym name) ∙ none_found c.get.result (found old c.name-name.result.now)
+          c.is_none.result c.is_none.ensures w.if-is_none.true c.get.ensures.value in
           ap (λ m. found m q) w.places-is
           ∙ new_placed (found old) (found w.insert.new.self) v.name q i none
-          (updates_bytes key old w.insert.new.self (Some i) w.in_ok-insert.ensures.updates q ∙ ap (λ (n : Text). cond (bytes_eq n q) (Some i) (found old q)) is)
+          (updates_bytes key old w.insert.new.self (Some i) w.in_ok-insert.ensures.updates q
+          ∙ ap (λ (n : Text). cond (bytes_eq n q) (Some i) (found old q)) is)
           ∙ more
       | else-is_none w ↦
           ap (λ m. found m q) w.places-is
-          ∙ old_placed (found old) v.name q i (ap (λ n. is_some (found old n)) (sym name) ∙ some_found c.get.result (found old c.name-name.result.now) c.is_none.result c.is_none.ensures w.if-is_none.false c.get.ensures.value)
+          ∙ old_placed (found old) v.name q i (ap (λ n. is_some (found old n)) (sym name) ∙ some_found c.get.result
+          (found old c.name-name.result.now) c.is_none.result c.is_none.ensures w.if-is_none.false c.get.ensures.value)
           ∙ more
     ]

@@ -7,4 +7,5 @@ use Rattle.profile_variables.specs.inner.Known.{place_of}
 use Rattle.profile_variables.proofs.declared.places_of.Given as goal
 
 abbrev pub invariant-loop-place : goal.invariant-loop-place
-invariant-loop-place l = (name : List ℕ) → get_by (λ key. slice_cmp nat_cmp name key.items) l.places ≡ place_of (take l.place l.variables) name
+invariant-loop-place l = (name : List ℕ) → get_by (λ key. slice_cmp nat_cmp name key.items) l.places
+    ≡ place_of (take l.place l.variables) name

@@ -7,4 +7,5 @@ use Rattle.profile_variables.proofs.listing.texts_of.Goals as goal
 pub returns : goal.returns
 returns c =
     sym c.loop-piece.invariant
-    ∙ ap (texts_from (known_in c.args.declared.now c.args.made.now) c.loop-piece.texts) (no_pieces c.loop-piece.rest.now (c.in_default.ensures.none refl))
+    ∙ ap (texts_from (known_in c.args.declared.now c.args.made.now) c.loop-piece.texts)
+    (no_pieces c.loop-piece.rest.now (c.in_default.ensures.none refl))

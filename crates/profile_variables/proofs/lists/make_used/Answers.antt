@@ -22,11 +22,14 @@ returns-in_err-make-clause-fault c =
     let name = c.in-Use.name.now in
     let made = c.loop-piece.made in
     let before = c.loop-piece.invariant.known in
-    let used = one_use c.loop-piece.rest.now c.in-Some.more.now name (piece_value c.in-Some.piece) c.in-Some.ensures.some (ap piece_value c.in-Use.is) in
+    let used = one_use c.loop-piece.rest.now c.in-Some.more.now name (piece_value c.in-Some.piece) c.in-Some.ensures.some
+    (ap piece_value c.in-Use.is) in
     let p = err_from_is_err_and c.from_residual.result c.from_residual.ensures.1 in
     rw (p.1, p.2)
     (tells_more (HasProblem variables [] name) (PathProblem variables path) c.in_err-make.field-0.0
-    (λ problem h. OfUse before.0 (used_names c.in-Some.more.now) name problem (before.1 ∙ ap (λ (x : List Text). before.0 ++ x) used) (are_listed variables (known_in variables made.lists.items) c.loop-piece.invariant.sound.levels c.loop-piece.invariant.sound.right before.0 before.2) h)
+    (λ problem h. OfUse before.0 (used_names c.in-Some.more.now) name problem (before.1 ∙ ap (λ (x : List Text). before.0 ++ x) used)
+    (are_listed variables (known_in variables made.lists.items) c.loop-piece.invariant.sound.levels c.loop-piece.invariant.sound.right
+    before.0 before.2) h)
     c.in_err-make.ensures.fault)
 
 pub loop-piece-preserved-in_ok-make : goal.loop-piece-preserved-in_ok-make
@@ -36,7 +39,8 @@ loop-piece-preserved-in_ok-make c =
     let before = c.loop-piece.invariant.known in
     let old = known_in variables c.loop-piece.made.lists.items in
     let new = known_in variables c.make.new.self.lists.items in
-    let used = one_use c.loop-piece.rest.now c.in-Some.more.now name (piece_value c.in-Some.piece) c.in-Some.ensures.some (ap piece_value c.in-Use.is) in
+    let used = one_use c.loop-piece.rest.now c.in-Some.more.now name (piece_value c.in-Some.piece) c.in-Some.ensures.some
+    (ap piece_value c.in-Use.is) in
     record {
       sound = c.in_ok-make.ensures.sound;
       known = (
@@ -50,4 +54,5 @@ pub returns-clause-known : goal.returns-clause-known
 returns-clause-known c =
     let before = c.loop-piece.invariant.known in
     let none = no_pieces c.loop-piece.rest.now (c.in_default.ensures.none refl) in
-    subst (AreKnown (known_in c.args.declared.now c.loop-piece.made.lists.items)) (sym (before.1 ∙ ap (λ ps. before.0 ++ names_in ps) none ∙ append-nil before.0)) before.2
+    subst (AreKnown (known_in c.args.declared.now c.loop-piece.made.lists.items))
+    (sym (before.1 ∙ ap (λ ps. before.0 ++ names_in ps) none ∙ append-nil before.0)) before.2

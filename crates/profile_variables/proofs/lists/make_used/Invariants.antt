@@ -8,7 +8,8 @@ use Rattle.profile_variables.proofs.lists.make_used.Given as goal
 abbrev pub invariant-loop-piece : goal.invariant-loop-piece
 invariant-loop-piece l = record {
   sound : IsSound l.declared l.made;
-  known : (before : List Text) × (used_names l.path ≡ before ++ used_names l.rest) × AreKnown (known_in l.declared l.made.lists.items) before;
+  known : (before : List Text) × (used_names l.path ≡ before ++ used_names l.rest)
+      × AreKnown (known_in l.declared l.made.lists.items) before;
 }
 
 abbrev pub decreases-loop-piece : goal.decreases-loop-piece

@@ -23,5 +23,5 @@ loop-place-preserved c =
     let name : Text = (get_or names place d).now in
     let low : place < length names = omega arith in
     known_more (known_in c.args.declared.now c.args.lists.now) (map (λ (n : Lent). n.now) names) place name
-    (let h = length-map names (λ (n : Lent). n.now) in omega (arith, h)) (get_or-map (λ (n : Lent). n.now) names place d name low) c.loop-place.invariant
-    (ap is_some (sym c.known.ensures) ∙ some_seen (λ list. list.now) c.known.result c.if-is_none.ensures)
+    (let h = length-map names (λ (n : Lent). n.now) in omega (arith, h)) (get_or-map (λ (n : Lent). n.now) names place d name low)
+    c.loop-place.invariant (ap is_some (sym c.known.ensures) ∙ some_seen (λ list. list.now) c.known.result c.if-is_none.ensures)

@@ -4,4 +4,5 @@ use Rattle.profile_variables.specs.Variables.{each_with}
 use Rattle.profile_variables.proofs.texts.product.Given as goal
 
 abbrev pub invariant-loop-first : goal.invariant-loop-first
-invariant-loop-first l = map (λ text. text.items) l.texts.items ≡ each_with (map (λ first. first.items) (take l.first-index l.firsts)) (map (λ second. second.items) l.seconds)
+invariant-loop-first l = map (λ text. text.items) l.texts.items ≡ each_with (map (λ first. first.items) (take l.first-index l.firsts))
+    (map (λ second. second.items) l.seconds)

@@ -6,4 +6,5 @@ use Rattle.profile_variables.proofs.variables.push_used.Goals as goal
 pub returns : goal.returns
 returns c =
     let all = map (λ name. name.now) c.loop-piece.names.items in
-    sym (append-nil all) ∙ ap (λ ps. all ++ names_in ps) (sym (no_pieces c.loop-piece.rest.now (c.in_default.ensures.none refl))) ∙ c.loop-piece.invariant
+    sym (append-nil all) ∙ ap (λ ps. all ++ names_in ps) (sym (no_pieces c.loop-piece.rest.now (c.in_default.ensures.none refl)))
+    ∙ c.loop-piece.invariant

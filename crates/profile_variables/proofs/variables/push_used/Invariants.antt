@@ -4,7 +4,8 @@ use Rattle.profile_variables.specs.Pieces.{used_names}
 use Rattle.profile_variables.proofs.variables.push_used.Given as goal
 
 abbrev pub invariant-loop-piece : goal.invariant-loop-piece
-invariant-loop-piece l = map (λ name. name.now) l.names.items ++ used_names l.rest ≡ map (λ name. name.now) l.fn.names.items ++ used_names l.text
+invariant-loop-piece l = map (λ name. name.now) l.names.items ++ used_names l.rest ≡ map (λ name. name.now) l.fn.names.items
+    ++ used_names l.text
 
 abbrev pub decreases-loop-piece : goal.decreases-loop-piece
 decreases-loop-piece l = length l.rest

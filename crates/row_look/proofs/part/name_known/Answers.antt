@@ -15,9 +15,11 @@ returns-in-Ok-clause-found c =
 pub returns-in-Ok-clause-name : goal.returns-in-Ok-clause-name
 returns-in-Ok-clause-name c =
     let is = c.reach.ensures.kept ∙ ap (λ (z : PartCells). z.known.now) c.new-look.ensures ∙ c.new.ensures in
-    told_in _ _ (λ t. and_then (walk t c.args.last c.args.path.now) (judged_name t)) (Ok (take c.in-Ok.reached.length c.reach.new.room)) is c.in-Ok.ensures.name
+    told_in _ _ (λ t. and_then (walk t c.args.last c.args.path.now) (judged_name t)) (Ok (take c.in-Ok.reached.length c.reach.new.room))
+    is c.in-Ok.ensures.name
 
 pub returns-in-Err-clause-stops : goal.returns-in-Err-clause-stops
 returns-in-Err-clause-stops c =
     let is = c.reach.ensures.kept ∙ ap (λ (z : PartCells). z.known.now) c.new-look.ensures ∙ c.new.ensures in
-    stops_in _ _ (λ t. and_then (walk t c.args.last c.args.path.now) (judged_name t)) c.in-Err.fault _ _ is c.stop.ensures c.reach.new.look.cells.honest c.in-Err.ensures.fault
+    stops_in _ _ (λ t. and_then (walk t c.args.last c.args.path.now) (judged_name t)) c.in-Err.fault _ _ is c.stop.ensures
+    c.reach.new.look.cells.honest c.in-Err.ensures.fault

@@ -13,4 +13,5 @@ returns-in-Ok-clause-name c =
 pub returns-in-Err-clause-stops : goal.returns-in-Err-clause-stops
 returns-in-Err-clause-stops c =
     let is = c.name_of_place.ensures.kept ∙ ap (λ (z : PartCells). z.known.now) c.new-look.ensures ∙ c.new.ensures in
-    stops_in _ _ (λ t. named_place t c.args.path.now) c.in-Err.fault _ _ is c.stop.ensures c.name_of_place.new.look.cells.honest c.in-Err.ensures.fault
+    stops_in _ _ (λ t. named_place t c.args.path.now) c.in-Err.fault _ _ is c.stop.ensures c.name_of_place.new.look.cells.honest
+    c.in-Err.ensures.fault

@@ -12,4 +12,5 @@ returns-in-Ok-clause-found c =
 pub returns-in-Err-clause-stops : goal.returns-in-Err-clause-stops
 returns-in-Err-clause-stops c =
     let is = c.resolve.ensures.kept ∙ ap (λ (z : PartCells). z.known.now) c.new-look.ensures ∙ c.new.ensures in
-    stops_in _ _ (λ t. walk t c.args.last c.args.path.now) c.in-Err.fault _ _ is c.stop.ensures c.resolve.new.look.cells.honest c.in-Err.ensures.fault
+    stops_in _ _ (λ t. walk t c.args.last c.args.path.now) c.in-Err.fault _ _ is c.stop.ensures c.resolve.new.look.cells.honest
+    c.in-Err.ensures.fault

@@ -23,11 +23,14 @@ loop-k-preserved g c = record {
       let so_far = c.loop-k.invariant.drafts row after whole fits draft same in
       let whole_now = subst (λ z. g.C.Cells.whole z row) (sym c.loop-k.invariant.kept) whole in
       drafts_more row c.add_cell.new.plan.items after base (packed c.args.text.now) k
-      (subst (λ (word : ℕ). Drafts row c.add_cell.new.plan.items (slice_set (with_words after base (packed c.args.text.now) k) (base + k) word)) c.packed_word.ensures
-      (c.in_ok-add_cell.ensures.ok row _ whole_now (omega arith) so_far (outside after base (packed c.args.text.now) k (base + k) (inr (omega arith)) ∙ same k l)));
+      (subst (λ (word : ℕ). Drafts row c.add_cell.new.plan.items (slice_set (with_words after base (packed c.args.text.now) k)
+      (base + k) word)) c.packed_word.ensures
+      (c.in_ok-add_cell.ensures.ok row _ whole_now (omega arith) so_far (outside after base (packed c.args.text.now) k (base + k)
+      (inr (omega arith)) ∙ same k l)));
 }
 
 pub returns-clause-ok : goal.returns-clause-ok
 returns-clause-ok g c row after whole fits draft same =
     let e : c.loop-k.k ≡ (length c.args.text.now + 7) / 8 = omega arith in
-    subst (λ (n : ℕ). Drafts row c.loop-k.plan.items (with_words after c.args.base (packed c.args.text.now) n)) e (c.loop-k.invariant.drafts row after whole fits draft same)
+    subst (λ (n : ℕ). Drafts row c.loop-k.plan.items (with_words after c.args.base (packed c.args.text.now) n)) e
+    (c.loop-k.invariant.drafts row after whole fits draft same)

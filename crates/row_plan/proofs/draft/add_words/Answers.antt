@@ -17,10 +17,12 @@ loop-i-preserved g c = record {
       let so_far = c.loop-i.invariant.drafts row after whole fits draft same in
       let whole_now = subst (λ z. g.C.Cells.whole z row) (sym c.loop-i.invariant.kept) whole in
       drafts_more row c.add_cell.new.plan.items after base words i
-      (c.in_ok-add_cell.ensures.ok row (with_words after base words i) whole_now (omega arith) so_far (outside after base words i (base + i) (inr (omega arith)) ∙ same i l));
+      (c.in_ok-add_cell.ensures.ok row (with_words after base words i) whole_now (omega arith) so_far
+      (outside after base words i (base + i) (inr (omega arith)) ∙ same i l));
 }
 
 pub returns-clause-ok : goal.returns-clause-ok
 returns-clause-ok g c row after whole fits draft same =
     let e : c.loop-i.i ≡ length c.args.words.now = omega arith in
-    subst (λ (n : ℕ). Drafts row c.loop-i.plan.items (with_words after c.args.base (slice_index c.args.words.now) n)) e (c.loop-i.invariant.drafts row after whole fits draft same)
+    subst (λ (n : ℕ). Drafts row c.loop-i.plan.items (with_words after c.args.base (slice_index c.args.words.now) n)) e
+    (c.loop-i.invariant.drafts row after whole fits draft same)

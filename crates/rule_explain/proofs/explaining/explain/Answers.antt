@@ -1,4 +1,5 @@
-use Rattle.std.proofs.Common.{◌≡◌, ℕ, ◌+◌, ◌<◌, Bool, true, false, List, [], ◌∷◌, ◌++◌, Vec, Global, take, filter, get_or, length, cond, sym, ap, ◌∙◌, append_assoc, append-nil}
+use Rattle.std.proofs.Common.{◌≡◌, ℕ, ◌+◌, ◌<◌, Bool, true, false, List, [], ◌∷◌, ◌++◌, Vec, Global, take, filter, get_or, length, cond}
+use Rattle.std.proofs.Common.{sym, ap, ◌∙◌, append_assoc, append-nil}
 use Rattle.std.specs.List.{flat_map}
 use Rattle.std.proofs.lemmas.List.Concat.{flat_map-append}
 use Rattle.std.proofs.lemmas.List.Elements.{filter_more}
@@ -17,10 +18,13 @@ added f b p = flat_map f (cond b (p ∷ []) [])
 
 one_more : (f : Permission → List ℕ) (test : Permission → Bool) (ps : List Permission) (i : ℕ) (d : Permission) → i < length ps
     → flat_map f (filter test (take (i + 1) ps)) ≡ flat_map f (filter test (take i ps)) ++ added f (test (get_or ps i d)) (get_or ps i d)
-one_more f test ps i d lt = ap (flat_map f) (filter_more test ps i d lt) ∙ flat_map-append f (filter test (take i ps)) (cond (test (get_or ps i d)) (get_or ps i d ∷ []) [])
+one_more f test ps i d lt = ap (flat_map f) (filter_more test ps i d lt) ∙ flat_map-append f (filter test (take i ps))
+    (cond (test (get_or ps i d)) (get_or ps i d ∷ []) [])
 
-step : (f : Permission → List ℕ) (test : Permission → Bool) (ps : List Permission) (i : ℕ) (d : Permission) (b : Bool) (base old new : List ℕ) → i < length ps → b ≡ test (get_or ps i d)
-    → old ≡ base ++ flat_map f (filter test (take i ps)) → new ≡ old ++ added f b (get_or ps i d) → new ≡ base ++ flat_map f (filter test (take (i + 1) ps))
+step : (f : Permission → List ℕ) (test : Permission → Bool) (ps : List Permission) (i : ℕ) (d : Permission) (b : Bool)
+    (base old new : List ℕ) → i < length ps → b ≡ test (get_or ps i d)
+    → old ≡ base ++ flat_map f (filter test (take i ps)) → new ≡ old ++ added f b (get_or ps i d) →
+    new ≡ base ++ flat_map f (filter test (take (i + 1) ps))
 step f test ps i d b base old new lt is so_far e =
     e ∙ ap (λ (x : List ℕ). x ++ added f b (get_or ps i d)) so_far
     ∙ append_assoc base (flat_map f (filter test (take i ps))) (added f b (get_or ps i d))
@@ -29,15 +33,19 @@ step f test ps i d b base old new lt is so_far e =
 
 pub loop-permission-preserved : goal.loop-permission-preserved
 loop-permission-preserved c =
-    let f : Permission → List ℕ = reason_line c.args.text.now (profile_value c.args.profile.now).rules (profile_spans c.args.profile.now) c.args.name.now in
+    let f : Permission → List ℕ = reason_line c.args.text.now (profile_value c.args.profile.now).rules (profile_spans c.args.profile.now)
+    c.args.name.now in
     let i : ℕ = c.loop-permission.permission-index in
     elim c.if-contains.branch [
       | then-contains+in_ok-put_line w ↦
-          step f (has c.args.ask) all_permissions i Read true c.in_ok-lines.lines.items c.loop-permission.lines.items c.if-contains.lines.items c.loop-permission-test.true (sym w.if-contains.true ∙ c.contains.ensures)
+          step f (has c.args.ask) all_permissions i Read true c.in_ok-lines.lines.items c.loop-permission.lines.items
+          c.if-contains.lines.items c.loop-permission-test.true (sym w.if-contains.true ∙ c.contains.ensures)
           c.loop-permission.invariant
-          (ap (λ (v : Vec ℕ Global). v.items) w.lines-is ∙ w.in_ok-put_line.ensures ∙ ap (λ (x : List ℕ). c.loop-permission.lines.items ++ x) (sym (append-nil (f (get_or all_permissions i Read)))))
+          (ap (λ (v : Vec ℕ Global). v.items) w.lines-is ∙ w.in_ok-put_line.ensures ∙ ap (λ (x : List ℕ). c.loop-permission.lines.items
+          ++ x) (sym (append-nil (f (get_or all_permissions i Read)))))
       | else-contains w ↦
-          step f (has c.args.ask) all_permissions i Read false c.in_ok-lines.lines.items c.loop-permission.lines.items c.if-contains.lines.items c.loop-permission-test.true (sym w.if-contains.false ∙ c.contains.ensures)
+          step f (has c.args.ask) all_permissions i Read false c.in_ok-lines.lines.items c.loop-permission.lines.items
+          c.if-contains.lines.items c.loop-permission-test.true (sym w.if-contains.false ∙ c.contains.ensures)
           c.loop-permission.invariant
           (ap (λ (v : Vec ℕ Global). v.items) w.lines-is ∙ sym (append-nil c.loop-permission.lines.items))
     ]

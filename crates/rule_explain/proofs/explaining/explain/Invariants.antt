@@ -10,4 +10,5 @@ use Rattle.rule_explain.proofs.explaining.explain.Given as goal
 abbrev pub invariant-loop-permission : goal.invariant-loop-permission
 invariant-loop-permission l =
     l.lines.items ≡ l.initial.lines.items
-    ++ flat_map (reason_line l.text (profile_value l.profile).rules (profile_spans l.profile) l.name) (filter (has l.ask) (take l.permission-index all_permissions))
+    ++ flat_map (reason_line l.text (profile_value l.profile).rules (profile_spans l.profile) l.name)
+    (filter (has l.ask) (take l.permission-index all_permissions))

@@ -6,7 +6,9 @@ use Rattle.rule_globs.specs.inner.Sweep.{Pass, sweep}
 use Rattle.rule_globs.specs.Glob.{places}
 use Rattle.rule_globs.specs.inner.Cursor.{pass_at}
 use Rattle.rule_globs.specs.Meaning.{meaning, meaning_of, alternatives_meaning}
-use Rattle.rule_globs.proofs.PassLaws.{at-Byte, at-AnyByte, at-Class, at-Group, places-Group, items-step, items-room, items-end, alternatives-next, alternatives-room, alternatives-end, weight-item, weight-Group, weight-alternative}
+use Rattle.rule_globs.proofs.PassLaws.{at-Byte, at-AnyByte, at-Class, at-Group, places-Group, items-step, items-room, items-end}
+use Rattle.rule_globs.proofs.PassLaws.{alternatives-next, alternatives-room, alternatives-end, weight-item, weight-Group}
+use Rattle.rule_globs.proofs.PassLaws.{weight-alternative}
 use Rattle.rule_globs.proofs.live.+pass.Goals as goal
 use Rattle.rule_globs.proofs.live.+pass.Goals.{pass_alternatives-then-reached, pass_alternatives-else-reached}
 
@@ -28,7 +30,8 @@ pass_items-pass_item-cursor-requires t c =
 
 pub pass_items-returns : goal.pass_items-returns
 pass_items-returns t c =
-    sym (items-end c.args.items.now c.loop-item.item-index c.args.byte (pass_at c.loop-item.cursor c.loop-item.live) c.loop-item-test.false)
+    sym (items-end c.args.items.now c.loop-item.item-index c.args.byte (pass_at c.loop-item.cursor c.loop-item.live)
+    c.loop-item-test.false)
     ∙ sym c.loop-item.invariant
 
 pub pass_item-returns-in-Byte : goal.pass_item-returns-in-Byte
@@ -39,12 +42,14 @@ pass_item-returns-in-Byte t c =
 pub pass_item-returns-in-AnyByte : goal.pass_item-returns-in-AnyByte
 pass_item-returns-in-AnyByte t c =
     at-AnyByte c.args.item.now c.args.byte (pass_at c.args.cursor c.args.live.now)
-    (pass_at c.pass_one_byte-in-AnyByte.result c.pass_one_byte-in-AnyByte.new.live) c.is_in_component.result c.in-AnyByte.is c.is_in_component.ensures c.pass_one_byte-in-AnyByte.ensures
+    (pass_at c.pass_one_byte-in-AnyByte.result c.pass_one_byte-in-AnyByte.new.live) c.is_in_component.result c.in-AnyByte.is
+    c.is_in_component.ensures c.pass_one_byte-in-AnyByte.ensures
 
 pub pass_item-returns-in-Class : goal.pass_item-returns-in-Class
 pass_item-returns-in-Class t c =
     at-Class c.args.item.now c.in-Class.class c.args.byte (pass_at c.args.cursor c.args.live.now)
-    (pass_at c.pass_one_byte-in-Class.result c.pass_one_byte-in-Class.new.live) c.takes.result c.in-Class.is c.takes.ensures c.pass_one_byte-in-Class.ensures
+    (pass_at c.pass_one_byte-in-Class.result c.pass_one_byte-in-Class.new.live) c.takes.result c.in-Class.is c.takes.ensures
+    c.pass_one_byte-in-Class.ensures
 
 pub pass_item-pass_alternatives-requires : goal.pass_item-pass_alternatives-requires
 pass_item-pass_alternatives-requires t c = (

@@ -12,7 +12,8 @@ use Rattle.rule_globs.specs.Verdict.{IsRuleAt, IsVerdict}
 use Rattle.rule_profile.specs.declared.profile.Rule.{Rule}
 use Rattle.verdicts.specs.declared.verdict.Verdict.TheVariants.{Denied, NoRule, Allowed}
 use Rattle.names.proofs.PermsLaws.{some_member}
-use Rattle.rule_judge.proofs.VerdictSteps.{IsQuiet, IsMissingAfter, rule_at, quiet-skip, quiet-allow, missing-skip, missing-allow, denied, at_end-quiet, at_end-missing}
+use Rattle.rule_judge.proofs.VerdictSteps.{IsQuiet, IsMissingAfter, rule_at, quiet-skip, quiet-allow, missing-skip, missing-allow, denied}
+use Rattle.rule_judge.proofs.VerdictSteps.{at_end-quiet, at_end-missing}
 use Rattle.rule_judge.proofs.judging.judge_slow.Goals as goal
 use Rattle.rule_judge.proofs.judging.judge_slow.Goals.{then-hits+in-Allow, else-hits}
 
@@ -40,12 +41,14 @@ pub returns-in-Deny : goal.returns-in-Deny
 returns-in-Deny c =
     let values = (profile_value c.args.profile.now).rules in
     let at : IsRuleAt values (c.loop-i.i + 1) (rule_value c.rule-item.result) =
-    rule_at c.rules-rule-items.result.now values c.loop-i.i c.rule-item.result c.loop-i-test.true c.rule-item.is c.rules-rule-items.ensures.rules in
+    rule_at c.rules-rule-items.result.now values c.loop-i.i c.rule-item.result c.loop-i-test.true c.rule-item.is
+    c.rules-rule-items.ensures.rules in
     let right = denied values c.args.name.now c.args.ask c.loop-i.i (rule_value c.rule-item.result) at
     (sym c.kind.ensures ∙ c.in-Deny.is) (c.hits.ensures.0 c.if-hits.true) c.loop-i.invariant.quiet in
     record {
       verdict = right;
-      plain = c.one_verdict_is_right.ensures.only values c.args.name.now c.args.ask (Denied (c.loop-i.i + 1)) (verdict values c.args.name.now c.args.ask) right
+      plain = c.one_verdict_is_right.ensures.only values c.args.name.now c.args.ask (Denied (c.loop-i.i + 1))
+          (verdict values c.args.name.now c.args.ask) right
           (c.one_verdict_is_right.ensures.some values c.args.name.now c.args.ask);
     }
 
@@ -54,15 +57,18 @@ loop-i-preserved c =
     let values = (profile_value c.args.profile.now).rules in
     let rule = rule_value c.rule-item.result in
     let at : IsRuleAt values (c.loop-i.i + 1) rule =
-    rule_at c.rules-rule-items.result.now values c.loop-i.i c.rule-item.result c.loop-i-test.true c.rule-item.is c.rules-rule-items.ensures.rules in
+    rule_at c.rules-rule-items.result.now values c.loop-i.i c.rule-item.result c.loop-i-test.true c.rule-item.is
+    c.rules-rule-items.ensures.rules in
     elim c.if-hits.branch [
       | then-hits+in-Allow w ↦
           let some = c.hits.ensures.0 w.if-hits.true in
           record {
-            quiet = quiet-allow values c.args.name.now c.args.ask c.loop-i.i rule at (sym w.kind.ensures ∙ w.in-Allow.is) c.loop-i.invariant.quiet;
+            quiet = quiet-allow values c.args.name.now c.args.ask c.loop-i.i rule at (sym w.kind.ensures ∙ w.in-Allow.is)
+                c.loop-i.invariant.quiet;
             left = λ p. missing-allow values c.args.name.now c.args.ask c.loop-i.i rule c.loop-i.missing c.if-hits.missing p at
                 (sym w.kind.ensures ∙ w.in-Allow.is) some
-                (w.missing-is ∙ w.without-missing.ensures ∙ ap (λ perms. set_of (λ q. has c.loop-i.missing q && not (has perms q))) w.perms.ensures) (c.loop-i.invariant.left p);
+                (w.missing-is ∙ w.without-missing.ensures ∙ ap (λ perms. set_of (λ q. has c.loop-i.missing q && not (has perms q)))
+                w.perms.ensures) (c.loop-i.invariant.left p);
           }
       | else-hits w ↦
           let none = λ (h : HitsSome rule c.args.name.now c.args.ask). true≢false (sym (c.hits.ensures.1 h) ∙ w.if-hits.false) in
@@ -81,7 +87,8 @@ returns-then-is_empty c =
     c.loop-i.invariant.quiet c.loop-i.invariant.left (c.is_empty.ensures.0 c.if-is_empty.true) in
     record {
       verdict = right;
-      plain = c.one_verdict_is_right.ensures.only values c.args.name.now c.args.ask Allowed (verdict values c.args.name.now c.args.ask) right
+      plain = c.one_verdict_is_right.ensures.only values c.args.name.now c.args.ask Allowed
+          (verdict values c.args.name.now c.args.ask) right
           (c.one_verdict_is_right.ensures.some values c.args.name.now c.args.ask);
     }
 
@@ -94,6 +101,7 @@ returns-else-is_empty c =
     (λ nothing. true≢false (sym (c.is_empty.ensures.1 nothing) ∙ c.if-is_empty.false)) in
     record {
       verdict = right;
-      plain = c.one_verdict_is_right.ensures.only values c.args.name.now c.args.ask (NoRule c.loop-i.missing) (verdict values c.args.name.now c.args.ask) right
+      plain = c.one_verdict_is_right.ensures.only values c.args.name.now c.args.ask (NoRule c.loop-i.missing)
+          (verdict values c.args.name.now c.args.ask) right
           (c.one_verdict_is_right.ensures.some values c.args.name.now c.args.ask);
     }

@@ -16,11 +16,13 @@ loop-permission-preserved c =
     elim c.if-is_allowed.branch [
       | then-is_allowed w ↦ record {
         passed = subst (IsPassedBefore test (i + 1)) (sym (w.perms-is ∙ w.with-perms.ensures))
-            (passed-more test law.there i _ c.loop-permission.perms at (sym c.is_allowed.ensures ∙ w.if-is_allowed.true) c.loop-permission.invariant.passed);
+            (passed-more test law.there i _ c.loop-permission.perms at (sym c.is_allowed.ensures ∙ w.if-is_allowed.true)
+            c.loop-permission.invariant.passed);
       }
       | else-is_allowed w ↦ record {
         passed = subst (IsPassedBefore test (i + 1)) (sym w.perms-is)
-            (passed-same test law.there i _ c.loop-permission.perms at (sym c.is_allowed.ensures ∙ w.if-is_allowed.false) c.loop-permission.invariant.passed);
+            (passed-same test law.there i _ c.loop-permission.perms at (sym c.is_allowed.ensures ∙ w.if-is_allowed.false)
+            c.loop-permission.invariant.passed);
       }
     ]
 

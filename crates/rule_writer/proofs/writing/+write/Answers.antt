@@ -15,13 +15,25 @@ put_items-put_item-requires t c = (
 
 pub put_item-put_alternatives-requires : goal.put_item-put_alternatives-requires
 put_item-put_alternatives-requires t c = (
-  omega (arith, length-Group c.args.item.now c.in-Group.alternatives c.in-Group.is, ap (λ z. length (with_commas (items_parts z))) c.deref.ensures.value, c.decreases),
+  omega (
+    arith,
+    length-Group c.args.item.now c.in-Group.alternatives c.in-Group.is,
+    ap (λ z. length (with_commas (items_parts z)))
+        c.deref.ensures.value,
+    c.decreases,
+  ),
   tt,
 )
 
 pub put_alternatives-put_items-requires : goal.put_alternatives-put_items-requires
 put_alternatives-put_items-requires t c = (
-  omega (arith, length_alternative c.args.alternatives.now c.loop-items.items-index c.items-item.result c.loop-items-test.true c.items-item.is, ap (λ z. length (tokens_of z)) c.deref.ensures.value, c.decreases),
+  omega (
+    arith,
+    length_alternative c.args.alternatives.now c.loop-items.items-index c.items-item.result c.loop-items-test.true
+        c.items-item.is,
+    ap (λ z. length (tokens_of z)) c.deref.ensures.value,
+    c.decreases,
+  ),
   tt,
 )
 
@@ -30,6 +42,7 @@ put_item-returns-in_ok-put_alternatives-in-Group t c =
     IfOk-weaker c.put-in-Group-2.result
     (λ _. c.put-in-Group-2.new.text.items ≡ c.put_alternatives.new.text.items ++ 125 ∷ [])
     (λ _. c.put-in-Group-2.new.text.items ≡ c.args.text.now.items ++ flat_map token_text (tokens c.args.item.now))
-    (λ _ e. group_written c.args.item.now c.in-Group.alternatives c.deref.result.now c.args.text.now.items c.put-in-Group.new.text.items c.put_alternatives.new.text.items c.put-in-Group-2.new.text.items
-    c.in-Group.is c.deref.ensures.value c.in_ok-put-in-Group.ensures c.in_ok-put_alternatives-in-Group.ensures e)
+    (λ _ e. group_written c.args.item.now c.in-Group.alternatives c.deref.result.now c.args.text.now.items c.put-in-Group.new.text.items
+    c.put_alternatives.new.text.items c.put-in-Group-2.new.text.items c.in-Group.is c.deref.ensures.value c.in_ok-put-in-Group.ensures
+    c.in_ok-put_alternatives-in-Group.ensures e)
     c.put-in-Group-2.ensures

@@ -11,4 +11,5 @@ pub returns-clause-again : goal.returns-clause-again
 unfolding canonical
 returns-clause-again c =
     let text : c.put-4.new.text.items ≡ canonical (profile_value c.args.profile.now) = grind (arith, common_steps) in
-    subst (λ (x : List ℕ). ReadsAs x (profile_value c.args.profile.now)) (sym text) (canonical_read (profile_value c.args.profile.now) (c.profiles_can_be_read.ensures.kept c.args.profile.now))
+    subst (λ (x : List ℕ). ReadsAs x (profile_value c.args.profile.now)) (sym text) (canonical_read (profile_value c.args.profile.now)
+    (c.profiles_can_be_read.ensures.kept c.args.profile.now))

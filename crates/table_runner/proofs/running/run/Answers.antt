@@ -5,6 +5,7 @@ use Rattle.table_runner.proofs.running.run.Goals as goal
 pub loop-byte-preserved : goal.loop-byte-preserved
 loop-byte-preserved c = record {
   there = c.look_up-state.ensures.there;
-  last = state_more c.args.table.now c.args.bytes.now c.loop-byte.byte-index c.loop-byte.state c.look_up-state.result c.loop-byte-test.true c.loop-byte.invariant.last c.look_up-state.ensures.next;
+  last = state_more c.args.table.now c.args.bytes.now c.loop-byte.byte-index c.loop-byte.state c.look_up-state.result c.loop-byte-test.true
+      c.loop-byte.invariant.last c.look_up-state.ensures.next;
   steps = omega arith;
 }

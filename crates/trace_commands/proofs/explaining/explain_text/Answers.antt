@@ -7,8 +7,10 @@ use Rattle.trace_commands.proofs.explaining.explain_text.Goals as goal
 
 pub returns-in-Ok-explain : goal.returns-in-Ok-explain
 returns-in-Ok-explain g c =
-    answered_so _ c.args.ask c.args.name.now c.args.text.now (profile_value c.in-Ok.profile) (profile_spans c.in-Ok.profile) c.as_bytes.result.now c.in-Ok-explain.lines.items c.deref.result.now c.write_answer.result
-    c.in-Ok.ensures.outcome c.in-Ok.ensures.spans c.as_bytes.ensures.value c.deref.ensures.value c.in-Ok-explain.ensures c.write_answer.ensures
+    answered_so _ c.args.ask c.args.name.now c.args.text.now (profile_value c.in-Ok.profile) (profile_spans c.in-Ok.profile)
+    c.as_bytes.result.now c.in-Ok-explain.lines.items c.deref.result.now c.write_answer.result
+    c.in-Ok.ensures.outcome c.in-Ok.ensures.spans c.as_bytes.ensures.value c.deref.ensures.value c.in-Ok-explain.ensures
+    c.write_answer.ensures
 
 pub returns-in-Ok : goal.returns-in-Ok
 returns-in-Ok g c = forgotten c.args.ask c.args.name.now c.args.text.now _ _ _ c.fail.result c.fail.ensures
@@ -16,4 +18,5 @@ returns-in-Ok g c = forgotten c.args.ask c.args.name.now c.args.text.now _ _ _ c
 pub returns : goal.returns
 returns g c =
     let other : c.in-Err.fault ≢ reading.NoMemory = search rules in
-    refused_so c.args.ask c.args.name.now c.args.text.now c.in-Err.fault _ _ _ c.refuse.result other c.in-Err.ensures.outcome c.refuse.ensures
+    refused_so c.args.ask c.args.name.now c.args.text.now c.in-Err.fault _ _ _ c.refuse.result other c.in-Err.ensures.outcome
+    c.refuse.ensures

@@ -14,5 +14,6 @@ pub returns-in_err-text-clause-output : goal.returns-in_err-text-clause-output
 returns-in_err-text-clause-output g c =
     let text = text_of (g.R.Read.remaining c.args.input.now) in
     let told : c.from_residual-in_err-text.result ≡ Err c.in_err-text.field-0.0 = search rules in
-    let why = unread c.args.perms.now c.args.name.now text.0 c.in_ok-ask.ask c.in_err-text.field-0.0 c.in_ok-ask.ensures c.in_err-text.ensures in
+    let why = unread c.args.perms.now c.args.name.now text.0 c.in_ok-ask.ask c.in_err-text.field-0.0 c.in_ok-ask.ensures
+    c.in_err-text.ensures in
     (text.0, text.1, rw told why)

@@ -9,7 +9,8 @@ use Rattle.trace_commands.proofs.matching.match_image.Goals as goal
 pub returns-in_err-loaded-clause-output : goal.returns-in_err-loaded-clause-output
 returns-in_err-loaded-clause-output c =
     let told : c.from_residual.result ≡ Err (fault_of_image c.in_err-loaded.field-0.0) = search rules in
-    let why = image_fault c.args.image.now _ c.in_err-loaded.field-0.0 (matched_arguments c.args.ask c.args.name.now c.args.image.now) (λ output h. inr h) c.in_err-loaded.ensures.err in
+    let why = image_fault c.args.image.now _ c.in_err-loaded.field-0.0 (matched_arguments c.args.ask c.args.name.now c.args.image.now)
+    (λ output h. inr h) c.in_err-loaded.ensures.err in
     rw told why
 
 pub returns-in_err-loaded-clause-memory : goal.returns-in_err-loaded-clause-memory

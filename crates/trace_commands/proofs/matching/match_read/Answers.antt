@@ -14,7 +14,8 @@ pub returns-in_err-image-clause-output : goal.returns-in_err-image-clause-output
 returns-in_err-image-clause-output g c =
     let text = text_of (g.R.Read.remaining c.args.input.now) in
     let told : c.from_residual-in_err-image.result ≡ Err c.in_err-image.field-0.0 = search rules in
-    let why = unread_one _ c.in_err-image.field-0.0 (match_arguments c.args.perms.now c.args.name.now text.0 c.in_ok-ask.ask c.in_ok-ask.ensures) c.in_err-image.ensures in
+    let why = unread_one _ c.in_err-image.field-0.0 (match_arguments c.args.perms.now c.args.name.now text.0 c.in_ok-ask.ask
+    c.in_ok-ask.ensures) c.in_err-image.ensures in
     (text.0, text.1, rw told why)
 
 pub returns-clause-output : goal.returns-clause-output

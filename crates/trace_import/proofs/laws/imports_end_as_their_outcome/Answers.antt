@@ -7,7 +7,8 @@ use Rattle.trace_report.specs.declared.status.Status.TheVariants.{Done, Refused}
 use Rattle.trace_import.proofs.laws.imports_end_as_their_outcome.Goals as goal
 
 -- what was written has the status of the one outcome
-status_of : (text : List ℕ) (outcome one : Outcome) (output : Output) (status : Status) → outcome ≡ one → output ≡ import_output text outcome
+status_of : (text : List ℕ) (outcome one : Outcome) (output : Output) (status : Status) → outcome ≡ one →
+    output ≡ import_output text outcome
     → output.status ≡ status → (import_output text one).status ≡ status
 status_of text outcome one output status e is ends =
     sym (ap (λ (o : Outcome). (import_output text o).status) e) ∙ sym (ap (λ (o : Output). o.status) is) ∙ ends

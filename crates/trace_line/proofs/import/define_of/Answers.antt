@@ -7,7 +7,8 @@ use Rattle.trace_line.specs.CommandLine.{define_cut, is_value, is_variable}
 use Rattle.trace_line.proofs.import.define_of.Goals as goal
 
 -- whether the name before `=` is a variable's and the text after it is a value
-cut_at : (name value : List ℕ) (both : Bool) → is_variable name && is_value value ≡ both → define_cut (name, Some value) ≡ (if both then Some (name, value) else None)
+cut_at : (name value : List ℕ) (both : Bool) → is_variable name && is_value value ≡ both → define_cut (name, Some value)
+    ≡ (if both then Some (name, value) else None)
 cut_at name value true is = rw is refl
 cut_at name value false is = rw is refl
 
@@ -22,7 +23,8 @@ returns-then-may_be_defined c =
     let text = c.args.text.now in
     let name = c.in_ok-variable.variable.now in
     let value = c.in_ok-variable.value.now in
-    let parts = split_parts 61 text (Some (c.in_ok-variable.variable, c.in_ok-variable.value)) c.in_ok-variable.ensures.cases (omega arith) in
+    let parts = split_parts 61 text (Some (c.in_ok-variable.variable, c.in_ok-variable.value)) c.in_ok-variable.ensures.cases
+    (omega arith) in
     let cut : name_and_value text ≡ (name, Some value) = ap name_and_value parts.0 ∙ name_and_value-at name value parts.1 in
     sym (ap define_cut cut ∙ cut_at name value true (sym c.if-may_be_defined.ensures))
 
@@ -31,6 +33,7 @@ returns-else-may_be_defined c =
     let text = c.args.text.now in
     let name = c.in_ok-variable.variable.now in
     let value = c.in_ok-variable.value.now in
-    let parts = split_parts 61 text (Some (c.in_ok-variable.variable, c.in_ok-variable.value)) c.in_ok-variable.ensures.cases (omega arith) in
+    let parts = split_parts 61 text (Some (c.in_ok-variable.variable, c.in_ok-variable.value)) c.in_ok-variable.ensures.cases
+    (omega arith) in
     let cut : name_and_value text ≡ (name, Some value) = ap name_and_value parts.0 ∙ name_and_value-at name value parts.1 in
     sym (ap define_cut cut ∙ cut_at name value false (sym c.if-may_be_defined.ensures))

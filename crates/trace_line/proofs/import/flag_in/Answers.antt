@@ -3,4 +3,5 @@ use Rattle.trace_line.proofs.Flags.{flag_given}
 use Rattle.trace_line.proofs.import.flag_in.Goals as goal
 
 pub returns : goal.returns
-returns c = flag_given (found_of c.args.found.now) c.args.name.now c.get_flag.result c.requires c.get_flag.ensures.value c.get_flag.ensures.other
+returns c = flag_given (found_of c.args.found.now) c.args.name.now c.get_flag.result c.requires c.get_flag.ensures.value
+    c.get_flag.ensures.other

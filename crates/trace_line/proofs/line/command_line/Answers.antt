@@ -1,6 +1,8 @@
 use Rattle.std.proofs.Common.{codes, refl, sym, [], ◌∙◌}
 use Rattle.trace_line.specs.CommandLine.{check, compile, explain, judge, match_name, run, steps, test}
-use Rattle.trace_line.proofs.CommandLine.{capacity_asked, capacity_line, changes_asked, import_fault, import_flag, import_line, known_command, numbers_line, opened_line, opens_asked, pair_first, pair_line, pair_second, sessions_asked, storm_line}
+use Rattle.trace_line.proofs.CommandLine.{capacity_asked, capacity_line, changes_asked, import_fault, import_flag, import_line}
+use Rattle.trace_line.proofs.CommandLine.{known_command, numbers_line, opened_line, opens_asked, pair_first, pair_line, pair_second}
+use Rattle.trace_line.proofs.CommandLine.{sessions_asked, storm_line}
 use Rattle.trace_line.proofs.line.command_line.Goals as goal
 
 pub pair_in-requires-clause-perms : goal.pair_in-requires-clause-perms
@@ -16,7 +18,8 @@ pair_in-requires-clause-name g c =
 pub returns-in-judge-clause-ok : goal.returns-in-judge-clause-ok
 returns-in-judge-clause-ok g c =
     let line = opened_line _ _ _ _ c.in_ok-matches.ensures.ok c.unwrap.ensures c.subcommand.ensures.name c.subcommand.ensures.rows in
-    pair_line _ _ _ line (codes "judge") judge c.in-judge.is refl c.pair_in.result.0.now c.pair_in.result.1.now c.pair_in.ensures.perms c.pair_in.ensures.name
+    pair_line _ _ _ line (codes "judge") judge c.in-judge.is refl c.pair_in.result.0.now c.pair_in.result.1.now c.pair_in.ensures.perms
+    c.pair_in.ensures.name
 
 pub pair_in-requires-in-explain-clause-perms : goal.pair_in-requires-in-explain-clause-perms
 pair_in-requires-in-explain-clause-perms g c =
@@ -31,7 +34,8 @@ pair_in-requires-in-explain-clause-name g c =
 pub returns-in-explain-clause-ok : goal.returns-in-explain-clause-ok
 returns-in-explain-clause-ok g c =
     let line = opened_line _ _ _ _ c.in_ok-matches.ensures.ok c.unwrap.ensures c.subcommand.ensures.name c.subcommand.ensures.rows in
-    pair_line _ _ _ line (codes "explain") explain c.in-explain.is refl c.pair_in-in-explain.result.0.now c.pair_in-in-explain.result.1.now c.pair_in-in-explain.ensures.perms c.pair_in-in-explain.ensures.name
+    pair_line _ _ _ line (codes "explain") explain c.in-explain.is refl c.pair_in-in-explain.result.0.now c.pair_in-in-explain.result.1.now
+    c.pair_in-in-explain.ensures.perms c.pair_in-in-explain.ensures.name
 
 pub pair_in-requires-in-match-clause-perms : goal.pair_in-requires-in-match-clause-perms
 pair_in-requires-in-match-clause-perms g c =
@@ -46,7 +50,8 @@ pair_in-requires-in-match-clause-name g c =
 pub returns-in-match-clause-ok : goal.returns-in-match-clause-ok
 returns-in-match-clause-ok g c =
     let line = opened_line _ _ _ _ c.in_ok-matches.ensures.ok c.unwrap.ensures c.subcommand.ensures.name c.subcommand.ensures.rows in
-    pair_line _ _ _ line (codes "match") match_name c.in-match.is refl c.pair_in-in-match.result.0.now c.pair_in-in-match.result.1.now c.pair_in-in-match.ensures.perms c.pair_in-in-match.ensures.name
+    pair_line _ _ _ line (codes "match") match_name c.in-match.is refl c.pair_in-in-match.result.0.now c.pair_in-in-match.result.1.now
+    c.pair_in-in-match.ensures.perms c.pair_in-in-match.ensures.name
 
 pub number_in-requires : goal.number_in-requires
 number_in-requires g c =
@@ -121,9 +126,12 @@ returns-in-import-clause-ok g c =
 pub returns-in_err-import_in-in-import-clause-err : goal.returns-in_err-import_in-in-import-clause-err
 returns-in_err-import_in-in-import-clause-err g c =
     let line = opened_line _ _ _ _ c.in_ok-matches.ensures.ok c.unwrap.ensures c.subcommand.ensures.name c.subcommand.ensures.rows in
-    import_fault _ _ _ line _ _ c.in-import.is c.in_err-import_in-in-import.ensures.err c.from_residual-in_err-import_in-in-import.ensures.1
+    import_fault _ _ _ line _ _ c.in-import.is c.in_err-import_in-in-import.ensures.err
+    c.from_residual-in_err-import_in-in-import.ensures.1
 
 pub unreachable-requires : goal.unreachable-requires
 unreachable-requires g c =
     let line = opened_line _ _ _ _ c.in_ok-matches.ensures.ok c.unwrap.ensures c.subcommand.ensures.name c.subcommand.ensures.rows in
-    known_command _ _ _ line c.in_default.not-judge c.in_default.not-explain c.in_default.not-run c.in_default.not-test c.in_default.not-compile c.in_default.not-check c.in_default.not-match c.in_default.not-steps c.in_default.not-storm c.in_default.not-import
+    known_command _ _ _ line c.in_default.not-judge c.in_default.not-explain c.in_default.not-run c.in_default.not-test
+    c.in_default.not-compile c.in_default.not-check c.in_default.not-match c.in_default.not-steps c.in_default.not-storm
+    c.in_default.not-import

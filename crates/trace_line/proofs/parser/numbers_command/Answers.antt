@@ -11,8 +11,10 @@ loop-option-init c =
 
 pub loop-option-preserved : goal.loop-option-preserved
 loop-option-preserved c =
-    one_added c.args.options.now c.loop-option.option-index _ (app_of c.loop-option.command) (app_of c.in_ok-command.command) _ c.loop-option-test.true
-    c.number_argument.ensures.rule (c.in_ok-command.ensures.shape c.number_argument.ensures.global) ∙ c.loop-option.invariant
+    one_added c.args.options.now c.loop-option.option-index _ (app_of c.loop-option.command) (app_of c.in_ok-command.command)
+    _ c.loop-option-test.true c.number_argument.ensures.rule (c.in_ok-command.ensures.shape c.number_argument.ensures.global)
+    ∙ c.loop-option.invariant
 
 pub returns : goal.returns
-returns c = sym (all_added c.args.options.now c.loop-option.option-index (app_of c.loop-option.command) c.loop-option-test.false) ∙ c.loop-option.invariant
+returns c = sym (all_added c.args.options.now c.loop-option.option-index (app_of c.loop-option.command) c.loop-option-test.false)
+    ∙ c.loop-option.invariant

@@ -11,10 +11,14 @@ use Rattle.trace_line.proofs.parser.program.Goals as goal
 pub returns : goal.returns
 returns c =
     let bare : app_of c.about.result ≡ new_app (codes "aa-trace") = ap app_of_fields c.about.ensures ∙ c.new.ensures.app in
-    let told : app_of c.version.result ≡ record (new_app (codes "aa-trace")) { top = record (new_app (codes "aa-trace")).top { has_version = true } } =
+    let told : app_of c.version.result ≡ record (new_app (codes "aa-trace")) {
+      top =
+          record (new_app (codes "aa-trace")).top { has_version = true };
+    } =
     ap app_of_fields c.version.ensures ∙ ap (λ (a : App). record a { top = record a.top { has_version = true } }) bare in
     let wanted : app_of c.subcommand_required-bare.result ≡ wanted_app =
-    ap app_of_fields c.subcommand_required-bare.ensures ∙ ap (λ (a : App). record a { top = record a.top { subcommand_required = true } }) told in
+    ap app_of_fields c.subcommand_required-bare.ensures ∙ ap (λ (a : App). record a { top = record a.top { subcommand_required = true } })
+    told in
     let judging = c.in_ok-judging.ensures ∙ ap (λ (a : App). fold with_command a profile_commands) wanted in
     let running = c.in_ok-running.ensures ∙ ap (λ (a : App). fold with_command a script_commands) judging in
     let compiling = c.in_ok-compiling.ensures ∙ ap (λ (a : App). fold with_command a image_commands) running in

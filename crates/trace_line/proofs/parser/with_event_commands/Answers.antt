@@ -8,4 +8,5 @@ use Rattle.trace_line.proofs.parser.with_event_commands.Goals as goal
 pub returns : goal.returns
 returns c =
     IfOk-weaker c.with_numbers-2.result _ _
-    (λ command h. h ∙ ap (λ (a : App). with_subcommand a (numbers_app (codes "storm") (sessions ∷ opens ∷ changes ∷ [])).top) c.in_ok-stepping.ensures) c.with_numbers-2.ensures
+    (λ command h. h ∙ ap (λ (a : App). with_subcommand a (numbers_app (codes "storm") (sessions ∷ opens ∷ changes ∷ [])).top)
+    c.in_ok-stepping.ensures) c.with_numbers-2.ensures

@@ -8,4 +8,5 @@ use Rattle.trace_line.proofs.parser.with_script_commands.Goals as goal
 pub returns : goal.returns
 returns c =
     IfOk-weaker c.with_numbers-2.result _ _
-    (λ command h. h ∙ ap (λ (a : App). with_subcommand a (numbers_app (codes "test") (capacity ∷ [])).top) c.in_ok-running.ensures) c.with_numbers-2.ensures
+    (λ command h. h ∙ ap (λ (a : App). with_subcommand a (numbers_app (codes "test") (capacity ∷ [])).top) c.in_ok-running.ensures)
+    c.with_numbers-2.ensures

@@ -10,7 +10,8 @@ pub returns-in_err-line-clause-line : goal.returns-in_err-line-clause-line
 returns-in_err-line-clause-line g c limit =
     let told : c.from_residual.result ≡ Err c.in_err-line.field-0.0 = search rules in
     let p = printed limit (g.B.Bench.history c.args.bench.now) (publish c.args.text.now) in
-    rw told (done_not (one_line_step p) (g.B.Bench.history c.policy_line.new.bench) (g.A.Write.contents c.args.answers.now) c.in_err-line.field-0.0 (c.in_err-line.ensures.line limit))
+    rw told (done_not (one_line_step p) (g.B.Bench.history c.policy_line.new.bench) (g.A.Write.contents c.args.answers.now)
+    c.in_err-line.field-0.0 (c.in_err-line.ensures.line limit))
 
 pub returns-clause-line : goal.returns-clause-line
 returns-clause-line g c limit =

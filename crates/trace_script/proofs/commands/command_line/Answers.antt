@@ -8,7 +8,8 @@ pub returns-in-Remove-clause-few : goal.returns-in-Remove-clause-few
 returns-in-Remove-clause-few g c =
     let history = g.B.Bench.history c.args.bench.now in
     let after = g.B.Bench.history c.drop_line.new.bench in
-    composed_few (drop_printed history c.in-Remove.name.now) history after c.drop_line.result (drop_few history after c.in-Remove.name.now) c.drop_line.ensures
+    composed_few (drop_printed history c.in-Remove.name.now) history after c.drop_line.result (drop_few history after c.in-Remove.name.now)
+    c.drop_line.ensures
 
 pub returns-in-Alter-clause-few : goal.returns-in-Alter-clause-few
 returns-in-Alter-clause-few g c =
@@ -21,7 +22,8 @@ pub returns-in-JudgeOpen-clause-few : goal.returns-in-JudgeOpen-clause-few
 returns-in-JudgeOpen-clause-few g c =
     let history = g.B.Bench.history c.args.bench.now in
     let after = g.B.Bench.history c.open_line.new.bench in
-    composed_few (open_printed history c.in-JudgeOpen.profile.now c.in-JudgeOpen.path.now c.in-JudgeOpen.ask) history after c.open_line.result (same_few history after) c.open_line.ensures
+    composed_few (open_printed history c.in-JudgeOpen.profile.now c.in-JudgeOpen.path.now c.in-JudgeOpen.ask) history after
+    c.open_line.result (same_few history after) c.open_line.ensures
 
 pub returns-in-JudgeLink-clause-few : goal.returns-in-JudgeLink-clause-few
 returns-in-JudgeLink-clause-few g c =
@@ -30,4 +32,5 @@ returns-in-JudgeLink-clause-few g c =
     let profile = c.in-JudgeLink.profile.now in
     let old = c.in-JudgeLink.old.now in
     let new = c.in-JudgeLink.new.now in
-    composed_few (judged_printed history profile old new) history after c.link_line.result (link_few history after old new (link_answer history profile old new)) c.link_line.ensures
+    composed_few (judged_printed history profile old new) history after c.link_line.result
+    (link_few history after old new (link_answer history profile old new)) c.link_line.ensures

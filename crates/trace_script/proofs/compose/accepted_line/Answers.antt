@@ -10,4 +10,5 @@ returns-in-Ok g c =
     let after = g.B.Bench.history c.change.new.self in
     let done = c.in-Ok.ensures.ok in
     let right = accepted _ _ _ c.in-Ok.version done.1 done.0 done.2 in
-    composed (change_printed history (Ok c.args.change.now)) after (codes "ok " ++ decimal c.in-Ok.version) c.version_line.result right.0 right.1 c.version_line.ensures
+    composed (change_printed history (Ok c.args.change.now)) after (codes "ok " ++ decimal c.in-Ok.version) c.version_line.result right.0
+    right.1 c.version_line.ensures

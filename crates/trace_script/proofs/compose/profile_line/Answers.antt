@@ -14,4 +14,5 @@ returns-in-Ok-clause-line g c limit =
     let done = c.in-Ok.ensures.ok in
     let start : c.in_ok-line.line.items ≡ codes "policy " ++ profile.name ++ codes " version " = search rules in
     let whole = published_whole limit history after profile version _ done.2 done.0 done.1 refl in
-    composed (policy_printed limit history (Ok profile)) after _ c.numbered_line.result (ap (λ s. line (s ++ decimal version)) start ∙ whole.0) whole.1 c.numbered_line.ensures
+    composed (policy_printed limit history (Ok profile)) after _ c.numbered_line.result (ap (λ s. line (s ++ decimal version)) start
+    ∙ whole.0) whole.1 c.numbered_line.ensures

@@ -14,5 +14,6 @@ returns g c =
 pub returns-in_err-read_until : goal.returns-in_err-read_until
 returns-in_err-read_until g c =
     let read = c.in_err-read_until.ensures in
-    let part = part_read (g.R.Read.remaining c.args.input.now) (g.R.Read.remaining c.read_until.new.self) _ c.read_until.new.buf.items c.clear.ensures.items read.stops read.none_lost in
+    let part = part_read (g.R.Read.remaining c.args.input.now) (g.R.Read.remaining c.read_until.new.self) _ c.read_until.new.buf.items
+    c.clear.ensures.items read.stops read.none_lost in
     stopped_reading _ _ _ c.in_err-read_until.field-0.0 c.from_residual.result c.from_residual.ensures.1 part

@@ -1,6 +1,7 @@
 use Rattle.std.proofs.Common.{◌≡◌, Err, refl, rules, arith}
 use Rattle.trace_script.specs.declared.reading.LineRead.TheVariants.{Whole, Last, End}
-use Rattle.trace_script.proofs.ScriptRuns.{as_read, running_start, running_next, running_over, running_unread, running_stopped, running_last_stopped, running_last, running_end}
+use Rattle.trace_script.proofs.ScriptRuns.{as_read, running_start, running_next, running_over, running_unread, running_stopped}
+use Rattle.trace_script.proofs.ScriptRuns.{running_last_stopped, running_last, running_end}
 use Rattle.trace_script.specs.inner.Following.{run_engine}
 use Rattle.trace_script.proofs.script.follow.Goals as goal
 
@@ -10,32 +11,40 @@ loop-before-init g c = record { few = omega (arith, c.requires); runs = λ limit
 pub returns-in_err-read_line : goal.returns-in_err-read_line
 returns-in_err-read_line g c limit =
     let told : c.from_residual.result ≡ Err c.in_err-read_line.field-0.0 = search rules in
-    rw told (running_unread (run_engine limit) _ _ _ _ _ _ _ _ (c.loop-before.invariant.runs limit) (g.R.Read.remaining c.read_line.new.input) c.read_line.new.line.items c.in_err-read_line.field-0.0 (g.B.Bench.history c.loop-before.bench) c.in_err-read_line.ensures)
+    rw told (running_unread (run_engine limit) _ _ _ _ _ _ _ _ (c.loop-before.invariant.runs limit)
+    (g.R.Read.remaining c.read_line.new.input) c.read_line.new.line.items c.in_err-read_line.field-0.0
+    (g.B.Bench.history c.loop-before.bench) c.in_err-read_line.ensures)
 
 pub returns-in_err-section-in-Whole : goal.returns-in_err-section-in-Whole
 returns-in_err-section-in-Whole g c limit =
     let left = g.R.Read.remaining c.loop-before.input in
     let after = g.R.Read.remaining c.read_line.new.input in
-    let read = as_read left after c.read_line.new.line.items c.deref.result.now c.in_ok-read_line.field-0 Whole c.in-Whole.is c.deref.ensures.value c.in_ok-read_line.ensures in
+    let read = as_read left after c.read_line.new.line.items c.deref.result.now c.in_ok-read_line.field-0 Whole c.in-Whole.is
+    c.deref.ensures.value c.in_ok-read_line.ensures in
     let told : c.from_residual-in_err-section-in-Whole.result ≡ Err c.in_err-section-in-Whole.field-0.0 = search rules in
-    rw told (running_stopped (run_engine limit) _ _ _ _ _ _ _ _ (c.loop-before.invariant.runs limit) after c.deref.result.now (g.A.Write.contents c.follow_line.new.answers) (g.B.Bench.history c.follow_line.new.bench) (g.B.Bench.history c.loop-before.bench)
+    rw told (running_stopped (run_engine limit) _ _ _ _ _ _ _ _ (c.loop-before.invariant.runs limit) after c.deref.result.now
+    (g.A.Write.contents c.follow_line.new.answers) (g.B.Bench.history c.follow_line.new.bench) (g.B.Bench.history c.loop-before.bench)
     c.in_err-section-in-Whole.field-0.0 read (c.in_err-section-in-Whole.ensures.line limit))
 
 pub returns-in_err-follow_line-in-Last : goal.returns-in_err-follow_line-in-Last
 returns-in_err-follow_line-in-Last g c limit =
     let left = g.R.Read.remaining c.loop-before.input in
     let after = g.R.Read.remaining c.read_line.new.input in
-    let read = as_read left after c.read_line.new.line.items c.deref-in-Last.result.now c.in_ok-read_line.field-0 Last c.in-Last.is c.deref-in-Last.ensures.value c.in_ok-read_line.ensures in
+    let read = as_read left after c.read_line.new.line.items c.deref-in-Last.result.now c.in_ok-read_line.field-0 Last c.in-Last.is
+    c.deref-in-Last.ensures.value c.in_ok-read_line.ensures in
     let told : c.from_residual-in_err-follow_line-in-Last.result ≡ Err c.in_err-follow_line-in-Last.field-0.0 = search rules in
-    rw told (running_last_stopped (run_engine limit) _ _ _ _ _ _ _ _ (c.loop-before.invariant.runs limit) after c.deref-in-Last.result.now (g.A.Write.contents c.follow_line-in-Last.new.answers) (g.B.Bench.history c.follow_line-in-Last.new.bench) (g.B.Bench.history c.loop-before.bench)
-    c.in_err-follow_line-in-Last.field-0.0 read (c.in_err-follow_line-in-Last.ensures.line limit))
+    rw told (running_last_stopped (run_engine limit) _ _ _ _ _ _ _ _ (c.loop-before.invariant.runs limit) after c.deref-in-Last.result.now
+    (g.A.Write.contents c.follow_line-in-Last.new.answers) (g.B.Bench.history c.follow_line-in-Last.new.bench)
+    (g.B.Bench.history c.loop-before.bench) c.in_err-follow_line-in-Last.field-0.0 read (c.in_err-follow_line-in-Last.ensures.line limit))
 
 pub returns-in-Last : goal.returns-in-Last
 returns-in-Last g c limit =
     let left = g.R.Read.remaining c.loop-before.input in
     let after = g.R.Read.remaining c.read_line.new.input in
-    let read = as_read left after c.read_line.new.line.items c.deref-in-Last.result.now c.in_ok-read_line.field-0 Last c.in-Last.is c.deref-in-Last.ensures.value c.in_ok-read_line.ensures in
-    running_last (run_engine limit) _ _ _ _ _ _ _ _ (c.loop-before.invariant.runs limit) after c.deref-in-Last.result.now (g.A.Write.contents c.follow_line-in-Last.new.answers) (g.B.Bench.history c.follow_line-in-Last.new.bench)
+    let read = as_read left after c.read_line.new.line.items c.deref-in-Last.result.now c.in_ok-read_line.field-0 Last c.in-Last.is
+    c.deref-in-Last.ensures.value c.in_ok-read_line.ensures in
+    running_last (run_engine limit) _ _ _ _ _ _ _ _ (c.loop-before.invariant.runs limit) after c.deref-in-Last.result.now
+    (g.A.Write.contents c.follow_line-in-Last.new.answers) (g.B.Bench.history c.follow_line-in-Last.new.bench)
     c.in_ok-follow_line-in-Last.field-0 c.close.result read (c.in_ok-follow_line-in-Last.ensures.line limit) c.close.ensures
 
 pub returns-in-End : goal.returns-in-End
@@ -44,18 +53,22 @@ returns-in-End g c limit =
     let after = g.R.Read.remaining c.read_line.new.input in
     let line = c.read_line.new.line.items in
     let read = as_read left after line line c.in_ok-read_line.field-0 End c.in-End.is refl c.in_ok-read_line.ensures in
-    running_end (run_engine limit) _ _ _ _ _ _ _ _ (c.loop-before.invariant.runs limit) after line c.close-in-End.result read c.close-in-End.ensures
+    running_end (run_engine limit) _ _ _ _ _ _ _ _ (c.loop-before.invariant.runs limit) after line c.close-in-End.result read
+    c.close-in-End.ensures
 
 pub loop-before-preserved : goal.loop-before-preserved
 loop-before-preserved g c =
     let left = g.R.Read.remaining c.loop-before.input in
     let after = g.R.Read.remaining c.read_line.new.input in
-    let read = as_read left after c.read_line.new.line.items c.deref.result.now c.in_ok-read_line.field-0 Whole c.in-Whole.is c.deref.ensures.value c.in_ok-read_line.ensures in
+    let read = as_read left after c.read_line.new.line.items c.deref.result.now c.in_ok-read_line.field-0 Whole c.in-Whole.is
+    c.deref.ensures.value c.in_ok-read_line.ensures in
     record {
       few = omega (arith, c.loop-before.invariant.few, c.in_ok-section-in-Whole.ensures.few);
-      runs = λ limit. running_next (run_engine limit) _ _ _ _ _ _ _ _ (c.loop-before.invariant.runs limit) after c.deref.result.now (g.A.Write.contents c.follow_line.new.answers) (g.B.Bench.history c.follow_line.new.bench)
+      runs = λ limit. running_next (run_engine limit) _ _ _ _ _ _ _ _ (c.loop-before.invariant.runs limit) after c.deref.result.now
+          (g.A.Write.contents c.follow_line.new.answers) (g.B.Bench.history c.follow_line.new.bench)
           c.in_ok-section-in-Whole.section read (c.in_ok-section-in-Whole.ensures.line limit);
     }
 
 pub returns : goal.returns
-returns g c limit = running_over (run_engine limit) _ _ _ _ _ _ _ _ (c.loop-before.invariant.runs limit) (g.B.Bench.history c.loop-before.bench) (omega (arith, c.loop-before-test.false))
+returns g c limit = running_over (run_engine limit) _ _ _ _ _ _ _ _ (c.loop-before.invariant.runs limit)
+    (g.B.Bench.history c.loop-before.bench) (omega (arith, c.loop-before-test.false))

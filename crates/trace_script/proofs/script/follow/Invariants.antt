@@ -10,6 +10,7 @@ use Rattle.trace_script.proofs.script.follow.Given as goal
 abbrev pub invariant-loop-before : goal.invariant-loop-before
 invariant-loop-before g l = record {
   few : policy_version (g.B.Bench.history l.bench) ≤ l.before;
-  runs : (limit : StateLimit) → IsRunning (run_engine limit) (g.B.Bench.history l.initial.bench) (g.R.Read.remaining l.initial.input) (g.R.Read.remaining l.input)
+  runs : (limit : StateLimit) → IsRunning (run_engine limit) (g.B.Bench.history l.initial.bench) (g.R.Read.remaining l.initial.input)
+      (g.R.Read.remaining l.input)
       (g.A.Write.contents l.initial.answers) (g.A.Write.contents l.answers) (g.B.Bench.history l.bench) (section_value l.section) l.before;
 }

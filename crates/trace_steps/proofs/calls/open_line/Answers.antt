@@ -16,7 +16,8 @@ pub unreachable-requires : goal.unreachable-requires
 unreachable-requires g c =
     let m = g.M.EventMachine.machine in
     let call : Call = record { profile = c.args.profile.now; path = c.args.path.now; ask = c.args.ask } in
-    opens_so (m c.args.machine.now) (m c.step.new.self) (m c.finish.new.machine) call c.in-Ok.field-0 c.in_ok-told.field-0 c.in-Ok.ensures.ok c.in-None.is c.in_ok-told.ensures
+    opens_so (m c.args.machine.now) (m c.step.new.self) (m c.finish.new.machine) call c.in-Ok.field-0 c.in_ok-told.field-0
+    c.in-Ok.ensures.ok c.in-None.is c.in_ok-told.ensures
 
 pub returns : goal.returns
 returns g c =
@@ -26,4 +27,5 @@ returns g c =
     let call : Call = record { profile = c.args.profile.now; path = c.args.path.now; ask = c.args.ask } in
     let told = c.in-Some.told in
     has_line (λ lines. OpensWhole old call lines new) (told_text c.name.result.now told) c.told_line.result c.told_line.ensures
-    (opens_whole old mid new call c.in-Ok.field-0 c.in_ok-told.field-0 told c.name.result.now c.in-Ok.ensures.ok c.in-Some.is c.in_ok-told.ensures c.name.ensures)
+    (opens_whole old mid new call c.in-Ok.field-0 c.in_ok-told.field-0 told c.name.result.now c.in-Ok.ensures.ok c.in-Some.is
+    c.in_ok-told.ensures c.name.ensures)

@@ -19,8 +19,9 @@ returns-in-Ok g c =
     let new = g.M.EventMachine.machine c.checked_change_line.new.machine in
     let words = change_words c.args.words in
     let none : is_some old.keeper.pending ≡ false = sym c.has_open_change.ensures ∙ c.if-has_open_change.false in
-    has_line_so (λ lines. Tries old (Ok c.in-Ok.change) (IsMade old) lines new) (λ lines. TriesNow old words (IsMade old) lines new) c.checked_change_line.result
-    (λ lines tries. tried old new words (IsMade old) (Ok c.in-Ok.change) lines none c.in-Ok.ensures tries) c.checked_change_line.ensures
+    has_line_so (λ lines. Tries old (Ok c.in-Ok.change) (IsMade old) lines new) (λ lines. TriesNow old words (IsMade old) lines new)
+    c.checked_change_line.result (λ lines tries. tried old new words (IsMade old) (Ok c.in-Ok.change) lines none c.in-Ok.ensures tries)
+    c.checked_change_line.ensures
 
 pub returns-in-Err : goal.returns-in-Err
 returns-in-Err g c =

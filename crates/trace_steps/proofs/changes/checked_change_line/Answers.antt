@@ -11,7 +11,8 @@ close_open_change-requires g c =
     let m = g.M.EventMachine.machine in
     let change = c.args.change.now in
     is_open (m c.args.machine.now) (m c.open_change.new.machine) change
-    (was_opened (m c.args.machine.now) (m c.open_change.new.machine) change c.in_ok-open_change.field-0 c.in-Ok.field-0 c.in-Ok.is c.in_ok-open_change.ensures.ok)
+    (was_opened (m c.args.machine.now) (m c.open_change.new.machine) change c.in_ok-open_change.field-0 c.in-Ok.field-0 c.in-Ok.is
+    c.in_ok-open_change.ensures.ok)
 
 pub returns-in-Ok : goal.returns-in-Ok
 returns-in-Ok g c =

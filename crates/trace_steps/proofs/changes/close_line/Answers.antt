@@ -8,7 +8,8 @@ pub returns-then-has_open_change : goal.returns-then-has_open_change
 returns-then-has_open_change g c =
     let old = g.M.EventMachine.machine c.args.machine.now in
     let new = g.M.EventMachine.machine c.close_open_change.new.machine in
-    has_line_so (λ lines. ClosesOpen old lines new) (λ lines. Closes old lines new) c.close_open_change.result (λ lines closes. inl closes) c.close_open_change.ensures
+    has_line_so (λ lines. ClosesOpen old lines new) (λ lines. Closes old lines new) c.close_open_change.result (λ lines closes. inl closes)
+    c.close_open_change.ensures
 
 pub returns-else-has_open_change : goal.returns-else-has_open_change
 returns-else-has_open_change g c =

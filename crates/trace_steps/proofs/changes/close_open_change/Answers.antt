@@ -8,7 +8,8 @@ pub unreachable-requires : goal.unreachable-requires
 unreachable-requires g c =
     let m = g.M.EventMachine.machine in
     c.in-Err-NotNow.ensures.not_now c.in-Err-NotNow.field-0-is
-    (closes_now (m c.args.machine.now) (m c.set_all_cells.new.machine) c.requires c.in_ok-set_all_cells.ensures.runs c.in_ok-set_all_cells.ensures.all)
+    (closes_now (m c.args.machine.now) (m c.set_all_cells.new.machine) c.requires c.in_ok-set_all_cells.ensures.runs
+    c.in_ok-set_all_cells.ensures.all)
 
 pub returns-in-Ok : goal.returns-in-Ok
 returns-in-Ok g c =

@@ -9,5 +9,5 @@ returns g c =
     let old = g.M.EventMachine.machine c.args.machine.now in
     let new = g.M.EventMachine.machine c.set_up_to.new.machine in
     let set = c.in_ok-count.ensures in
-    is_done_so (λ lines. lines ≡ none_taken c.args.most c.in_ok-count.count) (λ lines. TakesUpTo old c.args.most set_cell lines new) c.none_taken_line.result
-    (λ lines is. (c.in_ok-count.count, set.few, set.runs, set.all, is)) c.none_taken_line.ensures
+    is_done_so (λ lines. lines ≡ none_taken c.args.most c.in_ok-count.count) (λ lines. TakesUpTo old c.args.most set_cell lines new)
+    c.none_taken_line.result (λ lines is. (c.in_ok-count.count, set.few, set.runs, set.all, is)) c.none_taken_line.ensures

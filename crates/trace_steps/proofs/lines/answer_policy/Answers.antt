@@ -8,10 +8,13 @@ use Rattle.trace_steps.proofs.lines.answer_policy.Goals as goal
 pub returns-in_err-line : goal.returns-in_err-line
 returns-in_err-line g c limit =
     let told : c.from_residual.result ≡ Err c.in_err-line.field-0.0 = search rules in
-    let Prints : Lines → Type 0 = λ lines. Does limit (g.M.EventMachine.machine c.args.machine.now) (publish_text c.args.text.now) lines (g.M.EventMachine.machine c.policy_line.new.machine) in
+    let Prints : Lines → Type 0 = λ lines. Does limit (g.M.EventMachine.machine c.args.machine.now) (publish_text c.args.text.now) lines
+    (g.M.EventMachine.machine c.policy_line.new.machine) in
     rw told (not_printed (Unit {0}) Prints (g.A.Write.contents c.args.answers.now) c.in_err-line.field-0.0 (c.in_err-line.ensures limit))
 
 pub returns : goal.returns
 returns g c limit =
-    let Prints : Lines → Type 0 = λ lines. Does limit (g.M.EventMachine.machine c.args.machine.now) (publish_text c.args.text.now) lines (g.M.EventMachine.machine c.policy_line.new.machine) in
-    line_put Prints c.in_ok-line.line c.deref.result.now _ _ c.print_line.result c.deref.ensures.value (c.in_ok-line.ensures limit) c.print_line.ensures
+    let Prints : Lines → Type 0 = λ lines. Does limit (g.M.EventMachine.machine c.args.machine.now) (publish_text c.args.text.now) lines
+    (g.M.EventMachine.machine c.policy_line.new.machine) in
+    line_put Prints c.in_ok-line.line c.deref.result.now _ _ c.print_line.result c.deref.ensures.value (c.in_ok-line.ensures limit)
+    c.print_line.ensures

@@ -7,29 +7,43 @@ use Rattle.trace_steps.proofs.lines.follow_outside.Goals as goal
 
 pub returns-in-Ignored : goal.returns-in-Ignored
 returns-in-Ignored g c limit =
-    let machine = g.M.EventMachine.machine c.args.machine.now in
-    ([], by_kind limit machine c.args.number c.args.line.now ignored outside [] machine c.in-Ignored.ensures (refl, refl, refl), appends_nothing (g.A.Write.contents c.args.answers.now))
+    let machine = g.M.EventMachine.machine c.args.machine.now in (
+      [],
+      by_kind limit machine c.args.number c.args.line.now ignored outside [] machine c.in-Ignored.ensures
+          (refl, refl, refl),
+      appends_nothing (g.A.Write.contents c.args.answers.now),
+    )
 
 pub returns-in-OpensPolicy : goal.returns-in-OpensPolicy
 returns-in-OpensPolicy g c limit =
     let machine = g.M.EventMachine.machine c.args.machine.now in
     let number = c.args.number in
-    let starts : within number c.new.result.items ≡ within number [] = ap (within number) c.new.ensures.items in
-    ([], by_kind limit machine number c.args.line.now opens_policy (within number c.new.result.items) [] machine c.in-OpensPolicy.ensures (starts, refl, refl), appends_nothing (g.A.Write.contents c.args.answers.now))
+    let starts : within number c.new.result.items ≡ within number [] = ap (within number) c.new.ensures.items in (
+      [],
+      by_kind limit machine number c.args.line.now opens_policy (within number c.new.result.items) [] machine c.in-OpensPolicy.ensures
+          (starts, refl, refl),
+      appends_nothing (g.A.Write.contents c.args.answers.now),
+    )
 
 pub returns-in_ok-answer_command-in-Command : goal.returns-in_ok-answer_command-in-Command
 returns-in_ok-answer_command-in-Command g c limit =
     let machine = g.M.EventMachine.machine c.args.machine.now in
     let done = c.in_ok-answer_command-in-Command.ensures limit in
-    let new = g.M.EventMachine.machine c.answer_command.new.machine in
-    (done.0, by_kind limit machine c.args.number c.args.line.now (command (step_value c.in-Command.command)) outside done.0 new c.in-Command.ensures (refl, done.1), done.2)
+    let new = g.M.EventMachine.machine c.answer_command.new.machine in (
+      done.0,
+      by_kind limit machine c.args.number c.args.line.now (command (step_value c.in-Command.command)) outside done.0 new
+          c.in-Command.ensures (refl, done.1),
+      done.2,
+    )
 
 pub returns-in_err-answer_command-in-Command : goal.returns-in_err-answer_command-in-Command
 returns-in_err-answer_command-in-Command g c limit =
     let machine = g.M.EventMachine.machine c.args.machine.now in
     let new = g.M.EventMachine.machine c.answer_command.new.machine in
     let told : c.from_residual.result ≡ Err c.in_err-answer_command-in-Command.field-0.0 = search rules in
-    rw told (command_stopped limit machine c.args.number c.args.line.now (step_value c.in-Command.command) new _ _ c.in_err-answer_command-in-Command.field-0.0 c.in-Command.ensures (c.in_err-answer_command-in-Command.ensures limit))
+    rw told (command_stopped limit machine c.args.number c.args.line.now (step_value c.in-Command.command) new _ _
+    c.in_err-answer_command-in-Command.field-0.0 c.in-Command.ensures (c.in_err-answer_command-in-Command.ensures limit))
 
 pub returns-in-NoCommand : goal.returns-in-NoCommand
-returns-in-NoCommand g c limit = not_followed limit (g.M.EventMachine.machine c.args.machine.now) c.args.number c.args.line.now (g.A.Write.contents c.args.answers.now) c.in-NoCommand.ensures
+returns-in-NoCommand g c limit = not_followed limit (g.M.EventMachine.machine c.args.machine.now) c.args.number c.args.line.now
+    (g.A.Write.contents c.args.answers.now) c.in-NoCommand.ensures

@@ -17,16 +17,20 @@ returns-in-Ok g c limit =
     let profile = profile_value c.args.profile in
     let change = c.in_ok-change-in-Ok.change in
     let start = c.in_ok-start.start.items in
-    let begins : start ≡ codes "policy " ++ profile.name ++ codes " version " = c.in_ok-start.ensures ∙ ap (λ (name : List ℕ). codes "policy " ++ name ++ codes " version ") c.name.ensures in
-    let same : deed_of change ≡ published_rules profile = c.in_ok-change-in-Ok.ensures ∙ ap (λ (made : Profile). published_rules (profile_value made)) c.in-Ok.ensures.profile in
-    has_line_so (λ lines. Publishes old (published_rules profile) (codes "policy " ++ profile.name ++ codes " version ") lines new) (λ lines. PublishesText limit old (Ok profile) lines new)
-    c.publish.result (λ lines h. made_so limit old new profile lines c.in-Ok.ensures.few h)
-    (published_line old new (deed_of change) (published_rules profile) start (codes "policy " ++ profile.name ++ codes " version ") c.publish.result same begins c.publish.ensures)
+    let begins : start ≡ codes "policy " ++ profile.name ++ codes " version " = c.in_ok-start.ensures
+    ∙ ap (λ (name : List ℕ). codes "policy " ++ name ++ codes " version ") c.name.ensures in
+    let same : deed_of change ≡ published_rules profile = c.in_ok-change-in-Ok.ensures
+    ∙ ap (λ (made : Profile). published_rules (profile_value made)) c.in-Ok.ensures.profile in
+    has_line_so (λ lines. Publishes old (published_rules profile) (codes "policy " ++ profile.name ++ codes " version ") lines new)
+    (λ lines. PublishesText limit old (Ok profile) lines new) c.publish.result
+    (λ lines h. made_so limit old new profile lines c.in-Ok.ensures.few h)
+    (published_line old new (deed_of change) (published_rules profile) start (codes "policy " ++ profile.name ++ codes " version ")
+    c.publish.result same begins c.publish.ensures)
 
 pub returns : goal.returns
 returns g c limit =
     let old = g.M.EventMachine.machine c.args.machine.now in
     let profile = profile_value c.args.profile in
     let other : c.in-Err.fault ≡ NoMemory → ⊥ = search rules in
-    has_line (λ lines. PublishesText limit old (Ok profile) lines old) (codes "policy " ++ compile_refusal c.in-Err.fault) c.refusal_line.result c.refusal_line.ensures
-    (made_not limit old old profile c.in-Err.fault other c.in-Err.ensures.err refl)
+    has_line (λ lines. PublishesText limit old (Ok profile) lines old) (codes "policy " ++ compile_refusal c.in-Err.fault)
+    c.refusal_line.result c.refusal_line.ensures (made_not limit old old profile c.in-Err.fault other c.in-Err.ensures.err refl)

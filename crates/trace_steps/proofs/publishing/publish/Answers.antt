@@ -11,8 +11,9 @@ returns-in-Ok g c =
     let new = g.M.EventMachine.machine c.step.new.self in
     let deed = deed_of c.args.change in
     let version = c.policy_version.result in
-    has_line (λ lines. Publishes old deed c.args.start.items lines new) (c.args.start.items ++ decimal version) c.numbered_line.result c.numbered_line.ensures
-    (published_so old new deed c.args.start.items c.in-Ok.field-0 version c.in-Ok.ensures.ok c.policy_version.ensures)
+    has_line (λ lines. Publishes old deed c.args.start.items lines new) (c.args.start.items ++ decimal version) c.numbered_line.result
+    c.numbered_line.ensures (published_so old new deed c.args.start.items c.in-Ok.field-0 version c.in-Ok.ensures.ok
+    c.policy_version.ensures)
 
 pub returns-in-Err-NotNow : goal.returns-in-Err-NotNow
 returns-in-Err-NotNow g c =
@@ -20,4 +21,5 @@ returns-in-Err-NotNow g c =
     let new = g.M.EventMachine.machine c.step.new.self in
     let deed = deed_of c.args.change in
     has_line (λ lines. Publishes old deed c.args.start.items lines new) not_now c.not_now_line.result c.not_now_line.ensures
-    (published_not old new deed c.args.start.items (c.in-Err-NotNow.ensures.not_now c.in-Err-NotNow.field-0-is) c.in-Err-NotNow.ensures.same)
+    (published_not old new deed c.args.start.items (c.in-Err-NotNow.ensures.not_now c.in-Err-NotNow.field-0-is)
+    c.in-Err-NotNow.ensures.same)

@@ -1,7 +1,8 @@
 use Rattle.std.proofs.Common.{◌≡◌, Err, refl, rules, arith}
 use Rattle.trace_script.specs.declared.reading.LineRead.TheVariants.{Whole, Last, End}
 use Rattle.trace_script.proofs.ScriptRuns.{as_read}
-use Rattle.trace_steps.proofs.StepRuns.{running_start, running_next, running_over, running_unread, running_stopped, running_last_stopped, running_last, running_end}
+use Rattle.trace_steps.proofs.StepRuns.{running_start, running_next, running_over, running_unread, running_stopped, running_last_stopped}
+use Rattle.trace_steps.proofs.StepRuns.{running_last, running_end}
 use Rattle.trace_steps.proofs.steps.follow.Goals as goal
 
 pub loop-before-init : goal.loop-before-init
@@ -10,32 +11,39 @@ loop-before-init g c limit = running_start limit _ _ _
 pub returns-in_err-read_line : goal.returns-in_err-read_line
 returns-in_err-read_line g c limit =
     let told : c.from_residual.result ≡ Err c.in_err-read_line.field-0.0 = search rules in
-    rw told (running_unread limit _ _ _ _ _ _ _ _ (c.loop-before.invariant limit) (g.R.Read.remaining c.read_line.new.input) c.read_line.new.line.items c.in_err-read_line.field-0.0 c.in_err-read_line.ensures)
+    rw told (running_unread limit _ _ _ _ _ _ _ _ (c.loop-before.invariant limit) (g.R.Read.remaining c.read_line.new.input)
+    c.read_line.new.line.items c.in_err-read_line.field-0.0 c.in_err-read_line.ensures)
 
 pub returns-in_err-section-in-Whole : goal.returns-in_err-section-in-Whole
 returns-in_err-section-in-Whole g c limit =
     let left = g.R.Read.remaining c.loop-before.input in
     let after = g.R.Read.remaining c.read_line.new.input in
-    let read = as_read left after c.read_line.new.line.items c.deref.result.now c.in_ok-read_line.field-0 Whole c.in-Whole.is c.deref.ensures.value c.in_ok-read_line.ensures in
+    let read = as_read left after c.read_line.new.line.items c.deref.result.now c.in_ok-read_line.field-0 Whole c.in-Whole.is
+    c.deref.ensures.value c.in_ok-read_line.ensures in
     let told : c.from_residual-in_err-section-in-Whole.result ≡ Err c.in_err-section-in-Whole.field-0.0 = search rules in
-    rw told (running_stopped limit _ _ _ _ _ _ _ _ (c.loop-before.invariant limit) after c.deref.result.now (g.A.Write.contents c.follow_line.new.answers) (g.M.EventMachine.machine c.follow_line.new.machine)
+    rw told (running_stopped limit _ _ _ _ _ _ _ _ (c.loop-before.invariant limit) after c.deref.result.now
+    (g.A.Write.contents c.follow_line.new.answers) (g.M.EventMachine.machine c.follow_line.new.machine)
     c.in_err-section-in-Whole.field-0.0 read (c.in_err-section-in-Whole.ensures limit))
 
 pub returns-in_err-follow_line-in-Last : goal.returns-in_err-follow_line-in-Last
 returns-in_err-follow_line-in-Last g c limit =
     let left = g.R.Read.remaining c.loop-before.input in
     let after = g.R.Read.remaining c.read_line.new.input in
-    let read = as_read left after c.read_line.new.line.items c.deref-in-Last.result.now c.in_ok-read_line.field-0 Last c.in-Last.is c.deref-in-Last.ensures.value c.in_ok-read_line.ensures in
+    let read = as_read left after c.read_line.new.line.items c.deref-in-Last.result.now c.in_ok-read_line.field-0 Last c.in-Last.is
+    c.deref-in-Last.ensures.value c.in_ok-read_line.ensures in
     let told : c.from_residual-in_err-follow_line-in-Last.result ≡ Err c.in_err-follow_line-in-Last.field-0.0 = search rules in
-    rw told (running_last_stopped limit _ _ _ _ _ _ _ _ (c.loop-before.invariant limit) after c.deref-in-Last.result.now (g.A.Write.contents c.follow_line-in-Last.new.answers) (g.M.EventMachine.machine c.follow_line-in-Last.new.machine)
+    rw told (running_last_stopped limit _ _ _ _ _ _ _ _ (c.loop-before.invariant limit) after c.deref-in-Last.result.now
+    (g.A.Write.contents c.follow_line-in-Last.new.answers) (g.M.EventMachine.machine c.follow_line-in-Last.new.machine)
     c.in_err-follow_line-in-Last.field-0.0 read (c.in_err-follow_line-in-Last.ensures limit))
 
 pub returns-in-Last : goal.returns-in-Last
 returns-in-Last g c limit =
     let left = g.R.Read.remaining c.loop-before.input in
     let after = g.R.Read.remaining c.read_line.new.input in
-    let read = as_read left after c.read_line.new.line.items c.deref-in-Last.result.now c.in_ok-read_line.field-0 Last c.in-Last.is c.deref-in-Last.ensures.value c.in_ok-read_line.ensures in
-    running_last limit _ _ _ _ _ _ _ _ (c.loop-before.invariant limit) after c.deref-in-Last.result.now (g.A.Write.contents c.follow_line-in-Last.new.answers) (g.M.EventMachine.machine c.follow_line-in-Last.new.machine)
+    let read = as_read left after c.read_line.new.line.items c.deref-in-Last.result.now c.in_ok-read_line.field-0 Last c.in-Last.is
+    c.deref-in-Last.ensures.value c.in_ok-read_line.ensures in
+    running_last limit _ _ _ _ _ _ _ _ (c.loop-before.invariant limit) after c.deref-in-Last.result.now
+    (g.A.Write.contents c.follow_line-in-Last.new.answers) (g.M.EventMachine.machine c.follow_line-in-Last.new.machine)
     c.in_ok-follow_line-in-Last.field-0 c.close.result read (c.in_ok-follow_line-in-Last.ensures limit) c.close.ensures
 
 pub returns-in-End : goal.returns-in-End
@@ -50,8 +58,10 @@ pub loop-before-preserved : goal.loop-before-preserved
 loop-before-preserved g c limit =
     let left = g.R.Read.remaining c.loop-before.input in
     let after = g.R.Read.remaining c.read_line.new.input in
-    let read = as_read left after c.read_line.new.line.items c.deref.result.now c.in_ok-read_line.field-0 Whole c.in-Whole.is c.deref.ensures.value c.in_ok-read_line.ensures in
-    running_next limit _ _ _ _ _ _ _ _ (c.loop-before.invariant limit) after c.deref.result.now (g.A.Write.contents c.follow_line.new.answers) (g.M.EventMachine.machine c.follow_line.new.machine)
+    let read = as_read left after c.read_line.new.line.items c.deref.result.now c.in_ok-read_line.field-0 Whole c.in-Whole.is
+    c.deref.ensures.value c.in_ok-read_line.ensures in
+    running_next limit _ _ _ _ _ _ _ _ (c.loop-before.invariant limit) after c.deref.result.now
+    (g.A.Write.contents c.follow_line.new.answers) (g.M.EventMachine.machine c.follow_line.new.machine)
     c.in_ok-section-in-Whole.section read (c.in_ok-section-in-Whole.ensures limit)
 
 pub returns : goal.returns

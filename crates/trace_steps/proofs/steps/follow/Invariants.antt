@@ -5,5 +5,7 @@ use Rattle.trace_steps.proofs.StepRuns.{IsRunning}
 use Rattle.trace_steps.proofs.steps.follow.Given as goal
 
 abbrev pub invariant-loop-before : goal.invariant-loop-before
-invariant-loop-before g l = (limit : StateLimit) → IsRunning limit (g.M.EventMachine.machine l.initial.machine) (g.R.Read.remaining l.initial.input) (g.R.Read.remaining l.input)
-    (g.A.Write.contents l.initial.answers) (g.A.Write.contents l.answers) (g.M.EventMachine.machine l.machine) (section_value l.section) l.before
+invariant-loop-before g l = (limit : StateLimit) → IsRunning limit (g.M.EventMachine.machine l.initial.machine)
+    (g.R.Read.remaining l.initial.input) (g.R.Read.remaining l.input)
+    (g.A.Write.contents l.initial.answers) (g.A.Write.contents l.answers) (g.M.EventMachine.machine l.machine)
+    (section_value l.section) l.before

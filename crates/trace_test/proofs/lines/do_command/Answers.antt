@@ -14,7 +14,8 @@ returns-in-Ask-clause-done g c limit =
     let state = testing (g.B.Bench.history c.ask.new.bench) c.ask.new.progress in
     let answers = g.A.Write.contents c.args.answers.now in
     let P : TestCommand → Type 0 = λ command. IsDone (test_step limit t (test_value command)) state answers answers c.ask.result in
-    subst P (sym c.in-Ask.is) (asked_done t (printed limit history (command_value c.in-Ask.command)) state answers c.ask.result (c.ask.ensures.done limit))
+    subst P (sym c.in-Ask.is) (asked_done t (printed limit history (command_value c.in-Ask.command)) state answers c.ask.result
+    (c.ask.ensures.done limit))
 
 pub returns-in-Expect-clause-done : goal.returns-in-Expect-clause-done
 returns-in-Expect-clause-done g c limit =

@@ -23,5 +23,7 @@ returns-clause-done g c limit history =
     let last = ap (λ (t : Testing). t.last) same in
     let got : c.last.result.now ≡ unwrap_or e.got (codes "nothing") = c.last.ensures ∙ ap (λ l. unwrap_or l (codes "nothing")) last in
     let composed : c.in_ok-line.line.items ≡ line (failure_text e) =
-    c.in_ok-line.ensures ∙ ap (λ (got : List ℕ). line (decimal e.number ++ codes ": expected " ++ shown e.expected ++ codes ", got " ++ shown got)) got in
-    failed_done t e (testing history c.compare.new.self) _ _ c.deref.result.now c.print_line.result fails same (c.deref.ensures.value ∙ composed) c.print_line.ensures
+    c.in_ok-line.ensures ∙ ap (λ (got : List ℕ). line (decimal e.number ++ codes ": expected " ++ shown e.expected ++ codes ", got "
+    ++ shown got)) got in
+    failed_done t e (testing history c.compare.new.self) _ _ c.deref.result.now c.print_line.result fails same
+    (c.deref.ensures.value ∙ composed) c.print_line.ensures

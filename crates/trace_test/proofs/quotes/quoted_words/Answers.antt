@@ -11,7 +11,8 @@ pub loop-left-init : goal.loop-left-init
 loop-left-init c =
     let line = c.args.line.now in
     record {
-      gathered = gathered_first (texts c.new-words.result.items) c.skip_blanks-left.result.now line (ap texts c.new-words.ensures.items) c.skip_blanks-left.ensures;
+      gathered = gathered_first (texts c.new-words.result.items) c.skip_blanks-left.result.now line (ap texts c.new-words.ensures.items)
+          c.skip_blanks-left.ensures;
       at_word = rw c.skip_blanks-left.ensures (at_word line);
     }
 
@@ -23,7 +24,8 @@ loop-left-preserved c =
     let next = c.skip_blanks-left-in-loop-left in
     let more = ap texts c.in_ok-push.ensures.items ∙ map-append (λ (word : Bor (List ℕ)). word.now) words (word ∷ []) in
     record {
-      gathered = gathered_next (texts words) (texts c.push.new.self.items) word.now c.loop-left.left.now rest next.result.now c.args.line.now
+      gathered = gathered_next (texts words) (texts c.push.new.self.items) word.now c.loop-left.left.now rest
+          next.result.now c.args.line.now
           c.loop-left.invariant.gathered c.in-Some.ensures.word more next.ensures;
       at_word = rw next.ensures (at_word rest);
     }

@@ -1,46 +1,59 @@
 use Rattle.std.proofs.Common.{◌≡◌, Err, refl, rules, arith}
 use Rattle.trace_script.specs.declared.reading.LineRead.TheVariants.{Whole, Last, End}
-use Rattle.trace_script.proofs.ScriptRuns.{as_read, running_start, running_next, running_over, running_unread, running_stopped, running_last_stopped, running_last, running_end}
+use Rattle.trace_script.proofs.ScriptRuns.{as_read, running_start, running_next, running_over, running_unread, running_stopped}
+use Rattle.trace_script.proofs.ScriptRuns.{running_last_stopped, running_last, running_end}
 use Rattle.trace_test.specs.inner.Testing.{test_engine, testing}
 use Rattle.trace_test.proofs.script.follow.Goals as goal
 
 pub loop-before-init : goal.loop-before-init
-loop-before-init g c = record { few = omega (arith, c.requires.policy); total = omega (arith, c.requires.total); runs = λ limit. running_start (test_engine limit) _ _ _ }
+loop-before-init g c = record {
+  few = omega (arith, c.requires.policy);
+  total = omega (arith, c.requires.total);
+  runs =
+      λ limit. running_start (test_engine limit) _ _ _;
+}
 
 pub returns-in_err-read_line : goal.returns-in_err-read_line
 returns-in_err-read_line g c limit =
     let told : c.from_residual.result ≡ Err c.in_err-read_line.field-0.0 = search rules in
     let now = testing (g.B.Bench.history c.loop-before.bench) c.loop-before.progress in
-    rw told (running_unread (test_engine limit) _ _ _ _ _ _ _ _ (c.loop-before.invariant.runs limit) (g.R.Read.remaining c.read_line.new.input) c.read_line.new.line.items c.in_err-read_line.field-0.0 now c.in_err-read_line.ensures)
+    rw told (running_unread (test_engine limit) _ _ _ _ _ _ _ _ (c.loop-before.invariant.runs limit)
+    (g.R.Read.remaining c.read_line.new.input) c.read_line.new.line.items c.in_err-read_line.field-0.0 now c.in_err-read_line.ensures)
 
 pub returns-in_err-section-in-Whole : goal.returns-in_err-section-in-Whole
 returns-in_err-section-in-Whole g c limit =
     let left = g.R.Read.remaining c.loop-before.input in
     let after = g.R.Read.remaining c.read_line.new.input in
-    let read = as_read left after c.read_line.new.line.items c.deref.result.now c.in_ok-read_line.field-0 Whole c.in-Whole.is c.deref.ensures.value c.in_ok-read_line.ensures in
+    let read = as_read left after c.read_line.new.line.items c.deref.result.now c.in_ok-read_line.field-0 Whole c.in-Whole.is
+    c.deref.ensures.value c.in_ok-read_line.ensures in
     let told : c.from_residual-in_err-section-in-Whole.result ≡ Err c.in_err-section-in-Whole.field-0.0 = search rules in
     let state = testing (g.B.Bench.history c.follow_line.new.bench) c.follow_line.new.progress in
-    rw told (running_stopped (test_engine limit) _ _ _ _ _ _ _ _ (c.loop-before.invariant.runs limit) after c.deref.result.now (g.A.Write.contents c.follow_line.new.answers) state state
-    c.in_err-section-in-Whole.field-0.0 read (c.in_err-section-in-Whole.ensures.line limit))
+    rw told (running_stopped (test_engine limit) _ _ _ _ _ _ _ _ (c.loop-before.invariant.runs limit) after c.deref.result.now
+    (g.A.Write.contents c.follow_line.new.answers) state state c.in_err-section-in-Whole.field-0.0 read
+    (c.in_err-section-in-Whole.ensures.line limit))
 
 pub returns-in_err-follow_line-in-Last : goal.returns-in_err-follow_line-in-Last
 returns-in_err-follow_line-in-Last g c limit =
     let left = g.R.Read.remaining c.loop-before.input in
     let after = g.R.Read.remaining c.read_line.new.input in
-    let read = as_read left after c.read_line.new.line.items c.deref-in-Last.result.now c.in_ok-read_line.field-0 Last c.in-Last.is c.deref-in-Last.ensures.value c.in_ok-read_line.ensures in
+    let read = as_read left after c.read_line.new.line.items c.deref-in-Last.result.now c.in_ok-read_line.field-0 Last c.in-Last.is
+    c.deref-in-Last.ensures.value c.in_ok-read_line.ensures in
     let told : c.from_residual-in_err-follow_line-in-Last.result ≡ Err c.in_err-follow_line-in-Last.field-0.0 = search rules in
     let state = testing (g.B.Bench.history c.follow_line-in-Last.new.bench) c.follow_line-in-Last.new.progress in
-    rw told (running_last_stopped (test_engine limit) _ _ _ _ _ _ _ _ (c.loop-before.invariant.runs limit) after c.deref-in-Last.result.now (g.A.Write.contents c.follow_line-in-Last.new.answers) state state
-    c.in_err-follow_line-in-Last.field-0.0 read (c.in_err-follow_line-in-Last.ensures.line limit))
+    rw told (running_last_stopped (test_engine limit) _ _ _ _ _ _ _ _ (c.loop-before.invariant.runs limit) after c.deref-in-Last.result.now
+    (g.A.Write.contents c.follow_line-in-Last.new.answers) state state c.in_err-follow_line-in-Last.field-0.0 read
+    (c.in_err-follow_line-in-Last.ensures.line limit))
 
 pub returns-in-Last : goal.returns-in-Last
 returns-in-Last g c limit =
     let left = g.R.Read.remaining c.loop-before.input in
     let after = g.R.Read.remaining c.read_line.new.input in
-    let read = as_read left after c.read_line.new.line.items c.deref-in-Last.result.now c.in_ok-read_line.field-0 Last c.in-Last.is c.deref-in-Last.ensures.value c.in_ok-read_line.ensures in
+    let read = as_read left after c.read_line.new.line.items c.deref-in-Last.result.now c.in_ok-read_line.field-0 Last c.in-Last.is
+    c.deref-in-Last.ensures.value c.in_ok-read_line.ensures in
     let state = testing (g.B.Bench.history c.follow_line-in-Last.new.bench) c.follow_line-in-Last.new.progress in
-    running_last (test_engine limit) _ _ _ _ _ _ _ _ (c.loop-before.invariant.runs limit) after c.deref-in-Last.result.now (g.A.Write.contents c.follow_line-in-Last.new.answers) state
-    c.in_ok-follow_line-in-Last.field-0 c.close.result read (c.in_ok-follow_line-in-Last.ensures.line limit) c.close.ensures
+    running_last (test_engine limit) _ _ _ _ _ _ _ _ (c.loop-before.invariant.runs limit) after c.deref-in-Last.result.now
+    (g.A.Write.contents c.follow_line-in-Last.new.answers) state c.in_ok-follow_line-in-Last.field-0 c.close.result read
+    (c.in_ok-follow_line-in-Last.ensures.line limit) c.close.ensures
 
 pub returns-in-End : goal.returns-in-End
 returns-in-End g c limit =
@@ -48,18 +61,21 @@ returns-in-End g c limit =
     let after = g.R.Read.remaining c.read_line.new.input in
     let line = c.read_line.new.line.items in
     let read = as_read left after line line c.in_ok-read_line.field-0 End c.in-End.is refl c.in_ok-read_line.ensures in
-    running_end (test_engine limit) _ _ _ _ _ _ _ _ (c.loop-before.invariant.runs limit) after line c.close-in-End.result read c.close-in-End.ensures
+    running_end (test_engine limit) _ _ _ _ _ _ _ _ (c.loop-before.invariant.runs limit) after line c.close-in-End.result read
+    c.close-in-End.ensures
 
 pub loop-before-preserved : goal.loop-before-preserved
 loop-before-preserved g c =
     let left = g.R.Read.remaining c.loop-before.input in
     let after = g.R.Read.remaining c.read_line.new.input in
-    let read = as_read left after c.read_line.new.line.items c.deref.result.now c.in_ok-read_line.field-0 Whole c.in-Whole.is c.deref.ensures.value c.in_ok-read_line.ensures in
+    let read = as_read left after c.read_line.new.line.items c.deref.result.now c.in_ok-read_line.field-0 Whole c.in-Whole.is
+    c.deref.ensures.value c.in_ok-read_line.ensures in
     let state = testing (g.B.Bench.history c.follow_line.new.bench) c.follow_line.new.progress in
     record {
       few = omega (arith, c.loop-before.invariant.few, c.in_ok-section-in-Whole.ensures.few);
       total = omega (arith, c.loop-before.invariant.total, c.in_ok-section-in-Whole.ensures.total);
-      runs = λ limit. running_next (test_engine limit) _ _ _ _ _ _ _ _ (c.loop-before.invariant.runs limit) after c.deref.result.now (g.A.Write.contents c.follow_line.new.answers) state
+      runs = λ limit. running_next (test_engine limit) _ _ _ _ _ _ _ _ (c.loop-before.invariant.runs limit) after c.deref.result.now
+          (g.A.Write.contents c.follow_line.new.answers) state
           c.in_ok-section-in-Whole.section read (c.in_ok-section-in-Whole.ensures.line limit);
     }
 

@@ -11,6 +11,8 @@ abbrev pub invariant-loop-before : goal.invariant-loop-before
 invariant-loop-before g l = record {
   few : policy_version (g.B.Bench.history l.bench) ≤ l.before;
   total : l.progress.total ≤ l.before;
-  runs : (limit : StateLimit) → IsRunning (test_engine limit) (testing (g.B.Bench.history l.initial.bench) l.initial.progress) (g.R.Read.remaining l.initial.input) (g.R.Read.remaining l.input)
-      (g.A.Write.contents l.initial.answers) (g.A.Write.contents l.answers) (testing (g.B.Bench.history l.bench) l.progress) (section_value l.section) l.before;
+  runs : (limit : StateLimit) → IsRunning (test_engine limit) (testing (g.B.Bench.history l.initial.bench) l.initial.progress)
+      (g.R.Read.remaining l.initial.input) (g.R.Read.remaining l.input)
+      (g.A.Write.contents l.initial.answers) (g.A.Write.contents l.answers) (testing (g.B.Bench.history l.bench) l.progress)
+      (section_value l.section) l.before;
 }

@@ -1,7 +1,9 @@
 use Rattle.tree_row.proofs.laws.wrong_answers_are_refused.Goals as goal
 
 pub returns-clause-another_component : goal.returns-clause-another_component
-returns-clause-another_component g c = λ cells row w capacity directory s component may encodes differs tells. differs (tells row w may encodes).named
+returns-clause-another_component g c = λ cells row w capacity directory s component may encodes differs tells. differs
+    (tells row w may encodes).named
 
 pub returns-clause-another_directory : goal.returns-clause-another_directory
-returns-clause-another_directory g c = λ cells row w capacity directory s component may encodes differs tells. differs (tells row w may encodes).under
+returns-clause-another_directory g c = λ cells row w capacity directory s component may encodes differs tells. differs
+    (tells row w may encodes).under

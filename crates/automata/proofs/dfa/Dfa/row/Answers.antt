@@ -27,17 +27,17 @@ pub rest_from-requires : goal.rest_from-requires
 rest_from-requires c =
     subst (λ (z : List TargetRange). c.index.result.now ≤ length z) (sym c.deref.ensures.value)
     (begins_within c.self.inside.ranges.items c.index.result.now
-    (row_is c.self.inside.ranges.items c.self.inside.firsts.items c.args.self.now (ap (λ (z : Automaton). z.rows) (sym c.self.view_is)) c.self.invariant.1
-    c.args.state c.requires c.index.result.now c.index.ensures))
+    (row_is c.self.inside.ranges.items c.self.inside.firsts.items c.args.self.now (ap (λ (z : Automaton). z.rows) (sym c.self.view_is))
+    c.self.invariant.1 c.args.state c.requires c.index.result.now c.index.ensures))
 
 pub returns-clause-row : goal.returns-clause-row
 returns-clause-row c =
     subst (IsRowFrom 0) (sym (c.rest_from.ensures ∙ ap (drop c.index.result.now) c.deref.ensures.value))
-    (row_is c.self.inside.ranges.items c.self.inside.firsts.items c.args.self.now (ap (λ (z : Automaton). z.rows) (sym c.self.view_is)) c.self.invariant.1
-    c.args.state c.requires c.index.result.now c.index.ensures)
+    (row_is c.self.inside.ranges.items c.self.inside.firsts.items c.args.self.now (ap (λ (z : Automaton). z.rows) (sym c.self.view_is))
+    c.self.invariant.1 c.args.state c.requires c.index.result.now c.index.ensures)
 
 pub returns-clause-targets : goal.returns-clause-targets
 returns-clause-targets c b small =
     ap (λ z. target_in z b) (c.rest_from.ensures ∙ ap (drop c.index.result.now) c.deref.ensures.value)
-    ∙ target_is c.self.inside.ranges.items c.self.inside.firsts.items c.args.self.now (ap (λ (z : Automaton). z.rows) (sym c.self.view_is)) c.self.invariant.1
-    c.args.state c.requires c.index.result.now b c.index.ensures small
+    ∙ target_is c.self.inside.ranges.items c.self.inside.firsts.items c.args.self.now (ap (λ (z : Automaton). z.rows) (sym c.self.view_is))
+    c.self.invariant.1 c.args.state c.requires c.index.result.now b c.index.ensures small

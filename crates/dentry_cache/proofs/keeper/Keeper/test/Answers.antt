@@ -27,6 +27,7 @@ returns-clause-err c =
     let n = subst (λ (h : Held). Countable h c.in_ok-next.field-0) (sym c.check_change.ensures.kept) c.in_ok-next.ensures.ok in
     elim c.match-check_change.branch [
       | in-Ok w ↦ rw w.result-is tt
-      | in-Err+in-Refused w ↦ rw w.result-is (subst (λ (h : Held). Refuses h c.args.change.now w.in-Refused.errno) (c.check_change.ensures.kept ∙ c.self.view_is)
+      | in-Err+in-Refused w ↦ rw w.result-is (subst (λ (h : Held). Refuses h c.args.change.now w.in-Refused.errno)
+          (c.check_change.ensures.kept ∙ c.self.view_is)
           (refused _ _ n c.args.change.now _ ((rw w.in-Refused.is at w.in-Err.ensures.fault) _ (sees_world _ _ n))))
     ]

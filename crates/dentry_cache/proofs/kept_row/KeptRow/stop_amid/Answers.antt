@@ -8,4 +8,5 @@ begin-requires-clause-fewer c = omega (arith, c.min.ensures)
 pub returns : goal.returns
 returns c =
     let b = c.begin.ensures in
-    rw c.of.ensures (stopped c.self.inside.seat c.begin.new.seat _ _ c.args.change.now c.args.plan.now c.args.set _ c.self.view_is c.requires c.min.ensures b.own b.history b.pending b.cells)
+    rw c.of.ensures (stopped c.self.inside.seat c.begin.new.seat _ _ c.args.change.now c.args.plan.now c.args.set _ c.self.view_is
+    c.requires c.min.ensures b.own b.history b.pending b.cells)

@@ -14,7 +14,8 @@ returns-then-line_ends c =
     let s = c.loop-self.self in
     let i = c.loop-self.invariant in
     let same = ok_is (separators_part s) c.separators.new.self c.in_ok-separators.ensures in
-    let over : line_ends (separators_part s).rest ≡ true = ap (λ (r : Reading). line_ends r.rest) same ∙ ap line_ends (sym c.rest.ensures) ∙ sym c.line_ends.ensures ∙ c.if-line_ends.true in
+    let over : line_ends (separators_part s).rest ≡ true = ap (λ (r : Reading). line_ends r.rest) same ∙ ap line_ends (sym c.rest.ensures)
+    ∙ sym c.line_ends.ensures ∙ c.if-line_ends.true in
     values_end i.0 s _ i.1 i.2 over ∙ ap (λ (r : Reading). Ok r) same
 
 pub loop-self-smaller : goal.loop-self-smaller
@@ -28,5 +29,7 @@ loop-self-preserved c =
     let s = c.loop-self.self in
     let i = c.loop-self.invariant in
     let same = ok_is (separators_part s) c.separators.new.self c.in_ok-separators.ensures in
-    let more : line_ends (separators_part s).rest ≡ false = ap (λ (r : Reading). line_ends r.rest) same ∙ ap line_ends (sym c.rest.ensures) ∙ sym c.line_ends.ensures ∙ c.if-line_ends.false in
-    values_more i.0 s c.word.new.self _ i.1 i.2 more (subst (λ (r : Reading). word_part parts.Value r ≡ Ok c.word.new.self) (sym same) c.in_ok-word.ensures)
+    let more : line_ends (separators_part s).rest ≡ false = ap (λ (r : Reading). line_ends r.rest) same ∙ ap line_ends (sym c.rest.ensures)
+    ∙ sym c.line_ends.ensures ∙ c.if-line_ends.false in
+    values_more i.0 s c.word.new.self _ i.1 i.2 more (subst (λ (r : Reading). word_part parts.Value r ≡ Ok c.word.new.self)
+    (sym same) c.in_ok-word.ensures)

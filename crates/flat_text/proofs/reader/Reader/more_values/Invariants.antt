@@ -4,7 +4,8 @@ use Rattle.flat_text.specs.Assignments.{values_at}
 use Rattle.flat_text.proofs.reader.Reader.more_values.Given as goal
 
 abbrev pub invariant-loop-self : goal.invariant-loop-self
-invariant-loop-self l = (room : ℕ) × (length l.self.rest < room) × (values_at room l.self ≡ values_at (suc (length l.fn.self.rest)) l.fn.self)
+invariant-loop-self l = (room : ℕ) × (length l.self.rest < room)
+    × (values_at room l.self ≡ values_at (suc (length l.fn.self.rest)) l.fn.self)
 
 abbrev pub decreases-loop-self : goal.decreases-loop-self
 decreases-loop-self l = length l.self.rest

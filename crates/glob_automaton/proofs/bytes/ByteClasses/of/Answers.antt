@@ -9,17 +9,20 @@ split-requires c = all_alike 256 refl
 
 pub loop-taken-init : goal.loop-taken-init
 loop-taken-init c = record {
-  parted = no_class c.args.chart.now.classes.items _ c.split.new.least c.split-2.new.least c.only.result c.only-2.result c.only.ensures c.only-2.ensures
+  parted = no_class c.args.chart.now.classes.items _ c.split.new.least c.split-2.new.least c.only.result c.only-2.result
+      c.only.ensures c.only-2.ensures
       c.split.ensures c.split-2.ensures;
 }
 
 pub loop-taken-preserved : goal.loop-taken-preserved
 loop-taken-preserved c = record {
-  parted = next_class c.args.chart.now.classes.items c.loop-taken.least c.split-in-loop-taken.new.least c.loop-taken.taken-index c.loop-taken.invariant.parted
+  parted = next_class c.args.chart.now.classes.items c.loop-taken.least c.split-in-loop-taken.new.least c.loop-taken.taken-index
+      c.loop-taken.invariant.parted
       (subst (λ z. IsSplit c.loop-taken.least (slice_index_or z c.loop-taken.taken-index []) c.split-in-loop-taken.new.least)
       c.deref-taken-items.ensures.value c.split-in-loop-taken.ensures);
 }
 
 pub returns : goal.returns
 returns c = parted_by_all c.args.chart.now c.loop-taken.least c.loop-taken.taken-index
-    (subst (λ z. length z ≤ c.loop-taken.taken-index) c.deref-taken-items.ensures.value c.loop-taken-test.false) c.loop-taken.invariant.parted
+    (subst (λ z. length z ≤ c.loop-taken.taken-index) c.deref-taken-items.ensures.value c.loop-taken-test.false)
+    c.loop-taken.invariant.parted

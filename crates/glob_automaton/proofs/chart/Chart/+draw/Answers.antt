@@ -5,7 +5,8 @@ use Rattle.rule_globs.specs.Meaning.{meaning, meaning_of, alternatives_meaning}
 use Rattle.glob_automaton.specs.inner.Drawing.{IsDrawn}
 use Rattle.glob_automaton.specs.declared.chart.Label.TheVariants as label
 use Rattle.glob_automaton.proofs.DrawingLaws.{drawn_empty, drawn_none, drawn_cat, drawn_alt, ready_on}
-use Rattle.glob_automaton.proofs.DrawingItems.{of_byte, of_any_byte, of_group, weight, lighter_item, lighter_alternative, all_left, one_more_done, all_done, item_of_one, item_of}
+use Rattle.glob_automaton.proofs.DrawingItems.{of_byte, of_any_byte, of_group, weight, lighter_item, lighter_alternative, all_left}
+use Rattle.glob_automaton.proofs.DrawingItems.{one_more_done, all_done, item_of_one, item_of}
 use Rattle.glob_automaton.proofs.chart.Chart.+draw.Goals as goal
 
 pub draw_alternatives-loop-items-init : goal.draw_alternatives-loop-items-init
@@ -24,29 +25,33 @@ draw_alternatives-draw_items-requires t c = (
     c.decreases,
     lighter_alternative c.args.alternatives.now c.next.new.self.iter.rest.now c.loop-items.invariant.0 c.in-Some.items.now
         c.deref.result.now
-        (one_more_done c.args.alternatives.now c.loop-items.items-iterator.iter.rest.now c.next.new.self.iter.rest.now c.loop-items.invariant.0
-        c.in-Some.items.now c.loop-items.invariant.1 c.in-Some.ensures.steps) c.deref.ensures.value,
+        (one_more_done c.args.alternatives.now c.loop-items.items-iterator.iter.rest.now c.next.new.self.iter.rest.now
+        c.loop-items.invariant.0 c.in-Some.items.now c.loop-items.invariant.1 c.in-Some.ensures.steps) c.deref.ensures.value,
   ),
-  ready_on c.args.self.now c.loop-items.self (alternatives_meaning c.loop-items.invariant.0) c.args.behind c.loop-items.entry c.args.behind c.requires c.loop-items.invariant.2,
+  ready_on c.args.self.now c.loop-items.self (alternatives_meaning c.loop-items.invariant.0) c.args.behind c.loop-items.entry c.args.behind
+      c.requires c.loop-items.invariant.2,
 )
 
 pub draw_alternatives-loop-items-preserved : goal.draw_alternatives-loop-items-preserved
 draw_alternatives-loop-items-preserved t c = (
   c.in-Some.items.now ∷ c.loop-items.invariant.0,
-  one_more_done c.args.alternatives.now c.loop-items.items-iterator.iter.rest.now c.next.new.self.iter.rest.now c.loop-items.invariant.0 c.in-Some.items.now
+  one_more_done c.args.alternatives.now c.loop-items.items-iterator.iter.rest.now c.next.new.self.iter.rest.now c.loop-items.invariant.0
+      c.in-Some.items.now
       c.loop-items.invariant.1 c.in-Some.ensures.steps,
   drawn_alt c.args.self.now c.loop-items.self c.draw_items.new.self c.entry-in-loop-items.new.self (meaning_of c.in-Some.items.now.items)
       (alternatives_meaning c.loop-items.invariant.0) c.args.behind c.loop-items.entry c.in_ok-one.one c.in_ok-entry-2.entry c.requires
       c.loop-items.invariant.2
-      (subst (λ z. IsDrawn c.loop-items.self c.draw_items.new.self (meaning_of z) c.args.behind c.in_ok-one.one) c.deref.ensures.value c.in_ok-one.ensures)
-      c.in_ok-entry-2.ensures.number c.in_ok-entry-2.ensures.entries c.entry-in-loop-items.ensures.places c.entry-in-loop-items.ensures.classes
-      c.entry-in-loop-items.ensures.rules,
+      (subst (λ z. IsDrawn c.loop-items.self c.draw_items.new.self (meaning_of z) c.args.behind c.in_ok-one.one) c.deref.ensures.value
+      c.in_ok-one.ensures)
+      c.in_ok-entry-2.ensures.number c.in_ok-entry-2.ensures.entries c.entry-in-loop-items.ensures.places
+      c.entry-in-loop-items.ensures.classes c.entry-in-loop-items.ensures.rules,
 )
 
 pub draw_alternatives-returns : goal.draw_alternatives-returns
 draw_alternatives-returns t c =
     subst (λ z. IsDrawn c.args.self.now c.loop-items.self (alternatives_meaning z) c.args.behind c.loop-items.entry)
-    (sym (all_done c.args.alternatives.now c.loop-items.items-iterator.iter.rest.now c.loop-items.invariant.0 c.loop-items.invariant.1 c.in-None.ensures.steps.0))
+    (sym (all_done c.args.alternatives.now c.loop-items.items-iterator.iter.rest.now c.loop-items.invariant.0 c.loop-items.invariant.1
+    c.in-None.ensures.steps.0))
     c.loop-items.invariant.2
 
 pub draw_item-returns-in-Byte : goal.draw_item-returns-in-Byte
@@ -61,7 +66,12 @@ draw_item-returns-in-AnyByte t c =
 
 pub draw_item-draw_alternatives-requires : goal.draw_item-draw_alternatives-requires
 draw_item-draw_alternatives-requires t c = (
-  omega (arith, c.decreases, ap weight (of_group c.args.item.now c.in-Group.alternatives c.deref.result.now c.in-Group.is c.deref.ensures.value)),
+  omega (
+    arith,
+    c.decreases,
+    ap weight (of_group c.args.item.now c.in-Group.alternatives c.deref.result.now c.in-Group.is
+        c.deref.ensures.value),
+  ),
   c.requires,
 )
 
@@ -94,7 +104,8 @@ draw_items-draw_item-requires t c = (
 pub draw_items-loop-item-preserved : goal.draw_items-loop-item-preserved
 draw_items-loop-item-preserved t c = (
   c.in-Some.item.now ∷ c.loop-item.invariant.0,
-  one_more_done c.args.items.now c.loop-item.item-iterator.iter.rest.now c.next.new.self.iter.rest.now c.loop-item.invariant.0 c.in-Some.item.now
+  one_more_done c.args.items.now c.loop-item.item-iterator.iter.rest.now c.next.new.self.iter.rest.now c.loop-item.invariant.0
+      c.in-Some.item.now
       c.loop-item.invariant.1 c.in-Some.ensures.steps,
   drawn_cat c.args.self.now c.loop-item.self c.draw_item.new.self (meaning c.in-Some.item.now) (meaning_of c.loop-item.invariant.0)
       c.args.behind c.loop-item.entry c.in_ok-entry.entry c.loop-item.invariant.2 c.in_ok-entry.ensures,
@@ -103,5 +114,6 @@ draw_items-loop-item-preserved t c = (
 pub draw_items-returns : goal.draw_items-returns
 draw_items-returns t c =
     subst (λ z. IsDrawn c.args.self.now c.loop-item.self (meaning_of z) c.args.behind c.loop-item.entry)
-    (sym (all_done c.args.items.now c.loop-item.item-iterator.iter.rest.now c.loop-item.invariant.0 c.loop-item.invariant.1 c.in-None.ensures.steps.0))
+    (sym (all_done c.args.items.now c.loop-item.item-iterator.iter.rest.now c.loop-item.invariant.0 c.loop-item.invariant.1
+    c.in-None.ensures.steps.0))
     c.loop-item.invariant.2

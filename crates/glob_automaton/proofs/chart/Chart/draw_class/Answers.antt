@@ -14,7 +14,12 @@ loop-byte-preserved c = (
 
 pub returns : goal.returns
 returns c =
-    drawn_class c.args.self.now (record { places = c.args.self.now.places; entries = c.args.self.now.entries; classes = c.push.new.self; rules = c.args.self.now.rules })
-    c.draw_one.new.self c.draw_one.result (class c.args.class.now.negated c.args.class.now.ranges) c.loop-byte.taken c.len-number.result c.args.behind
-    (c.len-number.ensures ∙ c.args.self.now.classes.ok.0) c.in_ok-push.ensures.items refl refl refl
+    drawn_class c.args.self.now (record {
+      places = c.args.self.now.places;
+      entries = c.args.self.now.entries;
+      classes = c.push.new.self;
+      rules = c.args.self.now.rules;
+    })
+    c.draw_one.new.self c.draw_one.result (class c.args.class.now.negated c.args.class.now.ranges) c.loop-byte.taken
+    c.len-number.result c.args.behind (c.len-number.ensures ∙ c.args.self.now.classes.ok.0) c.in_ok-push.ensures.items refl refl refl
     (λ k lt. c.loop-byte.invariant.1 k (omega (arith, lt, c.loop-byte-test.false))) c.draw_one.ensures.drawn

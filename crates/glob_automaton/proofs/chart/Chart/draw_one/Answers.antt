@@ -12,7 +12,8 @@ returns-clause-drawn c =
     if_ok c.entry.result
     (λ number. number ≡ length c.args.self.now.entries.items)
     (λ _. c.entry.new.self.entries.items ≡ c.args.self.now.entries.items ++ entry.Place c.len-place.result ∷ [])
-    (λ start. (set : ByteSet) → IsKnown c.args.self.now c.args.takes → TakesSet c.args.self.now c.args.takes set → IsDrawn c.args.self.now c.entry.new.self (one set) c.args.behind start)
+    (λ start. (set : ByteSet) → IsKnown c.args.self.now c.args.takes → TakesSet c.args.self.now c.args.takes set →
+    IsDrawn c.args.self.now c.entry.new.self (one set) c.args.behind start)
     (λ start number entries set known takes.
     drawn_one c.args.self.now c.entry.new.self c.args.takes set c.args.behind start c.requires known takes
     (ap (λ z. z.items) c.entry.ensures.places ∙ c.in_ok-push.ensures.items) number

@@ -10,8 +10,10 @@ use Rattle.glob_automaton.proofs.chart.Chart.draw_path.Goals as goal
 pub returns : goal.returns
 returns c rules chart =
     let here : c.len-end.result ≡ length c.args.self.now.places.items = c.len-end.ensures ∙ c.args.self.now.places.ok.0 in
-    let drawn : IsDrawn c.entry.new.self c.draw_items.new.self (pattern (rule_value c.args.rule.now)) c.in_ok-last.last c.in_ok-start.start =
-    subst (λ z. IsDrawn c.entry.new.self c.draw_items.new.self z c.in_ok-last.last c.in_ok-start.start) c.items.ensures.pattern c.in_ok-start.ensures in
+    let drawn : IsDrawn c.entry.new.self c.draw_items.new.self (pattern (rule_value c.args.rule.now)) c.in_ok-last.last
+    c.in_ok-start.start =
+    subst (λ z. IsDrawn c.entry.new.self c.draw_items.new.self z c.in_ok-last.last c.in_ok-start.start) c.items.ensures.pattern
+    c.in_ok-start.ensures in
     chart_more c.args.self.now c.entry.new.self c.draw_items.new.self c.push-2.new.self rules (reading (rule_value c.args.rule.now))
     (record { end = c.len-end.result; start = c.in_ok-start.start; kind = Allow; perms = c.with.result }) c.in_ok-last.last chart
     (ap (λ z. z.items) c.entry.ensures.places ∙ c.in_ok-push.ensures.items) here refl c.with.ensures

@@ -11,7 +11,8 @@ use Rattle.glob_automaton.proofs.chart.Chart.draw_stars.Goals.{then-stars, else-
 
 pub draw_one-requires : goal.draw_one-requires
 draw_one-requires c =
-    let facts : IsKnown c.args.self.now c.if-stars.takes × TakesSet c.args.self.now c.if-stars.takes (in_stars c.args.stars.crosses_slashes) =
+    let facts : IsKnown c.args.self.now c.if-stars.takes × TakesSet c.args.self.now c.if-stars.takes
+    (in_stars c.args.stars.crosses_slashes) =
     elim c.if-stars.branch [
       | then-stars w ↦ stars_all c.args.self.now c.args.stars.crosses_slashes c.if-stars.takes w.if-stars.true w.takes-is
       | else-stars w ↦ stars_some c.args.self.now c.args.stars.crosses_slashes c.if-stars.takes w.if-stars.false w.takes-is
@@ -20,7 +21,8 @@ draw_one-requires c =
 
 pub returns-then-stars-2 : goal.returns-then-stars-2
 returns-then-stars-2 c =
-    let facts : IsKnown c.args.self.now c.if-stars.takes × TakesSet c.args.self.now c.if-stars.takes (in_stars c.args.stars.crosses_slashes) =
+    let facts : IsKnown c.args.self.now c.if-stars.takes × TakesSet c.args.self.now c.if-stars.takes
+    (in_stars c.args.stars.crosses_slashes) =
     elim c.if-stars.branch [
       | then-stars w ↦ stars_all c.args.self.now c.args.stars.crosses_slashes c.if-stars.takes w.if-stars.true w.takes-is
       | else-stars w ↦ stars_some c.args.self.now c.args.stars.crosses_slashes c.if-stars.takes w.if-stars.false w.takes-is
@@ -30,7 +32,8 @@ returns-then-stars-2 c =
     IfOk-weaker c.draw_one.result
     (λ start. (set : ByteSet) → IsKnown c.draw_run.new.self label.InComponent → TakesSet c.draw_run.new.self label.InComponent set →
     IsDrawn c.draw_run.new.self c.draw_one.new.self (one set) c.in_ok-run.run' start)
-    (λ start. IsDrawn c.args.self.now c.draw_one.new.self (stars_glob c.args.stars.crosses_slashes c.args.stars.strict) c.args.behind start)
+    (λ start. IsDrawn c.args.self.now c.draw_one.new.self (stars_glob c.args.stars.crosses_slashes c.args.stars.strict)
+    c.args.behind start)
     (λ start h. subst (λ z. IsDrawn c.args.self.now c.draw_one.new.self z c.args.behind start)
     (strict_stars c.args.stars.crosses_slashes c.args.stars.strict c.if-stars-2.true)
     (drawn_cat c.args.self.now c.draw_run.new.self c.draw_one.new.self (one not_slash) (run (in_stars c.args.stars.crosses_slashes))
@@ -39,7 +42,8 @@ returns-then-stars-2 c =
 
 pub returns-else-stars-2 : goal.returns-else-stars-2
 returns-else-stars-2 c =
-    let facts : IsKnown c.args.self.now c.if-stars.takes × TakesSet c.args.self.now c.if-stars.takes (in_stars c.args.stars.crosses_slashes) =
+    let facts : IsKnown c.args.self.now c.if-stars.takes × TakesSet c.args.self.now c.if-stars.takes
+    (in_stars c.args.stars.crosses_slashes) =
     elim c.if-stars.branch [
       | then-stars w ↦ stars_all c.args.self.now c.args.stars.crosses_slashes c.if-stars.takes w.if-stars.true w.takes-is
       | else-stars w ↦ stars_some c.args.self.now c.args.stars.crosses_slashes c.if-stars.takes w.if-stars.false w.takes-is

@@ -8,7 +8,8 @@ returns-then-eq c t =
     let one = c.args.self.now in
     let other = c.args.other.now in
     record {
-      places = (slice_eq-Decides place_decided one.places.items other.places.items _ refl).0 (not_different c.ne.result _ c.ne.ensures c.if-ne.false);
+      places = (slice_eq-Decides place_decided one.places.items other.places.items _ refl).0
+          (not_different c.ne.result _ c.ne.ensures c.if-ne.false);
       entries = (slice_eq-Decides entry_decided one.entries.items other.entries.items _ refl).0
           (not_different c.ne-else-ne.result _ c.ne-else-ne.ensures c.if-ne-2.false);
       classes = (slice_eq-Decides class_decided one.classes.items other.classes.items c.eq.result c.eq.ensures).0 c.if-eq.true;

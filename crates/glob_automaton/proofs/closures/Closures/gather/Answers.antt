@@ -6,17 +6,20 @@ use Rattle.glob_automaton.proofs.closures.Closures.gather.Goals as goal
 
 pub join-requires-clause-there : goal.join-requires-clause-there
 join-requires-clause-there c =
-    let before = c.requires.ordered c.args.entry _ (entry_stands c.args.chart.now.entries.items c.args.entry _ _ c.requires.there c.index.ensures c.in-Run.is) in
+    let before = c.requires.ordered c.args.entry _ (entry_stands c.args.chart.now.entries.items c.args.entry _ _ c.requires.there
+    c.index.ensures c.in-Run.is) in
     omega (arith, before, c.requires.next)
 
 pub join-requires-in-Either-clause-there : goal.join-requires-in-Either-clause-there
 join-requires-in-Either-clause-there c =
-    let before = c.requires.ordered c.args.entry _ (entry_stands c.args.chart.now.entries.items c.args.entry _ _ c.requires.there c.index.ensures c.in-Either.is) in
+    let before = c.requires.ordered c.args.entry _ (entry_stands c.args.chart.now.entries.items c.args.entry _ _ c.requires.there
+    c.index.ensures c.in-Either.is) in
     omega (arith, before.0, c.requires.next)
 
 pub join-requires-in-Either-2-clause-there : goal.join-requires-in-Either-2-clause-there
 join-requires-in-Either-2-clause-there c =
-    let before = c.requires.ordered c.args.entry _ (entry_stands c.args.chart.now.entries.items c.args.entry _ _ c.requires.there c.index.ensures c.in-Either.is) in
+    let before = c.requires.ordered c.args.entry _ (entry_stands c.args.chart.now.entries.items c.args.entry _ _ c.requires.there
+    c.index.ensures c.in-Either.is) in
     omega (arith, before.1, c.requires.next)
 
 pub returns-in-Nothing-clause-places : goal.returns-in-Nothing-clause-places
@@ -37,8 +40,9 @@ pub returns-in_ok-add-in-Run-clause-places : goal.returns-in_ok-add-in-Run-claus
 returns-in_ok-add-in-Run-clause-places c =
     let entries = c.args.chart.now.entries.items in
     on_ok c.join.result
-    (λ then. run_live entries c.args.entry c.args.bits.now.words.items c.requires.none c.in-Run.place c.in-Run.behind c.add-in-Run.new.self.words.items
-    c.join.new.bits.words.items (entry_stands entries c.args.entry _ _ c.requires.there c.index.ensures c.in-Run.is)
+    (λ then. run_live entries c.args.entry c.args.bits.now.words.items c.requires.none c.in-Run.place c.in-Run.behind
+    c.add-in-Run.new.self.words.items c.join.new.bits.words.items
+    (entry_stands entries c.args.entry _ _ c.requires.there c.index.ensures c.in-Run.is)
     c.in_ok-add-in-Run.ensures.places (then entries c.requires.each))
     c.join.ensures.places
 
@@ -46,7 +50,8 @@ pub returns-in_ok-join-in-Either-clause-places : goal.returns-in_ok-join-in-Eith
 returns-in_ok-join-in-Either-clause-places c =
     let entries = c.args.chart.now.entries.items in
     on_ok c.join-in-Either-2.result
-    (λ then. either_live entries c.args.entry c.args.bits.now.words.items c.requires.none c.in-Either.one c.in-Either.other c.join-in-Either.new.bits.words.items
-    c.join-in-Either-2.new.bits.words.items (entry_stands entries c.args.entry _ _ c.requires.there c.index.ensures c.in-Either.is)
+    (λ then. either_live entries c.args.entry c.args.bits.now.words.items c.requires.none c.in-Either.one c.in-Either.other
+    c.join-in-Either.new.bits.words.items c.join-in-Either-2.new.bits.words.items
+    (entry_stands entries c.args.entry _ _ c.requires.there c.index.ensures c.in-Either.is)
     (c.in_ok-join-in-Either.ensures.places entries c.requires.each) (then entries c.requires.each))
     c.join-in-Either-2.ensures.places

@@ -29,10 +29,12 @@ returns-in-Some-clause-ok c rules before e at =
     built live.begin live.step c.live_is_left_first.ensures (reading rule ∷ []) path.chart chart path.dfa c.in-Some.ensures.1
     c.records_are_their_hits.ensures.same (alone (reading rule) c.requires.slash) in
     let hits : c.with_rule-hits.result ≡ hits_alone rule (before + 1) =
-    hits_are rule c.none.result c.with_rule-hits.result c.kind.result c.perms.result c.args.number before c.none.ensures c.kind.ensures c.perms.ensures e
+    hits_are rule c.none.result c.with_rule-hits.result c.kind.result c.perms.result c.args.number before c.none.ensures
+    c.kind.ensures c.perms.ensures e
     c.with_rule-hits.ensures in
-    leaf_part rules rule before at c.records_are_their_hits.ensures.made c.records_are_their_hits.ensures.same path.dfa c.in_ok-with_hits.field-0 its
-    (subst (λ z. IsWithHits z path.dfa c.in_ok-with_hits.field-0) hits c.in_ok-with_hits.ensures) (each_met (reading rule ∷ []) path.dfa its)
+    leaf_part rules rule before at c.records_are_their_hits.ensures.made c.records_are_their_hits.ensures.same path.dfa
+    c.in_ok-with_hits.field-0 its (subst (λ z. IsWithHits z path.dfa c.in_ok-with_hits.field-0) hits c.in_ok-with_hits.ensures)
+    (each_met (reading rule ∷ []) path.dfa its)
 
 pub returns-in-Err-clause-err : goal.returns-in-Err-clause-err
 returns-in-Err-clause-err c rules before at =
@@ -47,14 +49,18 @@ returns-clause-ok c rules before e at =
     let rule = rule_value c.args.rule.now in
     let live = c.live_places_go_on.ensures in
     let its : IsAutomatonOf (reading rule ∷ []) c.in-Ok.dfa =
-    built live.begin live.step c.live_is_left_first.ensures (reading rule ∷ []) c.in_ok-chart.chart c.in_ok-chart.ensures.chart c.in-Ok.dfa c.in-Ok.ensures.ok
+    built live.begin live.step c.live_is_left_first.ensures (reading rule ∷ []) c.in_ok-chart.chart c.in_ok-chart.ensures.chart
+    c.in-Ok.dfa c.in-Ok.ensures.ok
     c.records_are_their_hits.ensures.same (alone (reading rule) c.requires.slash) in
     let hits : c.with_rule-hits.result ≡ hits_alone rule (before + 1) =
-    hits_are rule c.none.result c.with_rule-hits.result c.kind.result c.perms.result c.args.number before c.none.ensures c.kind.ensures c.perms.ensures e
+    hits_are rule c.none.result c.with_rule-hits.result c.kind.result c.perms.result c.args.number before c.none.ensures
+    c.kind.ensures c.perms.ensures e
     c.with_rule-hits.ensures in
-    leaf_part rules rule before at c.records_are_their_hits.ensures.made c.records_are_their_hits.ensures.same c.in-Ok.dfa c.in_ok-leaf.leaf its
-    (subst (λ z. IsWithHits z c.in-Ok.dfa c.in_ok-leaf.leaf) hits c.in_ok-leaf.ensures) (each_met (reading rule ∷ []) c.in-Ok.dfa its)
+    leaf_part rules rule before at c.records_are_their_hits.ensures.made c.records_are_their_hits.ensures.same c.in-Ok.dfa
+    c.in_ok-leaf.leaf its (subst (λ z. IsWithHits z c.in-Ok.dfa c.in_ok-leaf.leaf) hits c.in_ok-leaf.ensures)
+    (each_met (reading rule ∷ []) c.in-Ok.dfa its)
 
 pub returns-clause-built : goal.returns-clause-built
-returns-clause-built c = one_more_built c.make_room.new.self.built.items c.keep.new.list.items (record { chart = c.in_ok-chart.chart; dfa = c.in-Ok.dfa })
+returns-clause-built c = one_more_built c.make_room.new.self.built.items c.keep.new.list.items
+    (record { chart = c.in_ok-chart.chart; dfa = c.in-Ok.dfa })
     c.make_room.ensures c.in-Ok.ensures.ok c.in_ok-keep.ensures

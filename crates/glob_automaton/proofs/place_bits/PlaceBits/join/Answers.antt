@@ -8,7 +8,8 @@ joined : (c : goal.After-widen) (q : ℕ) → has_place c.widen.new.self.words.i
     ≡ (has_place c.make_room.new.self.words.items q || has_from c.args.closure.now.first c.args.closure.now.words.items q)
 joined c q =
     let closure = c.args.closure.now in
-    let all : length closure.words.items ≤ c.loop-index.index = omega (arith, c.loop-index-test.false, c.len-index-end.ensures, closure.words.ok.0) in
+    let all : length closure.words.items ≤ c.loop-index.index =
+    omega (arith, c.loop-index-test.false, c.len-index-end.ensures, closure.words.ok.0) in
     ap (λ z. has_place z.items q) c.widen.ensures.words
     ∙ all_joined c.make_room.new.self.words.items c.loop-index.self.words.items closure.first closure.words.items c.loop-index.index all
     c.loop-index.invariant.joined c.loop-index.invariant.same q
@@ -32,9 +33,13 @@ returns-clause-within c =
           (λ e. omega (arith, e, long, c.in_ok-make_room.ensures.room, c.len.ensures, closure.words.ok.0))
           c.widen.ensures.end.2;
       within = λ q has. ⊎_elim
-          (λ old. let t = was.within q old in
-          (omega (arith, t.0, c.widen.ensures.begin.0, c.loop-index.invariant.begun), omega (arith, t.1, c.widen.ensures.end.0, c.loop-index.invariant.ended)))
+          (λ old. let t = was.within q old in (
+            omega (arith, t.0, c.widen.ensures.begin.0, c.loop-index.invariant.begun),
+            omega
+                (arith, t.1, c.widen.ensures.end.0, c.loop-index.invariant.ended),
+          ))
           (λ new. let t = from_within closure.first closure.words.items q new in
           (omega (arith, t.0, c.widen.ensures.begin.1), omega (arith, t.1, c.widen.ensures.end.1, c.len.ensures, closure.words.ok.0)))
-          (either_has (has_place c.make_room.new.self.words.items q) (has_from closure.first closure.words.items q) (sym (joined c q) ∙ has));
+          (either_has (has_place c.make_room.new.self.words.items q) (has_from closure.first closure.words.items q)
+          (sym (joined c q) ∙ has));
     }

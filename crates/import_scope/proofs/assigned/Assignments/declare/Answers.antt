@@ -20,7 +20,8 @@ invariant_of-self-in-Ok c = λ q.
     let key : c.in_ok-key.key.items ≡ name = c.in_ok-key.ensures.items in
     let place : c.len-place.result ≡ length vs = c.len-place.ensures ∙ c.self.inside.variables.ok.0 in
     let more : c.push.new.self.items ≡ vs ++ v ∷ [] = c.in_ok-push.ensures.items in
-    place_of_one_more (λ (n : Text). get_by (λ k. slice_cmp nat_cmp n k.items) old) (λ (n : Text). get_by (λ k. slice_cmp nat_cmp n k.items) c.insert.new.self) vs v c.self.invariant
+    place_of_one_more (λ (n : Text). get_by (λ k. slice_cmp nat_cmp n k.items) old)
+    (λ (n : Text). get_by (λ k. slice_cmp nat_cmp n k.items) c.insert.new.self) vs v c.self.invariant
     (ap (λ (x : List Variable). is_declared x name) c.self.view_is ∙ c.requires)
     (λ n. updates_bytes c.in_ok-key.key.items old c.insert.new.self (Some c.len-place.result) c.in-Ok.ensures.updates n
     ∙ ap (λ (k : Text). cond (bytes_eq k n) (Some c.len-place.result) (get_by (λ k. slice_cmp nat_cmp n k.items) old)) key

@@ -17,8 +17,10 @@ invariant_of-self c =
     let i = c.self.inside in
     let m = Made i.keeper i.policy i.sessions in
     let new = c.answer.new.self in
-    sessions_answer c.steps_keep_rule.ensures.step i.keeper i.policy i.sessions new (answer c.args.session) c.answer.result c.self.invariant c.answer.ensures.capacity
-    (IfOk-weaker c.answer.result (λ (told : Answer). StepsIn (Answers i.sessions.0 told) c.args.session (session_in i.sessions) (session_in new))
+    sessions_answer c.steps_keep_rule.ensures.step i.keeper i.policy i.sessions new (answer c.args.session) c.answer.result
+    c.self.invariant c.answer.ensures.capacity
+    (IfOk-weaker c.answer.result (λ (told : Answer). StepsIn (Answers i.sessions.0 told) c.args.session (session_in i.sessions)
+    (session_in new))
     (λ (told : Answer). Takes m (answer c.args.session) (Some told) (Made i.keeper i.policy new))
     (λ told. answers m c.args.session i.sessions.0 (session_in new) told c.self.invariant.one_capacity) c.answer.ensures.ok)
     c.answer.ensures.err
@@ -34,6 +36,7 @@ returns c =
           (told c.args.self.now parts (answer c.args.session) w.in-Ok.told (Made i.keeper i.policy new) c.self.view_is
           (answers m c.args.session i.sessions.0 (session_in new) w.in-Ok.told c.self.invariant.one_capacity w.in-Ok.ensures.ok))
       | in-Err w ↦ rw w.result-is
-          (refused c.args.self.now parts (answer c.args.session) w.in-Err.fault (Made i.keeper i.policy new) c.self.view_is (ap (with_all m) w.in-Err.ensures.err.1)
-          (λ _. no_answer m c.args.session i.sessions.0 c.self.invariant.one_capacity w.in-Err.ensures.not_now) (λ _. w.in-Err.ensures.turn))
+          (refused c.args.self.now parts (answer c.args.session) w.in-Err.fault (Made i.keeper i.policy new) c.self.view_is
+          (ap (with_all m) w.in-Err.ensures.err.1) (λ _. no_answer m c.args.session i.sessions.0 c.self.invariant.one_capacity
+          w.in-Err.ensures.not_now) (λ _. w.in-Err.ensures.turn))
     ]

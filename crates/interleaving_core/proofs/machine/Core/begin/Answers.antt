@@ -15,8 +15,9 @@ invariant_of-self c =
     let m = Made i.keeper i.policy i.sessions in
     let call : Call = record { profile = c.args.profile.now; path = c.args.path.now; ask = c.args.ask } in
     let new = c.begin.new.self in
-    sessions_stand c.steps_keep_rule.ensures.step i.keeper i.policy i.sessions new (begin c.args.session call) c.begin.result c.self.invariant c.begin.ensures.capacity
-    (on_ok_weaker c.begin.result (begins m c.args.session (session_in new) call) c.begin.ensures.ok) c.begin.ensures.err
+    sessions_stand c.steps_keep_rule.ensures.step i.keeper i.policy i.sessions new (begin c.args.session call) c.begin.result
+    c.self.invariant c.begin.ensures.capacity (on_ok_weaker c.begin.result (begins m c.args.session (session_in new) call)
+    c.begin.ensures.ok) c.begin.ensures.err
 
 pub returns : goal.returns
 returns c =
@@ -25,8 +26,8 @@ returns c =
     let call : Call = record { profile = c.args.profile.now; path = c.args.path.now; ask = c.args.ask } in
     let new = c.begin.new.self in
     rw c.silent.ensures
-    (stepped c.args.self.now (parts_in i.keeper i.policy i.sessions) (begin c.args.session call) (Made i.keeper i.policy new) c.self.view_is c.begin.result
-    (on_ok_weaker c.begin.result (begins m c.args.session (session_in new) call) c.begin.ensures.ok)
+    (stepped c.args.self.now (parts_in i.keeper i.policy i.sessions) (begin c.args.session call) (Made i.keeper i.policy new)
+    c.self.view_is c.begin.result (on_ok_weaker c.begin.result (begins m c.args.session (session_in new) call) c.begin.ensures.ok)
     (on_err_weaker c.begin.result (ap (with_all m)) c.begin.ensures.err)
     (turned_away m (begin c.args.session call) _ c.begin.result (no_begin m c.args.session call) c.begin.ensures.not_now)
     c.begin.ensures.turn)

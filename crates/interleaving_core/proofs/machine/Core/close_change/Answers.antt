@@ -14,8 +14,9 @@ invariant_of-self c =
     let i = c.self.inside in
     let m = Made i.keeper i.policy i.sessions in
     let new = c.close.new.self in
-    keeper_stands c.steps_keep_rule.ensures.step i.keeper new i.policy i.sessions close_change c.close.result c.self.invariant c.close.ensures.capacity
-    (on_ok_weaker c.close.result (closes_change m new c.close.ensures.capacity) c.close.ensures.ok) c.close.ensures.same
+    keeper_stands c.steps_keep_rule.ensures.step i.keeper new i.policy i.sessions close_change c.close.result c.self.invariant
+    c.close.ensures.capacity (on_ok_weaker c.close.result (closes_change m new c.close.ensures.capacity) c.close.ensures.ok)
+    c.close.ensures.same
 
 pub returns : goal.returns
 returns c =
@@ -24,7 +25,9 @@ returns c =
     let parts = parts_in i.keeper i.policy i.sessions in
     let new = c.close.new.self in
     elim c.match-close.branch [
-      | in-Ok w ↦ rw w.result-is (done c.args.self.now parts close_change (Made new i.policy i.sessions) c.self.view_is (closes_change m new c.close.ensures.capacity w.in-Ok.ensures.ok))
+      | in-Ok w ↦ rw w.result-is (done c.args.self.now parts close_change (Made new i.policy i.sessions) c.self.view_is
+          (closes_change m new c.close.ensures.capacity w.in-Ok.ensures.ok))
       | in-Err w ↦ rw w.result-is
-          (refused c.args.self.now parts close_change NotNow (Made new i.policy i.sessions) c.self.view_is (ap (with_row m) w.in-Err.ensures.same) (λ _. no_close m w.in-Err.ensures.not_now) (λ _ turn. turn))
+          (refused c.args.self.now parts close_change NotNow (Made new i.policy i.sessions) c.self.view_is
+          (ap (with_row m) w.in-Err.ensures.same) (λ _. no_close m w.in-Err.ensures.not_now) (λ _ turn. turn))
     ]

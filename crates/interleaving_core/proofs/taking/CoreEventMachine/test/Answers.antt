@@ -12,4 +12,5 @@ returns-clause-ok c =
     let i = c.self.inside in
     let m = Made i.keeper i.policy i.sessions in
     subst (λ (p : Parts). IfOk c.test.result (IsTested (machine_of p) c.args.change.now)) c.self.view_is
-    (IfOk-weaker c.test.result (keeper.IsTested m.capacity m.keeper c.args.change.now) (IsTested m c.args.change.now) (tests m c.args.change.now) c.test.ensures.ok)
+    (IfOk-weaker c.test.result (keeper.IsTested m.capacity m.keeper c.args.change.now) (IsTested m c.args.change.now)
+    (tests m c.args.change.now) c.test.ensures.ok)

@@ -31,5 +31,6 @@ returns c =
     let s = c.args.self in
     let t = c.args.other in
     let answer : c.any.result ≡ list_any (λ q. has s q && has t q) all_permissions =
-    any_from_yields_List (λ q. has s q && has t q) _ _ c.any.result c.any.ensures.ran (YieldsList-from_slice all_permissions cc) (λ x b q k. search (rules, tests)) in
+    any_from_yields_List (λ q. has s q && has t q) _ _ c.any.result c.any.ensures.ran (YieldsList-from_slice all_permissions cc)
+    (λ x b q k. search (rules, tests)) in
     (λ e. shared s t (sym answer ∙ e), λ w. answer ∙ found s t w.0 w.1 w.2)

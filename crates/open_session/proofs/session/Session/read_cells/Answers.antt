@@ -38,6 +38,15 @@ returns-in-Walking-clause-err c =
     let name = take own.name_length own.name.value in
     let row_is : c.row.result.now ≡ (c.args.self.now.0, c.args.keeper.now.1.cells) =
     c.row.ensures ∙ (λ i. (c.requires.capacity i, c.args.keeper.now.1.cells)) in
-    let old_is = ap (λ (s : Stage). record { name = name; stage = stage_of s }) c.in-Walking.ensures.value ∙ ap (λ (v : ℕ × Session). v.1) c.self.view_is in
+    let old_is = ap (λ (s : Stage). record { name = name; stage = stage_of s }) c.in-Walking.ensures.value
+    ∙ ap (λ (v : ℕ × Session). v.1) c.self.view_is in
     if_err_map c.read_cells-walk.result.count c.read_cells-walk.ensures.err
-    (λ fault e. (e.0, (e.1.0, e.1.1, carried c.row.result.now c.args.self.now.0 c.args.keeper.now.1.cells e.1.0 _ _ _ row_is old_is (e.1.2 name))))
+    (λ fault e. (
+      e.0,
+      (
+        e.1.0,
+        e.1.1,
+        carried c.row.result.now c.args.self.now.0 c.args.keeper.now.1.cells e.1.0 _ _ _ row_is old_is
+            (e.1.2 name),
+      ),
+    ))

@@ -9,5 +9,6 @@ use Rattle.path_storm.proofs.log.StormLog.report.Given as goal
 abbrev pub invariant-loop-own : goal.invariant-loop-own
 invariant-loop-own l = record {
   answers : l.report.answers ≡ length (answers_of (take l.own-index l.self.answers.items));
-  unjustified : IsCountOfOthers (Justified PROFILE.now FILE.now l.self.ask l.self.changes.items (map deed_of l.self.policy.items)) (answers_of (take l.own-index l.self.answers.items)) l.report.unjustified;
+  unjustified : IsCountOfOthers (Justified PROFILE.now FILE.now l.self.ask l.self.changes.items (map deed_of l.self.policy.items))
+      (answers_of (take l.own-index l.self.answers.items)) l.report.unjustified;
 }

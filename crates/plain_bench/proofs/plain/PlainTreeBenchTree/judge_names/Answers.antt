@@ -15,10 +15,12 @@ unreachable-requires c =
 
 pub returns-in-Ok-clause-answer : goal.returns-in-Ok-clause-answer
 returns-in-Ok-clause-answer c =
-    ap (λ (p : Plain). judged_by_name (judge_of c.args.profile.now) (tree_of p) c.args.old.now (named_place (tree_of p) c.args.new.now)) (sym c.in-Ok.ensures.kept)
+    ap (λ (p : Plain). judged_by_name (judge_of c.args.profile.now) (tree_of p) c.args.old.now (named_place (tree_of p) c.args.new.now))
+    (sym c.in-Ok.ensures.kept)
     ∙ c.in-Ok.ensures.answer (one_world c.plain_trees_are_well_formed.ensures c.judge_names.new.look) refl
 
 pub returns-in-Refused-clause-fault : goal.returns-in-Refused-clause-fault
 returns-in-Refused-clause-fault c =
-    ap (λ (p : Plain). judged_by_name (judge_of c.args.profile.now) (tree_of p) c.args.old.now (named_place (tree_of p) c.args.new.now)) (sym c.in-Err.ensures.kept)
+    ap (λ (p : Plain). judged_by_name (judge_of c.args.profile.now) (tree_of p) c.args.old.now (named_place (tree_of p) c.args.new.now))
+    (sym c.in-Err.ensures.kept)
     ∙ (rw c.in-Refused.is at c.in-Err.ensures.fault) (one_world c.plain_trees_are_well_formed.ensures c.judge_names.new.look) refl

@@ -34,7 +34,11 @@ use Rattle.plain_tree.proofs.history.History.and.Statement as stated
 use Rattle.plain_tree.proofs.history.History.and.Code as code
 
 abbrev stayed : Stays F.ended.signature.params F.ended.kept
-stayed = (stay_dropped (RefOf (0 ∷ []) tt (plain (λ _. T.the_row)) (λ _. tt)) yes, (stay_dropped (RefOf (1 ∷ []) tt (plain (λ κs. C.the_row (named_lft 3 2 tt κs))) (λ _. tt)) yes, tt))
+stayed = (
+  stay_dropped (RefOf (0 ∷ []) tt (plain (λ _. T.the_row)) (λ _. tt))
+      yes,
+  (stay_dropped (RefOf (1 ∷ []) tt (plain (λ κs. C.the_row (named_lft 3 2 tt κs))) (λ _. tt)) yes, tt),
+)
 
 abbrev v : Val
 v = vstruct (vcons (vstruct vnil) vnil)
@@ -68,8 +72,9 @@ module _ {M : Type 1} {𝓤 : Ura M} (𝓛 : Logic 𝓤) (at_mem : Memory → SP
         sets ! (agg ! (no_more !)) refl (tt, tt) $
         sets ! (agg ! (and_then ! (get ! refl) (no_more !))) refl (tt, (tt, tt)) $
         returns ! (look_at ! 0 refl) $ free_all ! refl $
-        pure_i ! ((T.the_row).own_val made (v ∷ [])) ((λ ws. (tt, ((λ uss. (tt, tt)), tt))), tt) (((vstruct vnil ∷ [], tt), (refl, ((tt, (refl, tt)), tt))), tt) $
-        suffices ! _ (ends_at 𝓛 F.ended stayed held z v made (tt, (tt, tt)) (tt, (tt, tt))) $ says ! refl $
+        pure_i ! ((T.the_row).own_val made (v ∷ [])) ((λ ws. (tt, ((λ uss. (tt, tt)), tt))), tt)
+        (((vstruct vnil ∷ [], tt), (refl, ((tt, (refl, tt)), tt))), tt) $ suffices ! _
+        (ends_at 𝓛 F.ended stayed held z v made (tt, (tt, tt)) (tt, (tt, tt))) $ says ! refl $
         nothing ! $ nothing ! $ fjoin ! $ nothing ! $ fjoin ! $ move ! (2 ∷ 0 ∷ 1 ∷ []) $ done !)))
 
   meets : (𝓣 : Tables 𝓤 H) → Meets 𝓛 F.ended.signature (WpFn 𝓤 H 𝓣.C 𝓣.Λ code.function) (closing 𝓛 F.ended held)

@@ -9,10 +9,12 @@ pub invariant_of-self-2 : goal.invariant_of-self-2
 invariant_of-self-2 c =
     let i = c.self.inside in
     let x = entry c.args.of c.args.component.now c.args.node.number c.args.node.kind in
-    holds_entered i.store i.count i.next i.version (the_view i) c.args.self.now c.args.change.now c.self.view_is c.self.invariant x c.args.next c.enter.new.self c.and-self-inside.result.events
-    c.requires.new c.requires.free c.requires.short c.requires.few (on_ok c.enter.result c.if-is_err.ensures.value c.enter.ensures.ok) c.and-self-inside.ensures
+    holds_entered i.store i.count i.next i.version (the_view i) c.args.self.now c.args.change.now c.self.view_is c.self.invariant x
+    c.args.next c.enter.new.self c.and-self-inside.result.events c.requires.new c.requires.free c.requires.short c.requires.few
+    (on_ok c.enter.result c.if-is_err.ensures.value c.enter.ensures.ok) c.and-self-inside.ensures
 
 pub returns-clause-ok : goal.returns-clause-ok
 returns-clause-ok c =
     let i = c.self.inside in
-    accepted_step i.store i.count i.next i.version (the_view i) c.args.self.now c.args.change.now _ (i.version + 1) c.and-self-inside.result.events c.self.view_is c.self.invariant c.requires.new c.and-self-inside.ensures refl
+    accepted_step i.store i.count i.next i.version (the_view i) c.args.self.now c.args.change.now _ (i.version + 1)
+    c.and-self-inside.result.events c.self.view_is c.self.invariant c.requires.new c.and-self-inside.ensures refl

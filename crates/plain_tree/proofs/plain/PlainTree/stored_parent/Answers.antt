@@ -12,5 +12,6 @@ returns c =
     let i = c.self.inside in
     let h = held i.store i.count i.next i.version (the_view i) c.args.self.now c.self.view_is c.self.invariant in
     let well = well_held i.store i.count i.next i.version (the_view i) c.args.self.now c.self.view_is c.self.invariant in
-    let is = c.parent.ensures ∙ ap known_parent (h.mirrors.parents c.args.number) ∙ known_stands (tree_of c.args.self.now) c.args.number well in
+    let is = c.parent.ensures ∙ ap known_parent (h.mirrors.parents c.args.number) ∙ known_stands (tree_of c.args.self.now)
+    c.args.number well in
     record { parent = is; fits = parent_short (tree_of c.args.self.now) c.args.number c.parent.result well h.short is }

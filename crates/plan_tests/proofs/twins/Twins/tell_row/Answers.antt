@@ -3,4 +3,5 @@ use Rattle.row_plan.specs.Plan.{Plannable}
 use Rattle.plan_tests.proofs.twins.Twins.tell_row.Goals as goal
 
 pub invariant_of-self : goal.invariant_of-self
-invariant_of-self c = subst (λ (known : ℕ × List ℕ). Plannable known.0 (λ z. z ≡ known.1) c.self.inside.next) (sym c.tell.ensures.kept) c.self.invariant
+invariant_of-self c = subst (λ (known : ℕ × List ℕ). Plannable known.0 (λ z. z ≡ known.1) c.self.inside.next)
+    (sym c.tell.ensures.kept) c.self.invariant

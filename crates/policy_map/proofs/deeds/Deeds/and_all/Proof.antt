@@ -40,16 +40,19 @@ and_all_spec 𝓤 𝓛 𝓜 𝓡 wired =
       (Goes-dropped 𝓛 2 (SliceRefOf (1 ∷ []) tt (plain (λ _. C.the_row)) (λ _. tt)) yes (λ κs x f. refl), tt),
     )
     F.Key.name code.function (code.unfolded 𝓤 𝓛.H 𝓜 𝓡 wired)
-    (λ κs. (shr_vals, (shr_slice_vals, tt))) (λ κs. (shr_Tells (named 0) κs.0 T.the_row, (shr_slice_Tells (named 1) κs.1.0 C.the_row, tt))) (λ κs qs bounds a g are.
+    (λ κs. (shr_vals, (shr_slice_vals, tt))) (λ κs. (shr_Tells (named 0) κs.0 T.the_row, (shr_slice_Tells (named 1) κs.1.0 C.the_row, tt)))
+    (λ κs qs bounds a g are.
     let count : length a.1.0.now < 2 ^ 64 = are.1.0.0.1.0 in
     let made : Deeds = record { marker = record {}; list = a.0.now.list ++ map deed_of a.1.0.now } in
     let z : W.Ghost = ((κs, qs, bounds, a, (shr_vals a.0, (shr_slice_vals a.1.0, tt))), tt) in
-    qed 𝓛 ((raw (alive 𝓛 F.ended.signature κs qs) ⊛ ‵ (owns (types_at F.ended.signature.params κs) a z.0.4)) ∷ raw ((c κs a).requires tt) ∷ []) ∵
+    qed 𝓛 ((raw (alive 𝓛 F.ended.signature κs qs) ⊛ ‵ (owns (types_at F.ended.signature.params κs) a z.0.4)) ∷ raw
+    ((c κs a).requires tt) ∷ []) ∵
     keep ! (0 ∷ []) $ split ! $ keep ! (0 ∷ []) $
     enter ! _ _ _ _ _ $ alloc_all ! (λ l. pass_all ! refl ((tt, tt), ((tt, (tt, (record { fits = count }, tt))), tt)) $
     sets ! (agg ! (no_more !)) refl (tt, tt) $
     sets ! (agg ! (and_then ! (get ! refl) (no_more !))) refl (tt, (tt, tt)) $
     returns ! (look_at ! 0 refl) $ free_all ! refl $
-    pure_i ! ((T.the_row).own_val made (v ∷ [])) ((λ ws. (tt, ((λ uss. (tt, tt)), tt))), tt) (((vstruct vnil ∷ [], tt), (refl, ((tt, (refl, tt)), tt))), tt) $
-    suffices ! _ (ends_at 𝓛 F.ended stayed c z v made (tt, (tt, tt)) (tt, (tt, tt))) $ says ! refl $
+    pure_i ! ((T.the_row).own_val made (v ∷ [])) ((λ ws. (tt, ((λ uss. (tt, tt)), tt))), tt)
+    (((vstruct vnil ∷ [], tt), (refl, ((tt, (refl, tt)), tt))), tt) $ suffices ! _ (ends_at 𝓛 F.ended stayed c z v made (tt, (tt, tt))
+    (tt, (tt, tt))) $ says ! refl $
     nothing ! $ nothing ! $ fjoin ! $ nothing ! $ fjoin ! $ move ! (2 ∷ 0 ∷ 1 ∷ []) $ done !))

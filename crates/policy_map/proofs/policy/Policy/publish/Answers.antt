@@ -12,6 +12,7 @@ invariant_of-self c =
     let more : c.and_all-self-inside.result.list ≡ old.deeds.list ++ deeds = c.and_all-self-inside.ensures in
     let counted = c.self.invariant.counted in
     record {
-      published = c.in-Ok.ensures ∙ ap (λ p. after_deeds p deeds) c.self.invariant.published ∙ sym (after_both (λ name. None) old.deeds.list deeds) ∙ ap policy_after (sym more);
+      published = c.in-Ok.ensures ∙ ap (λ p. after_deeds p deeds) c.self.invariant.published
+          ∙ sym (after_both (λ name. None) old.deeds.list deeds) ∙ ap policy_after (sym more);
       counted = omega (arith, counted, ap length more, length-append old.deeds.list deeds, length-map c.args.changes.now deed_of);
     }

@@ -15,7 +15,8 @@ returns-in_ok-insert-in-Replace c =
     let bytes = c.in_ok-name-in-Replace.name.items in
     let same : bytes ≡ c.in-Replace.name.items = c.in_ok-name-in-Replace.ensures.items ∙ c.deref.ensures.value in
     let share = c.in_ok-try_clone-in-Replace.field-0 in
-    λ i other. (ap (option_map judge_shared) (updates_bytes bytes old.by_name c.insert.new.self (Some share) c.in_ok-insert-in-Replace.ensures.updates other)
+    λ i other. (ap (option_map judge_shared) (updates_bytes bytes old.by_name c.insert.new.self (Some share)
+    c.in_ok-insert-in-Replace.ensures.updates other)
     ∙ mapped_if judge_shared (bytes_eq bytes other) (Some share) _
     ∙ (λ j. if bytes_eq (same j) other then Some (judge_of (c.in_ok-try_clone-in-Replace.ensures j)) else policy_in old other)
     ∙ ap (λ change. after_deed (policy_in old) (deed_of change) other) (sym c.in-Replace.is)) i

@@ -19,7 +19,8 @@ returns-clause-text c =
     subst (λ (vs : List Variable). IsSubstituted vs path c.in_ok-text.text.items) c.self.view_is
     (record {
       levels = n;
-      is = text_more (known_in variables made.lists.items) (list_at n variables) c.in_ok-make_used.ensures.sound.right [] (pieces path) c.in_ok-text.text.items is;
+      is = text_more (known_in variables made.lists.items) (list_at n variables) c.in_ok-make_used.ensures.sound.right [] (pieces path)
+          c.in_ok-text.text.items is;
       short = c.in_ok-text.ensures.short;
     })
 
@@ -32,5 +33,7 @@ returns-in_err-text-clause-fault c =
     let p = err_from_is_err_and c.from_residual-in_err-text.result c.from_residual-in_err-text.ensures.1 in
     rw (p.1, p.2)
     (subst (λ (vs : List Variable). Tells (PathProblem vs path) (fault_of c.in_err-text.field-0.0)) c.self.view_is
-    (told_of_text variables path (known_in variables made.lists.items) n c.in_ok-make_used.ensures.sound.right c.in_ok-make_used.ensures.known c.in_err-text.field-0.0
-    (λ text h. c.in_err-text.ensures.refused text (ap (λ lists. path_text (known_in variables lists) path) c.deref.ensures.value ∙ h))))
+    (told_of_text variables path (known_in variables made.lists.items) n c.in_ok-make_used.ensures.sound.right
+    c.in_ok-make_used.ensures.known c.in_err-text.field-0.0
+    (λ text h. c.in_err-text.ensures.refused text (ap (λ lists. path_text (known_in variables lists) path) c.deref.ensures.value
+    ∙ h))))

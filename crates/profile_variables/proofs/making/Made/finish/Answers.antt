@@ -20,8 +20,10 @@ returns-clause-sound c =
     let same : lists ≡ old = c.in_ok-mark.ensures.lists in
     let sound = c.in_ok-mark.ensures.sound in
     let unmade : slice_get lists place ≡ Some None = ap (λ (l : Lists). slice_get l place) same ∙ c.requires.unmade in
-    let all : AreKnown (known_in variables lists) (needed_at variables place) = subst (λ (l : Lists). AreKnown (known_in variables l) (needed_at variables place)) (sym same) c.requires.known in
-    let at : c.variable.result.now ≡ variable_at variables place = sym (ap (λ o. unwrap_or o (record { name = []; values = [] })) c.variable.ensures) in
+    let all : AreKnown (known_in variables lists) (needed_at variables place) =
+    subst (λ (l : Lists). AreKnown (known_in variables l) (needed_at variables place)) (sym same) c.requires.known in
+    let at : c.variable.result.now ≡ variable_at variables place =
+    sym (ap (λ o. unwrap_or o (record { name = []; values = [] })) c.variable.ensures) in
     let values = c.values-values.ensures ∙ ap (λ (v : Variable). v.values) at in
     let is : list_of_values (known_in variables lists) (variable_at variables place).values ≡ Some list =
     ap (λ (l : Lists). list_of_values (known_in variables l) (variable_at variables place).values) (same ∙ sym c.deref.ensures.value)
@@ -32,7 +34,8 @@ returns-clause-sound c =
       marks = sound.marks;
       levels = suc sound.levels;
       right = right_still lists place list unmade variables sound.levels sound.right is;
-      free = λ value. free_still lists marks place list unmade variables sound.levels value (sound.free value) c.in_ok-mark.ensures.free all is;
+      free = λ value. free_still lists marks place list unmade variables sound.levels value (sound.free value)
+          c.in_ok-mark.ensures.free all is;
       noted = sound.noted;
       within = sound.within;
     }

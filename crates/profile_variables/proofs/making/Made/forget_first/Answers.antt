@@ -6,12 +6,15 @@ use Rattle.profile_variables.specs.Variables.{Variable, list_at, with_first_valu
 use Rattle.profile_variables.specs.declared.making.Made.{Made}
 use Rattle.profile_variables.specs.inner.Known.{is_marked}
 use Rattle.profile_variables.specs.inner.Way.{IsSound}
-use Rattle.profile_variables.proofs.FirstValue.{known_is, free_is, same_length, set_twice, marked_before, fewer_known, fewer_free, noted_before, last_noted, known_free, none_marked}
+use Rattle.profile_variables.proofs.FirstValue.{known_is, free_is, same_length, set_twice, marked_before, fewer_known, fewer_free}
+use Rattle.profile_variables.proofs.FirstValue.{noted_before, last_noted, known_free, none_marked}
 use Rattle.profile_variables.proofs.making.Made.forget_first.Goals as goal
 
 -- the last place is one of the variables'
-last_within : (variables : List Variable) (made : Made) (places : List ℕ) (place : ℕ) → made.needing_first.items ≡ places ++ place ∷ [] → IsSound variables made → place < length variables
-last_within variables made places place is sound = sound.within place (subst (λ (xs : List ℕ). Contains xs place) (sym is) (last_noted places place))
+last_within : (variables : List Variable) (made : Made) (places : List ℕ) (place : ℕ) → made.needing_first.items ≡ places ++ place ∷ [] →
+    IsSound variables made → place < length variables
+last_within variables made places place is sound =
+    sound.within place (subst (λ (xs : List ℕ). Contains xs place) (sym is) (last_noted places place))
 
 pub index_mut-requires : goal.index_mut-requires
 index_mut-requires c =
@@ -45,8 +48,10 @@ loop-place-preserved c = λ variables before.
       free = λ value name list e. sound.free value name list (fewer_free lists marks place low_lists low_marks variables name list e);
       noted = λ other e.
           let parts = marked_before lists marks place low_lists low_marks other e in
-          noted_before places place other parts.0 (subst (λ (xs : List ℕ). Contains xs other) c.in-Some.ensures.items (sound.noted other parts.1));
-      within = λ other h. sound.within other (subst (λ (xs : List ℕ). Contains xs other) (sym c.in-Some.ensures.items) (Contains-append_left places (place ∷ []) other h));
+          noted_before places place other parts.0 (subst (λ (xs : List ℕ). Contains xs other) c.in-Some.ensures.items
+          (sound.noted other parts.1));
+      within = λ other h. sound.within other (subst (λ (xs : List ℕ). Contains xs other) (sym c.in-Some.ensures.items)
+          (Contains-append_left places (place ∷ []) other h));
     }
 
 pub returns : goal.returns
@@ -65,7 +70,8 @@ returns c = λ variables before value.
       met = sound.met ∙ sym same;
       marks = sound.marks ∙ sym same;
       levels = sound.levels;
-      right = λ name list e. sound.free value name list (known_free lists marks unmarked variables name list (sym (known_is variables lists value name) ∙ e));
+      right = λ name list e. sound.free value name list (known_free lists marks unmarked variables name list
+          (sym (known_is variables lists value name) ∙ e));
       free = λ other name list e.
           subst (λ (vs : List Variable). list_at sound.levels vs name ≡ Some list) (sym (set_twice variables value other))
           (sound.free other name list (sym (free_is variables lists marks value name) ∙ e));

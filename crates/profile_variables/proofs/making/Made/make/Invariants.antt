@@ -18,4 +18,5 @@ invariant-loop-step l = record {
 }
 
 abbrev pub decreases-loop-step : goal.decreases-loop-step
-decreases-loop-step l = (length l.declared - made_count l.self.lists.items) * (length l.declared + 1) + (length l.declared - length l.way.items)
+decreases-loop-step l = (length l.declared - made_count l.self.lists.items) *
+    (length l.declared + 1) + (length l.declared - length l.way.items)

@@ -36,8 +36,10 @@ returns-in_ok-push-clause-sound c =
       levels = sound.levels;
       right = sound.right;
       free = λ value name list e. sound.free value name list (free_with_less lists marks place low variables name list e);
-      noted = λ other e. subst (λ (xs : List ℕ). Contains xs other) (sym more) (noted_too lists marks place low places sound.noted other e);
-      within = λ other h. all_within places place (length variables) sound.within c.requires.within other (subst (λ (xs : List ℕ). Contains xs other) more h);
+      noted = λ other e. subst (λ (xs : List ℕ). Contains xs other) (sym more)
+          (noted_too lists marks place low places sound.noted other e);
+      within = λ other h. all_within places place (length variables) sound.within c.requires.within other
+          (subst (λ (xs : List ℕ). Contains xs other) more h);
     }
 
 pub returns-in_ok-push-clause-free : goal.returns-in_ok-push-clause-free

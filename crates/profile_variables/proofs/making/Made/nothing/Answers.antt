@@ -16,7 +16,8 @@ loop-place-preserved c =
       met = one_more c.loop-place.met.items _ c.loop-place.place c.loop-place.place c.in_ok-push-2.ensures.items before.met;
       marks = one_more c.loop-place.needs_first.items _ false c.loop-place.place c.in_ok-push-3.ensures.items before.marks;
       nothing = λ k. ap (λ lists. list_made lists k) c.in_ok-push.ensures.items ∙ none_more c.loop-place.lists.items k before.nothing;
-      unmarked = λ k. ap (λ marks. is_marked marks k) c.in_ok-push-3.ensures.items ∙ unmarked_more c.loop-place.needs_first.items k before.unmarked;
+      unmarked = λ k. ap (λ marks. is_marked marks k) c.in_ok-push-3.ensures.items ∙ unmarked_more c.loop-place.needs_first.items
+          k before.unmarked;
     }
 
 pub returns : goal.returns
@@ -25,7 +26,8 @@ returns c =
     let lists = c.loop-place.lists.items in
     let marks = c.loop-place.needs_first.items in
     let none = c.loop-place.invariant in
-    let unnoted : (place : ℕ) → Contains c.new.result.items place → ⊥ = λ place h. let low = subst (λ (xs : List ℕ). h.0 < length xs) c.new.ensures.items h.1 in omega (arith, low) in
+    let unnoted : (place : ℕ) → Contains c.new.result.items place → ⊥ = λ place h. let low = subst (λ (xs : List ℕ). h.0 < length xs)
+    c.new.ensures.items h.1 in omega (arith, low) in
     let all : c.loop-place.place ≡ length variables = omega arith in
     record {
       lists = none.lists ∙ all;

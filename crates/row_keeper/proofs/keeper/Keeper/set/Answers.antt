@@ -11,5 +11,6 @@ returns-clause-ok c =
     let (found, is, one, (within, each), more) = c.in-Some-get.ensures.lookup in
     let items = c.deref.ensures.value in
     rw c.set.ensures
-    (view_set i.look.cells.1 i.history.events i.opened c.in-Some.opened i.set cell c.args.self.now.1 c.in-Some.is (subst (λ (cells : List Cell). i.set < length cells) items within)
-    (is ∙ ap (λ (cells : List Cell). get_or cells i.set cell) items) (ap (λ (v : ℕ × KeeperView). v.1) c.self.view_is))
+    (view_set i.look.cells.1 i.history.events i.opened c.in-Some.opened i.set cell c.args.self.now.1 c.in-Some.is
+    (subst (λ (cells : List Cell). i.set < length cells) items within) (is ∙ ap (λ (cells : List Cell). get_or cells i.set cell) items)
+    (ap (λ (v : ℕ × KeeperView). v.1) c.self.view_is))

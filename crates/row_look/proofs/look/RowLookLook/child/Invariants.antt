@@ -7,5 +7,6 @@ abbrev pub invariant-loop-slot : goal.invariant-loop-slot
 invariant-loop-slot g l = record {
   kept : g.C.Cells.kept l.self.cells ≡ g.C.Cells.kept l.initial.self.cells;
   fewer : Fewer (g.C.Cells.may l.initial.self.cells) (g.C.Cells.may l.self.cells);
-  none : NoneBelow (g.C.Cells.capacity_of (g.C.Cells.kept l.initial.self.cells)) (g.C.Cells.may l.self.cells) l.directory.slot l.component l.slot;
+  none : NoneBelow (g.C.Cells.capacity_of (g.C.Cells.kept l.initial.self.cells)) (g.C.Cells.may l.self.cells) l.directory.slot
+      l.component l.slot;
 }

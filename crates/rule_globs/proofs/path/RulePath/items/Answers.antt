@@ -6,4 +6,5 @@ use Rattle.rule_globs.proofs.TokenLaws.{same_pattern}
 use Rattle.rule_globs.proofs.path.RulePath.items.Goals as goal
 
 pub returns-clause-pattern : goal.returns-clause-pattern
-returns-clause-pattern c = ap meaning_of c.deref.ensures.value ∙ same_pattern c.self.inside.items.items c.self.invariant.0 ∙ ap pattern_of c.self.view_is
+returns-clause-pattern c = ap meaning_of c.deref.ensures.value ∙ same_pattern c.self.inside.items.items c.self.invariant.0
+    ∙ ap pattern_of c.self.view_is

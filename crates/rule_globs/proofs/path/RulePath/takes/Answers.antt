@@ -24,6 +24,7 @@ pub loop-byte-preserved : goal.loop-byte-preserved
 loop-byte-preserved c =
     let both = judged-byte (meaning_of c.items-items.result.now) c.args.bytes.now c.loop-byte.byte-index
     (get_or c.args.bytes.now c.loop-byte.byte-index 0) c.loop-byte.live
-    (pass_at c.pass_items-behind.result c.pass_items-behind.new.live) c.loop-byte-test.true (λ i. get_or c.args.bytes.now c.loop-byte.byte-index 0)
+    (pass_at c.pass_items-behind.result c.pass_items-behind.new.live) c.loop-byte-test.true
+    (λ i. get_or c.args.bytes.now c.loop-byte.byte-index 0)
     c.loop-byte.invariant.room c.loop-byte.invariant.lit c.pass_items-behind.ensures in
     record { room = omega (arith, c.loop-byte.invariant.room, c.pass_items-behind.auto.live); lit = both.0; reached = both.1 }

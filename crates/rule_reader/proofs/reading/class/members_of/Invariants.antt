@@ -8,7 +8,8 @@ use Rattle.rule_reader.proofs.reading.class.members_of.Given as goal
 abbrev pub invariant-loop-rest : goal.invariant-loop-rest
 invariant-loop-rest l = record {
   within : length l.rest ≤ length l.bytes;
-  so_far : with_front l.ranges.items (members_at l.quoted l.bracket l.pending l.escaped l.rest) ≡ members_at l.quoted l.bracket Start false l.bytes;
+  so_far : with_front l.ranges.items (members_at l.quoted l.bracket l.pending l.escaped l.rest)
+      ≡ members_at l.quoted l.bracket Start false l.bytes;
 }
 
 abbrev pub decreases-loop-rest : goal.decreases-loop-rest

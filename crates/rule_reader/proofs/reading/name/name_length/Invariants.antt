@@ -8,7 +8,8 @@ abbrev pub invariant-loop-length : goal.invariant-loop-length
 invariant-loop-length l = record {
   few : l.length ≤ l.room;
   within : l.length ≤ length l.bytes;
-  so_far : with_front (take l.length l.bytes) (name_bytes l.quoted (length l.bytes) l.escaped (l.room - l.length) (drop l.length l.bytes)) ≡ name_bytes l.quoted (length l.bytes) false l.room l.bytes;
+  so_far : with_front (take l.length l.bytes) (name_bytes l.quoted (length l.bytes) l.escaped (l.room - l.length) (drop l.length l.bytes))
+      ≡ name_bytes l.quoted (length l.bytes) false l.room l.bytes;
 }
 
 abbrev pub decreases-loop-length : goal.decreases-loop-length

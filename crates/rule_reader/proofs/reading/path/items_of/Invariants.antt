@@ -9,7 +9,8 @@ abbrev pub invariant-loop-builder : goal.invariant-loop-builder
 invariant-loop-builder l = record {
   few : l.count ≤ 1024;
   counted : length (tokens_in l.builder) ≡ l.count;
-  so_far : with_front (tokens_in l.builder) (tokens_at l.quoted (1024 - l.count) (braces_in l.builder) l.after_slash l.rest) ≡ tokens_at l.quoted 1024 [] false l.bytes;
+  so_far : with_front (tokens_in l.builder) (tokens_at l.quoted (1024 - l.count) (braces_in l.builder) l.after_slash l.rest)
+      ≡ tokens_at l.quoted 1024 [] false l.bytes;
 }
 
 abbrev pub decreases-loop-builder : goal.decreases-loop-builder

@@ -7,6 +7,7 @@ pub invariant_of-self : goal.invariant_of-self
 invariant_of-self c =
     let i = c.self.inside in (
       c.self.invariant.0,
-      share_inserted c.insert.result c.args.number i.by_number c.insert.new.self c.begin.new.self c.insert.ensures.updates c.insert.ensures.err i.capacity c.self.invariant.1
+      share_inserted c.insert.result c.args.number i.by_number c.insert.new.self c.begin.new.self c.insert.ensures.updates
+          c.insert.ensures.err i.capacity c.self.invariant.1
           (c.begin.ensures.capacity ∙ ap (λ (s : ℕ × Session). s.0) c.in-Ok.ensures),
     )

@@ -8,7 +8,8 @@ use Rattle.walk_words.proofs.words.WalkWords.read.Goals as goal
 pub invariant_of-self-2 : goal.invariant_of-self-2
 invariant_of-self-2 c =
     let free = subst (λ (z : ℕ × List Cell). IsUnread z.1 c.args.cell.place) (sym c.self.view_is) c.requires in
-    let none = c.in_ok-insert.ensures.old ∙ c.self.invariant.told c.args.cell.place ∙ none_read c.self.inside.reads.list c.args.cell.place free in
+    let none = c.in_ok-insert.ensures.old ∙ c.self.invariant.told c.args.cell.place ∙ none_read c.self.inside.reads.list
+    c.args.cell.place free in
     subst (AreKept c.self.inside.capacity c.insert.new.self.entries) (sym c.and-self-inside.ensures) record {
       small = c.self.invariant.small;
       told = told_more _ _ c.self.inside.reads.list c.args.cell c.in_ok-insert.ensures.updates.0 c.self.invariant.told;

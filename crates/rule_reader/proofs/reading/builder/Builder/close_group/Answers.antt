@@ -13,7 +13,7 @@ invariant_of-self-in-Some c = record {
 
 pub returns-in_ok-push-2-clause-tokens : goal.returns-in_ok-push-2-clause-tokens
 returns-in_ok-push-2-clause-tokens c _ =
-    group_closes c.args.self.now.groups.items c.pop.new.self.items c.in-Some.group c.args.self.now.items.items c.replace-items.new.dest.items
-    c.push-in-Some.new.self.items c.replace-items.result c.push.new.self c.in-Some.ensures.items
+    group_closes c.args.self.now.groups.items c.pop.new.self.items c.in-Some.group c.args.self.now.items.items
+    c.replace-items.new.dest.items c.push-in-Some.new.self.items c.replace-items.result c.push.new.self c.in-Some.ensures.items
     (ap (λ v. v.items) c.replace-items.ensures.value) c.in_ok-push.ensures.items (ap (λ v. v.items) c.replace-items.ensures.after)
     c.in_ok-push-2.ensures.items
