@@ -9,6 +9,9 @@ use std::alloc::{AllocError, Global};
 use std::marker::Model;
 use verdicts::Record;
 
+/// The most states of an automaton, that of the empty set among them.
+pub const MOST_SETS: usize = 16384;
+
 /// The deterministic automaton of rules (apparmor.d(5), "Globbing"): for each state a row of ranges of bytes with one target each,
 /// and a record of least hits. In state 0 nothing is live any more. Reading it allocates nothing.
 #[derive(Drop)]

@@ -9,6 +9,6 @@ mod dfa;
 mod fault;
 mod range;
 
-pub use dfa::Dfa;
+pub use dfa::{Dfa, MOST_SETS};
 pub use fault::CompileFault;
 pub use range::{TargetRange, head, rest_after};

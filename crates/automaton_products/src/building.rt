@@ -7,8 +7,8 @@ ghost use Rattle.automaton_products.specs.Products.{AreFewPairs, IsReached, IsPr
 ghost use Rattle.automaton_products.specs.Joining.{AreStates, IsJoinedRow};
 
 use crate::joining::joined;
-use crate::pairs::{MOST_SETS, Pair, Pairs, number_of};
-use automata::{CompileFault, Dfa, TargetRange, head, rest_after};
+use crate::pairs::{Pair, Pairs, number_of};
+use automata::{CompileFault, Dfa, MOST_SETS, TargetRange, head, rest_after};
 use std::alloc::{AllocError, Global};
 use verdicts::Record;
 

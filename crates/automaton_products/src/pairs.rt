@@ -5,12 +5,9 @@ ghost use Rattle.automaton_products.specs.Numbering.{IsNumbered, IsNumberFault};
 ghost use Rattle.automaton_products.specs.Products.{dead_pair, AreFewPairs, IsReached, IsProductFault, pairs_of, Keeps};
 
 use crate::laws::equal_pairs_are_one;
-use automata::{CompileFault, Dfa};
+use automata::{CompileFault, Dfa, MOST_SETS};
 use indexmap::IndexSet;
 use std::alloc::Global;
-
-/// The most states of an automaton.
-pub(crate) const MOST_SETS: usize = 16384;
 
 /// A state of one automaton and a state of another.
 #[derive(Clone, Copy, Debug, PartialEq, Eq, Hash)]

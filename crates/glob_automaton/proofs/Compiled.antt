@@ -1,11 +1,10 @@
 -- What is built on the chart of some rules is their automaton.
-use Rattle.std.proofs.Common.{◌≡◌, ◌≢◌, ℕ, zero, suc, ◌+◌, ◌-◌, ◌<◌, ◌≤◌, ◌↔◌, inl, inr, List, [], ◌∷◌, ◌++◌, length, Some, slice_get}
+use Rattle.std.proofs.Common.{◌≡◌, ℕ, suc, ◌+◌, ◌-◌, ◌<◌, ◌↔◌, inl, inr, List, [], ◌∷◌, ◌++◌, length, Some, slice_get}
 use Rattle.std.proofs.Common.{slice_index_or, IsTrue, append_assoc, append-nil, refl, sym, ap, ◌∙◌, subst, arith}
 use Rattle.std.specs.List.{Contains}
-use Rattle.std.specs.Prelude.{Result, Ok, Err, IfErr}
-use Rattle.std.specs.Result.{IsErrAnd}
 use Rattle.names.specs.declared.permissions.Permission.{Permission}
 use Rattle.names.specs.Permissions.{has}
+use Rattle.rule_globs.proofs.Behind.{iff_trans}
 use Rattle.rule_globs.specs.Glob.{Glob, places}
 use Rattle.rule_profile.specs.Profile.{RuleValue, pattern}
 use Rattle.rule_globs.specs.Verdict.{Hits, IsRuleAt}
@@ -17,23 +16,25 @@ use Rattle.automata.specs.declared.fault.CompileFault.{CompileFault}
 use Rattle.automata.specs.declared.fault.CompileFault.TheVariants.{TooManyStates, NoMemory}
 use Rattle.verdicts.specs.declared.record.Record.{Record}
 use Rattle.automata.specs.Automata.{Automaton, target, goes_to, state_after, most_sets}
-use Rattle.glob_automaton.specs.Automata.{IsAutomatonOf, IsCompileFault}
+use Rattle.glob_automaton.specs.Automata.{IsCompileFault}
 use Rattle.glob_automaton.specs.inner.Building.{IsReached, begins, goes_on, EndsIn, IsRecordOf, IsBuilt, IsBuildFault}
 use Rattle.glob_automaton.specs.inner.Drawing.{HasRule, IsChartOf}
 use Rattle.verdicts.specs.Least.{hits_of, IsLeastOrNone}
-use Rattle.glob_automaton.specs.Least.{IsLeastRecord}
+use Rattle.glob_automaton.specs.Parts.{SameIn, NoneIn, HitsIn, IsLeastIn, IsAutomatonOfPart}
 use Rattle.names.specs.Bytes.{are_bytes}
-use Rattle.glob_automaton.specs.Sets.{SameSet, NoneLive, AreDifferent, AreMoreThan, IsPrefixOfName}
+use Rattle.glob_automaton.specs.Sets.{AreMoreThan}
 use Rattle.verdicts.specs.Hits.{no_hits}
 use Rattle.glob_automaton.proofs.EmptySets.{empty_record}
+use Rattle.std.proofs.lemmas.List.Elements.{All-nil, All-push}
 use Rattle.std.proofs.lemmas.Option.{slice_get-get_or}
-use Rattle.glob_automaton.proofs.Counting.{few_values, each_counted}
+use Rattle.glob_automaton.proofs.Counting.{each_counted}
 use Rattle.glob_automaton.proofs.LiveByParts.{LeftFirst}
 use Rattle.glob_automaton.proofs.LiveNumbers.{LiveAtFirst, LiveAfterByte}
 use Rattle.glob_automaton.proofs.NamePrefixes.{EachWithSlash}
 use Rattle.glob_automaton.proofs.OneRecord.{AreTheirHits}
 use Rattle.glob_automaton.proofs.PatternPlaces.{end_live}
 use Rattle.glob_automaton.proofs.ReachedSets.{at_index, has_number, number_there, equal_sets, empty_set}
+use Rattle.glob_automaton.proofs.WholeParts.{same_of_part, none_of_part, same_of_whole, none_of_whole}
 use Rattle.glob_automaton.proofs.RuleNumbers.{rule_stands, drawn_of, rule_of, neither_less}
 
 -- the least member, of sets with the same members
@@ -41,13 +42,16 @@ same_least : (S T : ℕ → Type 0) (n : ℕ) → ((m : ℕ) → S m ↔ T m) �
 same_least S T n same (inl h) = inl (h.0, λ m t. h.1 m ((same m).1 t))
 same_least S T n same (inr h) = inr ((same n).0 h.0, λ m t. h.1 m ((same m).1 t))
 
-prefix_bytes : (bytes : List ℕ) → IsPrefixOfName bytes → are_bytes bytes
-prefix_bytes [] h = λ k d lt. absurd (omega (arith, lt))
-prefix_bytes (b ∷ bytes) h = λ k d lt. each k d lt
-  where
-    each : (k d : ℕ) → k < length (b ∷ bytes) → slice_index_or (b ∷ bytes) k d < 256
-    each zero d lt = omega (arith, h.0)
-    each (suc k) d lt = (h.1 k d (omega (arith, lt))).1
+-- a hit of some rule is one of a rule of the whole part
+hit_of_part : (rules : List RuleValue) (kind : RuleKind) (p : Permission) (bytes : List ℕ) (n : ℕ) →
+    Hits rules kind p bytes n ↔ HitsIn rules 0 (length rules) kind p bytes n
+hit_of_part rules kind p bytes n = (λ hit. (omega (arith, hit.1.0), hit.1.1, hit), λ h. h.2)
+
+-- what reaches a set is bytes
+reached_bytes : (chart : Chart) (bytes set : List ℕ) → IsReached chart bytes set → are_bytes bytes
+reached_bytes chart bytes set (begins c s start) = All-nil (λ z. z < 256)
+reached_bytes chart bytes set (goes_on c front old s b reached small step) =
+    All-push (λ z. z < 256) front b (reached_bytes chart front old reached) small
 
 module _ (first : LiveAtFirst) (after : LiveAfterByte) (by_steps : LeftFirst) (rules : List RuleValue) (chart : Chart)
     (is : IsChartOf rules chart) where
@@ -88,10 +92,13 @@ module _ (first : LiveAtFirst) (after : LiveAfterByte) (by_steps : LeftFirst) (r
   )
 
   -- a set's record is that of the least hits
-  record_least : (bytes set : List ℕ) (r : Record) → IsReached chart bytes set → IsRecordOf chart set r → IsLeastRecord rules bytes r
+  record_least : (bytes set : List ℕ) (r : Record) → IsReached chart bytes set → IsRecordOf chart set r →
+      IsLeastIn rules 0 (length rules) bytes r
   record_least bytes set r reached h p = (
-    same_least (EndsIn chart set Allow p) (Hits rules Allow p bytes) (hits_of r p).allow (end_hits bytes set reached Allow p) (h p).0,
-    same_least (EndsIn chart set Deny p) (Hits rules Deny p bytes) (hits_of r p).deny (end_hits bytes set reached Deny p) (h p).1,
+    same_least (EndsIn chart set Allow p) (HitsIn rules 0 (length rules) Allow p bytes) (hits_of r p).allow
+        (λ n. iff_trans (end_hits bytes set reached Allow p n) (hit_of_part rules Allow p bytes n)) (h p).0,
+    same_least (EndsIn chart set Deny p) (HitsIn rules 0 (length rules) Deny p bytes) (hits_of r p).deny
+        (λ n. iff_trans (end_hits bytes set reached Deny p n) (hit_of_part rules Deny p bytes n)) (h p).1,
   )
 
   module _ (a : Automaton) (b : IsBuilt chart a) where
@@ -127,51 +134,34 @@ module _ (first : LiveAtFirst) (after : LiveAfterByte) (by_steps : LeftFirst) (r
     same_state i j low high e =
         neither_less i j (λ lt. b.are_sets.different i j lt high e) (λ lt. b.are_sets.different j i lt low (sym e))
 
-    state_same : (x y : List ℕ) → are_bytes x → are_bytes y → (state_after a x ≡ state_after a y) ↔ SameSet rules x y
+    state_same : (x y : List ℕ) → are_bytes x → are_bytes y →
+        (state_after a x ≡ state_after a y) ↔ SameIn rules 0 (length rules) x y
     state_same x y one two =
         let equal = equal_sets first after by_steps rules chart is x y (slice_index_or b.sets (state_after a x) [])
         (slice_index_or b.sets (state_after a y) [])
         (state_set x one) (state_set y two) in (
-          λ e. equal.0 (ap (λ s. slice_index_or b.sets s []) e),
-          λ same. same_state (state_after a x) (state_after a y) (state_there x one) (state_there y two) (equal.1 same),
+          λ e. same_of_part rules 0 (length rules) x y (equal.0 (ap (λ s. slice_index_or b.sets s []) e)),
+          λ same. same_state (state_after a x) (state_after a y) (state_there x one) (state_there y two)
+              (equal.1 (same_of_whole rules x y same)),
         )
 
-    state_dead : (bytes : List ℕ) → are_bytes bytes → (state_after a bytes ≡ 0) ↔ NoneLive rules bytes
+    state_dead : (bytes : List ℕ) → are_bytes bytes → (state_after a bytes ≡ 0) ↔ NoneIn rules 0 (length rules) bytes
     state_dead bytes small =
         let none = empty_set first after by_steps rules chart is bytes (slice_index_or b.sets (state_after a bytes) [])
         (state_set bytes small) in (
-          λ e. none.0 (ap (λ s. slice_index_or b.sets s []) e ∙ b.are_sets.empty),
-          λ h. same_state (state_after a bytes) 0 (state_there bytes small) b.are_sets.some (none.1 h ∙ sym b.are_sets.empty),
+          λ e. none_of_part rules 0 (length rules) bytes (none.0 (ap (λ s. slice_index_or b.sets s []) e ∙ b.are_sets.empty)),
+          λ h. same_state (state_after a bytes) 0 (state_there bytes small) b.are_sets.some
+              (none.1 (none_of_whole rules bytes h) ∙ sym b.are_sets.empty),
         )
 
-    -- the dead state, and then the states of the prefixes
-    state_of : List (List ℕ) → ℕ → ℕ
-    state_of prefixes zero = 0
-    state_of prefixes (suc i) = state_after a (slice_index_or prefixes i [])
-
-    few_prefixes : (prefixes : List (List ℕ)) → AreDifferent rules prefixes → length prefixes + 1 ≤ length b.sets
-    unfolding state_of
-    few_prefixes prefixes h = few_values (state_of prefixes) (length prefixes + 1) (length b.sets) differ below
-      where
-        small : (i : ℕ) → i < length prefixes → are_bytes (slice_index_or prefixes i [])
-        small i lt = prefix_bytes (slice_index_or prefixes i []) (h.prefixes_of_names i [] lt)
-
-        differ : (i j : ℕ) → i < j → j < length prefixes + 1 → state_of prefixes i ≢ state_of prefixes j
-        differ i zero lt within e = omega (arith, lt)
-        differ zero (suc j) lt within e =
-            let inside : j < length prefixes = omega (arith, within) in
-            h.some_live j [] inside ((state_dead (slice_index_or prefixes j []) (small j inside)).0 (sym e))
-        differ (suc i) (suc j) lt within e =
-            let inside : j < length prefixes = omega (arith, within) in
-            let low : i < j = omega (arith, lt) in
-            h.different i j low inside
-            ((state_same (slice_index_or prefixes i []) (slice_index_or prefixes j []) (small i (omega (arith, low, inside)))
-            (small j inside)).0 e)
-
-        below : (i : ℕ) → i < length prefixes + 1 → state_of prefixes i < length b.sets
-        below zero lt = b.are_sets.some
-        below (suc i) lt = let inside : i < length prefixes = omega (arith, lt) in
-            state_there (slice_index_or prefixes i []) (small i inside)
+    -- each set's state is met
+    met : (s : ℕ) → 0 < s → s < length b.sets → (bytes : List ℕ) × are_bytes bytes × (state_after a bytes ≡ s)
+    met s some lt =
+        let w = b.are_sets.reached s some lt in
+        let small = reached_bytes chart w.0 (slice_index_or b.sets s []) w.1 in
+        let equal = equal_sets first after by_steps rules chart is w.0 w.0 (slice_index_or b.sets (state_after a w.0) [])
+        (slice_index_or b.sets s []) (state_set w.0 small) w.1 in
+        (w.0, small, same_state (state_after a w.0) s (state_there w.0 small) lt (equal.1 (λ n p. (λ live. live, λ live. live))))
 
     -- the record of a state
     record_there : (s : ℕ) → s < length b.sets → (r : Record) × (slice_get a.records s ≡ Some r) × IsRecordOf chart
@@ -186,23 +176,18 @@ module _ (first : LiveAtFirst) (after : LiveAfterByte) (by_steps : LeftFirst) (r
         let w = record_there 0 b.are_sets.some in
         w.1 ∙ ap Some (empty_record same chart w.0 (subst (λ z. IsRecordOf chart z w.0) b.are_sets.empty w.2))
 
-    -- what is built on a chart of rules whose paths begin with a slash is their automaton
-    pub built : AreTheirHits → EachWithSlash rules → IsAutomatonOf rules a
-    built same slashes =
-        let counted = each_counted first after by_steps rules chart is slashes b.sets b.are_sets in
-        record {
-          whole = b.whole;
-          least = λ bytes small.
-              let w = record_there (state_after a bytes) (state_there bytes small) in
-              (w.0, w.1, record_least bytes (slice_index_or b.sets (state_after a bytes) []) w.0 (state_set bytes small) w.2);
-          one_each = state_same;
-          dead = state_dead;
-          hits_nothing = none_there same;
-          count = (
-            λ prefixes h. omega (arith, few_prefixes prefixes h, b.each_row),
-            (counted.0, counted.1, omega (arith, counted.2, b.each_row)),
-          );
-        }
+    -- what is built on a chart of rules is the automaton of the part that is all of them
+    pub built : AreTheirHits → IsAutomatonOfPart rules 0 (length rules) a
+    built same = record {
+      whole = b.whole;
+      least = λ bytes small.
+          let w = record_there (state_after a bytes) (state_there bytes small) in
+          (w.0, w.1, record_least bytes (slice_index_or b.sets (state_after a bytes) []) w.0 (state_set bytes small) w.2);
+      one_each = state_same;
+      dead = state_dead;
+      hits_nothing = none_there same;
+      met = λ s some lt. met s some (omega (arith, lt, b.each_row));
+    }
 
   -- more sets than are built on are more than the rules may have
   pub too_many : EachWithSlash rules → IsBuildFault chart TooManyStates → AreMoreThan most_sets rules
@@ -214,9 +199,3 @@ module _ (first : LiveAtFirst) (after : LiveAfterByte) (by_steps : LeftFirst) (r
   pub not_built : EachWithSlash rules → (fault : CompileFault) → IsBuildFault chart fault → IsCompileFault rules fault
   not_built slashes TooManyStates h = too_many slashes h
   not_built slashes NoMemory h = tt
-
--- out of memory says nothing about the rules
-pub no_memory : {T : Type 0} (rules : List RuleValue) (r : Result T CompileFault) → IsErrAnd r (λ fault. fault ≡ NoMemory) →
-    IfErr r (IsCompileFault rules)
-no_memory rules (Ok x) h = tt
-no_memory rules (Err fault) h = subst (IsCompileFault rules) (sym h) tt

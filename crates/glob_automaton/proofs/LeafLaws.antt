@@ -20,14 +20,13 @@ use Rattle.verdicts.specs.Hits.{no_hits}
 use Rattle.automata.specs.declared.fault.CompileFault.{CompileFault}
 use Rattle.automata.specs.declared.fault.CompileFault.TheVariants.{TooManyStates, NoMemory}
 use Rattle.automata.specs.Automata.{Automaton, target, goes_to, state_after, most_sets}
-use Rattle.glob_automaton.specs.Automata.{IsAutomatonOf, IsCompileFault}
-use Rattle.glob_automaton.specs.Least.{IsLeastRecord}
+use Rattle.glob_automaton.specs.Automata.{IsCompileFault}
 use Rattle.glob_automaton.specs.Sets.{IsLive, SameSet, NoneLive, AreMoreThan}
 use Rattle.glob_automaton.proofs.AloneRecords.{nobody_hits, one_hits}
 use Rattle.glob_automaton.proofs.ReachedSets.{at_index, has_number}
 use Rattle.glob_automaton.specs.Parts.{SameIn, NoneIn, HitsIn, IsLeastIn, IsAutomatonOfPart}
 use Rattle.glob_automaton.specs.inner.Leaves.{reading, hits_alone, where_read, IsWithHits}
-use Rattle.glob_automaton.proofs.WholeParts.{no_more_sets}
+use Rattle.glob_automaton.proofs.WholeParts.{same_of_part, none_of_part, no_more_sets}
 
 module _ (rules : List RuleValue) (rule : RuleValue) (before : ℕ) (stands : slice_get rules before ≡ Some rule) where
   -- the rule alone has number 1
@@ -72,10 +71,10 @@ module _ (rules : List RuleValue) (rule : RuleValue) (before : ℕ) (stands : sl
       IsLive (reading rule ∷ []) x n p
   back_from_one x n p m other at h = subst (λ z. IsLive (reading rule ∷ []) x z p) (sym (only_one n other at).0) h
 
-  same_up : (x y : List ℕ) → SameSet (reading rule ∷ []) x y → SameIn rules before (before + 1) x y
+  same_up : (x y : List ℕ) → SameIn (reading rule ∷ []) 0 1 x y → SameIn rules before (before + 1) x y
   same_up x y same n p low high = (
-    λ h. live_at_one y n p ((same 1 p).0 (live_down x n p low high h)) low high,
-    λ h. live_at_one x n p ((same 1 p).1 (live_down y n p low high h)) low high,
+    λ h. live_at_one y n p ((same 1 p (omega arith) (omega arith)).0 (live_down x n p low high h)) low high,
+    λ h. live_at_one x n p ((same 1 p (omega arith) (omega arith)).1 (live_down y n p low high h)) low high,
   )
 
   same_down : (x y : List ℕ) → SameIn rules before (before + 1) x y → SameSet (reading rule ∷ []) x y
@@ -86,8 +85,8 @@ module _ (rules : List RuleValue) (rule : RuleValue) (before : ℕ) (stands : sl
         ((same (before + 1) p (omega arith) (omega arith)).1 (live_up y n p h))),
   )
 
-  none_up : (x : List ℕ) → NoneLive (reading rule ∷ []) x → NoneIn rules before (before + 1) x
-  none_up x none n p low high h = none 1 p (live_down x n p low high h)
+  none_up : (x : List ℕ) → NoneIn (reading rule ∷ []) 0 1 x → NoneIn rules before (before + 1) x
+  none_up x none n p low high h = none 1 p (omega arith) (omega arith) (live_down x n p low high h)
 
   none_down : (x : List ℕ) → NoneIn rules before (before + 1) x → NoneLive (reading rule ∷ []) x
   none_down x none n p h = none (before + 1) p (omega arith) (omega arith) (live_up x n p h)
@@ -145,15 +144,15 @@ module _ (rules : List RuleValue) (rule : RuleValue) (before : ℕ) (stands : sl
         (λ kind p n h. none (hit_of kind p x n h).2)
 
     -- reading has a hit where the path matches, and there alone
-    read_none : (x : List ℕ) (n : ℕ) → n ≡ 0 → IsLeastOrNone (Hits (reading rule ∷ []) Allow Read x) n → ¬ (Takes (pattern rule) x)
-    read_none x n nothing (inl h) takes = h.1 1 (read_hit x takes)
-    read_none x n nothing (inr h) takes = absurd (omega (arith, nothing, h.0.1.0))
+    read_none : (x : List ℕ) (n : ℕ) → n ≡ 0 → IsLeastOrNone (HitsIn (reading rule ∷ []) 0 1 Allow Read x) n → ¬ (Takes (pattern rule) x)
+    read_none x n nothing (inl h) takes = h.1 1 (omega arith, omega arith, read_hit x takes)
+    read_none x n nothing (inr h) takes = absurd (omega (arith, nothing, h.0.0))
 
-    read_some : (x : List ℕ) (n : ℕ) → n ≢ 0 → IsLeastOrNone (Hits (reading rule ∷ []) Allow Read x) n → Takes (pattern rule) x
+    read_some : (x : List ℕ) (n : ℕ) → n ≢ 0 → IsLeastOrNone (HitsIn (reading rule ∷ []) 0 1 Allow Read x) n → Takes (pattern rule) x
     read_some x n some (inl h) = absurd (some h.0)
-    read_some x n some (inr h) = taken x n h.0
+    read_some x n some (inr h) = taken x n h.0.2
 
-    least_where_read : (x : List ℕ) (r : Record) → IsLeastRecord (reading rule ∷ []) x r →
+    least_where_read : (x : List ℕ) (r : Record) → IsLeastIn (reading rule ∷ []) 0 1 x r →
         IsLeastIn rules before (before + 1) x (where_read hits r)
     least_where_read x r h = ⊎_elim
         (λ yes. subst (IsLeastIn rules before (before + 1) x) (sym (ap (λ b. if b then no_hits else hits) yes))
@@ -165,7 +164,7 @@ module _ (rules : List RuleValue) (rule : RuleValue) (before : ℕ) (stands : sl
     none_where_read : where_read hits no_hits ≡ no_hits
     none_where_read = ap (λ (z : LeastHits). if z.allow == 0 then no_hits else hits) (none_of Read)
 
-    module _ (a b : Automaton) (is : IsAutomatonOf (reading rule ∷ []) a) (made_so : IsWithHits hits a b) where
+    module _ (a b : Automaton) (is : IsAutomatonOfPart (reading rule ∷ []) 0 1 a) (made_so : IsWithHits hits a b) where
       goes_same : (s : ℕ) (x : List ℕ) → s < length a.rows → are_bytes x → goes_to b s x ≡ goes_to a s x
       goes_same s [] lt small = refl
       goes_same s (c ∷ x) lt small =
@@ -176,9 +175,8 @@ module _ (rules : List RuleValue) (rule : RuleValue) (before : ℕ) (stands : sl
       after_same : (x : List ℕ) → are_bytes x → state_after b x ≡ state_after a x
       after_same x small = ap (λ z. goes_to b z x) made_so.start ∙ goes_same a.start x is.whole.start_there small
 
-      pub leaf_part : ((s : ℕ) → 0 < s → s < length a.rows → (x : List ℕ) × are_bytes x × (state_after a x ≡ s)) →
-          IsAutomatonOfPart rules before (before + 1) b
-      leaf_part met = record {
+      pub leaf_part : IsAutomatonOfPart rules before (before + 1) b
+      leaf_part = record {
         whole = made_so.whole;
         least = λ x small.
             let w = is.least x small in (
@@ -188,14 +186,14 @@ module _ (rules : List RuleValue) (rule : RuleValue) (before : ℕ) (stands : sl
             );
         one_each = λ x y one two. (
           λ e. same_up x y ((is.one_each x y one two).0 (sym (after_same x one) ∙ e ∙ after_same y two)),
-          λ same. after_same x one ∙ (is.one_each x y one two).1 (same_down x y same) ∙ sym (after_same y two),
+          λ same. after_same x one ∙ (is.one_each x y one two).1 (same_of_part (reading rule ∷ []) 0 1 x y (same_down x y same)) ∙ sym (after_same y two),
         );
         dead = λ x small. (
           λ e. none_up x ((is.dead x small).0 (sym (after_same x small) ∙ e)),
-          λ none. after_same x small ∙ (is.dead x small).1 (none_down x none),
+          λ none. after_same x small ∙ (is.dead x small).1 (none_of_part (reading rule ∷ []) 0 1 x (none_down x none)),
         );
         hits_nothing = made_so.records 0 no_hits is.hits_nothing ∙ ap Some none_where_read;
         met = λ s some lt.
-            let w = met s some (omega (arith, lt, made_so.each_row)) in
+            let w = is.met s some (omega (arith, lt, made_so.each_row)) in
             (w.0, w.1, after_same w.0 w.1 ∙ w.2);
       }

@@ -40,7 +40,6 @@ pub mod JoinedLeast
 pub mod SideBySide
 pub mod WholeParts
 pub mod DeadPart
-pub mod LeafMet
 pub mod AloneRecords
 pub mod EndRecords
 pub mod LeafLaws

@@ -24,13 +24,22 @@ use Rattle.glob_automaton.specs.Parts.{SameIn, NoneIn, HitsIn, AreMoreThanIn, Is
 use Rattle.glob_automaton.proofs.Prefixes.{collected, all_of, prefix_bytes, prefix_or_none}
 use Rattle.glob_automaton.proofs.SideBySide.{same_first, same_second, none_first, none_second}
 
--- ---- what is so of all rules is so of a part
+-- ---- what is so of all rules is so of a part, and of the part that is the whole nothing else is so
 
 pub same_of_part : (rules : List RuleValue) (first last : ℕ) (x y : List ℕ) → SameSet rules x y → SameIn rules first last x y
 same_of_part rules first last x y same n p low high = same n p
 
 pub none_of_part : (rules : List RuleValue) (first last : ℕ) (x : List ℕ) → NoneLive rules x → NoneIn rules first last x
 none_of_part rules first last x none n p low high = none n p
+
+pub same_of_whole : (rules : List RuleValue) (x y : List ℕ) → SameIn rules 0 (length rules) x y → SameSet rules x y
+same_of_whole rules x y same n p = (
+  λ live. (same n p (omega (arith, live.1.0)) live.1.1).0 live,
+  λ live. (same n p (omega (arith, live.1.0)) live.1.1).1 live,
+)
+
+pub none_of_whole : (rules : List RuleValue) (x : List ℕ) → NoneIn rules 0 (length rules) x → NoneLive rules x
+none_of_whole rules x none n p live = none n p (omega (arith, live.1.0)) live.1.1 live
 
 pub no_more_sets : (rules : List RuleValue) (first last n : ℕ) → AreMoreThanIn rules first last n → AreMoreThan n rules
 no_more_sets rules first last n h = (
@@ -91,32 +100,16 @@ module _ (after : LiveAfterByte) (by_steps : LeftFirst) (rules : List RuleValue)
   too_many first middle last a b NoMemory low high one other h = tt
 
   module _ (a : Automaton) (is : IsAutomatonOfPart rules 0 (length rules) a) where
-    same_whole : (x y : List ℕ) → SameIn rules 0 (length rules) x y ↔ SameSet rules x y
-    same_whole x y = (
-      λ same n p. (
-        λ live. (same n p (omega (arith, live.1.0)) live.1.1).0 live,
-        λ live.
-            (same n p (omega (arith, live.1.0)) live.1.1).1 live,
-      ),
-      λ same. same_of_part rules 0 (length rules) x y same,
-    )
-
-    none_whole : (x : List ℕ) → NoneIn rules 0 (length rules) x ↔ NoneLive rules x
-    none_whole x = (
-      λ none n p live. none n p (omega (arith, live.1.0)) live.1.1 live,
-      λ none. none_of_part rules 0 (length rules) x none,
-    )
-
     state_same : (x y : List ℕ) → are_bytes x → are_bytes y → (state_after a x ≡ state_after a y) ↔ SameSet rules x y
     state_same x y one two = (
-      λ e. (same_whole x y).0 ((is.one_each x y one two).0 e),
-      λ same. (is.one_each x y one two).1 ((same_whole x y).1 same),
+      λ e. same_of_whole rules x y ((is.one_each x y one two).0 e),
+      λ same. (is.one_each x y one two).1 (same_of_part rules 0 (length rules) x y same),
     )
 
     state_dead : (x : List ℕ) → are_bytes x → (state_after a x ≡ 0) ↔ NoneLive rules x
     state_dead x small = (
-      λ e. (none_whole x).0 ((is.dead x small).0 e),
-      λ none. (is.dead x small).1 ((none_whole x).1 none),
+      λ e. none_of_whole rules x ((is.dead x small).0 e),
+      λ none. (is.dead x small).1 (none_of_part rules 0 (length rules) x none),
     )
 
     least_whole : (kind : RuleKind) (p : Permission) (x : List ℕ) (n : ℕ) → IsLeastOrNone (HitsIn rules 0 (length rules) kind p x) n →

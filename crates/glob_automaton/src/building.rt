@@ -13,13 +13,10 @@ ghost use Rattle.automata.specs.Rows.{AreRows, IsRowAppended};
 use crate::bytes::ByteClasses;
 use crate::chart::{Chart, Label};
 use crate::sets::Gathering;
-use automata::{CompileFault, Dfa, TargetRange};
+use automata::{CompileFault, Dfa, MOST_SETS, TargetRange};
 use indexmap::IndexSet;
 use std::alloc::{AllocError, Global};
 use verdicts::{Record, records_are_their_hits};
-
-/// The most different sets of live places, the empty set among them.
-const MOST_SETS: usize = 16384;
 
 /// The sets so far, each with its number.
 #[derive(Drop)]

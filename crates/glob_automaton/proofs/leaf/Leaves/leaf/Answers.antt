@@ -3,13 +3,12 @@ use Rattle.std.proofs.Common.{◌≡◌, ◌+◌, zero, suc, [], ◌∷◌, IsTr
 use Rattle.std.proofs.lemmas.Option.{none-some, same_Some}
 use Rattle.rule_profile.specs.Profile.{RuleValue, rule_value}
 use Rattle.rule_profile.specs.Readable.{begins_with_slash}
-use Rattle.glob_automaton.specs.Automata.{IsAutomatonOf}
+use Rattle.glob_automaton.specs.Parts.{IsAutomatonOfPart}
 use Rattle.glob_automaton.specs.inner.Drawing.{IsChartOf}
 use Rattle.glob_automaton.specs.inner.Leaves.{hits_alone, reading, IsWithHits}
 use Rattle.glob_automaton.proofs.BuiltPaths.{hits_are, one_more_built}
 use Rattle.glob_automaton.proofs.Compiled.{built, not_built}
 use Rattle.glob_automaton.proofs.LeafLaws.{leaf_part, fault_up}
-use Rattle.glob_automaton.proofs.LeafMet.{each_met}
 use Rattle.glob_automaton.proofs.NamePrefixes.{EachWithSlash}
 use Rattle.glob_automaton.proofs.SameCharts.{same_chart}
 use Rattle.glob_automaton.proofs.leaf.Leaves.leaf.Goals as goal
@@ -25,16 +24,15 @@ returns-in-Some-clause-ok c rules before e at =
     let path = c.in-Some.path.now in
     let chart : IsChartOf (reading rule ∷ []) path.chart =
     same_chart c.in_ok-chart.chart path.chart c.in-Some.ensures.0 (reading rule ∷ []) c.in_ok-chart.ensures.chart in
-    let its : IsAutomatonOf (reading rule ∷ []) path.dfa =
+    let its : IsAutomatonOfPart (reading rule ∷ []) 0 1 path.dfa =
     built live.begin live.step c.live_is_left_first.ensures (reading rule ∷ []) path.chart chart path.dfa c.in-Some.ensures.1
-    c.records_are_their_hits.ensures.same (alone (reading rule) c.requires.slash) in
+    c.records_are_their_hits.ensures.same in
     let hits : c.with_rule-hits.result ≡ hits_alone rule (before + 1) =
     hits_are rule c.none.result c.with_rule-hits.result c.kind.result c.perms.result c.args.number before c.none.ensures
     c.kind.ensures c.perms.ensures e
     c.with_rule-hits.ensures in
     leaf_part rules rule before at c.records_are_their_hits.ensures.made c.records_are_their_hits.ensures.same path.dfa
     c.in_ok-with_hits.field-0 its (subst (λ z. IsWithHits z path.dfa c.in_ok-with_hits.field-0) hits c.in_ok-with_hits.ensures)
-    (each_met (reading rule ∷ []) path.dfa its)
 
 pub returns-in-Err-clause-err : goal.returns-in-Err-clause-err
 returns-in-Err-clause-err c rules before at =
@@ -48,17 +46,16 @@ pub returns-clause-ok : goal.returns-clause-ok
 returns-clause-ok c rules before e at =
     let rule = rule_value c.args.rule.now in
     let live = c.live_places_go_on.ensures in
-    let its : IsAutomatonOf (reading rule ∷ []) c.in-Ok.dfa =
+    let its : IsAutomatonOfPart (reading rule ∷ []) 0 1 c.in-Ok.dfa =
     built live.begin live.step c.live_is_left_first.ensures (reading rule ∷ []) c.in_ok-chart.chart c.in_ok-chart.ensures.chart
     c.in-Ok.dfa c.in-Ok.ensures.ok
-    c.records_are_their_hits.ensures.same (alone (reading rule) c.requires.slash) in
+    c.records_are_their_hits.ensures.same in
     let hits : c.with_rule-hits.result ≡ hits_alone rule (before + 1) =
     hits_are rule c.none.result c.with_rule-hits.result c.kind.result c.perms.result c.args.number before c.none.ensures
     c.kind.ensures c.perms.ensures e
     c.with_rule-hits.ensures in
     leaf_part rules rule before at c.records_are_their_hits.ensures.made c.records_are_their_hits.ensures.same c.in-Ok.dfa
     c.in_ok-leaf.leaf its (subst (λ z. IsWithHits z c.in-Ok.dfa c.in_ok-leaf.leaf) hits c.in_ok-leaf.ensures)
-    (each_met (reading rule ∷ []) c.in-Ok.dfa its)
 
 pub returns-clause-built : goal.returns-clause-built
 returns-clause-built c = one_more_built c.make_room.new.self.built.items c.keep.new.list.items
