@@ -7,7 +7,7 @@ use std::io::Write;
 /// The least number of equal bytes that are written by their number.
 const MANY: usize = 64;
 
-/// So many runs of words are written on a line.
+/// The number of runs of words on a line.
 const RUNS_ON_LINE: usize = 16;
 
 /// Writes how a command ended.

@@ -1,4 +1,7 @@
-pub mod GrowingLists
+pub mod WordBits
+pub mod TakenCells
+pub mod WrittenCells
 pub mod RecordNumbers
 pub mod PackedStates
 pub mod PackedTables
+pub mod StartSlots

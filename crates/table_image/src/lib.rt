@@ -3,7 +3,10 @@
 //! The definitions to believe are those in `specs/`; those in `specs/inner/` are of private contracts and proofs.
 #![tactic(auto)]
 
+mod cells;
 mod packing;
+mod starts;
+mod taken;
 
 pub use packing::pack;
 pub use tables::{

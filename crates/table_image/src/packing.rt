@@ -1,19 +1,41 @@
 //! The tables of an automaton.
-ghost use Rattle.std.specs.Prelude.{◌≡◌, ◌+◌, ◌<◌, ◌≤◌, ◌++◌, ◌∷◌, [], IfOk, OnOk, length};
-ghost use Rattle.glob_automaton.specs.Automata.{target};
-ghost use Rattle.table_image.specs.inner.PackSteps.{Grows, IsPacked, IsRecordNumber};
+ghost use Rattle.std.specs.Prelude.{◌≡◌, ◌+◌, ◌*◌, ◌^◌, ◌<◌, ◌≤◌, ◌++◌, ◌∷◌, [], IfOk, OnOk, length};
 ghost use Rattle.table_image.specs.Packing.{IsTableOf};
+ghost use Rattle.table_image.specs.inner.PackSteps.{HasCells, IsPacked, IsRecordNumber};
+ghost use Rattle.table_image.specs.inner.Starting.{AreStarts};
 ghost use Rattle.tables.specs.Tables.{table_value};
 
-use glob_automaton::Dfa;
+use crate::cells::{commonest, others, write_cells};
+use crate::starts::Starts;
+use crate::taken::Taken;
+use automata::Dfa;
 use indexmap::IndexSet;
 use names::NoMemory;
 use std::alloc::{AllocError, Global};
 use tables::{FEWEST_STATES, ROW_LENGTH, RawTable};
 use verdicts::{Record, equal_records_are_one};
 
-/// The tables of an automaton: each state has a row of 256 cells of its own, in the order of the states, and equal records are
-/// stored once, in the order of their least states. An automaton of state 0 alone has a second state, which is as dead.
+// The owner of a cell that no state owns.
+const FREE: u32 = u32::MAX;
+
+/// The states that have been packed.
+#[derive(Drop)]
+struct Packing {
+    table: RawTable,
+    taken: Taken,
+    starts: Starts,
+    // The numbers of the records.
+    numbers: IndexSet<Record>,
+    // The bytes that need a cell in the row that is being packed.
+    bytes: Vec<u8>,
+    // For each state 0, but while the default of a row is chosen: then how many bytes of the row lead there.
+    counts: Vec<u32>,
+}
+
+/// The tables of an automaton. A state's default is the target that the most bytes have, the least state among equals. The other
+/// bytes have cells, at the least base at which none of them is taken; a state without cells has base 0. There are as many cells
+/// as the greatest base and 256. Equal records are stored once, in the order of their least states. An automaton of state 0 alone
+/// has a second state, which is as dead.
 pub fn pack(alloc: Global, dfa: &Dfa) -> Result<RawTable, NoMemory>
     ensures { IfOk result (λ table. IsTableOf dfa.now (table_value table)) }
 {
@@ -27,56 +49,92 @@ fn pack_states(alloc: Global, dfa: &Dfa) -> Result<RawTable, AllocError>
     ensures { IfOk result (λ table. IsTableOf dfa.now (table_value table)) }
 {
     let states = dfa.states().max(FEWEST_STATES);
-    let mut table = RawTable {
-        default: Vec::new(alloc),
-        base: Vec::new(alloc),
-        accept: Vec::new(alloc),
-        next: Vec::new(alloc),
-        check: Vec::new(alloc),
-        records: Vec::new(alloc),
+    let mut counts = Vec::new(alloc);
+    counts.resize(dfa.states() as usize, 0)?;
+    let mut packing = Packing {
+        table: RawTable {
+            default: Vec::new(alloc),
+            base: Vec::new(alloc),
+            accept: Vec::new(alloc),
+            next: Vec::new(alloc),
+            check: Vec::new(alloc),
+            records: Vec::new(alloc),
+        },
+        taken: Taken::new(alloc),
+        starts: Starts::new(alloc)?,
+        numbers: IndexSet::new(alloc),
+        bytes: Vec::new(alloc),
+        counts,
     };
-    let mut numbers = IndexSet::new(alloc);
-    make_room(&mut table, states)?;
     for state in 0..states {
-        push_state(&mut table, &mut numbers, dfa, state)?;
+        push_state(&mut packing, dfa, state)?;
     }
-    Ok(table)
-}
-
-// Reserves room for `states` states, so that the lists then grow without a copy.
-fn make_room(table: &mut RawTable, states: u32) -> Result<(), AllocError>
-    requires { states ≤ 16384 }
-    ensures { table_value table.new ≡ table_value table.old }
-{
-    let states = states as usize;
-    let cells = ROW_LENGTH as usize * states;
-    table.default.reserve_exact(states)?;
-    table.base.reserve_exact(states)?;
-    table.accept.reserve_exact(states)?;
-    table.next.reserve_exact(cells)?;
-    table.check.reserve_exact(cells)
+    Ok(packing.table)
 }
 
 // Adds a state, with its record and its row.
-fn push_state(
-    table: &mut RawTable,
-    numbers: &mut IndexSet<Record>,
-    dfa: &Dfa,
-    state: u32,
-) -> Result<(), AllocError>
+fn push_state(packing: &mut Packing, dfa: &Dfa, state: u32) -> Result<(), AllocError>
     requires few { state < 16384 }
-    requires same { numbers.old.keys ≡ table.old.records.items }
-    requires packed { IsPacked dfa.now (table_value table.old) state }
-    ensures same { OnOk result (numbers.new.keys ≡ table.new.records.items) }
-    ensures packed { OnOk result (IsPacked dfa.now (table_value table.new) (state + 1)) }
+    requires same { packing.old.numbers.keys ≡ packing.old.table.records.items }
+    requires counts { length packing.old.counts.items ≡ length dfa.now.rows }
+    requires packed { IsPacked dfa.now (table_value packing.old.table) packing.old.taken state }
+    requires starts { AreStarts packing.old.taken packing.old.starts }
+    ensures starts { OnOk result (AreStarts packing.new.taken packing.new.starts) }
+    ensures same { OnOk result (packing.new.numbers.keys ≡ packing.new.table.records.items) }
+    ensures counts { OnOk result (length packing.new.counts.items ≡ length dfa.now.rows) }
+    ensures packed { OnOk result (IsPacked dfa.now (table_value packing.new.table) packing.new.taken (state + 1)) }
 {
     let source = state.min(dfa.states() - 1);
-    let number = number_of(&mut table.records, numbers, dfa.record_at(source))?;
-    push_number(&mut table.default, 0)?;
-    push_number(&mut table.base, ROW_LENGTH * state)?;
-    push_number(&mut table.accept, number)?;
-    push_targets(&mut table.next, dfa, source)?;
-    push_owner(&mut table.check, state)?;
+    let number = number_of(
+        &mut packing.table.records,
+        &mut packing.numbers,
+        dfa.record_at(source),
+    )?;
+    let targets = dfa.targets(source);
+    let default = commonest(dfa.row(source), &mut packing.counts);
+    others(&mut packing.bytes, &targets, &[default; 256])?;
+    let limit = ROW_LENGTH as usize * state as usize;
+    let start = packing.starts.start_for(&packing.bytes);
+    let base = packing.taken.place(&packing.bytes, limit, start);
+    make_cells(
+        &mut packing.table.next,
+        &mut packing.table.check,
+        &mut packing.taken,
+        base + ROW_LENGTH as usize,
+    )?;
+    write_cells(
+        &mut packing.table.next,
+        &mut packing.table.check,
+        &mut packing.taken,
+        &targets,
+        &packing.bytes,
+        base,
+        state,
+    );
+    packing.starts.remember(&packing.bytes, base)?;
+    push_number(&mut packing.table.default, default)?;
+    push_number(&mut packing.table.base, base as u32)?;
+    push_number(&mut packing.table.accept, number)?;
+    Ok(())
+}
+
+// Makes the lists of cells at least this long. The new cells are free.
+fn make_cells(
+    next: &mut Vec<u32>,
+    check: &mut Vec<u32>,
+    taken: &mut Taken,
+    cells: usize,
+) -> Result<(), AllocError>
+    requires few { cells < 2 ^ 32 }
+    requires long { length check.old.items ≡ length next.old.items }
+    ensures { OnOk result (HasCells next.old.items check.old.items taken.old next.new.items check.new.items taken.new cells) }
+{
+    taken.make_room(cells)?;
+    if cells <= next.len() {
+        return Ok(());
+    }
+    next.resize(cells, 0)?;
+    check.resize(cells, FREE)?;
     Ok(())
 }
 
@@ -85,27 +143,6 @@ fn push_number(list: &mut Vec<u32>, number: u32) -> Result<(), AllocError>
     ensures { OnOk result (list.new.items ≡ list.old.items ++ number ∷ []) }
 {
     list.push(number)?;
-    Ok(())
-}
-
-// The cells of a state: the targets of a state of the automaton.
-fn push_targets(next: &mut Vec<u32>, dfa: &Dfa, source: u32) -> Result<(), AllocError>
-    requires { source < length dfa.now.rows }
-    ensures { OnOk result (Grows next.old.items next.new.items 256 (λ b. target dfa.now source b)) }
-{
-    for byte in 0..ROW_LENGTH {
-        push_number(next, dfa.target(source, byte as u8))?;
-    }
-    Ok(())
-}
-
-// The owner of a state's cells: the state.
-fn push_owner(check: &mut Vec<u32>, state: u32) -> Result<(), AllocError>
-    ensures { OnOk result (Grows check.old.items check.new.items 256 (λ _. state)) }
-{
-    for _cell in 0..ROW_LENGTH {
-        push_number(check, state)?;
-    }
     Ok(())
 }
 

@@ -1,15 +1,14 @@
-//! Names through tables.
+//! Names run through tables.
 ghost use Rattle.std.specs.Prelude.{◌≡◌, ◌+◌, ◌^◌, ◌<◌, Some, length};
 ghost use Rattle.tables.specs.Tables.{record_after, state_after, state_count};
 ghost use Rattle.table_verifier.specs.Running.{Runs};
 
-use std::mem;
+use crate::stepping::run_from;
 use table_verifier::{State, Steps, VerifiedTable};
 use verdicts::Record;
 
 /// The state that a list of bytes leads to. Whoever made the table and whatever the bytes are, no index leaves it, and there is
 /// exactly one look-up for each byte. Allocates nothing, and can't be refused.
-// It stays a function of its own, with a count of its own: so the count and the places of the tables are in registers.
 #[inline(never)]
 pub fn run(table: &VerifiedTable, bytes: &[u8], steps: &mut Steps) -> State
     requires { steps.old + length bytes.now < 2 ^ 64 }
@@ -18,13 +17,8 @@ pub fn run(table: &VerifiedTable, bytes: &[u8], steps: &mut Steps) -> State
     ensures there { result < state_count table.now }
     ensures steps { steps.new ≡ steps.old + length bytes.now }
 {
-    let mut state = table.start();
-    let mut counted = mem::replace(steps, Steps::new());
-    for byte in bytes {
-        state = table.look_up(state, *byte, &mut counted);
-    }
-    *steps = counted;
-    state
+    let start = table.start();
+    run_from(&table.entries(), start, bytes, steps)
 }
 
 /// The record of the state that a name leads to. It takes as many look-ups as the name has bytes, and allocates nothing.

@@ -17,6 +17,7 @@ mod faults;
 mod headers;
 mod layout;
 mod numbers;
+mod packing;
 
 // The tables of a profile's text.
 fn tables_of(alloc: Global, text: &[u8]) -> Result<RawTable, Fail>
@@ -41,7 +42,7 @@ pub(crate) fn smallest(alloc: Global) -> Result<Vec<u8>, Fail> {
     Ok(bytes)
 }
 
-// The image of a profile of one name: 13 states, 3,328 cells and 2 records.
+// The image of a profile of one name: 13 states, 258 cells and 2 records.
 pub(crate) fn passwd(alloc: Global) -> Result<Vec<u8>, Fail> {
     image_of(alloc, b"profile p { /etc/passwd r, }")
 }

@@ -31,7 +31,7 @@ fn smallest(alloc: Global) -> Result<RawTable, Fail> {
 }
 
 // Puts a number at a place, if there is such a place.
-fn put(numbers: &mut Vec<u32>, place: usize, number: u32) {
+pub(crate) fn put(numbers: &mut Vec<u32>, place: usize, number: u32) {
     if let Some(found) = numbers.get_mut(place) {
         *found = number;
     }

@@ -3,14 +3,16 @@
 //! The definitions to believe are those in `specs/`; those in `specs/inner/` are of private contracts and proofs.
 #![tactic(auto)]
 
+mod entries;
 mod image;
 mod laws;
 mod steps;
 mod verified;
 mod verifying;
 
-pub use image::{VerifiedImage, verify_image};
+pub use entries::{Entries, Reader, Standing, default_of, follow, look, stand};
+pub use image::{ImageEntries, VerifiedImage, verify_image};
 pub use laws::tables_in_bounds_run;
 pub use steps::Steps;
-pub use verified::{State, VerifiedTable};
+pub use verified::{State, TableEntries, VerifiedTable};
 pub use verifying::verify;

@@ -4,6 +4,7 @@ ghost use Rattle.tables.specs.Bounds.{InBounds};
 ghost use Rattle.tables.specs.Tables.{cell_count, next_state, record_count, record_of, state_count, table_value};
 ghost use Rattle.table_verifier.specs.Running.{Runs};
 
+use crate::entries::{Entries, Reader, look_up};
 use crate::laws::tables_in_bounds_run;
 use crate::steps::Steps;
 use std::marker::Model;
@@ -46,6 +47,20 @@ impl VerifiedTable {
         START
     }
 
+    /// The entries of the table.
+    #[inline(always)]
+    pub fn entries(&self) -> TableEntries<'_>
+        ensures { result ≡ self.now }
+    {
+        TableEntries {
+            verified: self,
+            default: &self.table.default,
+            base: &self.table.base,
+            next: &self.table.next,
+            check: &self.table.check,
+        }
+    }
+
     /// The state after a state and a byte: one look-up.
     pub fn look_up(&self, state: State, byte: u8, steps: &mut Steps) -> State
         requires state { state < state_count self.now }
@@ -54,27 +69,7 @@ impl VerifiedTable {
         ensures there { result < state_count self.now }
         ensures steps { steps.new ≡ steps.old + 1 }
     {
-        steps.add();
-        let cell = self.table.base[state as usize] as usize + byte as usize;
-        // It is read whoever owns the cell, so that a loop finds out once where `next` is, and not again in each turn.
-        let next = self.table.next[cell];
-        if self.table.check[cell] == state {
-            next
-        } else {
-            self.default_of(state)
-        }
-    }
-
-    // The state to go to from a state that doesn't own the cell. This stays a call of its own. If it were inlined into the
-    // loop of a run, the reads of `next` and `default` would be made one, of a place in either, and that one would wait
-    // until the cell's owner is known. As it is, the processor predicts the owner and goes on.
-    #[cold]
-    #[inline(never)]
-    fn default_of(&self, state: State) -> State
-        requires { state < state_count self.now }
-        ensures { slice_get self.now.default state ≡ Some result }
-    {
-        self.table.default[state as usize]
+        look_up(&self.entries(), state, byte, steps)
     }
 
     /// The record of names that end in a state.
@@ -104,5 +99,57 @@ impl VerifiedTable {
         ensures { result ≡ record_count self.now }
     {
         self.table.records.len() as u32
+    }
+}
+
+/// The entries of a verified table: its lists.
+#[derive(Drop)]
+pub struct TableEntries<'a> {
+    verified: &'a VerifiedTable,
+    default: &'a [u32],
+    base: &'a [u32],
+    next: &'a [u32],
+    check: &'a [u32],
+}
+
+impl<'a> Model for TableEntries<'a> {
+    ghost use Rattle.std.specs.Prelude.{◌≡◌};
+    ghost use Rattle.tables.specs.Bounds.{InBounds};
+    ghost use Rattle.tables.specs.Tables.{Table};
+
+    ghost Value = { Table };
+
+    ghost view = { λ entries. entries.verified.now };
+
+    ghost invariant = { λ entries. InBounds entries.verified.now × (entries.default.now ≡ entries.verified.now.default)
+        × (entries.base.now ≡ entries.verified.now.base) × (entries.next.now ≡ entries.verified.now.next)
+        × (entries.check.now ≡ entries.verified.now.check) };
+}
+
+impl<'a> Entries for TableEntries<'a> {
+    ghost table = { λ entries. entries };
+
+    #[inline(always)]
+    fn default_at(&self, _reader: Reader, state: usize) -> State {
+        let default = self.default;
+        default[state]
+    }
+
+    #[inline(always)]
+    fn base_at(&self, _reader: Reader, state: usize) -> usize {
+        let base = self.base;
+        base[state] as usize
+    }
+
+    #[inline(always)]
+    fn next_at(&self, _reader: Reader, cell: usize) -> State {
+        let next = self.next;
+        next[cell]
+    }
+
+    #[inline(always)]
+    fn check_at(&self, _reader: Reader, cell: usize) -> State {
+        let check = self.check;
+        check[cell]
     }
 }

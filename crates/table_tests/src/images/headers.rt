@@ -64,15 +64,15 @@ fn whole_images(rt: HostRuntime) -> Result<(), Fail> {
         &rt,
         alloc,
         b"profile p { /etc/passwd r, }",
-        26_840,
-        b"PTAB\x01\0\0\0\x0d\0\0\0\0\x0d\0\0\x02\0\0\0",
+        2_280,
+        b"PTAB\x01\0\0\0\x0d\0\0\0\x02\x01\0\0\x02\0\0\0",
     )?;
     expect_image(
         &rt,
         alloc,
         b"profile p { }",
-        20 + 2 * 12 + 512 * 8 + 20,
-        b"PTAB\x01\0\0\0\x02\0\0\0\0\x02\0\0\x01\0\0\0",
+        20 + 2 * 12 + 256 * 8 + 20,
+        b"PTAB\x01\0\0\0\x02\0\0\0\0\x01\0\0\x01\0\0\0",
     )
 }
 

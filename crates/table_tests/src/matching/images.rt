@@ -122,7 +122,7 @@ fn numbers_of_one_name(rt: HostRuntime) -> Result<(), Fail> {
         &image,
         &[
             (Kind::Default, 20, 13, 13, &[12, 13, u32::MAX]),
-            (Kind::Base, 72, 13, 3_073, &[3_072, 3_073, u32::MAX]),
+            (Kind::Base, 72, 13, 3, &[2, 3, u32::MAX]),
             (Kind::Accept, 124, 13, 2, &[1, 2, u32::MAX]),
             (Kind::Next, 176, 64, 13, &[12, 13, u32::MAX]),
         ],

@@ -33,8 +33,8 @@ fn expect_nexts_refused(
 ) -> Result<(), Fail> {
     let table = from_bytes(alloc, image)?;
     let cells = table.next.len();
-    let taken = first_next_taken(table, 3_328, number);
-    assert!(rt; cells == 3_328 && taken.is_none(), "{number}");
+    let taken = first_next_taken(table, 258, number);
+    assert!(rt; cells == 258 && taken.is_none(), "{number}");
     Ok(())
 }
 
@@ -128,7 +128,7 @@ fn expect_free_checks(
 fn any_check(rt: HostRuntime) -> Result<(), Fail> {
     let alloc = rt.alloc();
     expect_free_checks(&rt, alloc, &smallest(alloc)?, 256)?;
-    expect_free_checks(&rt, alloc, &passwd(alloc)?, 3_328)
+    expect_free_checks(&rt, alloc, &passwd(alloc)?, 258)
 }
 
 // The same with names of 4,095 bytes: bytes 255 alone, and all bytes in turn. Each number has a test of its own, since
@@ -138,7 +138,7 @@ fn expect_long_runs(rt: &impl Abort, alloc: Global, number: u32) -> Result<(), F
     let all = all_bytes(alloc)?;
     let names: [&[u8]; 2] = [&last, &all];
     expect_free_check(rt, alloc, &smallest(alloc)?, 256, number, &names)?;
-    expect_free_check(rt, alloc, &passwd(alloc)?, 3_328, number, &names)
+    expect_free_check(rt, alloc, &passwd(alloc)?, 258, number, &names)
 }
 
 #[test]

@@ -1,0 +1,15 @@
+-- The state after the bytes so far, and one look-up for each.
+use Rattle.std.proofs.Common.{◌≡◌, ◌+◌, ◌-◌, ◌<◌, ◌≤◌, Some, length, take}
+use Rattle.tables.specs.Tables.{state_count, state_from}
+use Rattle.table_runner.proofs.stepping.run_from.Given as goal
+
+abbrev pub invariant-loop-i : goal.invariant-loop-i
+invariant-loop-i g l = record {
+  within : l.i ≤ length l.bytes;
+  there : l.state < state_count (g.E.Entries.table l.entries);
+  last : state_from (g.E.Entries.table l.entries) l.start (take l.i l.bytes) ≡ Some l.state;
+  steps : l.counted ≡ l.fn.steps + l.i;
+}
+
+abbrev pub decreases-loop-i : goal.decreases-loop-i
+decreases-loop-i g l = length l.bytes - l.i
