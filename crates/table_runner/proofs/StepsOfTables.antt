@@ -3,7 +3,7 @@ use Rattle.std.proofs.Common.{◌≡◌, ℕ, ◌+◌, ◌<◌, List, [], ◌∷
 use Rattle.std.specs.Option.{option_and_then}
 use Rattle.std.proofs.lemmas.List.{take_more}
 use Rattle.std.proofs.lemmas.Option.{same_Some}
-use Rattle.tables.specs.Tables.{Table, next_state, state_from, state_after}
+use Rattle.tables.specs.Tables.{Table, next_state, state_from}
 
 stays : (o : Option ℕ) → option_and_then (λ (n : ℕ). Some n) o ≡ o
 stays None = refl
