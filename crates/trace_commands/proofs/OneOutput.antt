@@ -1,5 +1,4 @@
 -- Commands that may write one of several outputs.
-use Rattle.table_runner.specs.Loading.{IsRefusedFor}
 use Rattle.table_verifier.specs.Loading.{IsLoadFault}
 use Rattle.std.specs.Prelude.{Vec}
 use Rattle.glob_automaton.specs.Automata.{most_sets}
@@ -131,7 +130,7 @@ match_answer perms name image name_here image_here ask result n i e h = asked_an
     (rw (n, i) at h)
 
 -- the first fault of an image is reported
-told_fault : (image : List ℕ) (Wanted : Output → Type 0) (f : ImageFault)
+pub told_fault : (image : List ℕ) (Wanted : Output → Type 0) (f : ImageFault)
     → ((output : Output) → IsImageRefused image output → Wanted output) → IsLoadFault image f → IsFaultOfOne Wanted (fault_of_image f)
 told_fault image Wanted fault_here.NoMemory wants (inl first) = absurd first.has
 told_fault image Wanted fault_here.NoMemory wants (inr in_table) = absurd in_table.2.has
@@ -146,18 +145,10 @@ told_fault image Wanted (fault_here.Base s) wants h = wants _ (fault_here.Base s
 told_fault image Wanted (fault_here.Accept s) wants h = wants _ (fault_here.Accept s, h, refl)
 told_fault image Wanted (fault_here.Next s) wants h = wants _ (fault_here.Next s, h, refl)
 
--- or out of memory in place of it
-pub image_fault : (image : List ℕ) (Wanted : Output → Type 0) (f : ImageFault) → AreGood Wanted
-    → ((output : Output) → IsImageRefused image output → Wanted output) → IsRefusedFor image f
-    → IsFaultOfOne Wanted (fault_of_image f)
-image_fault image Wanted f good wants (inl none) = rw none.0 good
-image_fault image Wanted f good wants (inr first) = told_fault image Wanted f wants first
-
 -- and where memory runs out, the bytes are whole
-pub image_memory : (image : List ℕ) (f : ImageFault) → IsRefusedFor image f → IsMemoryOfWhole image (fault_of_image f)
-image_memory image fault_here.NoMemory (inl none) e = none.1
-image_memory image fault_here.NoMemory (inr (inl first)) e = absurd first.has
-image_memory image fault_here.NoMemory (inr (inr in_table)) e = absurd in_table.2.has
+pub image_memory : (image : List ℕ) (f : ImageFault) → IsLoadFault image f → IsMemoryOfWhole image (fault_of_image f)
+image_memory image fault_here.NoMemory (inl first) e = absurd first.has
+image_memory image fault_here.NoMemory (inr in_table) e = absurd in_table.2.has
 image_memory image fault_here.Short h e = cc
 image_memory image fault_here.Magic h e = cc
 image_memory image fault_here.Version h e = cc

@@ -9,8 +9,7 @@ use crate::judging::read_all;
 use names::NoMemory;
 use std::alloc::Global;
 use std::io::{Read, Write};
-use table_runner::LoadedProfile;
-use table_verifier::VerifiedTable;
+use table_verifier::{VerifiedImage, verify_image};
 use tables::images_are_whole;
 use trace_report::{Fault, Status, fail, write_answer};
 
@@ -51,20 +50,20 @@ fn counts_of_image(alloc: Global, image: &[u8]) -> Result<Vec<u8>, Fault>
     ensures memory { IfErr result (IsMemoryOfWhole image.now) }
 {
     images_are_whole();
-    let loaded = LoadedProfile::make(alloc, image)?;
-    match counts_line(alloc, loaded.table()) {
+    let verified = verify_image(image)?;
+    match counts_line(alloc, &verified) {
         Ok(line) => Ok(line),
         Err(NoMemory) => Err(Fault::Memory),
     }
 }
 
 /// `ok states N cells M accepts K`.
-fn counts_line(alloc: Global, table: &VerifiedTable) -> Result<Vec<u8>, NoMemory>
-    ensures { IfOk result (λ text. text.items ≡ line (counts_text table.now)) }
+fn counts_line(alloc: Global, image: &VerifiedImage<'_>) -> Result<Vec<u8>, NoMemory>
+    ensures { IfOk result (λ text. text.items ≡ line (counts_text image.now)) }
 {
-    let states = table.states();
-    let cells = table.cells();
-    let records = table.records();
+    let states = image.states();
+    let cells = image.cells();
+    let records = image.records();
     match format!(in alloc; "ok states {states} cells {cells} accepts {records}\n") {
         Ok(text) => Ok(text.into_bytes()),
         Err(_) => Err(NoMemory),

@@ -12,8 +12,8 @@ use crate::judging::{ask_of, read_all};
 use names::{NoMemory, Perms};
 use std::alloc::Global;
 use std::io::{Read, Write};
-use table_runner::{LoadedProfile, record_of_name};
-use table_verifier::{Steps, VerifiedTable};
+use table_runner::record_by_image;
+use table_verifier::{Steps, VerifiedImage, verify_image};
 use tables::images_are_whole;
 use trace_report::{Fault, Status, fail, write_answer};
 use verdicts::told;
@@ -62,14 +62,14 @@ fn match_read<R: Read>(
     match_image(alloc, &image, name.as_bytes(), ask)
 }
 
-/// The same for an image that was read.
+/// The same for an image that was read. It is judged by where it is.
 fn match_image(alloc: Global, image: &[u8], name: &[u8], ask: Perms) -> Result<Vec<u8>, Fault>
     ensures output { IsAnswered (IsMatchedOutput ask name.now image.now) result }
     ensures memory { IfErr result (IsMemoryOfWhole image.now) }
 {
     images_are_whole();
-    let loaded = LoadedProfile::make(alloc, image)?;
-    match match_lines(alloc, loaded.table(), name, ask) {
+    let verified = verify_image(image)?;
+    match match_lines(alloc, &verified, name, ask) {
         Ok(lines) => Ok(lines),
         Err(NoMemory) => Err(Fault::Memory),
     }
@@ -78,15 +78,15 @@ fn match_image(alloc: Global, image: &[u8], name: &[u8], ask: Perms) -> Result<V
 /// The verdict, and then `steps N`.
 fn match_lines(
     alloc: Global,
-    table: &VerifiedTable,
+    image: &VerifiedImage<'_>,
     name: &[u8],
     ask: Perms,
 ) -> Result<Vec<u8>, NoMemory>
-    ensures { IfOk result (λ text. (verdict : Verdict) × IsVerdictOf table.now name.now ask verdict
+    ensures { IfOk result (λ text. (verdict : Verdict) × IsVerdictOf image.now name.now ask verdict
         × (text.items ≡ match_text name.now verdict)) }
 {
     let mut steps = Steps::new();
-    let verdict = told(&record_of_name(table, name, &mut steps), ask);
+    let verdict = told(&record_by_image(image, name, &mut steps), ask);
     let count = steps.count();
     match format!(in alloc; "{verdict}\nsteps {count}\n") {
         Ok(text) => Ok(text.into_bytes()),
