@@ -1,4 +1,5 @@
 use Rattle.std.proofs.Common.{◌≡◌, Err, inr, rules}
+use Rattle.trace_commands.specs.Tables.{IsCheckOutput}
 use Rattle.trace_report.specs.Fault.{fault_of_image}
 use Rattle.trace_commands.proofs.OneOutput.{told_fault, image_memory}
 use Rattle.trace_commands.proofs.checking.counts_of_image.Goals as goal
@@ -6,7 +7,8 @@ use Rattle.trace_commands.proofs.checking.counts_of_image.Goals as goal
 pub returns-in_err-verified-clause-output : goal.returns-in_err-verified-clause-output
 returns-in_err-verified-clause-output c =
     let told : c.from_residual.result ≡ Err (fault_of_image c.in_err-verified.field-0.0) = search rules in
-    let why = told_fault c.args.image.now _ c.in_err-verified.field-0.0 (λ output h. inr h) c.in_err-verified.ensures.err in
+    let why = told_fault c.args.image.now (IsCheckOutput c.args.image.now) c.in_err-verified.field-0.0 (λ output h. inr h)
+    c.in_err-verified.ensures.err in
     rw told why
 
 pub returns-in_err-verified-clause-memory : goal.returns-in_err-verified-clause-memory
