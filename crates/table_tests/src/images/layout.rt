@@ -14,8 +14,8 @@ struct Cells {
     check: Vec<u32>,
 }
 
-fn cells_of(alloc: Global, states: u16, count: u16, cells: &[Cell]) -> Result<Cells, Fail> {
-    let mut base = Vec::from_elem(alloc, 0u32, usize::from(states))?;
+fn cells_of(alloc: Global, states: usize, count: u16, cells: &[Cell]) -> Result<Cells, Fail> {
+    let mut base = Vec::from_elem(alloc, 0u32, states)?;
     let mut next = Vec::from_elem(alloc, 0u32, usize::from(count))?;
     let mut check = Vec::from_elem(alloc, u32::MAX, usize::from(count))?;
     for (state, first, byte, target) in cells {
@@ -51,7 +51,7 @@ fn expect_layout(
     text: &[u8],
     want: &Layout<'_>,
 ) -> Result<(), Fail> {
-    let cells = cells_of(alloc, want.default.len() as u16, want.count, want.cells)?;
+    let cells = cells_of(alloc, want.default.len(), want.count, want.cells)?;
     let table = tables_of(alloc, text)?;
     let is_as_wanted = table.default.as_slice() == want.default
         && table.base == cells.base

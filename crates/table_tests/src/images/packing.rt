@@ -78,7 +78,7 @@ fn push_row(table: &mut RawTable, targets: &[u32; 256], state: u32) -> Result<()
         }
     }
     table.default.push(default)?;
-    table.base.push(base as u32)?;
+    table.base.push(u32::try_from(base).unwrap_or(u32::MAX))?;
     Ok(())
 }
 
