@@ -58,11 +58,11 @@ fn expect_front(
     image: &[u8],
     calls: usize,
 ) {
-    let ending = run_into_failing(rt, alloc, &["aa-trace", "compile"], 10_000, calls);
+    let ending = run_into_failing(rt, alloc, &["aa-trace", "compile"], 1_000, calls);
     assert!(rt;
         ending.status == Status::OutputFailed
             && ending.faults.as_slice() == b"refused: output\n".as_slice()
-            && ending.answers.len() == 26_840.min(10_000 * calls.min(3))
+            && ending.answers.len() == 2_280.min(1_000 * calls.min(3))
             && image.starts_with(&ending.answers),
         "{calls}"
     );
@@ -75,6 +75,6 @@ fn images_that_cannot_be_written(rt: HostRuntime) {
     for calls in 0..4 {
         expect_front(&rt, rt.alloc(), &image, calls);
     }
-    let ending = run_into_failing(&rt, rt.alloc(), &["aa-trace", "compile"], 10_000, 4);
+    let ending = run_into_failing(&rt, rt.alloc(), &["aa-trace", "compile"], 1_000, 4);
     assert!(rt; ending.is(Status::Done, &image, b""));
 }
