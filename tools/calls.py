@@ -320,7 +320,7 @@ def planted(image):
         yield with_part(at(0, state), numbers(states)), (7, state)
         yield with_part(at(1, state), numbers(cells - 255)), (8, state)
         yield with_part(at(2, state), numbers((1 << 32) - 1)), (9, state)
-    for cell in (0, 1000, cells - 1):
+    for cell in (0, cells // 2, cells - 1):
         yield with_part(20 + 12 * states + 4 * cell, numbers(states)), (10, cell)
 
 
