@@ -186,7 +186,8 @@ module _ (rules : List RuleValue) (rule : RuleValue) (before : ℕ) (stands : sl
             );
         one_each = λ x y one two. (
           λ e. same_up x y ((is.one_each x y one two).0 (sym (after_same x one) ∙ e ∙ after_same y two)),
-          λ same. after_same x one ∙ (is.one_each x y one two).1 (same_of_part (reading rule ∷ []) 0 1 x y (same_down x y same)) ∙ sym (after_same y two),
+          λ same. after_same x one ∙ (is.one_each x y one two).1 (same_of_part (reading rule ∷ []) 0 1 x y (same_down x y same))
+              ∙ sym (after_same y two),
         );
         dead = λ x small. (
           λ e. none_up x ((is.dead x small).0 (sym (after_same x small) ∙ e)),

@@ -110,7 +110,7 @@ pub free_past_words : (taken : Taken) (bytes : List ℕ) (base : ℕ) → 64 * l
 free_past_words taken bytes base le = list_any_none (λ b. is_taken taken (base + b)) bytes
     (λ k d lt. past_words taken (base + slice_index_or bytes k d) (omega (arith, le)))
 
--- so many bases more aren't free
+-- nor is any of the next n bases free
 pub none_before : (taken : Taken) (bytes : List ℕ) (from base word n : ℕ) →
     ((x : ℕ) → from ≤ x → x < base → is_blocked taken bytes x ≡ true) →
     ((i : ℕ) → i < 64 → is_bit word i ≡ is_blocked taken bytes (base + i)) → n ≤ 64 → ((i : ℕ) → i < n → is_bit word i ≡ true) →

@@ -8,7 +8,8 @@ returns-in-Some-clause-left g c = record {
   on = omega arith;
   within = omega (arith, c.requires.within);
   there = c.follow.ensures.there;
-  leads = state_next (g.E.Entries.table c.args.entries.now) c.args.start c.args.bytes.now c.args.from c.args.at.state c.requires.within c.requires.here
+  leads = state_next (g.E.Entries.table c.args.entries.now) c.args.start c.args.bytes.now c.args.from c.args.at.state
+      c.requires.within c.requires.here
       ∙ c.in-Some.ensures.found ∙ c.follow.ensures.next;
 }
 
@@ -17,7 +18,8 @@ returns-then-default-state-clause-left g c = record {
   on = omega arith;
   within = omega (arith, c.requires.within);
   there = c.default_of-default.ensures.there;
-  leads = state_next (g.E.Entries.table c.args.entries.now) c.args.start c.args.bytes.now c.args.from c.args.at.state c.requires.within c.requires.here
+  leads = state_next (g.E.Entries.table c.args.entries.now) c.args.start c.args.bytes.now c.args.from c.args.at.state
+      c.requires.within c.requires.here
       ∙ c.in_default.ensures.found ∙ c.default_of-default.ensures.default;
 }
 
@@ -25,7 +27,8 @@ pub loop-i-init : goal.loop-i-init
 loop-i-init g c = record {
   stays = c.default_of-default.ensures.default ∙ ap Some (c.if-default-state.false ∙ c.state.ensures);
   on = omega arith;
-  here = state_next (g.E.Entries.table c.args.entries.now) c.args.start c.args.bytes.now c.args.from c.args.at.state c.requires.within c.requires.here
+  here = state_next (g.E.Entries.table c.args.entries.now) c.args.start c.args.bytes.now c.args.from c.args.at.state
+      c.requires.within c.requires.here
       ∙ c.in_default.ensures.found ∙ c.default_of-default.ensures.default ∙ ap Some (c.if-default-state.false ∙ c.state.ensures);
   steps = omega (arith, c.look.ensures.steps);
 }
@@ -35,7 +38,8 @@ returns-in-Some-look-clause-left g c = record {
   on = omega (arith, c.loop-i.invariant.on);
   within = omega (arith, c.loop-i-test.true);
   there = c.follow-in-Some-look.ensures.there;
-  leads = state_next (g.E.Entries.table c.args.entries.now) c.args.start c.args.bytes.now c.loop-i.i c.args.at.state c.loop-i-test.true c.loop-i.invariant.here
+  leads = state_next (g.E.Entries.table c.args.entries.now) c.args.start c.args.bytes.now c.loop-i.i c.args.at.state c.loop-i-test.true
+      c.loop-i.invariant.here
       ∙ c.in-Some-look.ensures.found ∙ c.follow-in-Some-look.ensures.next;
 }
 
@@ -43,7 +47,8 @@ pub loop-i-preserved : goal.loop-i-preserved
 loop-i-preserved g c = record {
   stays = c.loop-i.invariant.stays;
   on = omega (arith, c.loop-i.invariant.on);
-  here = state_next (g.E.Entries.table c.args.entries.now) c.args.start c.args.bytes.now c.loop-i.i c.args.at.state c.loop-i-test.true c.loop-i.invariant.here
+  here = state_next (g.E.Entries.table c.args.entries.now) c.args.start c.args.bytes.now c.loop-i.i c.args.at.state c.loop-i-test.true
+      c.loop-i.invariant.here
       ∙ c.in_default-look.ensures.found ∙ c.loop-i.invariant.stays;
   steps = omega (arith, c.look-in-loop-i.ensures.steps, c.loop-i.invariant.steps);
 }
