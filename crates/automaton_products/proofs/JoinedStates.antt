@@ -1,19 +1,19 @@
 -- The states of a product, one more after another.
-use Rattle.std.proofs.Common.{◌≡◌, ◌⊎◌, inl, inr, ⊎_elim, ℕ, ◌+◌, ◌<◌, ◌≤◌, List, [], ◌∷◌, ◌++◌, length, drop, Some, slice_get}
+use Rattle.std.proofs.Common.{◌≡◌, ⊎_elim, ℕ, ◌+◌, ◌<◌, ◌≤◌, List, [], ◌∷◌, ◌++◌, length, drop, Some, slice_get}
 use Rattle.std.proofs.Common.{slice_index_or, refl, sym, ap, ◌∙◌, subst, arith}
 use Rattle.std.proofs.Math.Seq.{get_or-append_seam, drop-append_seam}
 use Rattle.std.proofs.lemmas.Bool.{cases_lt}
 use Rattle.std.proofs.lemmas.List.{length-append, length-drop, get_or_append_left, drop-append-le}
 use Rattle.std.proofs.lemmas.Option.{same_Some, slice_get_within, slice_get-get_or}
 use Rattle.verdicts.specs.declared.record.Record.{Record}
-use Rattle.automata.specs.Automata.{Automaton, most_sets}
+use Rattle.automata.specs.Automata.{Automaton}
 use Rattle.automata.specs.declared.range.TargetRange.{TargetRange}
 use Rattle.automata.specs.Rows.{target_in, IsRowFrom}
 use Rattle.automata.proofs.RowLaws.{row_stays, target_stays, row_some}
 use Rattle.automaton_products.specs.declared.pairs.Pair.{Pair}
-use Rattle.automaton_products.specs.Products.{dead_pair, next_pair, AreFewPairs, Keeps, joined}
+use Rattle.automaton_products.specs.Products.{next_pair, AreFewPairs, Keeps, joined}
 use Rattle.automaton_products.specs.Joining.{IsJoinedRow, AreStates}
-use Rattle.automaton_products.proofs.PairNumbers.{get_stays, get_last, get_either}
+use Rattle.automaton_products.proofs.PairNumbers.{get_stays, get_last}
 use Rattle.automaton_products.proofs.PairLaws.{kept_at}
 
 -- a row begins within the ranges

@@ -1,5 +1,5 @@
 -- Pairs that are met, and how they go on.
-use Rattle.std.proofs.Common.{◌≡◌, ◌⊎◌, inl, inr, ⊎_elim, ℕ, zero, suc, ◌+◌, ◌<◌, ◌≤◌, List, [], ◌∷◌, ◌++◌, length, Some, slice_get}
+use Rattle.std.proofs.Common.{◌≡◌, inl, inr, ⊎_elim, ℕ, zero, suc, ◌<◌, List, [], ◌∷◌, ◌++◌, length, Some, slice_get}
 use Rattle.std.proofs.Common.{append-nil, append_assoc, refl, sym, ap, ◌∙◌, subst, arith}
 use Rattle.std.proofs.lemmas.List.{length-append}
 use Rattle.std.proofs.lemmas.List.Elements.{All-nil, All-push, All-head, All-tail}
@@ -7,12 +7,12 @@ use Rattle.std.proofs.lemmas.Option.{none-some, same_Some, slice_get_within}
 use Rattle.names.specs.Bytes.{are_bytes}
 use Rattle.automata.specs.declared.fault.CompileFault.{CompileFault}
 use Rattle.automata.specs.declared.fault.CompileFault.TheVariants.{TooManyStates, NoMemory}
-use Rattle.automata.specs.Automata.{Automaton, IsWhole, target, goes_to, state_after, most_sets}
+use Rattle.automata.specs.Automata.{Automaton, IsWhole, target, goes_to, state_after}
 use Rattle.automaton_products.specs.declared.pairs.Pair.{Pair}
 use Rattle.automaton_products.specs.Numbering.{AreDistinct, IsNumbered, IsNumberFault}
 use Rattle.automaton_products.specs.Products.{pair, dead_pair, start_pair, next_pair, IsMet, IsReached, ArePairs, AreFewPairs, Keeps}
 use Rattle.automaton_products.specs.Products.{IsProductFault}
-use Rattle.automaton_products.proofs.PairNumbers.{get_stays, get_last, get_either, distinct_more}
+use Rattle.automaton_products.proofs.PairNumbers.{get_stays, get_either, distinct_more}
 
 -- ---- states after bytes
 

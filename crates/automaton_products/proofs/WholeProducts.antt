@@ -1,16 +1,16 @@
 -- A product, once there is a state for each pair.
-use Rattle.std.proofs.Common.{◌≡◌, ◌⊎◌, inl, inr, ⊎_elim, ℕ, ◌+◌, ◌<◌, ◌≤◌, List, [], ◌∷◌, length, drop, Some, slice_get, slice_index_or}
-use Rattle.std.proofs.Common.{refl, sym, ap, ◌∙◌, subst, arith}
+use Rattle.std.proofs.Common.{◌≡◌, inl, inr, ⊎_elim, ℕ, ◌<◌, ◌≤◌, List, length, drop, Some, slice_get, slice_index_or}
+use Rattle.std.proofs.Common.{sym, ap, ◌∙◌, arith}
 use Rattle.std.proofs.lemmas.Bool.{cases_lt}
 use Rattle.std.proofs.lemmas.Option.{same_Some, slice_get_within, slice_get-get_or}
 use Rattle.verdicts.specs.declared.record.Record.{Record}
-use Rattle.automata.specs.Automata.{Automaton, IsWhole, target, state_after, most_sets}
+use Rattle.automata.specs.Automata.{Automaton, IsWhole, target, state_after}
 use Rattle.automata.specs.declared.range.TargetRange.{TargetRange}
-use Rattle.automata.specs.Rows.{target_in, rows_of, AreRows}
+use Rattle.automata.specs.Rows.{rows_of, AreRows}
 use Rattle.automata.proofs.RowLists.{row_at, rows_long, target_at, targets_long}
 use Rattle.automaton_products.specs.declared.pairs.Pair.{Pair}
-use Rattle.automaton_products.specs.Products.{pair, dead_pair, start_pair, next_pair, IsMet, ArePairs, IsProduct}
-use Rattle.automaton_products.specs.Joining.{IsJoinedRow, AreStates}
+use Rattle.automaton_products.specs.Products.{pair, dead_pair, start_pair, next_pair, IsMet, IsProduct}
+use Rattle.automaton_products.specs.Joining.{AreStates}
 use Rattle.automaton_products.proofs.PairLaws.{dead_next, after_there}
 
 abbrev pub tables : List TargetRange → List ℕ → List Record → ℕ → Automaton

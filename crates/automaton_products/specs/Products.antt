@@ -1,5 +1,5 @@
 -- Two automata run at once.
-use Rattle.std.specs.Prelude.{◌≡◌, ◌⊎◌, ℕ, ◌<◌, ◌≤◌, List, [], ◌∷◌, ◌++◌, length, Some, slice_get}
+use Rattle.std.specs.Prelude.{◌≡◌, ◌⊎◌, ℕ, ◌<◌, ◌≤◌, List, ◌++◌, length, Some, slice_get}
 use Rattle.names.specs.Bytes.{are_bytes}
 use Rattle.verdicts.specs.declared.record.Record.{Record}
 use Rattle.verdicts.specs.declared.record.LeastHits.{LeastHits}

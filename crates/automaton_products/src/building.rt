@@ -20,20 +20,23 @@ struct States {
     records: Vec<Record>,
 }
 
+/// How many ranges a row is expected to have.
+const RANGES: usize = 4;
+
 /// The automaton that runs both automata at once. Its states are the pairs of states that some bytes lead to, numbered in the order
 /// in which they are met: state by state, and for each state the bytes in ascending order. Refused if there are more than 16,384.
 pub fn product(alloc: Global, one: &Dfa, other: &Dfa) -> Result<Dfa, CompileFault>
     ensures ok { IfOk result (IsProduct one.now other.now) }
     ensures err { IfErr result (IsProductFault one.now other.now) }
 {
-    let mut pairs = Pairs::new(alloc);
-    // From here on it is known that both automata are whole.
-    let _ = (one.states(), other.states());
+    // Most products have about as many states as both automata together, with some ranges each: room for them is made at once.
+    let expected = one.states() as usize + other.states() as usize;
+    let mut pairs = Pairs::with_capacity(alloc, expected)?;
     let start = number_start(one, other, &mut pairs)?;
     let mut states = States {
-        ranges: Vec::new(alloc),
-        firsts: Vec::new(alloc),
-        records: Vec::new(alloc),
+        ranges: Vec::with_capacity(alloc, RANGES * expected)?,
+        firsts: Vec::with_capacity(alloc, expected)?,
+        records: Vec::with_capacity(alloc, expected)?,
     };
     add_states(one, other, &mut pairs, &mut states)?;
     Ok(Dfa::of(states.ranges, states.firsts, states.records, start))

@@ -7,7 +7,7 @@ ghost use Rattle.automaton_products.specs.Products.{dead_pair, AreFewPairs, IsRe
 use crate::laws::equal_pairs_are_one;
 use automata::{CompileFault, Dfa, MOST_SETS};
 use indexmap::IndexSet;
-use std::alloc::Global;
+use std::alloc::{AllocError, Global};
 
 /// A state of one automaton and a state of another.
 #[derive(Clone, Copy, Debug, PartialEq, Eq, Hash)]
@@ -23,13 +23,13 @@ pub(crate) struct Pairs {
 }
 
 impl Pairs {
-    /// None so far.
-    pub(crate) fn new(alloc: Global) -> Pairs
-        ensures { length (pairs_of result) ≡ 0 }
+    /// None so far, with room for some.
+    pub(crate) fn with_capacity(alloc: Global, pairs: usize) -> Result<Pairs, AllocError>
+        ensures { IfOk result (λ none. length (pairs_of none) ≡ 0) }
     {
-        Pairs {
-            pairs: IndexSet::new(alloc),
-        }
+        Ok(Pairs {
+            pairs: IndexSet::with_capacity(alloc, pairs)?,
+        })
     }
 
     /// The number of a pair: the next one, if it is new.

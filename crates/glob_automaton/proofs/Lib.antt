@@ -32,6 +32,7 @@ pub mod CountSearch
 pub mod SetSteps
 pub mod SetPlaces
 pub mod NamedSteps
+pub mod EdgeSteps
 pub mod RowSteps
 pub mod RangeSteps
 pub mod BuiltStates

@@ -1,5 +1,6 @@
 -- The row of a set as ranges, one more where the target changes.
-use Rattle.std.proofs.Common.{◌≡◌, ⊎_elim, Bool, slice_index_or, ℕ, ◌+◌, ◌-◌, ◌<◌, ◌≤◌, ◌++◌, ◌∷◌, [], List, sym, subst, subst₂, refl}
+use Rattle.std.proofs.Common.{◌≡◌, ⊎_elim, Bool, slice_index_or, ℕ, zero, suc, ◌+◌, ◌-◌, ◌<◌, ◌≤◌, ◌++◌, ◌∷◌, [], List}
+use Rattle.std.proofs.Common.{sym, subst, subst₂, refl}
 use Rattle.std.proofs.Common.{arith}
 use Rattle.std.proofs.lemmas.Bool.{cases_lt}
 use Rattle.automata.specs.declared.range.TargetRange.{TargetRange}
@@ -43,6 +44,20 @@ module _ (chart : Chart) (set : List ℕ) where
         ))
         (cases_lt c byte),
   )
+
+  -- so are all bytes up to one
+  pub like_those : (sets : List (List ℕ)) (least : List ℕ) (named : List Bool) → IsPartOfChart chart → AreAlike chart least →
+      AreNamed chart set named → (old ranges : List TargetRange) (t from more : ℕ) → from + more ≤ 256 →
+      ((b : ℕ) → from ≤ b → b < from + more → AreLike least named (b - 1) b) → IsWritten sets old ranges t from →
+      IsWritten sets old ranges t (from + more)
+  like_those sets least named part alike marks old ranges t from zero small like h =
+      subst (IsWritten sets old ranges t) (omega arith) h
+  like_those sets least named part alike marks old ranges t from (suc more) small like h =
+      subst (IsWritten sets old ranges t) (omega arith)
+      (like_last sets least named part alike marks old ranges t (from + more) (omega (arith, small))
+      (like (from + more) (omega arith) (omega arith))
+      (like_those sets least named part alike marks old ranges t from more (omega (arith, small))
+      (λ b le lt. like b le (omega (arith, lt))) h))
 
   module _ (sets new : List (List ℕ)) (kept : Keeps sets new) where
     still : (c t : ℕ) → IsTargetOf chart sets set c t → IsTargetOf chart new set c t

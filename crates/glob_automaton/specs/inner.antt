@@ -3,6 +3,8 @@ pub mod Drawing
 pub mod Alike
 pub mod Ascending
 pub mod PlaceBits
+pub mod ByteBits
+pub mod Marks
 pub mod Gathering
 pub mod Building
 pub mod States

@@ -1,7 +1,7 @@
 //! The subset construction: a state for each set of places that is live after some bytes.
 ghost use Rattle.std.specs.Prelude.{◌≡◌, ◌↔◌, ◌-◌, ◌<◌, ◌≤◌, ◌++◌, true, ◌∷◌, [], IfOk, IfErr, IsTrue, OnOk, Contains, length, map};
 ghost use Rattle.std.specs.Prelude.{slice_index_or};
-ghost use Rattle.glob_automaton.specs.inner.Alike.{AreAlike, AreLike, AreNamed};
+ghost use Rattle.glob_automaton.specs.inner.Alike.{AreAlike, AreEdges, AreNamed};
 ghost use Rattle.automata.specs.Automata.{most_sets};
 ghost use Rattle.glob_automaton.specs.inner.Building.{ArePlaces, IsStartOf, IsStepOf, IsRecordOf, IsBuilt, IsBuildFault};
 ghost use Rattle.glob_automaton.specs.inner.Drawing.{IsPartOfChart};
@@ -11,7 +11,8 @@ ghost use Rattle.glob_automaton.specs.inner.Shared.{AreShared};
 ghost use Rattle.automata.specs.Rows.{AreRows, IsRowAppended};
 
 use crate::bytes::ByteClasses;
-use crate::chart::{Chart, Label};
+use crate::chart::Chart;
+use crate::marks::Marks;
 use crate::sets::Gathering;
 use automata::{CompileFault, Dfa, MOST_SETS, TargetRange};
 use indexmap::IndexSet;
@@ -36,6 +37,9 @@ struct States {
     start: u32,
 }
 
+/// How many ranges a row is expected to have.
+const RANGES: usize = 4;
+
 /// Builds the automaton of a chart of one rule.
 pub(crate) fn build(alloc: Global, chart: &Chart) -> Result<Dfa, CompileFault>
     requires chart { IsPartOfChart chart.now }
@@ -44,15 +48,17 @@ pub(crate) fn build(alloc: Global, chart: &Chart) -> Result<Dfa, CompileFault>
     ensures err { IfErr result (IsBuildFault chart.now) }
 {
     let mut gathering = Gathering::new(alloc, chart)?;
+    // Most paths lead to about as many sets as they have places, with some ranges each: room for them is made at once.
+    let expected = chart.places.len();
     let mut sets = Sets {
         alloc,
-        sets: IndexSet::new(alloc),
+        sets: IndexSet::with_capacity(alloc, expected)?,
     };
     let start = number_start(chart, &mut gathering, &mut sets)?;
     let mut states = States {
-        ranges: Vec::new(alloc),
-        firsts: Vec::new(alloc),
-        records: Vec::new(alloc),
+        ranges: Vec::with_capacity(alloc, expected.saturating_mul(RANGES))?,
+        firsts: Vec::with_capacity(alloc, expected)?,
+        records: Vec::with_capacity(alloc, expected)?,
         start,
     };
     add_states(alloc, chart, &mut gathering, &mut sets, &mut states)?;
@@ -198,20 +204,6 @@ fn gather_step(
     Ok(())
 }
 
-// The bytes that places of a set take alone.
-fn named_by(chart: &Chart, set: &[usize]) -> [bool; 256]
-    requires set { ArePlaces chart.now set.now }
-    ensures { AreNamed chart.now set.now result }
-{
-    let mut named = [false; 256];
-    for place in set {
-        if let Label::Byte(byte) = chart.places[*place].takes {
-            named[byte as usize] = true;
-        }
-    }
-    named
-}
-
 // The target of a set and a byte.
 fn target_of(
     chart: &Chart,
@@ -275,19 +267,7 @@ fn shared_target(
     Ok(target)
 }
 
-// Whether a byte and the one before it are alike, and no place of the set takes one of them alone. Then they have one target, which
-// needn't be looked up again: most bytes are of this kind.
-#[inline]
-fn is_like_last(classes: &ByteClasses, named: &[bool; 256], byte: u8) -> bool
-    requires some { 0 < byte }
-    requires long { length classes.now.least ≡ 256 }
-    ensures { result ≡ true → AreLike classes.now.least named.now (byte - 1) byte }
-{
-    let (this, last) = (byte as usize, byte as usize - 1);
-    !named[this] && !named[last] && classes.least[this] == classes.least[last]
-}
-
-// Adds the row of a set. A range ends where the next byte has another target.
+// Adds the row of a set. A range ends where the next byte has another target; the bytes between two edges have the same one.
 fn add_row(
     chart: &Chart,
     classes: &ByteClasses,
@@ -298,6 +278,7 @@ fn add_row(
 ) -> Result<(), CompileFault>
     requires chart { IsPartOfChart chart.now }
     requires alike { AreAlike chart.now classes.now.least }
+    requires edges { AreEdges classes.now.least classes.now.edges.words }
     requires gathering { IsGathering chart.now gathering.old }
     requires sets { AreFewSets chart.now (lists_of sets.old) }
     requires set { Contains (lists_of sets.old) set.now }
@@ -307,17 +288,17 @@ fn add_row(
     ensures row { OnOk result (IsRowAppended (IsTargetOf chart.now (lists_of sets.new) set.now) ranges.old.items ranges.new.items) }
     ensures err { IfErr result (IsBuildFault chart.now) }
 {
-    let named = named_by(chart, set);
+    let marks = Marks::of(chart, classes, set);
+    let named = &marks.named;
     let mut others: [Option<u16>; 256] = [None; 256];
-    let mut target = shared_target(chart, classes, &named, set, 0, &mut others, gathering, sets)?;
-    for byte in 1..256u32 {
-        if is_like_last(classes, &named, byte as u8) {
-            continue;
-        }
+    let mut target = shared_target(chart, classes, named, set, 0, &mut others, gathering, sets)?;
+    let mut from = 1;
+    while let Some(byte) = marks.edges.next_from(from) {
+        from = byte + 1;
         let next = shared_target(
             chart,
             classes,
-            &named,
+            named,
             set,
             byte as u8,
             &mut others,

@@ -1,19 +1,23 @@
 //! Classes of bytes that all places take alike, apart from places that take a single byte.
 ghost use Rattle.std.specs.Prelude.{◌≡◌, ◌==◌, ◌<◌, ℕ, false, slice_index_or};
-ghost use Rattle.glob_automaton.specs.inner.Alike.{IsAlike, AreAlike, IsSplit};
+ghost use Rattle.glob_automaton.specs.inner.Alike.{IsAlike, AreAlike, AreEdges, IsSplit};
 
+use crate::byte_bits::ByteBits;
 use crate::chart::Chart;
 
 /// For each byte the least of its class: each place takes both or neither, apart from places that take a single byte.
 #[derive(Clone, Copy)]
 pub(crate) struct ByteClasses {
     pub least: [u8; 256],
+    /// The bytes whose class isn't that of the byte before.
+    pub edges: ByteBits,
 }
 
 impl ByteClasses {
     /// The least byte alike to each, by the places of a chart.
     pub(crate) fn of(chart: &Chart) -> ByteClasses
-        ensures { AreAlike chart.now result.least }
+        ensures alike { AreAlike chart.now result.least }
+        ensures edges { AreEdges result.least result.edges.words }
     {
         let mut least = [0; 256];
         split(&mut least, &only(0));
@@ -21,8 +25,22 @@ impl ByteClasses {
         for taken in &chart.classes {
             split(&mut least, taken);
         }
-        ByteClasses { least }
+        let edges = edges_of(&least);
+        ByteClasses { least, edges }
     }
+}
+
+// The bytes whose least one isn't that of the byte before.
+fn edges_of(least: &[u8; 256]) -> ByteBits
+    ensures { AreEdges least.now result.words }
+{
+    let mut edges = ByteBits::new();
+    for byte in 1..256 {
+        if least[byte] != least[byte - 1] {
+            edges.add(byte as u8);
+        }
+    }
+    edges
 }
 
 // That byte alone.

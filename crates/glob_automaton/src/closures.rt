@@ -23,7 +23,7 @@ impl Closures {
         ensures each { IfOk result (AreClosures chart.now.entries.items) }
     {
         let mut closures = Closures {
-            closures: Vec::new(alloc),
+            closures: Vec::with_capacity(alloc, chart.entries.len())?,
         };
         let mut bits = PlaceBits::new(alloc);
         for entry in 0..chart.entries.len() {

@@ -109,7 +109,7 @@ impl Leaves {
 fn with_hits(alloc: Global, dfa: &Dfa, hits: &Record) -> Result<Dfa, AllocError>
     ensures { IfOk result (IsWithHits hits.now dfa.now) }
 {
-    let mut records = Vec::new(alloc);
+    let mut records = Vec::with_capacity(alloc, dfa.states() as usize)?;
     for state in 0..dfa.states() {
         records.push(where_read(&dfa.record_at(state), hits))?;
     }

@@ -7,12 +7,14 @@
 #![tactic(auto)]
 
 mod building;
+mod byte_bits;
 mod bytes;
 mod chart;
 mod closures;
 mod compiling;
 mod laws;
 mod leaf;
+mod marks;
 mod parts;
 mod place_bits;
 mod sets;

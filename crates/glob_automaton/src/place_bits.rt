@@ -6,7 +6,8 @@ ghost use Rattle.glob_automaton.specs.inner.PlaceBits.{has_from, has_place, is_b
 
 use std::alloc::{AllocError, Global};
 
-const WORD: usize = 64;
+/// The bits of a word.
+pub(crate) const WORD: usize = 64;
 
 /// The bits of some places: place q is bit q % 64 of word q / 64. Words before `begin`, and from `end` on, are 0.
 #[derive(Drop)]
@@ -163,8 +164,8 @@ fn push(places: &mut Vec<usize>, place: usize) -> Result<(), AllocError>
     Ok(())
 }
 
-// The first bit of a word from one on that is set.
-fn next_bit(word: u64, from: usize) -> Option<usize>
+/// The first bit of a word from one on that is set.
+pub(crate) fn next_bit(word: u64, from: usize) -> Option<usize>
     requires { from ≤ 64 }
     ensures some { IfSome result (IsNextBit word from) }
     ensures none { result ≡ None → (i : ℕ) → from ≤ i → i < 64 → is_bit word i ≡ false }

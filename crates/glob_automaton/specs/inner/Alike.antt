@@ -1,11 +1,12 @@
 -- Bytes that are taken alike, and those that a place takes alone.
-use Rattle.std.specs.Prelude.{◌≡◌, ℕ, ◌<◌, ◌≤◌, Bool, false, List, length, Some, slice_get, slice_index_or, true, Contains}
+use Rattle.std.specs.Prelude.{◌≡◌, ℕ, ◌-◌, ◌<◌, ◌≤◌, Bool, false, List, length, Some, slice_get, slice_index_or, true, Contains}
 use Rattle.glob_automaton.specs.declared.chart.Chart.{Chart}
 use Rattle.glob_automaton.specs.declared.chart.ChartPlace.{ChartPlace}
 use Rattle.glob_automaton.specs.declared.chart.Label.{Label}
 use Rattle.glob_automaton.specs.declared.chart.Label.TheVariants as label
 use Rattle.glob_automaton.specs.inner.Chart.{takes_byte}
 use Rattle.glob_automaton.specs.inner.Drawing.{IsKnown}
+use Rattle.glob_automaton.specs.inner.PlaceBits.{has_place}
 
 -- the least byte alike to a byte
 abbrev pub least_of : List ℕ → ℕ → ℕ
@@ -49,3 +50,7 @@ pub record AreLike (least : List ℕ) (named : List Bool) (one other : ℕ) : Ty
   pub alike : least_of least one ≡ least_of least other
   pub one_unmarked : slice_index_or named one false ≡ false
   pub other_unmarked : slice_index_or named other false ≡ false
+
+-- each byte that isn't an edge is alike to the byte before it
+abbrev pub AreEdges : List ℕ → List ℕ → Type 0
+AreEdges least edges = (b : ℕ) → 0 < b → b < 256 → has_place edges b ≡ false → least_of least (b - 1) ≡ least_of least b

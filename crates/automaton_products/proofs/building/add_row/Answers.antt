@@ -1,11 +1,10 @@
 -- The ranges that are written have the pairs of the targets of their bytes.
-use Rattle.std.proofs.Common.{◌≡◌, ◌∙◌, ◌+◌, ◌++◌, ◌∷◌, ◌<◌, ◌≤◌, [], List, ℕ, Some, slice_get, length, sym, ap, subst, refl, arith}
+use Rattle.std.proofs.Common.{◌≡◌, ◌∙◌, ◌+◌, ◌<◌, ◌≤◌, List, Some, slice_get, sym, ap, subst, arith}
 use Rattle.automata.specs.declared.range.TargetRange.{TargetRange}
-use Rattle.automata.specs.Rows.{target_in}
 use Rattle.automata.specs.Rows.{IsRowAppended}
-use Rattle.automata.proofs.Fronts.{none_yet, one_range_more, last_range, IsSoFar}
+use Rattle.automata.proofs.Fronts.{one_range_more, last_range, IsSoFar}
 use Rattle.automaton_products.specs.Products.{pairs_of, next_pair, IsReached}
-use Rattle.automaton_products.proofs.PairLaws.{reached_within, reached_next, kept_itself, kept_through, kept_at}
+use Rattle.automaton_products.proofs.PairLaws.{reached_within, reached_next, kept_through, kept_at}
 use Rattle.automaton_products.proofs.WalkSteps.{step_pair}
 use Rattle.automaton_products.proofs.building.add_row.Goals as goal
 

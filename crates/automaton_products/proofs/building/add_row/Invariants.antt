@@ -1,5 +1,5 @@
 -- Both rows stand at the range of the byte, and the bytes before it have their pairs.
-use Rattle.std.proofs.Common.{◌≡◌, ◌+◌, ◌-◌, ◌<◌, ◌≤◌, ℕ, Some, length, slice_get}
+use Rattle.std.proofs.Common.{◌≡◌, ◌-◌, ◌<◌, ◌≤◌, ℕ, Some, slice_get}
 use Rattle.automata.specs.Automata.{target}
 use Rattle.automata.specs.Rows.{target_in, IsRowFrom}
 use Rattle.automata.proofs.Fronts.{IsSoFar}

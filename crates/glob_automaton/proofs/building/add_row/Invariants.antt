@@ -1,4 +1,5 @@
 -- The bytes before this one have their targets.
+use Rattle.std.proofs.Common.{◌-◌, ◌<◌, ◌≤◌}
 use Rattle.glob_automaton.specs.inner.Gathering.{IsGathering}
 use Rattle.glob_automaton.specs.inner.Shared.{AreShared}
 use Rattle.glob_automaton.specs.inner.States.{lists_of, AreFewSets, Keeps}
@@ -7,9 +8,14 @@ use Rattle.glob_automaton.proofs.building.add_row.Given as goal
 
 abbrev pub invariant-loop-byte : goal.invariant-loop-byte
 invariant-loop-byte l = record {
+  some : 0 < l.from;
+  small : l.from ≤ 256;
   gathering : IsGathering l.chart l.gathering;
   sets : AreFewSets l.chart (lists_of l.sets);
   kept : Keeps (lists_of l.fn.sets) (lists_of l.sets);
   others : AreShared l.chart l.classes.least l.named (lists_of l.sets) l.set l.others;
-  written : IsWritten l.chart l.set (lists_of l.sets) l.fn.ranges.items l.ranges.items l.target l.byte;
+  written : IsWritten l.chart l.set (lists_of l.sets) l.fn.ranges.items l.ranges.items l.target l.from;
 }
+
+abbrev pub decreases-loop-byte : goal.decreases-loop-byte
+decreases-loop-byte l = 256 - l.from

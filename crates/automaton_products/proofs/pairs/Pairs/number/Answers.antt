@@ -1,8 +1,6 @@
 -- The pair is found, or it is appended.
-use Rattle.std.proofs.Common.{◌≡◌, ◌∙◌, ◌++◌, ◌∷◌, [], ℕ, false, ap, sym, subst, arith, if◌then◌else◌, IfOk}
+use Rattle.std.proofs.Common.{◌≡◌, ◌∙◌, ◌++◌, ◌∷◌, [], false, ap, sym, arith, if◌then◌else◌}
 use Rattle.std.specs.List.{list_any}
-use Rattle.automaton_products.specs.Numbering.{IsNumbered}
-use Rattle.automaton_products.specs.Products.{pairs_of}
 use Rattle.automaton_products.specs.contracts.pairs.PairPartialEq.TheImpl as pair_impl
 use Rattle.automaton_products.proofs.PairNumbers.{all_distinct, not_there, numbered_found, numbered_new}
 use Rattle.automaton_products.proofs.pairs.Pairs.number.Goals as goal

@@ -22,7 +22,7 @@ loop-taken-preserved c = record {
       c.deref-taken-items.ensures.value c.split-in-loop-taken.ensures);
 }
 
-pub returns : goal.returns
-returns c = parted_by_all c.args.chart.now c.loop-taken.least c.loop-taken.taken-index
+pub returns-clause-alike : goal.returns-clause-alike
+returns-clause-alike c = parted_by_all c.args.chart.now c.loop-taken.least c.loop-taken.taken-index
     (subst (λ z. length z ≤ c.loop-taken.taken-index) c.deref-taken-items.ensures.value c.loop-taken-test.false)
     c.loop-taken.invariant.parted
