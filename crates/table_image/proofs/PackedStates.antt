@@ -54,10 +54,10 @@ untaken taken bytes base b none there = elim (is_taken taken (base + b)) as (λ 
 
 module _ (a : Automaton) (whole : IsWhole a) (t : Table) (taken : Taken) (s : ℕ) (low_state : s < 16384) (packed : IsPacked a t taken s)
     (r : Record) (number : ℕ) (records : List Record) (hits : slice_get a.records (source a s) ≡ Some r)
-    (numbered : IsRecordNumber t.records records r number) (targets : List ℕ) (are_targets : (b : ℕ) → b < 256 → slice_index_or targets b 0
-    ≡ target a (source a s) b)
-    (default : ℕ) (default_there : default < length a.rows) (without : List ℕ)
-    (all_default : (b : ℕ) → b < 256 → slice_index_or without b 0 ≡ default) (bytes : List ℕ) (others : AreOthers targets without bytes)
+    (numbered : IsRecordNumber t.records records r number)
+    (its : ℕ → ℕ) (are_targets : (b : ℕ) → b < 256 → its b ≡ target a (source a s) b)
+    (default : ℕ) (default_there : default < length a.rows) (without : ℕ → ℕ)
+    (all_default : (b : ℕ) → b < 256 → without b ≡ default) (bytes targets : List ℕ) (others : AreOthers its without bytes targets)
     (base : ℕ) (low : base ≤ 256 * s) (unblocked : is_blocked taken bytes base ≡ false)
     (next1 check1 : List ℕ) (taken1 : Taken) (cells : HasCells t.next t.check taken next1 check1 taken1 (base + 256))
     (next2 check2 : List ℕ) (taken2 : Taken) (written : IsWritten next1 check1 taken1 next2 check2 taken2 targets bytes base s) where
@@ -142,7 +142,7 @@ module _ (a : Automaton) (whole : IsWhole a) (t : Table) (taken : Taken) (s : �
       ap (λ z. slice_index_or next2 z 0) at ∙ ⊎_elim
       (λ h.
       let same : h.0 ≡ b = omega (arith, h.2) in
-      next_own c h ∙ ap (λ z. slice_index_or targets z 0) same ∙ are_targets b small ∙ ap (λ z. target a (source a z) b) (sym now))
+      next_own c h ∙ (others.only h.0 h.1).2 ∙ ap its same ∙ are_targets b small ∙ ap (λ z. target a (source a z) b) (sym now))
       (λ none. absurd (not_own c (omega (arith, cells.enough, small)) (sym (written.others c none).0 ∙ mine)))
       (cell_or_not base bytes c))
       (cases_lt k s)
@@ -164,13 +164,19 @@ module _ (a : Automaton) (whole : IsWhole a) (t : Table) (taken : Taken) (s : �
       newest t.default default k (omega (arith, now, packed.defaults_long)) ∙ ⊎_elim
       (λ e. sym (all_default b small) ∙ sym e.1 ∙ are_targets b small ∙ ap (λ z. target a (source a z) b) (sym now))
       (λ e. absurd (other (ap (λ z. slice_index_or check2 z 0) at ∙ (written.own b (others.each b small e.1)).0 ∙ sym now)))
-      (eqb_tells (slice_index_or targets b 0) (slice_index_or without b 0)))
+      (eqb_tells (its b) (without b)))
       (cases_lt k s)
 
   next_there : (c : ℕ) → c < length next2 → slice_index_or next2 c 0 < length a.rows
   next_there c lt = ⊎_elim
-      (λ h. let small = others.below h.0 h.1 in
-      omega (arith, next_own c h, are_targets h.0 small, whole.targets (source a s) h.0 (source_there a s whole) small))
+      (λ h. let small = (others.only h.0 h.1).0 in
+      omega (
+        arith,
+        next_own c h,
+        (others.only h.0 h.1).2,
+        are_targets h.0 small,
+        whole.targets (source a s) h.0 (source_there a s whole) small,
+      ))
       (λ none. ⊎_elim
       (λ old. omega (arith, next_same c none, packed.next c old))
       (λ fresh. let some = whole.start_there in omega (arith, next_same c none, get_or_past t.next c 0 fresh, some))
@@ -231,7 +237,7 @@ module _ (a : Automaton) (whole : IsWhole a) (t : Table) (taken : Taken) (s : �
         (cases_lt c (length t.next)))
         (cell_or_not base bytes c);
     within = λ c is. ⊎_elim
-        (λ h. let small = others.below h.0 h.1 in omega (arith, h.2, small, cells.enough, long))
+        (λ h. let small = (others.only h.0 h.1).0 in omega (arith, h.2, small, cells.enough, long))
         (λ none. let old = packed.within c (sym (taken_same c none) ∙ is) in omega (arith, old, cells.no_fewer, long))
         (cell_or_not base bytes c);
   }

@@ -1,5 +1,6 @@
 //! The default of a row, and its cells.
-ghost use Rattle.std.specs.Prelude.{◌≡◌, ℕ, List, ◌+◌, ◌*◌, ◌<◌, ◌≤◌, IfOk, OnOk, Contains, length, slice_index_or, map, true, false};
+ghost use Rattle.std.specs.Prelude.{◌≡◌, ◌≢◌, ◌⊎◌, ℕ, List, ◌+◌, ◌*◌, ◌<◌, ◌≤◌, IfOk, OnOk, Contains};
+ghost use Rattle.std.specs.Prelude.{length, slice_index_or};
 ghost use Rattle.table_image.specs.inner.Taking.{is_taken, is_blocked};
 ghost use Rattle.automata.specs.Rows.{IsRowFrom, ends_at, target_in};
 ghost use Rattle.automata.specs.declared.range.TargetRange.{TargetRange};
@@ -10,7 +11,7 @@ use automata::{TargetRange, head, rest_after};
 use std::alloc::{AllocError, Global};
 
 /// The target that the most bytes of a row have, the least state among equals. The counts are 0 for each state, before and after.
-pub(crate) fn commonest(row: &[TargetRange], counts: &mut [u32]) -> u32
+pub(crate) fn commonest(row: &[TargetRange], counts: &mut [u32]) -> u16
     requires row { IsWalk row.now (length counts.old) 0 }
     ensures there { result < length counts.old }
     ensures long { length counts.new ≡ length counts.old }
@@ -41,7 +42,7 @@ fn count(row: &[TargetRange], counts: &mut [u32])
 }
 
 // The target with the greatest count, the least among equals.
-fn most(row: &[TargetRange], counts: &[u32]) -> u32
+fn most(row: &[TargetRange], counts: &[u32]) -> u16
     requires row { IsWalk row.now (length counts.now) 0 }
     ensures { result < length counts.now }
 {
@@ -52,7 +53,7 @@ fn most(row: &[TargetRange], counts: &[u32]) -> u32
         let range = step(rest, counts.len(), from);
         best = greater(counts, best, range.target);
         if range.last == 255 {
-            return u32::from(best);
+            return best;
         }
         rest = rest_after(rest, from, range.last);
         from = range.last + 1;
@@ -106,20 +107,60 @@ fn step(rest: &[TargetRange], bound: usize, from: u8) -> TargetRange
     head(rest, from)
 }
 
-/// The bytes that need a cell: those whose target isn't the one without a cell.
+/// The bytes of a row that need a cell: those whose target isn't the one without a cell, which another row has. For each of them
+/// `targets` has its target.
 pub(crate) fn others(
     bytes: &mut Vec<u8>,
-    targets: &[u32; 256],
-    without: &[u32; 256],
+    targets: &mut [u32; 256],
+    row: &[TargetRange],
+    without: &[TargetRange],
 ) -> Result<(), AllocError>
-    ensures { OnOk result (AreOthers targets.now without.now bytes.new.items) }
+    requires row { IsRowFrom 0 row.now }
+    requires without { IsRowFrom 0 without.now }
+    ensures { OnOk result (AreOthers (target_in row.now) (target_in without.now) bytes.new.items targets.new) }
 {
     bytes.clear();
-    for byte in 0..256 {
-        if targets[byte] == without[byte] {
-            continue;
+    let mut own = row;
+    let mut other = without;
+    let mut from = 0;
+    loop {
+        let range = head(own, from);
+        let default = head(other, from);
+        let last = range.last.min(default.last);
+        push_range(bytes, targets, from, last, range.target, default.target)?;
+        if last == 255 {
+            return Ok(());
         }
+        own = rest_after(own, from, last);
+        other = rest_after(other, from, last);
+        from = last + 1;
+    }
+}
+
+// Adds the bytes from the first to the last, unless their target is the one without a cell.
+fn push_range(
+    bytes: &mut Vec<u8>,
+    targets: &mut [u32; 256],
+    first: u8,
+    last: u8,
+    target: u16,
+    without: u16,
+) -> Result<(), AllocError>
+    requires { first ≤ last }
+    ensures kept { OnOk result ((b : ℕ) → Contains bytes.old.items b → Contains bytes.new.items b) }
+    ensures added { OnOk result ((b : ℕ) → Contains bytes.new.items b →
+        Contains bytes.old.items b ⊎ ((first ≤ b) × (b ≤ last) × (target ≢ without))) }
+    ensures within { OnOk result (target ≢ without → (b : ℕ) → first ≤ b → b ≤ last →
+        Contains bytes.new.items b × (slice_index_or targets.new b 0 ≡ target)) }
+    ensures outside { OnOk result ((b : ℕ) → (b < first) ⊎ (last < b) →
+        slice_index_or targets.new b 0 ≡ slice_index_or targets.old b 0) }
+{
+    if target == without {
+        return Ok(());
+    }
+    for byte in usize::from(first)..usize::from(last) + 1 {
         bytes.push(byte as u8)?;
+        targets[byte] = u32::from(target);
     }
     Ok(())
 }

@@ -8,7 +8,7 @@ ghost use Rattle.tables.specs.Tables.{table_value};
 use crate::cells::{commonest, others, write_cells};
 use crate::starts::Starts;
 use crate::taken::Taken;
-use automata::Dfa;
+use automata::{Dfa, TargetRange};
 use indexmap::IndexSet;
 use names::NoMemory;
 use std::alloc::{AllocError, Global};
@@ -28,6 +28,8 @@ struct Packing {
     numbers: IndexSet<Record>,
     // The bytes that need a cell in the row that is being packed.
     bytes: Vec<u8>,
+    // For each of them its target.
+    targets: [u32; 256],
     // For each state 0, but while the default of a row is chosen: then how many bytes of the row lead there.
     counts: Vec<u32>,
 }
@@ -64,6 +66,7 @@ fn pack_states(alloc: Global, dfa: &Dfa) -> Result<RawTable, AllocError>
         starts: Starts::new(alloc)?,
         numbers: IndexSet::new(alloc),
         bytes: Vec::new(alloc),
+        targets: [0; 256],
         counts,
     };
     for state in 0..states {
@@ -90,9 +93,13 @@ fn push_state(packing: &mut Packing, dfa: &Dfa, state: u32) -> Result<(), AllocE
         &mut packing.numbers,
         dfa.record_at(source),
     )?;
-    let targets = dfa.targets(source);
-    let default = commonest(dfa.row(source), &mut packing.counts);
-    others(&mut packing.bytes, &targets, &[default; 256])?;
+    let row = dfa.row(source);
+    let default = commonest(row, &mut packing.counts);
+    let without = [TargetRange {
+        last: 255,
+        target: default,
+    }];
+    others(&mut packing.bytes, &mut packing.targets, row, &without)?;
     let limit = ROW_LENGTH as usize * state as usize;
     let start = packing.starts.start_for(&packing.bytes);
     let base = packing.taken.place(&packing.bytes, limit, start);
@@ -106,13 +113,13 @@ fn push_state(packing: &mut Packing, dfa: &Dfa, state: u32) -> Result<(), AllocE
         &mut packing.table.next,
         &mut packing.table.check,
         &mut packing.taken,
-        &targets,
+        &packing.targets,
         &packing.bytes,
         base,
         state,
     );
     packing.starts.remember(&packing.bytes, base)?;
-    push_number(&mut packing.table.default, default)?;
+    push_number(&mut packing.table.default, u32::from(default))?;
     push_number(&mut packing.table.base, base as u32)?;
     push_number(&mut packing.table.accept, number)?;
     Ok(())

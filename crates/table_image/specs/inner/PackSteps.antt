@@ -29,10 +29,10 @@ pub record IsRecordNumber (old new : List Record) (record_value : Record) (numbe
 abbrev pub without_cell : Table → ℕ → ℕ → ℕ
 without_cell t s b = slice_index_or t.default s 0
 
--- the bytes that need a cell: their target isn't the one without
-pub record AreOthers (targets without bytes : List ℕ) : Type 0 where
-  pub below : (b : ℕ) → Contains bytes b → b < 256
-  pub each : (b : ℕ) → b < 256 → slice_index_or targets b 0 ≢ slice_index_or without b 0 → Contains bytes b
+-- The bytes that need a cell are those whose target isn't the one without a cell. Each of them has its target.
+pub record AreOthers (target without : ℕ → ℕ) (bytes targets : List ℕ) : Type 0 where
+  pub each : (b : ℕ) → b < 256 → target b ≢ without b → Contains bytes b
+  pub only : (b : ℕ) → Contains bytes b → (b < 256) × (target b ≢ without b) × (slice_index_or targets b 0 ≡ target b)
 
 -- a cell of these bytes
 abbrev pub IsCell : ℕ → List ℕ → ℕ → Type 0
