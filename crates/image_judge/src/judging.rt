@@ -27,7 +27,8 @@ pub fn judge(image: &[u8], name: &[u8], asked: u32, answer: &mut Answer)
     }
 }
 
-fn judge_by(image: &VerifiedImage<'_>, name: &[u8], ask: Perms, answer: &mut Answer)
+#[inline(always)]
+pub(crate) fn judge_by(image: &VerifiedImage<'_>, name: &[u8], ask: Perms, answer: &mut Answer)
     ensures { IsToldByTable image.now ask name.now answer.new }
 {
     let mut steps = Steps::new();

@@ -1,9 +1,10 @@
-//! One name run through an image in place.
-ghost use Rattle.std.specs.Prelude.{◌≡◌, Some};
+//! Names run through an image in place: one, or many side by side.
+ghost use Rattle.std.specs.Prelude.{◌≡◌, ◌+◌, Some, get_or, length};
+ghost use Rattle.table_runner.specs.Batches.{AreAfter, AreOffsets};
 ghost use Rattle.table_verifier.specs.Loading.{IsLoaded};
 ghost use Rattle.tables.specs.Tables.{Table, state_after};
 
-use table_runner::run_image;
+use table_runner::{run_image, run_names_by_image};
 use table_verifier::{State, Steps, VerifiedImage};
 
 /// The state that a name leads to by an image that was accepted: what the interface for C does before it reads the record.
@@ -13,4 +14,25 @@ pub extern "C" fn loop_bench_image(image: &[u8], name: &[u8]) -> State
     ensures { (t : Table) × IsLoaded image.now t × (state_after t name.now ≡ Some result) }
 {
     run_image(&VerifiedImage::accepted(image), name, &mut Steps::new())
+}
+
+/// The states that many names lead to by an image that was accepted: each name goes from an offset to the next. Returns the number
+/// of look-ups.
+#[unsafe(no_mangle)]
+pub extern "C" fn loop_bench_names(
+    image: &[u8],
+    text: &[u8],
+    offsets: &[usize],
+    states: &mut [State],
+) -> u64
+    requires image { (t : Table) × IsLoaded image.now t }
+    requires offsets { AreOffsets text.now offsets.now (length states.old) }
+    ensures long { length states.new ≡ length states.old }
+    ensures states { (t : Table) × IsLoaded image.now t × AreAfter t text.now offsets.now states.new }
+    ensures steps { result + get_or offsets.now 0 0 ≡ get_or offsets.now (length states.old) 0 }
+{
+    let mut steps = Steps::new();
+    let image = VerifiedImage::accepted(image);
+    run_names_by_image(&image, text, offsets, states, &mut steps);
+    steps.count()
 }

@@ -12,4 +12,6 @@ pub use compiled::{CompiledProfile, table_of};
 pub use fault::MakeFault;
 pub use laws::tables_of_rules_tell_their_verdicts;
 pub use profiles::{AnyProfile, PolicyChange};
-pub use table_runner::{LoadedProfile, judge, record_of_name, run};
+pub use table_runner::{
+    LoadedProfile, are_offsets, judge, record_of_name, run, run_names, run_names_by_image,
+};

@@ -28,3 +28,15 @@ pub state_next : (t : Table) (start : ℕ) (bytes : List ℕ) (i s : ℕ) → i 
     → state_from t start (take (i + 1) bytes) ≡ next_state t s (get_or bytes i 0)
 state_next t start bytes i s lt at = ap (state_from t start) (take_more bytes i 0 lt) ∙ goes_one_more t start s (take i bytes)
     (get_or bytes i 0) at
+
+-- what a state leads to by some bytes leads on by those behind
+goes_on_by : (t : Table) (m n : ℕ) (xs ys : List ℕ) (o : Option ℕ) →
+    ((k : ℕ) → state_from t k xs ≡ Some m → state_from t k (xs ++ ys) ≡ Some n)
+    → option_and_then (λ (k : ℕ). state_from t k xs) o ≡ Some m → option_and_then (λ (k : ℕ). state_from t k (xs ++ ys)) o ≡ Some n
+goes_on_by t m n xs ys None more here = cc
+goes_on_by t m n xs ys (Some k) more here = more k here
+
+pub goes_on : (t : Table) (s m n : ℕ) (xs ys : List ℕ) → state_from t s xs ≡ Some m → state_from t m ys ≡ Some n →
+    state_from t s (xs ++ ys) ≡ Some n
+goes_on t s m n [] ys here there = ap (λ (k : ℕ). state_from t k ys) (same_Some s m here) ∙ there
+goes_on t s m n (x ∷ xs) ys here there = goes_on_by t m n xs ys (next_state t s x) (λ k led. goes_on t k m n xs ys led there) here

@@ -1,2 +1,3 @@
 pub mod Loading
+pub mod Batches
 pub mod inner

@@ -12,6 +12,7 @@ use table_image::{ImageFault, to_bytes};
 use table_verifier::{Steps, VerifiedTable};
 
 mod agreeing;
+mod batches;
 mod images;
 mod making;
 mod same_verdicts;

@@ -5,6 +5,7 @@ ghost use Rattle.image_judge.specs.Answers.{IsNoneOrLoaded};
 
 use image_judge::{Answer, Counts, Fault, count, judge, judge_all, numbers_are_sets, verify};
 use std::alloc::Global;
+use std::process::Abort;
 use std::test::Fail;
 use table_verifier::verify_image;
 
@@ -168,4 +169,85 @@ fn many_names_are_judged(rt: HostRuntime) -> Result<(), Fail> {
     let want = [answer(1, 0, 0, 1), answer(3, 0, 1, 1), none, none, none];
     assert_eq!(rt; answers, want);
     Ok(())
+}
+
+// This number of names of no, one and two bytes, in one text; a letter more than all of them.
+fn small_names(alloc: Global, count: u32) -> Result<(Vec<u8>, Vec<usize>), Fail> {
+    let mut text = b"a".to_vec(alloc)?;
+    let mut offsets = Vec::new(alloc);
+    offsets.push(1)?;
+    for i in 0..count {
+        for _letter in 0..i % 3 {
+            text.push(if i % 4 == 0 { b'b' } else { b'a' })?;
+        }
+        offsets.push(text.len())?;
+    }
+    Ok((text, offsets))
+}
+
+// Each name of a batch has the answer that it has by itself, or none if it has no offsets.
+fn expect_answers(
+    rt: &impl Abort,
+    alloc: Global,
+    image: &[u8],
+    text: &[u8],
+    offsets: &[usize],
+    count: usize,
+    asked: u32,
+) -> Result<(), Fail>
+    requires { IsNoneOrLoaded image.now }
+{
+    let mut answers = Vec::new(alloc);
+    answers.resize(count, STALE)?;
+    judge_all(image, text, offsets, asked, &mut answers);
+    for i in 0..count {
+        let begin = offsets.get(i).copied();
+        let end = offsets.get(i.saturating_add(1)).copied();
+        let name = text.get(begin.unwrap_or(1)..end.unwrap_or(0));
+        let want = match name {
+            Some(name) => told(image, name, asked),
+            None => answer(0, 0, 0, 0),
+        };
+        assert_eq!(rt; answers.get(i), Some(&want), "{count} names, {i}");
+    }
+    Ok(())
+}
+
+#[test]
+fn names_of_a_batch_are_judged_as_each_is(rt: HostRuntime) -> Result<(), Fail> {
+    let alloc = rt.alloc();
+    let image = image(alloc)?;
+    let image = &image[..];
+    assert!(rt; is_accepted(image));
+    for count in [0, 1, 7, 8, 9, 127, 128, 129, 136, 257, 600] {
+        let (text, offsets) = small_names(alloc, count)?;
+        let names = count as usize;
+        expect_answers(&rt, alloc, image, &text, &offsets, names, 1)?;
+        expect_answers(&rt, alloc, image, &text, &offsets, names, 3)?;
+        expect_answers(&rt, alloc, image, &text, &offsets, names, 32)?;
+        expect_answers(&rt, alloc, b"", &text, &offsets, names, 1)?;
+        // The last name has no end.
+        let ends = offsets.len().saturating_sub(1);
+        expect_answers(&rt, alloc, image, &text, &offsets[..ends], names, 1)?;
+        // The text ends before the last names.
+        let half = text.len() / 2;
+        expect_answers(&rt, alloc, image, &text[..half], &offsets, names, 1)?;
+    }
+    Ok(())
+}
+
+#[test]
+fn one_offset_that_descends_spoils_its_names_alone(rt: HostRuntime) -> Result<(), Fail> {
+    let alloc = rt.alloc();
+    let image = image(alloc)?;
+    let image = &image[..];
+    assert!(rt; is_accepted(image));
+    let (text, mut offsets) = small_names(alloc, 300)?;
+    if let Some(offset) = offsets.get_mut(140) {
+        *offset = 0;
+    }
+    if let Some(offset) = offsets.get_mut(270) {
+        *offset = usize::MAX;
+    }
+    expect_answers(&rt, alloc, image, &text, &offsets, 300, 1)
 }

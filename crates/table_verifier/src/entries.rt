@@ -6,15 +6,15 @@ ghost use Rattle.table_verifier.specs.Standing.{IsAt};
 use crate::steps::Steps;
 use crate::verified::State;
 
-/// What it takes to read an entry: nothing outside this crate has one, so the functions below alone read entries, and [`look`], which
-/// counts, is the one that reads a check.
+/// What it takes to read an entry: nothing outside this crate has one, so this crate alone reads entries. [`look`] and
+/// [`look_up_eight`](crate::look_up_eight), which count, are the ones that read a check.
 #[derive(Clone, Copy, Debug)]
 pub struct Reader {
     _private: (),
 }
 
-// The one that the functions below have.
-const READER: Reader = Reader { _private: () };
+// The one that the functions of this crate have.
+pub(crate) const READER: Reader = Reader { _private: () };
 
 /// The entries of tables that no index leaves. Where the lists are is found once, and not again at each look-up.
 pub trait Entries {
