@@ -2,9 +2,9 @@
 # make            proves the program and builds it, as ./aa-trace
 # make test       the gate: every proof from nothing, must-fail edits, tests, programs
 # make bench      prints times: large inputs, each with the ratio to half the size or to another input; compiling profiles;
-#                 the loop that runs names through a table, next to the same loop in C; names judged from C; plans and walks
-#                 over a row, and changes and walks over the row that threads share; reads of published profiles, and opens in
-#                 threads, both next to a lock
+#                 the loop that runs names through a table, and many names side by side, next to loops in C; names judged from
+#                 C; plans and walks over a row, and changes and walks over the row that threads share; reads of published
+#                 profiles, and opens in threads, both next to a lock
 # make tour       runs every command of README.md and docs/TOUR.md, and compares what it prints
 # make calls      calls the library for C, and compares its answers with those of ./aa-trace
 # make embed      builds the examples for embedders, ./embed in C and ./embed_rs in Rust, and runs them
@@ -65,6 +65,7 @@ bench: aa-trace
 	sh bench/run.sh
 	sh bench/compile.sh
 	sh bench/match.sh
+	python3 bench/mixes.py
 	sh bench/judge.sh
 	sh bench/row.sh
 	sh bench/cache.sh
@@ -73,6 +74,7 @@ bench: aa-trace
 	sh bench/open.sh
 
 calls: aa-trace $(LIBRARY)
+	tools/batch-loop
 	python3 tools/calls.py
 
 embed: aa-trace $(LIBRARY)

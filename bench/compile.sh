@@ -1,5 +1,5 @@
 #!/bin/sh
-# Times the compilation of profiles, and prints three tables.
+# Times the compilation of profiles, and prints four tables.
 #
 # The first has a row for each profile: the rules, the states, the time and the peak memory, next to them what apparmor_parser
 # takes for the same text, if it is installed, and how many times as fast as the parser the compiler is. Each time is the least
@@ -7,19 +7,23 @@
 # how much the start is. The texts of bench/profiles have the counts of rules and states of real profiles that take compilers
 # long, in words of our own.
 #
-# The second has the time of one compilation in process, for the texts at the limit and just over it: COMPILATIONS in one process
+# The second has the same texts compiled to images by `aa-trace compile`, with packing and writing, next to the parser again; and the
+# bytes of the image, next to those of the file that the parser writes, which is what the kernel gets.
+#
+# The third has the time of one compilation in process, for the texts at the limit and just over it: COMPILATIONS in one process
 # take so much longer than none.
 #
-# The third has hostile texts, which are made here. Each is compiled once, and stopped after SECONDS_EACH. All of it takes a few
+# The fourth has hostile texts, which are made here. Each is compiled once, and stopped after SECONDS_EACH. All of it takes a few
 # minutes.
 #
 # The memory is what GNU time reports for one run. What can't be measured is printed as -.
-# COMPILE is the command of another program to time instead of the one that is built here.
+# COMPILE is the command of another program to time instead of the one that is built here, TRACE that of another aa-trace.
 set -eu
 cd "$(dirname "$0")/.."
 RUNS=${RUNS:-15}
 COMPILATIONS=${COMPILATIONS:-20}
 SECONDS_EACH=${SECONDS_EACH:-40}
+TRACE=${TRACE:-./aa-trace}
 work=$(mktemp -d)
 trap 'rm -rf "$work"' EXIT
 
@@ -30,11 +34,14 @@ if [ -z "${COMPILE:-}" ]; then
 fi
 if command -v apparmor_parser >/dev/null 2>&1; then parser=yes; else parser=; fi
 
-# compiled FILE, repeated FILE, idle FILE, parsed FILE: one run of a program. The second compiles the text COMPILATIONS times,
-# the third reads it and compiles nothing. The parser writes the tables that a kernel would get to standard output, takes nothing
-# from its cache and loads nothing.
+# compiled FILE, imaged FILE, repeated FILE, idle FILE, parsed FILE: one run of a program. The second writes the image, the third
+# compiles the text COMPILATIONS times, the fourth reads it and compiles nothing. The parser writes the tables that a kernel would
+# get to standard output, takes nothing from its cache and loads nothing.
 compiled() {
     $COMPILE <"$1"
+}
+imaged() {
+    $TRACE compile <"$1"
 }
 repeated() {
     $COMPILE "$COMPILATIONS" <"$1"
@@ -133,7 +140,25 @@ profile() {
         "$parser_time" "$parser_held" "$ratio"
 }
 
-# in_process FILE: a row of the second table. A program that can't be told how often to compile prints its line whatever the count.
+# image FILE: a row of the second table. A text that is refused has no image.
+image() {
+    bytes=$(imaged "$1" 2>/dev/null | wc -c)
+    [ "$bytes" -gt 0 ] || return 0
+    times=$(least "$1" imaged ${parser:+parsed})
+    time=${times%%[!0-9]*}
+    parser_time=- parser_bytes=- ratio=- times_bytes=-
+    if [ -n "$parser" ]; then
+        parser_time=${times##*[!0-9]}
+        parser_bytes=$(parsed "$1" 2>/dev/null | wc -c)
+        ratio=$(awk -v parser="$parser_time" -v time="$time" 'BEGIN { printf "%.1f", parser / time }')
+        times_bytes=$(awk -v parser="$parser_bytes" -v bytes="$bytes" 'BEGIN { printf "%.1f", bytes / parser }')
+        parser_time=$(milliseconds "$parser_time")
+    fi
+    printf '%-18s %9s %9s %6s %9s %9s %6s\n' "$(basename "$1" .profile)" "$(milliseconds "$time")" "$parser_time" "$ratio" \
+        "$bytes" "$parser_bytes" "$times_bytes"
+}
+
+# in_process FILE: a row of the third table. A program that can't be told how often to compile prints its line whatever the count.
 in_process() {
     one=-
     if [ -z "$(idle "$1")" ]; then
@@ -143,7 +168,7 @@ in_process() {
     printf '%-18s %10s\n' "$(basename "$1" .profile)" "$one"
 }
 
-# hostile NAME: a row of the third table, of the text that has the name
+# hostile NAME: a row of the fourth table, of the text that has the name
 hostile() {
     text=$work/$1
     begin=$(microseconds)
@@ -181,9 +206,16 @@ text() {
 overhead=$(least - nothing)
 row profile rules states time memory parser memory ratio
 echo 'profile smallest {}' >"$work/smallest.profile"
-for file in "$work/smallest.profile" examples/profiles/*.profile bench/profiles/*.profile bench/at_limit.profile \
-    bench/over_limit.profile; do
+all="$work/smallest.profile examples/profiles/*.profile bench/profiles/*.profile bench/at_limit.profile bench/over_limit.profile"
+for file in $all; do
     profile "$file"
+done
+
+echo
+echo 'compiled to images by aa-trace, packing and writing included'
+printf '%-18s %9s %9s %6s %9s %9s %6s\n' profile time parser ratio bytes parser times
+for file in $all; do
+    image "$file"
 done
 
 echo
