@@ -26,8 +26,8 @@ pub fn are_offsets(text: &[u8], offsets: &[usize], count: usize) -> bool
 }
 
 /// The states that the names of a text lead to through a table: each name goes from an offset to the next one. There is exactly one
-/// look-up for each of their bytes. Allocates nothing, and can't be refused. Names are run eight at a time, side by side, if there
-/// are as many.
+/// look-up for each of their bytes. Allocates nothing, and can't be refused. Names are run eight at a time, side by side, where that
+/// is expected to be faster.
 pub fn run_names(
     table: &VerifiedTable,
     text: &[u8],
