@@ -1,3 +1,4 @@
 pub mod Seeing
 pub mod Standing
 pub mod Sending
+pub mod SharesKept

@@ -1,3 +1,4 @@
 -- Definitions that only private contracts use.
 pub mod Walks
 pub mod Settling
+pub mod Sharing

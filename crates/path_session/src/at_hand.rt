@@ -8,6 +8,7 @@ ghost use Rattle.path_session.specs.Sitting.{IsSameSession, IsNoLinkOf, IsUntouc
 ghost use Rattle.path_session.specs.Standing.{history_of};
 
 use crate::keeping::reach_here;
+use crate::linking::link_by;
 use crate::session::Session;
 use crate::unanswered::Unanswered;
 use dentry_cache::Keeper;
@@ -37,8 +38,10 @@ impl Session {
     {
         self.name_length = 0;
         self.meet(keeper);
-        let (published, policy_version) = self.reader.get_with(publisher, &self.profile)?;
-        let Some(profile) = published else {
+        let policy_version = self
+            .share
+            .read_published(&mut self.reader, publisher, &self.profile)?;
+        let Some(profile) = &self.share.profile else {
             return Ok(Answer::NoProfile { policy_version });
         };
         let tree_version = keeper.version();
@@ -50,7 +53,7 @@ impl Session {
             Ok(file) => {
                 self.name_length = file.name_length;
                 Ok(Answer::Judged {
-                    verdict: judge_name(&profile, &self.name[..file.name_length], ask),
+                    verdict: judge_name(profile, &self.name[..file.name_length], ask),
                     node: file.node,
                     tree_version,
                     policy_version,
@@ -82,14 +85,28 @@ impl Session {
             × IsNoLinkOf (link_answer (history_of keeper.old publisher.old.published) self.old.profile old.now new.now) why) }
     {
         self.name_length = 0;
-        let Ok((published, policy_version)) = self.reader.get_with(publisher, &self.profile) else {
+        let Ok(policy_version) = self
+            .share
+            .read_published(&mut self.reader, publisher, &self.profile)
+        else {
             return Err(Unanswered::NoEntry);
         };
-        let Some(profile) = published else {
+        let Some(profile) = &self.share.profile else {
             return Ok(LinkAnswer::NoProfile { policy_version });
         };
-        match self.link_by(keeper, &profile, policy_version, old, new) {
-            Ok(answer) => Ok(answer),
+        match link_by(
+            keeper,
+            profile,
+            policy_version,
+            old,
+            new,
+            &mut self.scratch,
+            &mut self.name,
+        ) {
+            Ok((answer, name_length)) => {
+                self.name_length = name_length;
+                Ok(answer)
+            }
             Err(NoMemory) => Err(Unanswered::NoMemory),
         }
     }

@@ -40,11 +40,12 @@ impl Session {
         ensures published { IsByPublished (policy_after self.new.reading.seen self.old.profile) result }
         ensures refused { CountsRefusals self.old self.new result }
     {
+        self.name_length = 0;
         self.meet(keeper);
-        let Ok((published, policy_version)) = self.read_policy() else {
+        let Ok(policy_version) = self.share.read_policy(&mut self.reader, &self.profile) else {
             return Answer::NoEntry;
         };
-        let Some(profile) = published else {
+        let Some(profile) = &self.share.profile else {
             return Answer::NoProfile { policy_version };
         };
         let tree_version = keeper.version();
@@ -56,7 +57,7 @@ impl Session {
             Ok(file) => {
                 self.name_length = file.name_length;
                 Answer::Judged {
-                    verdict: judge_name(&profile, &self.name[..file.name_length], ask),
+                    verdict: judge_name(profile, &self.name[..file.name_length], ask),
                     node: file.node,
                     tree_version,
                     policy_version,

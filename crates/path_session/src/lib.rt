@@ -14,6 +14,7 @@ mod keeping;
 mod linking;
 mod quick;
 mod session;
+mod share;
 mod unanswered;
 
 pub use justification::{Answer, justify};

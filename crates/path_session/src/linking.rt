@@ -52,52 +52,67 @@ impl Session {
             × IsNoLink self.old self.new (link_answer (history_of keeper.old self.new.reading.seen) self.old.profile
             old.now new.now) why) }
     {
-        let Ok((published, policy_version)) = self.read_policy() else {
+        self.name_length = 0;
+        let Ok(policy_version) = self.share.read_policy(&mut self.reader, &self.profile) else {
             return Err(Unanswered::NoEntry);
         };
-        let Some(profile) = published else {
+        let Some(profile) = &self.share.profile else {
             return Ok(LinkAnswer::NoProfile { policy_version });
         };
-        match self.link_by(keeper, &profile, policy_version, old, new) {
-            Ok(answer) => Ok(answer),
+        match link_by(
+            keeper,
+            profile,
+            policy_version,
+            old,
+            new,
+            &mut self.scratch,
+            &mut self.name,
+        ) {
+            Ok((answer, name_length)) => {
+                self.name_length = name_length;
+                Ok(answer)
+            }
             Err(NoMemory) => Err(Unanswered::NoMemory),
         }
     }
+}
 
-    /// Makes a hard link if this profile, which is from this version of the policy, allows it.
-    pub(crate) fn link_by(
-        &mut self,
-        keeper: &mut Keeper,
-        profile: &AnyProfile,
-        policy_version: u64,
-        old: &[u8],
-        new: &[u8],
-    ) -> Result<LinkAnswer, NoMemory>
-        requires { self.old.judged ≡ [] }
-        ensures same { IsSameSession self.old self.new × (self.new.walk ≡ self.old.walk) × (self.new.meetings ≡ self.old.meetings)
-            × (self.new.reading ≡ self.old.reading) × (keeper.new.table ≡ keeper.old.table) }
-        ensures kept { IfOk result (λ answer. IsUntouchedUnlessMade answer keeper.old keeper.new) }
-        ensures ok { IfOk result (λ answer. link_answered self.new.judged answer
-            ≡ answer_by (plain_of keeper.old) policy_version old.now new.now (Some (judge_of profile.now))) }
-        ensures name { OnOk result (self.new.judged
-            ≡ name_linked (answer_by (plain_of keeper.old) policy_version old.now new.now (Some (judge_of profile.now)))) }
-        ensures history { (deeds : List Deed) → OnOk result (history_of keeper.new deeds
-            ≡ after_link (history_of keeper.old deeds) old.now new.now
-            (answer_by (plain_of keeper.old) policy_version old.now new.now (Some (judge_of profile.now)))) }
-        ensures err { OnErr result ((keeper.new ≡ keeper.old) × (self.new.judged ≡ [])
-            × IsMade (answer_by (plain_of keeper.old) policy_version old.now new.now (Some (judge_of profile.now)))) }
-    {
-        let tree_version = keeper.version();
-        match judge_tested(keeper, profile, old, new, &mut self.scratch, &mut self.name) {
-            Ok((change, judged)) => {
-                let answer = settle(keeper, &change, &judged, policy_version)?;
-                self.name_length = judged.name_length;
-                Ok(answer)
-            }
-            Err(errno) => Ok(LinkAnswer::Failed {
+/// Makes a hard link if this profile, which is from this version of the policy, allows it. Returns the answer, and the length of
+/// the name that was judged, which goes to the front of `room`; it is 0 if none was.
+pub(crate) fn link_by(
+    keeper: &mut Keeper,
+    profile: &AnyProfile,
+    policy_version: u64,
+    old: &[u8],
+    new: &[u8],
+    scratch: &mut Scratch,
+    room: &mut [u8; NAME_ROOM],
+) -> Result<(LinkAnswer, usize), NoMemory>
+    ensures same { keeper.new.table ≡ keeper.old.table }
+    ensures kept { IfOk result (λ linked. IsUntouchedUnlessMade linked.0 keeper.old keeper.new) }
+    ensures fits { IfOk result (λ linked. linked.1 ≤ 4095) }
+    ensures ok { IfOk result (λ linked. link_answered (take linked.1 room.new) linked.0
+        ≡ answer_by (plain_of keeper.old) policy_version old.now new.now (Some (judge_of profile.now))) }
+    ensures name { IfOk result (λ linked. take linked.1 room.new
+        ≡ name_linked (answer_by (plain_of keeper.old) policy_version old.now new.now (Some (judge_of profile.now)))) }
+    ensures history { (deeds : List Deed) → OnOk result (history_of keeper.new deeds
+        ≡ after_link (history_of keeper.old deeds) old.now new.now
+        (answer_by (plain_of keeper.old) policy_version old.now new.now (Some (judge_of profile.now)))) }
+    ensures err { OnErr result ((keeper.new ≡ keeper.old)
+        × IsMade (answer_by (plain_of keeper.old) policy_version old.now new.now (Some (judge_of profile.now)))) }
+{
+    let tree_version = keeper.version();
+    match judge_tested(keeper, profile, old, new, scratch, room) {
+        Ok((change, judged)) => {
+            let answer = settle(keeper, &change, &judged, policy_version)?;
+            Ok((answer, judged.name_length))
+        }
+        Err(errno) => {
+            let answer = LinkAnswer::Failed {
                 errno,
                 tree_version,
-            }),
+            };
+            Ok((answer, 0))
         }
     }
 }

@@ -41,10 +41,11 @@ impl Session {
         ensures published { IsByPublished (policy_after self.new.reading.seen self.old.profile) result }
         ensures refused { CountsRefusals self.old self.new result }
     {
-        let Ok((published, policy_version)) = self.read_policy() else {
+        self.name_length = 0;
+        let Ok(policy_version) = self.share.read_policy(&mut self.reader, &self.profile) else {
             return Answer::NoEntry;
         };
-        let Some(profile) = published else {
+        let Some(profile) = &self.share.profile else {
             return Answer::NoProfile { policy_version };
         };
         let Some(walker) = self.walker.take() else {
@@ -52,8 +53,6 @@ impl Session {
         };
         let (walker, walked) = walk_beside(walker, path, ask, &mut self.scratch, &mut self.name);
         self.walker = Some(walker);
-        // The walk has written to the room for names.
-        self.name_length = 0;
         match walked {
             Err(Busy { began, ended }) => Answer::Busy { began, ended },
             Ok(
@@ -73,7 +72,7 @@ impl Session {
             ) => {
                 self.name_length = file.name_length;
                 Answer::Judged {
-                    verdict: judge_name(&profile, &self.name[..file.name_length], ask),
+                    verdict: judge_name(profile, &self.name[..file.name_length], ask),
                     node: file.node,
                     tree_version,
                     policy_version,

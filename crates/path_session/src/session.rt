@@ -1,18 +1,13 @@
 //! A session, and what it keeps from call to call.
-ghost use Rattle.std.specs.Prelude.{◌≡◌, ◌≤◌, ◌+◌, [], IfOk, OnOk, OnErr, IfErr, length, option_map};
-ghost use mathlib.Core.List.{IsPrefix};
-ghost use Rattle.mediation.specs.Deeds.{policy_after};
-ghost use Rattle.mediation.specs.PolicyChanges.{judge_shared};
-ghost use Rattle.profile_registry.specs.Views.{IsUnanswered};
+ghost use Rattle.std.specs.Prelude.{◌≡◌, ◌≤◌, [], IfOk, OnOk, OnErr, IfErr};
 
+use crate::share::Share;
 use dentry_cache::Walker;
-use matcher::AnyProfile;
 use names::NoMemory;
 use path_lookup::{NAME_ROOM, Scratch};
-use profile_registry::{NoEntry, PolicyReader};
+use profile_registry::PolicyReader;
 use std::alloc::Global;
 use std::marker::Model;
-use std::sync::Arc;
 
 /// Opens files by one published profile, over the row that threads share. It has the buffers that its calls need, and may move
 /// to another thread.
@@ -23,6 +18,8 @@ pub struct Session {
     pub(crate) walker: Option<Walker>,
     pub(crate) reader: PolicyReader,
     pub(crate) profile: Vec<u8>,
+    // What it read last under that name, and at which version of the policy.
+    pub(crate) share: Share,
     pub(crate) scratch: Scratch,
     // The name that was judged last is at the front.
     pub(crate) name: [u8; NAME_ROOM],
@@ -35,6 +32,7 @@ impl Model for Session {
     ghost use Rattle.std.specs.Prelude.{◌≤◌, IsSome, [], take};
     ghost use Rattle.std.specs.Option.{unwrap_or};
     ghost use Rattle.path_session.specs.Sitting.{Sitting, no_walk};
+    ghost use Rattle.path_session.specs.inner.Sharing.{IsShareOf};
 
     ghost Value = { Sitting };
 
@@ -46,7 +44,8 @@ impl Model for Session {
       meetings = s.meetings;
     } };
 
-    ghost invariant = { λ s. IsSome s.walker × (s.name_length ≤ 4095) };
+    ghost invariant = { λ s. IsSome s.walker × (s.name_length ≤ 4095)
+        × IsShareOf s.reader.seen s.profile.items s.share.version s.share.profile };
 }
 
 impl Session {
@@ -75,6 +74,7 @@ impl Session {
             walker: Some(walker),
             reader,
             profile,
+            share: Share::new(),
             scratch: Scratch::new(),
             name: [0; NAME_ROOM],
             name_length: 0,
@@ -91,23 +91,8 @@ impl Session {
             return Err(NoMemory);
         };
         self.profile = profile;
+        self.share = Share::new();
         Ok(())
-    }
-
-    /// Reads the policy: the profile that is published under the session's name for it, if there is one, and the version. The
-    /// name that was judged last is forgotten.
-    pub(crate) fn read_policy(&mut self) -> Result<(Option<Arc<AnyProfile>>, u64), NoEntry>
-        ensures others { self.new ≡ record self.old { reading = self.new.reading; judged = [] } }
-        ensures seen { IsPrefix self.old.reading.seen self.new.reading.seen }
-        ensures profile { IfOk result (λ found. option_map judge_shared found.0 ≡ policy_after self.new.reading.seen self.old.profile) }
-        ensures version { IfOk result (λ found. found.1 ≡ length self.new.reading.seen) }
-        ensures ok { OnOk result ((self.new.reading.entries ≡ self.old.reading.entries + 1)
-            × (self.new.reading.refused ≡ self.old.reading.refused)) }
-        ensures err { OnErr result (IsUnanswered self.old.reading self.new.reading self.old.profile
-            × (self.new.reading.refused ≡ self.old.reading.refused + 1)) }
-    {
-        self.name_length = 0;
-        self.reader.get(&self.profile)
     }
 
     /// The name of the profile that it opens by.

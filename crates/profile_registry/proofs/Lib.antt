@@ -2,3 +2,4 @@ pub mod Prefixes
 pub mod Storing
 pub mod Keeping
 pub mod Sending
+pub mod NewsRead

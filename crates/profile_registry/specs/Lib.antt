@@ -1,3 +1,4 @@
 pub mod Views
 pub mod Rule
+pub mod News
 pub mod inner

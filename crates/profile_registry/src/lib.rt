@@ -11,6 +11,7 @@ mod at_hand;
 mod faults;
 mod known;
 mod looking;
+mod news;
 mod publisher;
 mod reader;
 mod refusals;
@@ -18,5 +19,6 @@ mod steps;
 mod store;
 
 pub use faults::{NoEntry, NoSeat};
+pub use news::News;
 pub use publisher::{PLACES, Publisher};
 pub use reader::{PolicyReader, Told};

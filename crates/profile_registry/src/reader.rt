@@ -38,8 +38,8 @@ impl Model for Told {
 #[derive(Drop)]
 pub struct PolicyReader {
     // `None` while it is lent to a call.
-    reader: Option<StoreReader>,
-    refusals: Refusals,
+    pub(crate) reader: Option<StoreReader>,
+    pub(crate) refusals: Refusals,
 }
 
 impl Model for PolicyReader {

@@ -3,6 +3,8 @@
 #![tactic(auto)]
 
 #[cfg(test)]
+mod news;
+#[cfg(test)]
 mod places;
 #[cfg(test)]
 mod rows;

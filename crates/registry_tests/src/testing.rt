@@ -3,7 +3,7 @@ ghost use Rattle.std.specs.Prelude.{OnOk, IfOk};
 
 use matcher::{AnyProfile, CompiledProfile, MakeFault};
 use names::NoMemory;
-use profile_registry::{NoEntry, PolicyReader, Publisher};
+use profile_registry::{News, NoEntry, PolicyReader, Publisher};
 use rule_text::read;
 use std::alloc::Global;
 use std::process::Abort;
@@ -41,6 +41,21 @@ pub(crate) fn look(reader: &mut PolicyReader, name: &[u8]) -> Result<(Found, u64
     let found = match profile {
         Some(profile) => which(&profile),
         None => Found::Nothing,
+    };
+    Ok((found, version))
+}
+
+/// What is found under a name by a reader that knows a version, and the version; `None` if the policy has the known version.
+pub(crate) fn look_since(
+    reader: &mut PolicyReader,
+    name: &[u8],
+    known: Option<u64>,
+) -> Result<(Option<Found>, u64), NoEntry> {
+    let (news, version) = reader.get_since(name, known)?;
+    let found = match news {
+        News::Same => None,
+        News::Profile(Some(profile)) => Some(which(&profile)),
+        News::Profile(None) => Some(Found::Nothing),
     };
     Ok((found, version))
 }

@@ -8,6 +8,8 @@ mod opens;
 #[cfg(test)]
 mod order;
 #[cfg(test)]
+mod replaced;
+#[cfg(test)]
 mod seats;
 #[cfg(test)]
 mod testing;

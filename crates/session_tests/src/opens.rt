@@ -141,8 +141,8 @@ fn failures<'a>(long: &'a [u8]) -> [Row<'a>; 7] {
     ]
 }
 
-// Opens concurrently with the keeper, and with it at hand.
-fn expect_both(
+/// Opens concurrently with the keeper, and with it at hand.
+pub(crate) fn expect_both(
     rt: &impl Abort,
     session: &mut Session,
     keeper: &mut Keeper,

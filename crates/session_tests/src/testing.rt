@@ -110,6 +110,11 @@ pub(crate) fn publish<R: Wait>(
     if publisher.replace(name, Arc::try_clone(profile)?).is_err() {
         publisher.replace(name, Arc::try_clone(profile)?)?;
     }
+    publish_staged(rt, publisher)
+}
+
+/// Makes the staged changes visible, and returns the policy's version.
+pub(crate) fn publish_staged<R: Wait>(rt: &R, publisher: &mut Publisher) -> Result<u64, Fail> {
     match publisher.publish(rt) {
         Ok(version) => Ok(version),
         Err(NoMemory) => Ok(publisher.publish(rt)?),
