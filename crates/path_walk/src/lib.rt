@@ -1,7 +1,6 @@
 //! A directory tree, the walk of a path, the tests of changes, and the tree in plain memory and as a row of words, with the rule
 //! that such a row keeps. Nothing here is its own: the names are those of `directory_tree`, `path_lookup`, `change_checks`,
-//! `plain_tree`, `row_rule`,
-//! `tree_row`, `row_look` and `row_plan`.
+//! `plain_tree`, `row_rule`, `tree_row` and `row_plan`.
 #![tactic(auto)]
 
 pub use change_checks::{Act, ChangeLook, Move, NewNode, Place, check_change};
@@ -18,11 +17,6 @@ pub use path_lookup::{
     name_of_place, resolve, split_path,
 };
 pub use plain_tree::{PlainEntry, PlainTree};
-pub use row_look::{
-    KnownWords, Reached, Reading, RowEntry, RowLook, Stop, name_and_read, name_known,
-    name_place_and_read, name_place_known, reach, torn_rows_encode_no_tree, walk_and_read,
-    walk_known,
-};
 pub use row_plan::{TreeRow, change_has_one_plan, change_row, next_after, plan, set_cells};
 pub use row_rule::{
     Busy, Cell, Encoding, KeeperView, Pending, View, WalkerView, agreement_is_of_each_read,
@@ -33,5 +27,8 @@ pub use row_rule::{
     walkers_fit_keeper, writing_sets_its_places,
 };
 pub use tree_row::{
-    Cells, KnownRow, MOST_ENTRIES, one_row_one_tree, opening_row_encodes_root, slots_are_counted,
+    Cells, KnownRow, KnownWords, MOST_ENTRIES, Reached, Reading, RowEntry, RowLook, Stop,
+    name_and_read, name_known, name_place_and_read, name_place_known, one_row_one_tree,
+    opening_row_encodes_root, reach, slots_are_counted, torn_rows_encode_no_tree, walk_and_read,
+    walk_known,
 };

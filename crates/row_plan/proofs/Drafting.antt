@@ -20,7 +20,7 @@ stays row plan after place word within draft same is =
     record { gives = draft.gives ∙ sym e; lean = draft.lean }
 
 -- a place that no cell has keeps its word
-after_all : (row : List ℕ) (plan : List Cell) (k : ℕ) → All (λ (cell : Cell). cell.place ≢ k) plan → slice_index (write row plan) k
+pub after_all : (row : List ℕ) (plan : List Cell) (k : ℕ) → All (λ (cell : Cell). cell.place ≢ k) plan → slice_index (write row plan) k
     ≡ slice_index row k
 after_all row [] k others = refl
 after_all row (x ∷ xs) k others =

@@ -1,4 +1,4 @@
--- What an act makes of a tree, a row makes of what it encodes.
+-- What an act makes of a tree, the slots of a row make of what they encode.
 use Rattle.std.proofs.Common.{◌≡◌, ℕ, zero, suc, ◌+◌, ◌<◌, ◌≤◌, ◌≢◌, List, length, Some, None, Option, sym, refl, ap, ◌∙◌, subst, arith}
 use Rattle.std.specs.Prelude.{IfSome, true}
 use Rattle.std.specs.Option.{option_map}
@@ -14,17 +14,17 @@ use Rattle.directory_tree.proofs.Basics.{some_inj, none_is_some}
 use Rattle.directory_tree.proofs.Found.{empty_none, find-without_same, find-without_other, without-none, Apart}
 use Rattle.path_lookup.specs.World.{World}
 use Rattle.tree_row.specs.Slots.{Slot, slot_at, kind_from, entry_at, IsUsed, IsFree, IsDirectorySlot}
-use Rattle.tree_row.specs.Rows.{EncodesSlots, Encodes}
+use Rattle.tree_row.specs.Rows.{EncodesSlots}
 use Rattle.tree_row.specs.Worlds.{spot_at, EncodesWorld}
 use Rattle.tree_row.proofs.Slots.{held_spot, node_of}
 use Rattle.change_checks.specs.declared.act.NewNode.{NewNode}
 use Rattle.change_checks.specs.declared.act.NewNode.TheVariants as new
 use Rattle.change_checks.specs.Act.{kind_of_new, FitsNode}
-use Rattle.row_look.specs.declared.look.RowEntry.{RowEntry}
+use Rattle.tree_row.specs.declared.look.RowEntry.{RowEntry}
 use Rattle.row_rule.specs.declared.cell.Cell.{Cell}
 use Rattle.row_rule.specs.Row.{write}
 use Rattle.row_plan.specs.Leaves.{text_in, new_slot}
-use Rattle.row_plan.specs.inner.Rows.{SetsSlot, FreesSlot, MovesSlot, moved_slot}
+use Rattle.row_plan.specs.inner.Rows.{SetsSlot, FreesSlot, MovesSlot, SlotsEncode, moved_slot}
 use Rattle.row_plan.proofs.Settling.{other_stays}
 use Rattle.row_plan.proofs.Making.{same_entry}
 use Rattle.row_plan.proofs.Encoding.{in_range_all, encodes_filled, encodes_freed, encodes_moved}
@@ -62,6 +62,9 @@ module _ (capacity : ℕ) (row : List ℕ) (w : World) (enc : EncodesWorld capac
   abbrev t : Tree
   t = w.tree
 
+  bare : SlotsEncode capacity row t
+  bare = record { long = enc.tree.long; slots = enc.tree.slots }
+
   pub node_is : (d : ℕ) → node_at (w.named d) ≡ (f d).node
   node_is d = ap node_at (enc.named d) ∙ node_of slots f t enc.tree.slots d
 
@@ -97,34 +100,34 @@ module _ (capacity : ℕ) (row : List ℕ) (w : World) (enc : EncodesWorld capac
   pub enacts_new : (made : NodeKind) (node next s p : ℕ) (c after : List ℕ) → p < slots → find t.entries (node_at (w.named p)) c ≡ None →
       shape_of (kind_at (w.named p)) ≡ kind.Directory → IsFree slots f s
       → length c ≤ LONGEST_COMPONENT → length (text_in made) ≤ max_text → SetsSlot row s (new_slot made node p c) after →
-      Encodes capacity after (with_entry t (entry (node_at (w.named p)) c node made) next)
+      SlotsEncode capacity after (with_entry t (entry (node_at (w.named p)) c node made) next)
   enacts_new made node next s p c after within none directory free short short_text sets =
       let e = node_is p in
-      subst (λ (d : ℕ). Encodes capacity after (with_entry t (entry d c node made) next)) (sym e)
-      (encodes_filled capacity row t enc.tree after made node next s p c (ap (λ (z : ℕ). find t.entries z c) (sym e) ∙ none) free
+      subst (λ (d : ℕ). SlotsEncode capacity after (with_entry t (entry d c node made) next)) (sym e)
+      (encodes_filled capacity row t bare after made node next s p c (ap (λ (z : ℕ). find t.entries z c) (sym e) ∙ none) free
       (directory_slot p within directory) short short_text sets)
 
   pub enacts_removal : (d r : ℕ) (c after : List ℕ) → r < slots → (f r).kind ≢ 0 → child_of t (w.named d) c ≡ Some (w.named r) →
       (shape_of (kind_at (w.named r)) ≡ kind.Directory → is_empty t.entries (node_at (w.named r)) ≡ true)
-      → FreesSlot row r after → Encodes capacity after (dropped t (node_at (w.named d)) c)
+      → FreesSlot row r after → SlotsEncode capacity after (dropped t (node_at (w.named d)) c)
   enacts_removal d r c after within filled is empty frees =
       let used = child_used d r c within filled is in
-      encodes_freed capacity row t enc.tree after r (node_at (w.named d)) c used (child_found d r c used is) (childless r used empty) frees
+      encodes_freed capacity row t bare after r (node_at (w.named d)) c used (child_found d r c used is) (childless r used empty) frees
 
   -- an entry goes to a place where there is none
   enacts_free_move : (d s p : ℕ) (c name after : List ℕ) → p < slots → IsUsed slots f s → child_of t (w.named d) c ≡ Some (w.named s) →
       find t.entries (node_at (w.named p)) name ≡ None → shape_of (kind_at (w.named p)) ≡ kind.Directory
       → length name ≤ LONGEST_COMPONENT → SetsSlot row s (moved_slot (f s) p name) after →
-      Encodes capacity after (moved t (node_at (w.named d)) c (node_at (w.named p)) name)
+      SlotsEncode capacity after (moved t (node_at (w.named d)) c (node_at (w.named p)) name)
   enacts_free_move d s p c name after within used is none directory short sets =
       let e = node_is p in
-      let put = encodes_moved capacity row t enc.tree after s p (node_at (w.named d)) c name used (child_found d s c used is)
+      let put = encodes_moved capacity row t bare after s p (node_at (w.named d)) c name used (child_found d s c used is)
       (ap (λ (z : ℕ). find t.entries z name) (sym e) ∙ none) (directory_slot p within directory) short sets in
-      subst (λ (es : List Entry). Encodes capacity after record {
+      subst (λ (es : List Entry). SlotsEncode capacity after record {
         entries = placed (node_at (w.named d)) c (node_at (w.named p)) name es;
         next = t.next;
       }) (sym (without-none t.entries (node_at (w.named p)) name none))
-      (subst (λ (z : ℕ). Encodes capacity after record { entries = placed (node_at (w.named d)) c z name t.entries; next = t.next })
+      (subst (λ (z : ℕ). SlotsEncode capacity after record { entries = placed (node_at (w.named d)) c z name t.entries; next = t.next })
       (sym e) put)
 
   -- to a place where there is one, which is removed first
@@ -196,7 +199,7 @@ module _ (capacity : ℕ) (row : List ℕ) (w : World) (enc : EncodesWorld capac
         (sym found_s ∙ (λ i. find t.entries (a i) (b i)) ∙ found_r) in
         other (node_is r ∙ ap (λ (z : Entry). z.node) (sym e) ∙ sym (node_is s))
 
-    pub enacts_move_onto : Encodes capacity after (moved t from c into name)
+    pub enacts_move_onto : SlotsEncode capacity after (moved t from c into name)
     enacts_move_onto =
         let gone = dropped t into name in
         let encodes_between = enacts_removal p r name between within_r filled_r onto empty frees in
@@ -207,7 +210,7 @@ module _ (capacity : ℕ) (row : List ℕ) (w : World) (enc : EncodesWorld capac
         ∙ find-without_same t.entries into name in
         let directory_between : IsDirectorySlot slots h p =
         record { within = within; kind = ap (λ (z : Slot). z.kind) same_p ∙ p_is.kind } in
-        subst (λ (z : ℕ). Encodes capacity after record { entries = placed from c z name gone.entries; next = t.next }) node_p
+        subst (λ (z : ℕ). SlotsEncode capacity after record { entries = placed from c z name gone.entries; next = t.next }) node_p
         (encodes_moved capacity between gone encodes_between after s p from c name used_between found none directory_between short sets)
 
   -- whatever was at the new place
@@ -218,7 +221,7 @@ module _ (capacity : ℕ) (row : List ℕ) (w : World) (enc : EncodesWorld capac
       IfSome replaced (λ e. shape_of (kind_at (w.named e.slot)) ≡ kind.Directory → is_empty t.entries (node_at (w.named e.slot))
       ≡ true) → shape_of (kind_at (w.named p)) ≡ kind.Directory
       → length name ≤ LONGEST_COMPONENT → MovesSlot row plan s p name (option_map (λ (e : RowEntry). e.slot) replaced) →
-      Encodes capacity (write row plan) (moved t (node_at (w.named d)) c (node_at (w.named p)) name)
+      SlotsEncode capacity (write row plan) (moved t (node_at (w.named d)) c (node_at (w.named p)) name)
   enacts_move d s p c name None plan within within_s filled known is onto other empty directory short moves =
       let same : moves.between ≡ row = moves.frees in
       let sets : SetsSlot row s (moved_slot (f s) p name) (write row plan) =

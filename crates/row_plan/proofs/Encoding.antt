@@ -1,4 +1,4 @@
--- What a row encodes after a slot was filled or freed, or its entry moved.
+-- What the slots of a row encode after one was filled or freed, or its entry moved.
 use Rattle.std.proofs.Common.{◌≡◌, ℕ, ◌+◌, ◌<◌, ◌≤◌, ◌≢◌, List, length, Some, None, sym, refl, ◌∙◌, subst, arith}
 use mathlib.Core.Logic.{dite}
 use native.Mathlib.Decide.{ℕ_discrete}
@@ -7,9 +7,9 @@ use Rattle.directory_tree.specs.declared.node.NodeKind.{NodeKind}
 use Rattle.directory_tree.specs.Tree.{Tree, find}
 use Rattle.directory_tree.specs.Apply.{entry, with_entry, dropped, placed, max_text}
 use Rattle.tree_row.specs.Slots.{Slot, slot_at, entry_at, IsUsed, IsFree, IsDirectorySlot}
-use Rattle.tree_row.specs.Rows.{EncodesSlots, Encodes}
+use Rattle.tree_row.specs.Rows.{EncodesSlots}
 use Rattle.row_plan.specs.Leaves.{text_in, new_slot}
-use Rattle.row_plan.specs.inner.Rows.{KeepsOthers, SetsSlot, FreesSlot, moved_slot}
+use Rattle.row_plan.specs.inner.Rows.{KeepsOthers, SetsSlot, FreesSlot, SlotsEncode, moved_slot}
 use Rattle.row_plan.proofs.Settling.{other_stays, other_kind}
 use Rattle.row_plan.proofs.Making.{made}
 use Rattle.row_plan.proofs.Removing.{removed}
@@ -25,7 +25,7 @@ in_range_all n f t enc x within filled = dite (ℕ_discrete x 0)
     ))
     (λ other. let r = enc.in_range x record { past_root = omega arith; within = within; used = filled } in (r.component, r.text))
 
-module _ (capacity : ℕ) (row : List ℕ) (t : Tree) (enc : Encodes capacity row t) (after : List ℕ) where
+module _ (capacity : ℕ) (row : List ℕ) (t : Tree) (enc : SlotsEncode capacity row t) (after : List ℕ) where
   abbrev slots : ℕ
   slots = capacity + 1
 
@@ -44,7 +44,7 @@ module _ (capacity : ℕ) (row : List ℕ) (t : Tree) (enc : Encodes capacity ro
 
   pub encodes_filled : (kind : NodeKind) (node next s p : ℕ) (c : List ℕ) → find t.entries (f p).node c ≡ None → IsFree slots f s →
       IsDirectorySlot slots f p → length c ≤ LONGEST_COMPONENT → length (text_in kind) ≤ max_text
-      → SetsSlot row s (new_slot kind node p c) after → Encodes capacity after (with_entry t (entry (f p).node c node kind) next)
+      → SetsSlot row s (new_slot kind node p c) after → SlotsEncode capacity after (with_entry t (entry (f p).node c node kind) next)
   encodes_filled kind node next s p c none free directory short short_text sets = record {
     long = sets.long ∙ enc.long;
     slots = made slots f g t kind node next (f p).node c s p enc.slots none free.past_root free.within free.free directory refl short
@@ -53,7 +53,7 @@ module _ (capacity : ℕ) (row : List ℕ) (t : Tree) (enc : Encodes capacity ro
 
   pub encodes_freed : (r d : ℕ) (c : List ℕ) → IsUsed slots f r → find t.entries d c ≡ Some (entry_at f r) →
       ((x : ℕ) → IsUsed slots f x → (f x).parent ≢ r)
-      → FreesSlot row r after → Encodes capacity after (dropped t d c)
+      → FreesSlot row r after → SlotsEncode capacity after (dropped t d c)
   encodes_freed r d c used found childless frees = record {
     long = frees.long ∙ enc.long;
     slots = removed slots f g t d c r enc.slots used found childless frees.here (kinds r frees.others) (same r frees.others);
@@ -61,7 +61,7 @@ module _ (capacity : ℕ) (row : List ℕ) (t : Tree) (enc : Encodes capacity ro
 
   pub encodes_moved : (s p d : ℕ) (c : List ℕ) (name : List ℕ) → IsUsed slots f s → find t.entries d c ≡ Some (entry_at f s) →
       find t.entries (f p).node name ≡ None → IsDirectorySlot slots f p → length name ≤ LONGEST_COMPONENT
-      → SetsSlot row s (moved_slot (f s) p name) after → Encodes capacity after record {
+      → SetsSlot row s (moved_slot (f s) p name) after → SlotsEncode capacity after record {
         entries = placed d c (f p).node name t.entries;
         next = t.next;
       }

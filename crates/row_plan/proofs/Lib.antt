@@ -1,4 +1,7 @@
 pub mod Drafting
+pub mod Dropping
+pub mod IndexEdits
+pub mod Vacated
 pub mod Packing
 pub mod Filling
 pub mod Settling
@@ -6,7 +9,10 @@ pub mod Making
 pub mod Removing
 pub mod Placing
 pub mod Encoding
+pub mod Indexing
 pub mod Enacting
+pub mod Encoded
+pub mod Moving
 pub mod Numbering
 pub mod Outcomes
 pub mod Lengths

@@ -20,7 +20,7 @@ kind_back Directory = refl
 kind_back File = refl
 kind_back (Link text) = refl
 
-code_used : (k : NodeKind) → code_of k ≢ 0
+pub code_used : (k : NodeKind) → code_of k ≢ 0
 code_used Directory e = absurd (omega arith)
 code_used File e = absurd (omega arith)
 code_used (Link text) e = absurd (omega arith)

@@ -8,9 +8,13 @@ use Rattle.directory_tree.specs.declared.node.NodeKind.TheVariants.{Directory, F
 use Rattle.change_checks.specs.declared.act.Act.{Act}
 use Rattle.change_checks.specs.declared.act.Act.TheVariants as act
 use Rattle.change_checks.specs.Act.{kind_of_new}
+use Rattle.row_index.specs.Places.{index_length}
+use Rattle.row_index.specs.Hashing.{home}
+use Rattle.row_index.specs.Edits.{Inserts, Removes}
 use Rattle.tree_row.specs.Slots.{Slot, slot_at}
+use Rattle.tree_row.specs.Rows.{index_base, homes_in}
 use Rattle.tree_row.specs.Questions.{IsFirstFree}
-use Rattle.row_look.specs.declared.look.RowEntry.{RowEntry}
+use Rattle.tree_row.specs.declared.look.RowEntry.{RowEntry}
 
 -- the row with this many words set from a place on
 abbrev pub with_words : List ℕ → ℕ → (ℕ → ℕ) → ℕ → List ℕ
@@ -68,15 +72,36 @@ new_slot kind node parent component = record {
   text = text_in kind;
 }
 
--- A new entry goes to the first free slot; an entry that is removed frees its slot; and one that moves keeps its slot, after the
--- slot of the entry that it replaces is freed.
+-- a slot is added to the index, where a search for a component in a directory begins
+abbrev pub AddsToIndex : ℕ → ℕ → List ℕ → ℕ → List ℕ → List ℕ → Type 0
+AddsToIndex capacity directory component s row after =
+    Inserts (index_base capacity) (index_length capacity) (home (index_length capacity) directory component) s row after
+
+-- a slot is removed from the index; the homes of the others are those of the slots of `before`
+abbrev pub RemovesFromIndex : ℕ → List ℕ → ℕ → List ℕ → List ℕ → Type 0
+RemovesFromIndex capacity before s row after =
+    Removes (index_base capacity) (index_length capacity) (homes_in (index_length capacity) before) s row after
+
+abbrev pub RemovesAny : ℕ → List ℕ → Option ℕ → List ℕ → List ℕ → Type 0
+RemovesAny capacity before None row after = after ≡ row
+RemovesAny capacity before (Some s) row after = RemovesFromIndex capacity before s row after
+
+-- A new entry goes to the first free slot, an entry that is removed frees its slot, and one that moves keeps its slot, after the
+-- slot of the entry that it replaces is freed. Then the index: what was at the old place and what was replaced are removed from it,
+-- and what is at the new place is added.
 abbrev pub Leaves : ℕ → List ℕ → ℕ → Act RowEntry → List ℕ → Type 0
 Leaves capacity row next (act.Make place node) after = (s : ℕ) × IsFirstFree (capacity + 1) (slot_at row) s
-    × (after ≡ with_slot row s (new_slot (kind_of_new node) next place.directory.slot place.component.now))
+    × AddsToIndex capacity place.directory.slot place.component.now s
+    (with_slot row s (new_slot (kind_of_new node) next place.directory.slot place.component.now)) after
 Leaves capacity row next (act.Link file place) after = (s : ℕ) × IsFirstFree (capacity + 1) (slot_at row) s
-    × (after ≡ with_slot row s (new_slot File (slot_at row file.slot).node place.directory.slot place.component.now))
-Leaves capacity row next (act.Remove place e) after = after ≡ without_slot row e.slot
+    × AddsToIndex capacity place.directory.slot place.component.now s
+    (with_slot row s (new_slot File (slot_at row file.slot).node place.directory.slot place.component.now)) after
+Leaves capacity row next (act.Remove place e) after = RemovesFromIndex capacity row e.slot (without_slot row e.slot) after
 Leaves capacity row next (act.Move m) after =
-    after ≡ with_place (without_any row (option_map (λ (e : RowEntry). e.slot) m.replaced)) m.entry.slot m.to.directory.slot
-    m.to.component.now
+    (freed : List ℕ) × (mid : List ℕ)
+    × RemovesAny capacity row (option_map (λ (e : RowEntry). e.slot) m.replaced)
+    (with_place (without_any row (option_map
+    (λ (e : RowEntry). e.slot) m.replaced)) m.entry.slot m.to.directory.slot m.to.component.now) freed
+    × RemovesFromIndex capacity row m.entry.slot freed mid
+    × AddsToIndex capacity m.to.directory.slot m.to.component.now m.entry.slot mid after
 Leaves capacity row next act.Nothing after = after ≡ row

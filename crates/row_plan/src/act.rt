@@ -12,13 +12,15 @@ ghost use Rattle.tree_row.specs.Worlds.{EncodesWorld};
 ghost use Rattle.row_plan.specs.Leaves.{code_of, text_in};
 ghost use Rattle.row_plan.specs.inner.Acts.{IsTreeRead, NamesSlots, PassedTests, PlansAct};
 
+use crate::index::{add_to_index, remove_any, remove_from_index};
 use crate::slot::{NewEntry, clear_slot, fill_slot, move_slot};
 use change_checks::{Act, Move, NewNode, Place};
 use names::NoMemory;
-use row_look::RowEntry;
 use row_rule::Cell;
 use std::alloc::Global;
-use tree_row::{Cells, DIRECTORY, FILE, LINK, NODE, free_slot, slot_word, slots_are_counted};
+use tree_row::{
+    Cells, DIRECTORY, FILE, LINK, NODE, RowEntry, free_slot, slot_word, slots_are_counted,
+};
 
 /// The cells of a new node's entry (mkdir(2), open(2), symlink(2)).
 pub(crate) fn plan_make<C: Cells>(
@@ -44,7 +46,15 @@ pub(crate) fn plan_make<C: Cells>(
         component: place.component,
         text: link_text(node),
     };
-    fill_slot(alloc, cells, slot, &entry)
+    let mut plan = fill_slot(alloc, cells, slot, &entry)?;
+    add_to_index(
+        cells,
+        &mut plan,
+        slot,
+        place.directory.slot(),
+        place.component,
+    )?;
+    Ok(plan)
 }
 
 // The number that the kind of the new node has in a slot.
@@ -112,10 +122,18 @@ pub(crate) fn plan_link<C: Cells>(
         component: place.component,
         text: &[],
     };
-    fill_slot(alloc, cells, slot, &entry)
+    let mut plan = fill_slot(alloc, cells, slot, &entry)?;
+    add_to_index(
+        cells,
+        &mut plan,
+        slot,
+        place.directory.slot(),
+        place.component,
+    )?;
+    Ok(plan)
 }
 
-/// The cell of an entry that is removed (unlink(2), rmdir(2)).
+/// The cells of an entry that is removed (unlink(2), rmdir(2)).
 pub(crate) fn plan_remove<C: Cells>(
     alloc: Global,
     cells: &mut C,
@@ -129,7 +147,16 @@ pub(crate) fn plan_remove<C: Cells>(
     ensures ok { IfOk result (λ plan. (next : ℕ) → PlansAct (C.capacity_of (C.kept cells.old)) (C.whole (C.kept cells.old)) next
         (act.Remove place.now entry) plan.items) }
 {
-    clear_slot(alloc, cells, entry.slot())
+    let slot = entry.slot();
+    let mut plan = clear_slot(alloc, cells, slot)?;
+    remove_from_index(
+        cells,
+        &mut plan,
+        slot,
+        place.directory.slot(),
+        place.component,
+    )?;
+    Ok(plan)
 }
 
 /// The cells of an entry that moves (rename(2)). The slot of the entry at the new place is freed first.
@@ -146,16 +173,21 @@ pub(crate) fn plan_move<C: Cells>(
     ensures ok { IfOk result (λ plan. (next : ℕ) → PlansAct (C.capacity_of (C.kept cells.old)) (C.whole (C.kept cells.old)) next
         (act.Move moved.now) plan.items) }
 {
+    let slot = moved.entry.slot();
     let replaced = slot_of(moved.replaced);
-    let parent = moved.to.directory.slot();
-    move_slot(
-        alloc,
+    let (from, to) = (moved.from, moved.to);
+    let parent = to.directory.slot();
+    let mut plan = move_slot(alloc, cells, slot, parent, to.component, replaced)?;
+    remove_any(cells, &mut plan, replaced, parent, to.component)?;
+    remove_from_index(
         cells,
-        moved.entry.slot(),
-        parent,
-        moved.to.component,
-        replaced,
-    )
+        &mut plan,
+        slot,
+        from.directory.slot(),
+        from.component,
+    )?;
+    add_to_index(cells, &mut plan, slot, parent, to.component)?;
+    Ok(plan)
 }
 
 // The slot of an entry, if there is one.

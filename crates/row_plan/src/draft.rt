@@ -1,5 +1,7 @@
 //! A plan as it is made: the cells to be set, without those whose word is there already.
-ghost use Rattle.std.specs.Prelude.{◌≡◌, ◌<◌, ◌≤◌, ◌+◌, ◌/◌, ℕ, List, OnOk, length, slice_index, slice_set};
+ghost use Rattle.std.specs.Prelude.{◌≡◌, ◌≢◌, ◌<◌, ◌≤◌, ◌+◌, ◌/◌, ℕ, List, OnOk, IfSome, IfNone, length, slice_index};
+ghost use Rattle.std.specs.Prelude.{slice_index_or, slice_set};
+ghost use Rattle.std.specs.List.{All};
 ghost use Rattle.tree_row.specs.Rows.{row_length};
 ghost use Rattle.row_plan.specs.Leaves.{with_words, with_text};
 ghost use Rattle.row_plan.specs.inner.Rows.{Drafts, SameFrom, IsRead, IsPacked};
@@ -78,4 +80,61 @@ pub(crate) fn add_text<C: Cells>(
         add_cell(cells, plan, base + k, packed_word(text, k))?;
     }
     Ok(())
+}
+
+// The number of the cell of a plan that sets a place, if one does.
+fn cell_of(plan: &[Cell], place: usize) -> Option<usize>
+    ensures some { IfSome result (λ i. (i < length plan.now) ×
+        ((slice_index_or plan.now i record { place = 0; word = 0 }).place ≡ place)) }
+    ensures none { IfNone result (All (λ cell. cell.place ≢ place) plan.now) }
+{
+    for (i, cell) in plan.iter().enumerate() {
+        if cell.place == place {
+            return Some(i);
+        }
+    }
+    None
+}
+
+/// Returns the word at a place once a plan is set.
+pub(crate) fn planned_word<C: Cells>(cells: &mut C, plan: &[Cell], place: usize) -> u64
+    requires within { place < row_length (C.capacity_of (C.kept cells.old)) }
+    requires known { IsRead (C.whole (C.kept cells.old)) }
+    ensures kept { C.kept cells.new ≡ C.kept cells.old }
+    ensures word { (row after : List ℕ) → C.whole (C.kept cells.old) row → Drafts row plan.now after → result ≡ slice_index after place }
+{
+    if let Some(i) = cell_of(plan, place) {
+        return plan[i].word;
+    }
+    let Some(word) = cells.word(place) else {
+        unreachable!();
+    };
+    word
+}
+
+// Makes a plan leave the word at a place as it is in the row.
+fn drop_cell(plan: &mut Vec<Cell>, place: usize)
+    ensures { (row after : List ℕ) → Drafts row plan.old.items after →
+        Drafts row plan.new.items (slice_set after place (slice_index row place)) }
+{
+    if let Some(i) = cell_of(plan, place) {
+        plan.remove(i);
+    }
+}
+
+/// Makes a plan set this word at a place, whatever it set there before.
+pub(crate) fn set_word<C: Cells>(
+    cells: &mut C,
+    plan: &mut Vec<Cell>,
+    place: usize,
+    word: u64,
+) -> Result<(), NoMemory>
+    requires within { place < row_length (C.capacity_of (C.kept cells.old)) }
+    requires known { IsRead (C.whole (C.kept cells.old)) }
+    ensures kept { C.kept cells.new ≡ C.kept cells.old }
+    ensures ok { OnOk result ((row after : List ℕ) → C.whole (C.kept cells.old) row → place < length row → Drafts row plan.old.items after
+        → Drafts row plan.new.items (slice_set after place word)) }
+{
+    drop_cell(plan, place);
+    add_cell(cells, plan, place, word)
 }

@@ -8,12 +8,14 @@
 
 mod act;
 mod draft;
+mod index;
 mod laws;
 mod memory;
 mod pack;
 mod planning;
 mod slot;
 mod tree_rows;
+mod vacating;
 
 pub use laws::change_has_one_plan;
 pub use memory::{change_row, set_cells};

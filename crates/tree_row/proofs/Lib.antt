@@ -4,3 +4,9 @@ pub mod SeenSlots
 pub mod Counting
 pub mod Opening
 pub mod OneTree
+pub mod SeenEntries
+pub mod Knowing
+pub mod Deciding
+pub mod Taking
+pub mod Merging
+pub mod IndexSearch

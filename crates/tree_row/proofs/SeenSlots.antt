@@ -11,9 +11,8 @@ use Rattle.directory_tree.specs.Components.{is_filled}
 use Rattle.directory_tree.proofs.Basics.{true_is_false}
 use Rattle.path_lookup.specs.World.{World}
 use Rattle.tree_row.specs.Slots.{slot_at, text_at, kind_from, entry_at, IsUsed, IsChildSlot, IsDirectorySlot}
-use mathlib.Core.Logic.{dite}
-use native.Mathlib.Decide.{ℕ_discrete}
-use Rattle.std.specs.Prelude.{true, false}
+use Rattle.std.specs.Prelude.{true}
+use Rattle.tree_row.specs.Finding.{TellsFound, EncodesNone}
 use Rattle.tree_row.specs.Worlds.{spot_at, EncodesWorld, SeesBy, Knows, Fewer, Reads}
 use Rattle.tree_row.specs.Questions.{TellsChild}
 use Rattle.tree_row.proofs.Bytes.{length-text}
@@ -156,19 +155,6 @@ module _ (capacity after : ℕ) (may may' : List ℕ → Type 0) (same : after �
       directory_of w.tree (w.named s) ≡ Some (w.named p)
   parent_seen p reads w (row, h, enc) = seen_parent after row w enc s p known.within (known.filled row w h enc) past (reads row h)
 
--- no slot before s is the child
-abbrev pub NoneBelow : ℕ → (List ℕ → Type 0) → ℕ → List ℕ → ℕ → Type 0
-NoneBelow capacity may d c s = (row : List ℕ) (w : World) → may row → EncodesWorld capacity row w → (r : ℕ) → r < s →
-    ¬ (IsChildSlot (capacity + 1) (slot_at row) d c r)
-
-pub none_more : (capacity after : ℕ) (may may' : List ℕ → Type 0) (d : ℕ) (c : List ℕ) (s : ℕ) → after ≡ capacity → Fewer may may' →
-    NoneBelow capacity may d c s → TellsChild after may' d c s false → NoneBelow capacity may' d c (s + 1)
-none_more capacity after may may' d c s same fewer none here row w h enc r l = dite (ℕ_discrete r s)
-    (λ e x. here row w h (subst (λ (z : ℕ). EncodesWorld z row w) (sym same) enc)
-    (subst (λ (z : ℕ). IsChildSlot (after + 1) (slot_at row) d c z) e
-    (subst (λ (z : ℕ). IsChildSlot (z + 1) (slot_at row) d c r) (sym same) x)))
-    (λ other. none row w (fewer row h) enc r (omega arith))
-
 pub found_known : (capacity after : ℕ) (may : List ℕ → Type 0) (d : ℕ) (c : List ℕ) (s : ℕ) → after ≡ capacity → s < after + 1 →
     TellsChild capacity may d c s true → Knows after may s
 found_known capacity after may d c s same within tells = record {
@@ -181,10 +167,12 @@ pub found_seen : (capacity after : ℕ) (may : List ℕ → Type 0) (d : ℕ) (c
 found_seen capacity after may d c s same tells w (row, h, enc) = let e = subst (λ (z : ℕ). EncodesWorld z row w) same enc in
     seen_child capacity row w e d s c (tells row w h e)
 
-pub missing_seen : (capacity after : ℕ) (may may' : List ℕ → Type 0) (d : ℕ) (c : List ℕ) (stop : ℕ) → after ≡ capacity →
-    capacity + 1 ≤ stop → Fewer may may' → Knows capacity may d → NoneBelow capacity may' d c stop → (w : World) → SeesBy after may' w →
-    child_of w.tree (w.named d) c ≡ None
-missing_seen capacity after may may' d c stop same end fewer known none w (row, h, enc) =
+pub missing_seen : (capacity after : ℕ) (may may' : List ℕ → Type 0) (d : ℕ) (c : List ℕ) → after ≡ capacity → Fewer may may' →
+    Knows capacity may d → TellsFound capacity may' d c None → (w : World) → SeesBy after may' w → child_of w.tree (w.named d) c ≡ None
+missing_seen capacity after may may' d c same fewer known none w (row, h, enc) =
     let e = subst (λ (z : ℕ). EncodesWorld z row w) same enc in
-    seen_no_child capacity row w e d c known.within (known.filled row w (fewer row h) e)
-    (λ s x. none row w h e s (let a = x.used.within in omega arith) x)
+    seen_no_child capacity row w e d c known.within (known.filled row w (fewer row h) e) (λ s x. none row w h e s x)
+
+pub none_seen : (capacity after : ℕ) (may : List ℕ → Type 0) → after ≡ capacity → EncodesNone capacity may → (w : World) →
+    ¬ (SeesBy after may w)
+none_seen capacity after may same none w (row, h, enc) = none row w h (subst (λ (z : ℕ). EncodesWorld z row w) same enc)

@@ -3,3 +3,7 @@ pub mod Rows
 pub mod Worlds
 pub mod Questions
 pub mod OpeningRow
+pub mod Finding
+pub mod Known
+pub mod Reading
+pub mod inner

@@ -17,6 +17,13 @@ pub record IsEntryOf (n : ℕ) (f : ℕ → Slot) (directory s : ℕ) : Type 0 w
 abbrev pub TellsEntryOf : ℕ → (List ℕ → Type 0) → ℕ → ℕ → Bool → Type 0
 TellsEntryOf capacity may directory s is = (row : List ℕ) → may row → Tells is (IsEntryOf (capacity + 1) (slot_at row) directory s)
 
+-- no slot holds an entry of the directory of a slot
+abbrev pub IsChildless : ℕ → (ℕ → Slot) → ℕ → Type 0
+IsChildless n f directory = (s : ℕ) → ¬ (IsEntryOf n f directory s)
+
+abbrev pub TellsChildless : ℕ → (List ℕ → Type 0) → ℕ → Bool → Type 0
+TellsChildless capacity may directory is = (row : List ℕ) → may row → Tells is (IsChildless (capacity + 1) (slot_at row) directory)
+
 -- of the rows that encode a tree
 abbrev pub TellsChild : ℕ → (List ℕ → Type 0) → ℕ → List ℕ → ℕ → Bool → Type 0
 TellsChild capacity may directory component s is =
@@ -35,3 +42,7 @@ FreeIn n f (Some s) = IsFirstFree n f s
 
 abbrev pub TellsFree : ℕ → (List ℕ → Type 0) → Option ℕ → Type 0
 TellsFree capacity may found = (row : List ℕ) → may row → FreeIn (capacity + 1) (slot_at row) found
+
+-- no slot before this one is free
+abbrev pub NoneFreeBefore : ℕ → (List ℕ → Type 0) → ℕ → Type 0
+NoneFreeBefore capacity may s = (row : List ℕ) → may row → (r : ℕ) → IsFree (capacity + 1) (slot_at row) r → s ≤ r

@@ -1,7 +1,8 @@
 //! Cells by place.
-ghost use Rattle.std.specs.Prelude.{◌≡◌, ◌<◌, ◌≤◌, ℕ, List, IfSome, IfNone, slice_index};
+ghost use Rattle.std.specs.Prelude.{◌≡◌, ◌<◌, ◌≤◌, ◌+◌, ℕ, List, IfSome, IfNone, slice_index};
 ghost use Rattle.tree_row.specs.Rows.{row_length};
 ghost use Rattle.tree_row.specs.Worlds.{Fewer, Reads};
+ghost use Rattle.tree_row.specs.Questions.{NoneFreeBefore, TellsChildless};
 
 /// The maximum number of entries, besides the root, that a row may have room for.
 pub const MOST_ENTRIES: usize = 16384;
@@ -37,6 +38,22 @@ pub trait Cells {
         ensures fewer { Fewer (may self.old) (may self.new) }
         ensures some { IfSome result (λ n. Reads (may self.new) (λ row. slice_index row place) n) }
         ensures none { IfNone result (unknown self.new) };
+
+    /// Returns a slot past the root's before which no slot is free: where the search for a free one begins. Nothing is read.
+    fn first_candidate(&self) -> usize
+        ensures past { 0 < result }
+        ensures none_before { NoneFreeBefore (capacity_of (kept self.now)) (may self.now) result }
+    {
+        1
+    }
+
+    /// Returns whether the directory of a slot has no entry, if this is known without reading the slots.
+    fn known_childless(&self, directory: usize) -> Option<bool>
+        requires { directory < capacity_of (kept self.now) + 1 }
+        ensures { IfSome result (TellsChildless (capacity_of (kept self.now)) (may self.now) directory) }
+    {
+        None
+    }
 
     // Where every word is known, nothing is unknown, and the row may be the one that is read.
     ghost whole_may: { (cells : Self) (row : List ℕ) → whole (kept cells) row → may cells row × (¬ (unknown cells)) };

@@ -5,6 +5,7 @@ ghost use Rattle.tree_row.specs.OpeningRow.{opening_row};
 
 use crate::cells::{Cells, MOST_ENTRIES};
 use crate::slot::SLOT_LENGTH;
+use row_index::index_length;
 use std::alloc::{AllocError, Global};
 use std::marker::Model;
 
@@ -34,7 +35,8 @@ impl KnownRow {
         requires { capacity ≤ MOST_ENTRIES }
         ensures { IfOk result (λ row. row ≡ (capacity, opening_row capacity)) }
     {
-        let mut cells = vec![in alloc; 0; SLOT_LENGTH * (capacity + 1)]?;
+        let length = SLOT_LENGTH * (capacity + 1) + index_length(capacity);
+        let mut cells = vec![in alloc; 0; length]?;
         cells[0] = 1;
         cells[1] = 1;
         Ok(KnownRow { capacity, cells })

@@ -2,14 +2,15 @@
 ghost use Rattle.std.specs.Prelude.{◌≡◌, ◌≢◌, ◌≤◌, ◌<◌, ◌+◌, ℕ, List, Bool, true, false, Some, None, length};
 ghost use Rattle.directory_tree.specs.Tree.{Tree, WellFormed, root_alone, find};
 ghost use Rattle.directory_tree.specs.Apply.{has_room};
-ghost use Rattle.path_lookup.specs.World.{World};
+ghost use Rattle.path_lookup.specs.World.{World, IsTorn};
 ghost use Rattle.tree_row.specs.Slots.{slot_at, IsFree};
 ghost use Rattle.tree_row.specs.Rows.{Encodes};
 ghost use Rattle.tree_row.specs.OpeningRow.{opening_row};
 ghost use Rattle.tree_row.specs.Questions.{TellsChild, TellsEntryOf, TellsFree};
-ghost use Rattle.tree_row.specs.Worlds.{EncodesWorld, Reads};
+ghost use Rattle.tree_row.specs.Worlds.{EncodesWorld, Reads, SeesBy};
 
 use crate::cells::Cells;
+use crate::look::RowLook;
 
 /// A slot is free iff the tree has room for one more entry, and no tree has more entries than the row has slots for.
 pub fn slots_are_counted()
@@ -65,3 +66,12 @@ pub fn wrong_answers_are_refused<C: Cells>()
     ensures none_though_one_is_free { (cells : C) (row : List ℕ) (capacity s : ℕ) → C.may cells row →
         IsFree (capacity + 1) (slot_at row) s → TellsFree capacity (C.may cells) None → ⊥ }
 {}
+
+/// If all words of the cells are known, `Torn` is returned only if their row encodes no sound tree.
+pub fn torn_rows_encode_no_tree<C: Cells>(look: &RowLook<C>)
+    ensures { IsTorn (C.unknown look.now.cells) (SeesBy (C.capacity_of (C.kept look.now.cells)) (C.may look.now.cells)) →
+        (row : List ℕ) (t : Tree) → C.whole (C.kept look.now.cells) row → WellFormed t →
+        Encodes (C.capacity_of (C.kept look.now.cells)) row t → ⊥ }
+{
+    let _ = look;
+}

@@ -1,7 +1,7 @@
 //! Questions about single slots of a row.
 ghost use Rattle.std.specs.Prelude.{◌≡◌, ◌<◌, ◌+◌, IfOk, IfErr};
 ghost use Rattle.tree_row.specs.Worlds.{Fewer};
-ghost use Rattle.tree_row.specs.Questions.{TellsEntryOf, TellsChild, TellsFree};
+ghost use Rattle.tree_row.specs.Questions.{TellsEntryOf, TellsChildless, TellsChild, TellsFree};
 
 use crate::cells::Cells;
 use crate::slot::{COMPONENT, FREE, KIND, LENGTHS, PARENT, TEXT_FACTOR, cell_place, slot_word};
@@ -56,7 +56,28 @@ pub fn is_child<C: Cells>(
     has_text(cells, base, component)
 }
 
-/// Returns the first free slot, if one is free. Reads one word of each slot before it.
+/// Whether no slot holds an entry of the directory of a slot. Unless the cells know it, one or two words of each slot are read, up
+/// to the first that does.
+pub fn is_childless<C: Cells>(cells: &mut C, directory: usize) -> Result<bool, Torn>
+    requires { directory < C.capacity_of (C.kept cells.old) + 1 }
+    ensures kept { C.kept cells.new ≡ C.kept cells.old }
+    ensures fewer { Fewer (C.may cells.old) (C.may cells.new) }
+    ensures ok { IfOk result (TellsChildless (C.capacity_of (C.kept cells.old)) (C.may cells.new) directory) }
+    ensures err { IfErr result (λ _. C.unknown cells.new) }
+{
+    if let Some(known) = cells.known_childless(directory) {
+        return Ok(known);
+    }
+    let slots = cells.capacity() + 1;
+    for slot in 1..slots {
+        if is_entry_of(cells, directory, slot)? {
+            return Ok(false);
+        }
+    }
+    Ok(true)
+}
+
+/// Returns the first free slot, if one is free. Reads one word of each slot from the first candidate up to it.
 pub fn free_slot<C: Cells>(cells: &mut C) -> Result<Option<usize>, Torn>
     ensures kept { C.kept cells.new ≡ C.kept cells.old }
     ensures fewer { Fewer (C.may cells.old) (C.may cells.new) }
@@ -64,7 +85,7 @@ pub fn free_slot<C: Cells>(cells: &mut C) -> Result<Option<usize>, Torn>
     ensures err { IfErr result (λ _. C.unknown cells.new) }
 {
     let slots = cells.capacity() + 1;
-    for slot in 1..slots {
+    for slot in cells.first_candidate()..slots {
         if slot_word(cells, slot, KIND)? == FREE {
             return Ok(Some(slot));
         }

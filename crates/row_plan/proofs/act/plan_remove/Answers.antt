@@ -1,23 +1,63 @@
-use Rattle.std.proofs.Common.{◌∙◌, ℕ, ap, subst}
-use Rattle.std.proofs.lemmas.Result.{IfOk-weaker}
+use Rattle.std.proofs.Common.{◌≡◌, ◌∙◌, ℕ, List, sym, ap, subst}
+use Rattle.tree_row.specs.Finding.{InEncoding}
 use Rattle.row_rule.specs.Row.{write}
-use Rattle.row_plan.specs.Leaves.{without_slot}
+use Rattle.row_plan.specs.Plan.{IsLean}
+use Rattle.row_plan.specs.Leaves.{without_slot, RemovesFromIndex}
 use Rattle.row_plan.specs.inner.Rows.{FreesSlot}
-use Rattle.row_plan.proofs.Enacting.{enacts_removal}
+use Rattle.row_plan.specs.inner.Acts.{IsTreeRead}
+use Rattle.row_plan.specs.inner.Planned.{Finds, NamesUsed}
+use Rattle.row_plan.proofs.Enacting.{child_used}
+use Rattle.row_plan.proofs.Encoded.{gone, gone_found}
 use Rattle.row_plan.proofs.act.plan_remove.Goals as goal
 
+pub remove_from_index-requires-clause-read : goal.remove_from_index-requires-clause-read
+remove_from_index-requires-clause-read g c =
+    subst (λ k. IsTreeRead (g.C.Cells.capacity_of k) (g.C.Cells.whole k)) (sym c.clear_slot.ensures.kept) c.requires.known
+
+pub remove_from_index-requires-clause-planned : goal.remove_from_index-requires-clause-planned
+remove_from_index-requires-clause-planned g c =
+    let capacity : ℕ = g.C.Cells.capacity_of (g.C.Cells.kept c.args.cells.now) in
+    let component : List ℕ = c.args.place.now.component.now in
+    let d : ℕ = c.args.place.now.directory.slot in
+    let r : ℕ = c.args.entry.slot in
+    subst (λ k. InEncoding (g.C.Cells.capacity_of k) (g.C.Cells.whole k) (λ row. IsLean row c.in_ok-plan.plan.items
+    × Finds (g.C.Cells.capacity_of k) (write row c.in_ok-plan.plan.items) c.slot.result component c.slot-slot.result
+    × NamesUsed (g.C.Cells.capacity_of k) row (write row c.in_ok-plan.plan.items))) (sym c.clear_slot.ensures.kept)
+    (λ row w whole enc.
+    let tested = c.requires.tested row w whole enc in
+    let directory = c.requires.slots.0 in
+    let known = c.requires.slots.1 in
+    let between : List ℕ = write row c.in_ok-plan.plan.items in
+    let cleared = c.in_ok-plan.ensures.ok row whole enc.tree.long in
+    let frees : FreesSlot row r between = subst (λ (z : ℕ). FreesSlot row z between) c.slot-slot.ensures cleared.1 in
+    let used = child_used capacity row w enc d r component known.within (known.filled row w whole enc) tested.there in
+    let found = gone_found capacity row w enc d r component between directory.within (directory.filled row w whole enc) used tested.there
+    frees in (
+      cleared.0,
+      subst (λ (z : ℕ). Finds capacity between z component c.slot-slot.result) (sym c.slot.ensures)
+          (subst (Finds capacity between d component) (sym c.slot-slot.ensures) found.0),
+      found.1,
+    ))
+
 pub returns-clause-ok : goal.returns-clause-ok
-returns-clause-ok g c = IfOk-weaker c.clear_slot.result _ _ (λ plan clears next row w whole enc is.
-    let capacity = g.C.Cells.capacity_of (g.C.Cells.kept c.args.cells.now) in
-    let r = c.args.entry.slot in
+returns-clause-ok g c next row w whole enc is =
+    let capacity : ℕ = g.C.Cells.capacity_of (g.C.Cells.kept c.args.cells.now) in
+    let component : List ℕ = c.args.place.now.component.now in
+    let d : ℕ = c.args.place.now.directory.slot in
+    let r : ℕ = c.args.entry.slot in
     let tested = c.requires.tested row w whole enc in
     let known = c.requires.slots.1 in
-    let cleared = clears row whole enc.tree.long in
-    let frees : FreesSlot row r (write row plan.items) = subst (λ (z : ℕ). FreesSlot row z (write row plan.items))
-    c.slot.ensures cleared.1 in (
-      cleared.0,
-      enacts_removal capacity row w enc c.args.place.now.directory.slot r c.args.place.now.component.now (write row plan.items)
-          known.within (known.filled row w whole enc) tested.there tested.empty frees,
-      cleared.2 ∙ ap (without_slot row) c.slot.ensures,
+    let cleared = c.in_ok-plan.ensures.ok row whole enc.tree.long in
+    let between : List ℕ = write row c.in_ok-plan.plan.items in
+    let after : List ℕ = write row c.remove_from_index.new.plan.items in
+    let frees : FreesSlot row r between = subst (λ (z : ℕ). FreesSlot row z between) c.slot-slot.ensures cleared.1 in
+    let freed : between ≡ without_slot row r = cleared.2 ∙ ap (without_slot row) c.slot-slot.ensures in
+    let removed = subst (λ k. InEncoding (g.C.Cells.capacity_of k) (g.C.Cells.whole k) (λ x. IsLean x c.remove_from_index.new.plan.items
+    × RemovesFromIndex (g.C.Cells.capacity_of k) x c.slot-slot.result (write x c.in_ok-plan.plan.items)
+    (write x c.remove_from_index.new.plan.items))) c.clear_slot.ensures.kept c.in_ok-remove_from_index.ensures.ok row w whole enc in
+    let left : RemovesFromIndex capacity row r between after =
+    subst (λ (z : ℕ). RemovesFromIndex capacity row z between after) c.slot-slot.ensures removed.1 in (
+      removed.0,
+      gone capacity row w enc d r component between after known.within (known.filled row w whole enc) tested.there tested.empty frees left,
+      subst (λ (z : List ℕ). RemovesFromIndex capacity row r z after) freed left,
     )
-    ) c.clear_slot.ensures.ok

@@ -1,6 +1,7 @@
 use Rattle.std.proofs.Common.{◌≡◌, ℕ, ◌+◌, ◌/◌, ◌<◌, ◌∙◌, length, sym, subst, arith}
 use mathlib.Core.Logic.{inr}
 use Rattle.std.specs.Prelude.{slice_set}
+use Rattle.row_index.proofs.Sizes.{index_most}
 use Rattle.row_plan.specs.Leaves.{packed, with_words}
 use Rattle.row_plan.specs.inner.Rows.{Drafts}
 use Rattle.row_plan.proofs.Packing.{packs}
@@ -12,6 +13,9 @@ returns-in_err-add_cell-clause-packed g c = packs c.args.text.now (λ i. omega (
 
 pub returns-clause-packed : goal.returns-clause-packed
 returns-clause-packed g c = packs c.args.text.now (λ i. omega (arith, c.type_inv.text i))
+
+pub overflow_add-base : goal.overflow_add-base
+overflow_add-base g c = omega (arith, index_most (g.C.Cells.capacity_of (g.C.Cells.kept c.args.cells.now)))
 
 pub loop-k-preserved : goal.loop-k-preserved
 loop-k-preserved g c = record {

@@ -1,10 +1,14 @@
 use Rattle.std.proofs.Common.{◌≡◌, ℕ, ◌+◌, ◌<◌, ◌∙◌, length, sym, subst, arith}
 use mathlib.Core.Logic.{inr}
 use Rattle.std.specs.Prelude.{slice_index}
+use Rattle.row_index.proofs.Sizes.{index_most}
 use Rattle.row_plan.specs.Leaves.{with_words}
 use Rattle.row_plan.specs.inner.Rows.{Drafts}
 use Rattle.row_plan.proofs.Filling.{outside, drafts_more}
 use Rattle.row_plan.proofs.draft.add_words.Goals as goal
+
+pub overflow_add-base : goal.overflow_add-base
+overflow_add-base g c = omega (arith, index_most (g.C.Cells.capacity_of (g.C.Cells.kept c.args.cells.now)))
 
 pub loop-i-preserved : goal.loop-i-preserved
 loop-i-preserved g c = record {

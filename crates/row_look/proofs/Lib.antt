@@ -1,5 +1,0 @@
-pub mod SeenEntries
-pub mod Knowing
-pub mod Deciding
-pub mod Taking
-pub mod Merging
