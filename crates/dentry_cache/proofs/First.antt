@@ -2,6 +2,8 @@
 use Rattle.std.proofs.Common.{◌≡◌, ℕ, suc, ◌+◌, ◌≤◌, List, [], ◌∷◌, length, set, replicate, sym, refl, ap, ◌∙◌, subst, arith}
 use Rattle.atomic_table.specs.Seated.{TableId}
 use Rattle.directory_tree.specs.Tree.{root_alone}
+use Rattle.row_index.specs.Places.{index_length}
+use Rattle.tree_row.specs.Slots.{slots_length}
 use Rattle.tree_row.specs.Rows.{row_length}
 use Rattle.tree_row.specs.OpeningRow.{opening_row}
 use Rattle.tree_row.proofs.Opening.{length-opening, opens}
@@ -15,10 +17,11 @@ use Rattle.dentry_cache.specs.inner.Knowing.{RowSeat, held, KeeperKnows}
 use Rattle.dentry_cache.proofs.Keeping.{kept_first}
 
 -- the count, which is 0, and the cells of the root alone
-pub first_words : (capacity : ℕ) → set (set (replicate (row_length capacity + 1) 0) 1 1) 2 1 ≡ 0 ∷ opening_row capacity
-first_words capacity = ap (λ (n : ℕ). set (set (replicate n 0) 1 1) 2 1) (one_more (row_length capacity)) where
-  one_more : (n : ℕ) → n + 1 ≡ suc n
-  one_more n = omega arith
+pub first_words : (capacity size : ℕ) → size ≡ index_length capacity →
+    set (set (replicate (slots_length (capacity + 1) + size + 1) 0) 1 1) 2 1 ≡ 0 ∷ opening_row capacity
+first_words capacity size is = ap (λ (n : ℕ). set (set (replicate n 0) 1 1) 2 1) one_more where
+  one_more : slots_length (capacity + 1) + size + 1 ≡ suc (row_length capacity)
+  one_more = omega (arith, is)
 
 pub rule_first : (capacity : ℕ) (words : List ℕ) → words ≡ 0 ∷ opening_row capacity
     → KeptBy (EncodesChanges capacity) (row_length capacity) (at_rest [] (opening_row capacity)) words (first_view capacity ∷ [])

@@ -4,3 +4,4 @@ pub mod Keeping
 pub mod First
 pub mod Seeing
 pub mod Writers
+pub mod Tallied

@@ -1,7 +1,7 @@
 -- The keeper's value once its look is given back.
 use Rattle.std.specs.Borrow.{Lends, MutBor, Fml}
-use Rattle.row_look.specs.declared.look.RowLook.{RowLook}
-use Rattle.row_look.specs.contracts.look.RowLook as look
+use Rattle.tree_row.specs.declared.look.RowLook.{RowLook}
+use Rattle.tree_row.specs.contracts.look.RowLook as look
 use Rattle.dentry_cache.specs.declared.kept_row.KeptRow.{KeptRow}
 use Rattle.dentry_cache.specs.contracts.kept_row.KeptRow as row
 use Rattle.dentry_cache.specs.contracts.keeper.Keeper.{the_row}

@@ -14,12 +14,11 @@ use change_checks::check_change;
 use directory_tree::Change;
 use names::{Errno, NoMemory};
 use path_lookup::WalkFault;
-use row_look::RowLook;
 use row_plan::plan;
 use row_rule::Cell;
 use std::alloc::Global;
 use std::marker::Model;
-use tree_row::{Cells, MOST_ENTRIES};
+use tree_row::{Cells, MOST_ENTRIES, RowLook};
 
 /// The keeper's view of the tree, by its own reads of the row.
 pub type KeeperLook = RowLook<KeptRow>;

@@ -13,12 +13,15 @@ use crate::refusal::NoSeat;
 use crate::rule::{RowSeat, RowTable};
 use crate::steps;
 use crate::stopped::StoppedKeeper;
+use crate::tallying::follow;
 use crate::walker::Walker;
 use atomic_table::Table;
 use directory_tree::Change;
 use names::{Errno, NoMemory};
+use row_index::index_length;
 use row_plan::next_after;
 use row_rule::Cell;
+use row_tally::RowTally;
 use std::alloc::Global;
 use std::marker::Model;
 use std::sync::Arc;
@@ -38,11 +41,15 @@ pub struct KeptRow {
     next: u64,
     // The number of changes made.
     version: u64,
+    // Follows the row's cells, so that free slots and empty directories are found without reading slots.
+    tally: RowTally,
 }
 
 impl Model for KeptRow {
     ghost use Rattle.std.specs.Arc.{arc_value};
     ghost use Rattle.dentry_cache.specs.Models.{Held};
+    ghost use Rattle.row_tally.specs.Tally.{IsTallyOf};
+    ghost use Rattle.dentry_cache.specs.Seats.{keeper_of};
     ghost use Rattle.dentry_cache.specs.inner.Knowing.{held, KeeperKnows};
 
     ghost Value = { Held };
@@ -50,7 +57,7 @@ impl Model for KeptRow {
     ghost view = { λ k. held k.seat k.capacity };
 
     ghost invariant = { λ k. KeeperKnows (arc_value k.table).shared.table_id (arc_value k.table).shared.key k.seat
-        k.capacity k.next k.version };
+        k.capacity k.next k.version × IsTallyOf k.capacity (keeper_of k.seat.me.0).cells k.tally };
 }
 
 impl KeptRow {
@@ -58,7 +65,8 @@ impl KeptRow {
         requires { capacity ≤ MOST_ENTRIES }
         ensures { IfOk result (λ row. (row.capacity ≡ capacity) × (row.history ≡ []) × (row.cells ≡ opening_row capacity)) }
     {
-        let Ok(mut words) = vec![in alloc; 0u64; SLOT_LENGTH * (capacity + 1) + 1] else {
+        let length = SLOT_LENGTH * (capacity + 1) + index_length(capacity);
+        let Ok(mut words) = vec![in alloc; 0u64; length + 1] else {
             return Err(NoMemory);
         };
         words[1] = 1;
@@ -69,12 +77,14 @@ impl KeptRow {
         let Ok(table) = Arc::new(alloc, table) else {
             return Err(NoMemory);
         };
+        let tally = RowTally::new(alloc, capacity)?;
         Ok(KeptRow {
             table,
             seat,
             capacity,
             next: 2,
             version: 0,
+            tally,
         })
     }
 
@@ -104,6 +114,7 @@ impl KeptRow {
     {
         let count = 2 * self.version;
         perform(&self.table, &mut self.seat, count, change, plan);
+        follow(&mut self.tally, plan);
         self.next = next_after(self.next, change);
         self.version += 1;
         self.version
@@ -120,6 +131,7 @@ impl KeptRow {
             capacity,
             next: _,
             version,
+            tally: _,
         } = self;
         begin(
             &table,
@@ -198,5 +210,16 @@ impl Cells for KeptRow {
 
     fn word(&mut self, place: usize) -> Option<u64> {
         Some(self.read(place))
+    }
+
+    fn first_candidate(&self) -> usize {
+        match self.tally.first_free() {
+            Some(slot) => slot,
+            None => self.capacity + 1,
+        }
+    }
+
+    fn known_childless(&self, directory: usize) -> Option<bool> {
+        Some(self.tally.is_empty(directory))
     }
 }

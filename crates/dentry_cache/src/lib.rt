@@ -15,6 +15,7 @@ mod refusal;
 mod rule;
 mod steps;
 mod stopped;
+mod tallying;
 mod walker;
 
 pub use keeper::{Keeper, KeeperLook};

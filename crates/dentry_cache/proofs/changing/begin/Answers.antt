@@ -1,8 +1,19 @@
-use Rattle.std.proofs.Common.{◌+◌, drop, Some, ap, ◌∙◌, arith}
+use Rattle.std.proofs.Common.{◌+◌, ◌<◌, drop, Some, ap, ◌∙◌, arith}
+use Rattle.std.proofs.lemmas.List.Elements.{All-get_or}
+use Rattle.row_index.proofs.Sizes.{index_most}
+use Rattle.tree_row.specs.Rows.{row_length}
+use Rattle.row_rule.specs.declared.cell.Cell.{Cell}
 use Rattle.row_rule.specs.declared.view.Pending.{Pending}
 use Rattle.dentry_cache.specs.Seats.{keeper_of}
 use Rattle.dentry_cache.proofs.Setting.{pending_next, one_more_set}
 use Rattle.dentry_cache.proofs.changing.begin.Goals as goal
+
+pub set_cell-requires-clause-words : goal.set_cell-requires-clause-words
+set_cell-requires-clause-words c =
+    let key = c.args.table.now.shared.key in
+    let inside = All-get_or (λ (cell : Cell). cell.place < row_length key) c.args.plan.now c.loop-i.i record { place = 0; word = 0 }
+    (omega (arith, c.loop-i-test.true, c.requires.fewer)) c.requires.within in
+    (omega (arith, inside, c.requires.words.0), omega (arith, inside, c.requires.words.1, index_most key))
 
 pub set_cell-requires-clause-next : goal.set_cell-requires-clause-next
 set_cell-requires-clause-next c =
