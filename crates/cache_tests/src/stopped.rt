@@ -82,14 +82,14 @@ fn expect_busy(
     Ok(())
 }
 
-// A rename that sets four cells: the parent, the lengths, and two of the component.
+// A rename that sets six cells: the parent, the lengths, two of the component, and two of the index, the old one first.
 fn rename<'a>() -> Result<Change<'a>, Fail> {
     change("rename /a/directory /b/moved.directory")
 }
 
 #[test]
 fn a_rename_stops(rt: HostRuntime) -> Result<(), Fail> {
-    for cells in 0..6 {
+    for cells in 0..8 {
         expect_busy(&rt, rt.alloc(), &rename()?, cells)?;
     }
     Ok(())
@@ -104,12 +104,12 @@ fn long_text() -> [u8; 1023] {
     text
 }
 
-// The kind, the node, the lengths, the component, and 128 cells of the text.
+// The kind, the node, the lengths, the component, 128 cells of the text, and one of the index.
 #[test]
 fn a_symlink_stops(rt: HostRuntime) -> Result<(), Fail> {
     let text = long_text();
     let made = Change::Symlink(LinkBytes::new(&text), path(b"/l")?);
-    for cells in 0..134 {
+    for cells in 0..135 {
         expect_busy(&rt, rt.alloc(), &made, cells)?;
     }
     Ok(())
@@ -119,10 +119,11 @@ fn a_symlink_stops(rt: HostRuntime) -> Result<(), Fail> {
 fn expect_seen(
     rt: &impl Abort,
     alloc: Global,
+    made: &Change<'_>,
     cells: usize,
     rows: &[(&str, Result<usize, WalkFault>)],
 ) -> Result<(), Fail> {
-    let mut walker = stopped(alloc, &rename()?, cells)?.walker;
+    let mut walker = stopped(alloc, made, cells)?.walker;
     for (text, length) in rows {
         let walked = walk(walker, text.as_bytes(), &mut [0; NAME_ROOM])?;
         assert_eq!(rt; walked.length, *length, "{text} {cells}");
@@ -131,32 +132,51 @@ fn expect_seen(
     Ok(())
 }
 
+const ABSENT: Result<usize, WalkFault> = Err(WalkFault::Refused(Errno::ENOENT));
+
+// From the first cell on it isn't where it was, and until the last one it isn't found anywhere else, since only that one names its
+// slot where the search for its new component begins.
 #[test]
 fn so_many_cells_are_set(rt: HostRuntime) -> Result<(), Fail> {
-    let absent = Err(WalkFault::Refused(Errno::ENOENT));
-    let (old, new) = ("/a/directory/f", "/b/moved.directory/f");
-    expect_seen(&rt, rt.alloc(), 0, &[(old, Ok(14)), (new, absent)])?;
-    // It has moved, but its name hasn't changed.
-    let half = "/b/directory/f";
-    expect_seen(
-        &rt,
-        rt.alloc(),
-        1,
-        &[(old, absent), (half, Ok(14)), (new, absent)],
-    )?;
-    expect_seen(
-        &rt,
-        rt.alloc(),
-        3,
-        &[(old, absent), (half, absent), (new, absent)],
-    )?;
-    expect_seen(
-        &rt,
-        rt.alloc(),
-        4,
-        &[(old, absent), (half, absent), (new, Ok(20))],
-    )?;
-    expect_seen(&rt, rt.alloc(), usize::MAX, &[(old, absent), (new, Ok(20))])
+    let (old, half, new) = ("/a/directory/f", "/b/directory/f", "/b/moved.directory/f");
+    let made = rename()?;
+    expect_seen(&rt, rt.alloc(), &made, 0, &[(old, Ok(14)), (new, ABSENT)])?;
+    for cells in 1..6 {
+        expect_seen(
+            &rt,
+            rt.alloc(),
+            &made,
+            cells,
+            &[(old, ABSENT), (half, ABSENT), (new, ABSENT)],
+        )?;
+    }
+    for cells in [6, usize::MAX] {
+        expect_seen(
+            &rt,
+            rt.alloc(),
+            &made,
+            cells,
+            &[(old, ABSENT), (half, ABSENT), (new, Ok(20))],
+        )?;
+    }
+    Ok(())
+}
+
+// The searches for both components begin at the same word of the index, so a rename sets only the two cells of the component. Between
+// them a walk finds a name that no directory ever had.
+#[test]
+fn half_a_name_is_set(rt: HostRuntime) -> Result<(), Fail> {
+    let (old, half, new) = ("/a/directory/f", "/a/DIRECTORy/f", "/a/DIRECTORY/f");
+    let made = change("rename /a/directory /a/DIRECTORY")?;
+    let rows = [
+        (0, [(old, Ok(14)), (half, ABSENT), (new, ABSENT)]),
+        (1, [(old, ABSENT), (half, Ok(14)), (new, ABSENT)]),
+        (2, [(old, ABSENT), (half, ABSENT), (new, Ok(14))]),
+    ];
+    for (cells, seen) in rows {
+        expect_seen(&rt, rt.alloc(), &made, cells, &seen)?;
+    }
+    Ok(())
 }
 
 // A change that is refused isn't opened, and the keeper is returned.

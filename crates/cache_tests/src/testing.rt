@@ -6,10 +6,9 @@ use dentry_cache::{Attempt, Busy, Keeper, Walker};
 use directory_tree::{Change, Last};
 use names::{Errno, NoMemory};
 use path_lookup::{Look, NAME_ROOM, Scratch, WalkFault};
-use row_look::{RowLook, reach};
 use std::alloc::Global;
 use std::test::Fail;
-use tree_row::MOST_ENTRIES;
+use tree_row::{MOST_ENTRIES, RowLook, reach};
 
 /// Returns the keeper of a row of the root alone, with room for `capacity` entries.
 pub(crate) fn keeper(alloc: Global, capacity: usize) -> Result<Keeper, Fail>

@@ -7,9 +7,9 @@ use dentry_cache::{Attempt, Busy, Keeper, Walker};
 use directory_tree::Change;
 use names::Errno;
 use path_lookup::Look;
-use row_look::RowLook;
 use std::process::Abort;
 use std::test::Fail;
+use tree_row::RowLook;
 
 /// Returns whether the root has this entry, and how the walk ended.
 pub(crate) fn look(walker: Walker, component: &[u8]) -> (Walker, Option<bool>, Result<u64, Busy>)

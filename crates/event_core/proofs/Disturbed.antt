@@ -13,7 +13,7 @@ use Rattle.event_core.specs.Machine.Stage.{begun, policed, walking, checked}
 use Rattle.event_core.specs.Runs.{Runs, Legal}
 use Rattle.event_core.specs.Examples.{to_read, root_for, mkdir_b, busy_call, overtaken_call}
 use Rattle.event_core.proofs.Examples.{asked, no_nil, reads_root}
-use Rattle.event_core.proofs.NewDirectory.{four_cells, is_plan, encodes_change}
+use Rattle.event_core.proofs.NewDirectory.{five_cells, is_plan, encodes_change}
 
 abbrev rules : List Deed
 rules = published (112 ∷ []) (by_rules []) ∷ []
@@ -45,7 +45,7 @@ in_change = open_change mkdir_b ∷ read_count 1 ∷ check_count 1 ∷ answer 1 
 pub busy_root : (capacity : ℕ) → 1 ≤ capacity → (m : Machine) × Legal capacity busy_call ((1, Busy 1 1) ∷ []) m
 busy_root capacity room =
     let c : Machine = polled_by capacity in
-    let d : Machine = with_keeper c (opening c.keeper mkdir_b four_cells) in
+    let d : Machine = with_keeper c (opening c.keeper mkdir_b (five_cells capacity)) in
     let w : WalkerView = beginning newcomer 1 [] in
     let e : Machine = moved_on d 1 (walking p w None) in
     let f : Machine = moved_on e 1 (checked p (ending w 1 [])) in
@@ -56,7 +56,7 @@ busy_root capacity room =
         None,
         d,
         all,
-        (four_cells, refl, is_plan capacity room, encodes_change capacity room, refl),
+        (five_cells capacity, refl, is_plan capacity room, encodes_change capacity room, refl),
         (
           None,
           e,
@@ -92,7 +92,7 @@ overtaken_root capacity room =
     let c : Machine = polled_by capacity in
     let w : WalkerView = beginning newcomer 0 [] in
     let d : Machine = moved_on c 1 (walking p w None) in
-    let e : Machine = with_keeper d (opening d.keeper mkdir_b four_cells) in
+    let e : Machine = with_keeper d (opening d.keeper mkdir_b (five_cells capacity)) in
     let f : Machine = moved_on e 1 (checked p (ending w 1 [])) in
     let g : Machine = answered f 1 [] in
     let all : List (ℕ × Answer) = (1, Busy 0 1) ∷ [] in (
@@ -106,7 +106,7 @@ overtaken_root capacity room =
           None,
           e,
           all,
-          (four_cells, refl, is_plan capacity room, encodes_change capacity room, refl),
+          (five_cells capacity, refl, is_plan capacity room, encodes_change capacity room, refl),
           (
             None,
             f,

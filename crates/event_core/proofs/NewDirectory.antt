@@ -1,5 +1,5 @@
--- The first change of a row: four cells make the directory `/b` in the row of the root alone.
-use Rattle.std.proofs.Common.{◌≡◌, ◌≢◌, Bool, true, ℕ, ◌%◌, ◌/◌, ◌<◌, ◌≤◌, List, [], ◌∷◌, length, set, replicate, sym, refl, ap, ◌∙◌}
+-- The first change of a row: five cells make the directory `/b` in the row of the root alone.
+use Rattle.std.proofs.Common.{◌≡◌, ◌≢◌, Bool, true, ℕ, ◌+◌, ◌%◌, ◌/◌, ◌<◌, ◌≤◌, List, [], ◌∷◌, length, set, replicate, sym, refl, ap, ◌∙◌}
 use Rattle.std.proofs.Common.{subst, arith, length-set, get_or-set_other, get_or-set_same}
 use Rattle.std.specs.Prelude.{slice_index, slice_set, Ok}
 use Rattle.std.proofs.lemmas.Bool.{lt-ltb}
@@ -13,29 +13,36 @@ use Rattle.change_checks.specs.declared.act.Act.{Act}
 use Rattle.change_checks.specs.declared.act.Act.TheVariants as act
 use Rattle.change_checks.specs.declared.act.NewNode.TheVariants as new
 use Rattle.tree_row.specs.Slots.{slot_at, text_at}
-use Rattle.tree_row.specs.Rows.{row_length, Encodes}
+use Rattle.row_index.specs.Places.{around, index_length}
+use Rattle.row_index.specs.Hashing.{home}
+use Rattle.row_index.proofs.Rounds.{around_within}
+use Rattle.row_index.proofs.Homes.{home_within}
+use Rattle.row_index.proofs.Sizes.{index_some}
+use Rattle.tree_row.specs.Rows.{row_length, index_base, Encodes}
 use Rattle.tree_row.specs.Worlds.{spot_at}
 use Rattle.tree_row.specs.OpeningRow.{opening_row}
 use Rattle.tree_row.proofs.Opening.{length-opening, opens}
-use Rattle.row_look.specs.declared.look.RowEntry.{RowEntry}
+use Rattle.tree_row.specs.declared.look.RowEntry.{RowEntry}
 use Rattle.row_rule.specs.declared.cell.Cell.{Cell}
 use Rattle.row_rule.specs.Row.{write}
-use Rattle.row_plan.specs.Leaves.{packed, with_slot, new_slot}
+use Rattle.row_plan.specs.Leaves.{packed, with_slot, new_slot, AddsToIndex}
+use Rattle.row_plan.specs.inner.Rows.{SetsSlot}
 use Rattle.row_plan.specs.Plan.{IsLean, outcome_in}
 use Rattle.row_plan.proofs.Drafting.{begins, grows}
-use Rattle.row_plan.proofs.Encoding.{encodes_filled}
+use Rattle.row_plan.proofs.Encoded.{made}
 use Rattle.row_plan.specs.Changes.{EncodesChanges, IsPlan}
 use Rattle.event_core.specs.Examples.{mkdir_b}
 
+-- where the search for it in the index begins
+abbrev index_place : ℕ → ℕ
+index_place capacity = index_base capacity + around (index_length capacity) (home (index_length capacity) 0 (98 ∷ []) + 0)
+
 -- a directory, of node 2, with a component of one byte, which is `b`; the word that says that it is in the root's slot is already
--- there
-abbrev pub four_cells : List Cell
-four_cells =
-    record { place = 164; word = 1 } ∷ record { place = 165; word = 2 } ∷ record { place = 167; word = 1 } ∷ record {
-      place =
-          168;
-      word = 98;
-    } ∷ []
+-- there; and the word of the index that names slot 1
+abbrev pub five_cells : ℕ → List Cell
+five_cells capacity =
+    record { place = 164; word = 1 } ∷ record { place = 165; word = 2 } ∷ record { place = 167; word = 1 }
+    ∷ record { place = 168; word = 98 } ∷ record { place = index_place capacity; word = 2 } ∷ []
 
 abbrev tree_with_b : Tree
 tree_with_b = with_entry root_alone (entry 1 (98 ∷ []) 2 Directory) 3
@@ -67,8 +74,11 @@ module _ (capacity : ℕ) (room : 1 ≤ capacity) where
   long : length row ≡ row_length capacity
   long = length-opening capacity
 
+  abbrev final : List ℕ
+  final = slice_set after (index_place capacity) 2
+
   -- after the root's two words all is 0
-  zero_at : (k : ℕ) → 1 < k → k < 328 → slice_index row k ≡ 0
+  zero_at : (k : ℕ) → 1 < k → k < row_length capacity → slice_index row k ≡ 0
   zero_at k past l =
       let m = row_length capacity in
       get_or-set_other (set (replicate m 0) 0 1) 1 k 1 0 (λ e. absurd (omega arith)) ∙ get_or-set_other (replicate m 0) 0 k 1 0
@@ -117,27 +127,46 @@ module _ (capacity : ℕ) (room : 1 ≤ capacity) where
   byte_is = get_or-set_same third 168 98 0 (let l = long in let m = long_third in omega arith)
 
   -- so slot 1 has the entry, and the others stay
-  encodes : Encodes capacity after tree_with_b
-  encodes =
+  sets : SetsSlot row 1 (new_slot Directory 2 0 (98 ∷ [])) after
+  sets =
       let kind = kind_is in
       let node = node_is in
       let parent = parent_is in
       let component : text_at after 168 (slice_index after 167 % 65536) ≡ 98 ∷ [] =
       ap (λ (z : ℕ). text_at after 168 (z % 65536)) lengths_are ∙ ap (λ (z : ℕ). z % 256 ∷ []) byte_is in
       let text : text_at after 200 (slice_index after 167 / 65536) ≡ [] = ap (λ (z : ℕ). text_at after 200 (z / 65536)) lengths_are in
-      let old = opens capacity in
-      subst (λ (d : ℕ). Encodes capacity after (with_entry root_alone (entry d (98 ∷ []) 2 Directory) 3)) old.slots.root.node
-      (encodes_filled capacity row root_alone old after Directory 2 3 1 0 (98 ∷ []) refl
-      record { past_root = omega arith; within = omega arith; free = zero_at 164 (omega arith) (omega arith) }
-      record { within = old.slots.root.within; kind = old.slots.root.kind } (omega arith) (omega arith)
       record {
         long = long_after;
         here = λ i. record { kind = kind i; node = node i; parent = parent i; component = component i; text = text i };
         others = λ k out. kept_after k (λ e. grind arith) (λ e. grind arith) (λ e. grind arith) (λ e. grind arith);
-      })
+      }
+
+  -- the word of the index is one of the row's, and no cell before it
+  place_low : around (index_length capacity) (home (index_length capacity) 0 (98 ∷ []) + 0) < index_length capacity
+  place_low =
+      let low = home_within (index_length capacity) 0 (98 ∷ []) (index_some capacity) in
+      around_within (index_length capacity) (home (index_length capacity) 0 (98 ∷ []) + 0) (omega arith)
+
+  place_kept : slice_index after (index_place capacity) ≡ slice_index row (index_place capacity)
+  place_kept =
+      let low = place_low in
+      kept_after (index_place capacity) (λ e. absurd (omega arith)) (λ e. absurd (omega arith)) (λ e. absurd (omega arith))
+      (λ e. absurd (omega arith))
+
+  place_free : slice_index row (index_place capacity) ≡ 0
+  place_free = let low = place_low in zero_at (index_place capacity) (omega arith) (omega arith)
+
+  adds : AddsToIndex capacity 0 (98 ∷ []) 1 after final
+  adds =
+      let some = index_some capacity in
+      let free : slice_index after (index_place capacity) ≡ 0 = place_kept ∙ place_free in (
+        0,
+        record { within = omega arith; vacant = omega arith; first = λ i l. absurd (omega arith) },
+        refl,
+      )
 
   -- no superfluous cell: each is added to those before it
-  lean : IsLean row four_cells
+  lean : IsLean row (five_cells capacity)
   lean =
       let l = long in
       let one = grows row [] row 164 1 (omega arith) (begins row) refl (λ e. let z = zero_at 164 (omega arith) (omega arith) in
@@ -151,7 +180,10 @@ module _ (capacity : ℕ) (room : 1 ≤ capacity) where
       (get_or-set_other second 167 168 1 0 (λ e. absurd (omega arith)) ∙ get_or-set_other first 165 168 2 0 (λ e. absurd (omega arith))
       ∙ get_or-set_other row 164 168 1 0 (λ e. absurd (omega arith)))
       (λ e. let z = zero_at 168 (omega arith) (omega arith) in absurd (omega arith)) in
-      four.lean
+      let low = place_low in
+      let five = grows row _ after (index_place capacity) 2 (omega arith) four place_kept
+      (λ e. let z = place_free in absurd (omega arith)) in
+      five.lean
 
   -- the slot of the directory is the word that is there already
   parent_stays : slice_set second 166 0 ≡ second
@@ -161,7 +193,7 @@ module _ (capacity : ℕ) (room : 1 ≤ capacity) where
       ∙ zero_at 166 (omega arith) (omega arith) in
       ap (set second 166) (sym z) ∙ set-get_or second 166 0
 
-  leaves : write row four_cells ≡ with_slot row 1 (new_slot Directory 2 0 (98 ∷ []))
+  leaves : after ≡ with_slot row 1 (new_slot Directory 2 0 (98 ∷ []))
   leaves =
       ap (λ (cells : List ℕ). slice_set (slice_set cells 167 1) 168 98) (sym parent_stays)
       ∙ ap (slice_set (slice_set (slice_set second 166 0) 167 1) 168) (sym letter)
@@ -175,7 +207,14 @@ module _ (capacity : ℕ) (room : 1 ≤ capacity) where
   makes : outcome_in capacity world mkdir_b ≡ Ok tree_with_b
   makes = ap (λ (b : Bool). apply root_alone b mkdir_b) has_place
 
-  pub is_plan : IsPlan capacity row [] mkdir_b four_cells
+  encodes : Encodes capacity final tree_with_b
+  encodes =
+      let old = opens capacity in
+      made capacity row world record { tree = old; named = λ s. refl } Directory 2 3 1 0 (98 ∷ []) after final old.slots.root.within refl
+      refl record { past_root = omega arith; within = omega arith; free = zero_at 164 (omega arith) (omega arith) } (omega arith)
+      (omega arith) sets adds
+
+  pub is_plan : IsPlan capacity row [] mkdir_b (five_cells capacity)
   is_plan =
       let old = opens capacity in
       let kind = old.slots.root.kind in (
@@ -205,13 +244,14 @@ module _ (capacity : ℕ) (room : 1 ≤ capacity) where
               };
               first = λ r free. let past = free.past_root in omega arith;
             },
-            leaves,
+            subst (λ (z : List ℕ). AddsToIndex capacity 0 (98 ∷ []) 1 z final) leaves adds,
           );
         },
       )
 
-pub encodes_change : (capacity : ℕ) → 1 ≤ capacity → EncodesChanges capacity (write (opening_row capacity) four_cells) (mkdir_b ∷ [])
+pub encodes_change : (capacity : ℕ) → 1 ≤ capacity → EncodesChanges capacity
+    (write (opening_row capacity) (five_cells capacity)) (mkdir_b ∷ [])
 encodes_change capacity room =
-    let made : tree_after capacity (mkdir_b ∷ []) ≡ Ok tree_with_b = ap (λ (b : Bool). and_then (apply root_alone b mkdir_b) (λ t. Ok t))
+    let result : tree_after capacity (mkdir_b ∷ []) ≡ Ok tree_with_b = ap (λ (b : Bool). and_then (apply root_alone b mkdir_b) (λ t. Ok t))
     (lt-ltb 0 capacity (omega arith)) in
-    (tree_with_b, made, encodes capacity room)
+    (tree_with_b, result, encodes capacity room)

@@ -11,7 +11,7 @@ use Rattle.justification.specs.declared.answer.Answer.TheVariants.{Judged, Faile
 use Rattle.row_rule.specs.declared.cell.Cell.{Cell}
 use Rattle.row_rule.specs.declared.view.WalkerView.{WalkerView}
 use Rattle.row_rule.specs.Row.{Agrees}
-use Rattle.row_look.specs.Known.{InEach}
+use Rattle.tree_row.specs.Known.{InEach}
 use Rattle.tree_row.specs.Rows.{row_length}
 use Rattle.event_core.specs.Machine.{Call, Policed, Stage}
 use Rattle.event_core.specs.Machine.Stage.{resting, begun, unpublished, policed, walking, checked}

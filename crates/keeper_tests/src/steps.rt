@@ -31,8 +31,8 @@ fn expect_no_change(rt: &impl Abort, keeper: &mut Keeper, change: &Change<'_>) {
     assert_eq!(rt; keeper.cells_left(), None);
     assert_eq!(rt; keeper.set(), Err(NotNow));
     assert_eq!(rt; keeper.close(), Err(NotNow));
-    // The slot after the root's: its kind, node, parent (0 as it stands), length and component.
-    assert_eq!(rt; keeper.test(change), Ok(Ok(4)));
+    // The slot after the root's: its kind, node, parent (0 as it stands), length and component; and one word of the index.
+    assert_eq!(rt; keeper.test(change), Ok(Ok(5)));
 }
 
 fn expect_open_change(rt: &impl Abort, keeper: &mut Keeper, change: &Change<'_>) {
@@ -43,8 +43,8 @@ fn expect_open_change(rt: &impl Abort, keeper: &mut Keeper, change: &Change<'_>)
 }
 
 fn expect_cells(rt: &impl Abort, keeper: &mut Keeper) {
-    for left in 0..4 {
-        assert_eq!(rt; keeper.cells_left(), Some(4 - left));
+    for left in 0..5 {
+        assert_eq!(rt; keeper.cells_left(), Some(5 - left));
         assert_eq!(rt; keeper.set(), Ok(()));
     }
     assert_eq!(rt; keeper.set(), Err(NotNow));
@@ -69,11 +69,11 @@ fn steps_of_one_change(rt: HostRuntime) -> Result<(), Fail> {
 #[test]
 fn changes_until_no_room(rt: HostRuntime) -> Result<(), Fail> {
     let mut keeper = keeper(rt.alloc())?;
-    assert_eq!(rt; make(&mut keeper, &mkdir(b"/a")?)?, 4);
+    assert_eq!(rt; make(&mut keeper, &mkdir(b"/a")?)?, 5);
     assert_eq!(rt; keeper.test(&mkdir(b"/a")?), Ok(Err(Errno::EEXIST)));
     assert_eq!(rt; keeper.open(&mkdir(b"/a")?), Err(StepFault::NotNow));
     // Here the parent is another word than 0.
-    assert_eq!(rt; make(&mut keeper, &mkdir(b"/a/b")?)?, 5);
+    assert_eq!(rt; make(&mut keeper, &mkdir(b"/a/b")?)?, 6);
     assert_eq!(rt; keeper.test(&mkdir(b"/c")?), Ok(Err(Errno::ENOSPC)));
     assert_eq!(rt; (keeper.count(), keeper.version()), (4, 2));
     Ok(())

@@ -15,7 +15,7 @@ use mediation::{Reached, judge_name, reach_file};
 use names::{Errno, Perms};
 use path_lookup::{NAME_ROOM, Scratch, WalkFault};
 use profile_registry::NoEntry;
-use row_look::RowLook;
+use tree_row::RowLook;
 
 /// The outcome of a walk that ended well: the version of its tree, and the file, or why none was reached.
 struct Walked {

@@ -15,10 +15,11 @@
 //! | `draw N ROUNDS` | how many changes were made of a hundred a round, drawn at random, in trees with room for N entries |
 //! | one that is empty, or begins with `=` or `#` | nothing |
 //!
-//! After each change both trees have to report the same for many paths, and the test of a change has to return what the change then
-//! answers, and to change nothing.
+//! After each change both trees have to report the same for many paths, and the words of the row after its slots have to be its index.
+//! The test of a change has to return what the change then answers, and to change nothing.
 #![tactic(auto)]
 
+mod indexing;
 mod lines;
 mod making;
 mod random;

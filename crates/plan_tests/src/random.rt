@@ -13,7 +13,7 @@ pub(crate) enum Failure {
     NoMemory,
     /// One of the strings that changes are drawn from is no path.
     NotAPath,
-    /// The two trees differ: what is proved about plans is wrong.
+    /// The two trees differ, or the row has no index: what is proved about plans is wrong.
     Differ,
 }
 

@@ -2,18 +2,18 @@
 ghost use Rattle.std.specs.Prelude.{◌≡◌, ◌≤◌, IfOk};
 ghost use Rattle.tree_row.specs.OpeningRow.{opening_row};
 
+use crate::indexing::has_index;
 use directory_tree::{Change, Kind, LONGEST_LINK_TEXT, Last, root_alone_is_well_formed};
 use names::{Errno, LONGEST_PATH, NoMemory, Path};
 use path_lookup::{Look, NAME_ROOM, Scratch, WalkFault, name_of, name_of_place, resolve};
 use plain_tree::PlainTree;
-use row_look::RowLook;
 use row_plan::{change_row, plan};
 use row_rule::Cell;
 use std::alloc::Global;
 use std::marker::Model;
-use tree_row::{KnownRow, MOST_ENTRIES, opening_row_encodes_root};
+use tree_row::{KnownRow, MOST_ENTRIES, RowLook, opening_row_encodes_root};
 
-/// The row and the tree in plain memory differ: the proofs are wrong.
+/// The row and the tree in plain memory differ, or the row has no index: the proofs are wrong.
 #[derive(Clone, Copy, Debug, PartialEq, Eq)]
 pub(crate) struct Differ;
 
@@ -66,11 +66,12 @@ impl Twins {
         self.plain.test(change).err()
     }
 
-    /// Makes a change in both trees, which have to answer alike: the errno that it is refused with, or the version that it makes.
+    /// Makes a change in both trees, which have to answer alike: the errno that it is refused with, or the version that it makes. The
+    /// row has to have an index afterwards.
     pub(crate) fn apply(&mut self, change: &Change<'_>) -> Result<Result<u64, Errno>, Differ> {
         let refusal = self.apply_row(change);
         let answer = apply_plain(&mut self.plain, change);
-        if refusal == answer.err() {
+        if refusal == answer.err() && has_index(&self.look.cells) {
             Ok(answer)
         } else {
             Err(Differ)

@@ -13,12 +13,11 @@ use crate::refusal::NotNow;
 use directory_tree::Change;
 use event_core::StepFault;
 use names::{Errno, NoMemory};
-use row_look::RowLook;
 use row_plan::{change_has_one_plan, next_after, plan};
 use row_rule::Cell;
 use std::alloc::Global;
 use std::marker::Model;
-use tree_row::{KnownRow, MOST_ENTRIES};
+use tree_row::{KnownRow, MOST_ENTRIES, RowLook};
 
 /// The most changes that are counted: 2^60 - 1.
 const MOST_CHANGES: u64 = 1152921504606846975;

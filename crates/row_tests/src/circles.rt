@@ -1,13 +1,12 @@
 //! Directories in a circle, each the parent of another one: no tree has them, but such words may be read while the row changes.
 use crate::lying::{LyingCells, reach_lying};
-use crate::rows::{Slot, path, row_of};
+use crate::rows::{Slot, add_to_index, path, row_of};
 use directory_tree::Last;
 use names::Errno;
 use path_lookup::{Scratch, WalkFault, resolve};
-use row_look::RowLook;
 use std::alloc::Global;
 use std::test::Fail;
-use tree_row::{DIRECTORY, LINK, PARENT, SLOT_LENGTH};
+use tree_row::{DIRECTORY, LINK, PARENT, RowLook, SLOT_LENGTH};
 
 // Three directories, each in the one before, and a link in the first.
 const CHAIN: [Slot<'static>; 4] = [
@@ -46,10 +45,12 @@ const CHAIN: [Slot<'static>; 4] = [
 ];
 
 // The first `directories` directories in a circle: the parent of the first one is the last one. With one honest read, a walk finds
-// the first one in the root before it meets the circle.
+// the first one in the root before it meets the circle. The index names that one twice: in the root, and in the last one.
 fn circle(alloc: Global, directories: u64, honest_reads: u64) -> Result<LyingCells, Fail> {
+    let mut row = row_of(alloc, 4, &CHAIN)?;
+    add_to_index(&mut row, directories, b"a", 1)?;
     Ok(LyingCells {
-        row: row_of(alloc, 4, &CHAIN)?,
+        row,
         place: SLOT_LENGTH + PARENT,
         word: directories,
         honest_reads,

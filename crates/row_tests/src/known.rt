@@ -3,34 +3,36 @@ use crate::rows::{SLOTS, path, row_of};
 use directory_tree::Last;
 use names::Errno;
 use path_lookup::Scratch;
-use row_look::{
-    KnownWords, Stop, name_and_read, name_known, name_place_and_read, name_place_known,
-    walk_and_read, walk_known,
-};
 use std::alloc::Global;
 use std::test::Fail;
-use tree_row::KnownRow;
+use tree_row::{
+    KnownRow, KnownWords, Stop, name_and_read, name_known, name_place_and_read, name_place_known,
+    walk_and_read, walk_known,
+};
 
 // A path, how many words a walk along it and the name of what it leads to need, and the name.
 type Walk<'a> = (&'a [u8], usize, Result<&'a [u8], Errno>);
 
-// Of the slots: of a free one the kind is read; of one in use the kind and the directory, then the lengths if the directory is the
-// one that is searched, and then the component's words, as far as they agree, if the length is the same, too.
+// A component's search reads the words of the index from its home on, up to the one that names its slot, or one that is 0. Of each
+// slot that they name it reads the kind and the directory, then the lengths if the directory is the one that is searched, and then
+// the component's words, as far as they agree, if the length is the same, too. Of the 16 words those at 0, 1, 2, 8 and 12 name the
+// slots 1, 2, 3, 5 and 7.
 const WALKS: [Walk<'static>; 5] = [
     // No word at all: the root is the root in every row.
     (b"/", 0, Ok(b"/")),
-    // Slots 1 to 4: 2, 2, 3 and 1 words; slot 5: 3 words, and 2 of its component.
-    (b"/a_long_directory", 13, Ok(b"/a_long_directory/")),
-    // In addition, the lengths of slot 1, and of slot 2 the lengths and 3 words of the component.
+    // Word 8 of the index; slot 5: 3 words, and 2 of its component.
+    (b"/a_long_directory", 6, Ok(b"/a_long_directory/")),
+    // In addition, word 1 of the index; slot 2: 3 words, and 3 of its component.
     (
         b"/a_long_directory/file.of.17.bytes.",
-        18,
+        13,
         Ok(b"/a_long_directory/file.of.17.bytes."),
     ),
-    // Slots 1 to 8: 2, 2, 3, 1, 3, 1, 4 and 1 words, since only slot 7 has a component of one byte.
-    (b"/x", 17, Err(Errno::ENOENT)),
-    // Slots 1 to 3, the component of slot 3, and its text.
-    (b"/ring", 9, Err(Errno::ELOOP)),
+    // Words 8 and 9 of the index; slot 5, whose component is longer: 3 words.
+    (b"/x", 5, Err(Errno::ENOENT)),
+    // Words 0 to 2 of the index; slots 1 and 2, which are in another directory: 2 words each; slot 3: 3 words, its component, and
+    // its text.
+    (b"/ring", 12, Err(Errno::ELOOP)),
 ];
 
 // Gives a walk the words that it asks for, one after the other. Returns whether it asks for none twice, and the number of words
@@ -128,8 +130,8 @@ fn no_word_is_read_where_none_may_be(rt: HostRuntime) -> Result<(), Fail> {
         &mut Scratch::new(),
     );
     assert_eq!(rt; came.read.count(), 0);
-    // The kind of the first slot past the root's.
-    assert_eq!(rt; came.end.err(), Some(Stop::Wants(164)));
+    // The word of the index at the home of `l`; the nine slots end at 1,476.
+    assert_eq!(rt; came.end.err(), Some(Stop::Wants(1476 + 12)));
     Ok(())
 }
 
@@ -166,8 +168,8 @@ fn words_are_read_where_they_may_be(rt: HostRuntime) -> Result<(), Fail> {
 fn what_is_known_may_fit_no_tree(rt: HostRuntime) -> Result<(), Fail> {
     let mut known = KnownWords::new(rt.alloc(), 8);
     let at = path(b"/a")?;
-    // Slot 1 holds the entry `a` of the root, and its kind is invalid.
-    for (place, word) in [(164, 4), (166, 0), (167, 1), (168, 97)] {
+    // The index names slot 1 at the home of `a`. The slot holds the entry `a` of the root, and its kind is invalid.
+    for (place, word) in [(1477, 2), (164, 4), (166, 0), (167, 1), (168, 97)] {
         known.learn(place, word).ok().ok_or("memory")?;
     }
     let end = walk_known(&known, &at, Last::Follow, &mut Scratch::new());

@@ -1,15 +1,14 @@
 //! Lengths that no component and no text has, read once an entry is found.
 use crate::lying::{LyingCells, reach_lying};
-use crate::rows::{Slot, path, row_of};
+use crate::rows::{Slot, add_to_index, path, row_of};
 use crate::torn::{SMALL, set};
 use directory_tree::Last;
 use names::Errno;
 use path_lookup::{Scratch, WalkFault};
-use row_look::{RowLook, reach};
 use std::alloc::Global;
 use std::process::Abort;
 use std::test::Fail;
-use tree_row::{DIRECTORY, LENGTHS, LINK, SLOT_LENGTH, TEXT_FACTOR};
+use tree_row::{DIRECTORY, LENGTHS, LINK, RowLook, SLOT_LENGTH, TEXT_FACTOR, reach};
 
 // How long the name is, or why there is none.
 type Row = (u64, Result<usize, WalkFault>);
@@ -83,7 +82,8 @@ fn lengths_of_texts(rt: HostRuntime) -> Result<(), Fail> {
     )
 }
 
-// A link whose text is one component of 300 bytes, and a directory, whose slot the test gives that length.
+// A link whose text is one component of 300 bytes, and a directory, whose slot the test gives that length, and which the index names
+// where the search for that component begins.
 fn long_component(text: &[u8]) -> [Slot<'_>; 2] {
     [
         Slot {
@@ -109,6 +109,7 @@ fn long_component(text: &[u8]) -> [Slot<'_>; 2] {
 fn no_component_past_the_longest_is_found(rt: HostRuntime) -> Result<(), Fail> {
     let mut row = row_of(rt.alloc(), 2, &long_component(&[b'x'; 300]))?;
     set(&mut row, SLOT_LENGTH + LENGTHS, 300);
+    add_to_index(&mut row, 0, &[b'x'; 300], 1)?;
     let mut room = [0; 4096];
     let end = reach(
         &mut RowLook::new(row),

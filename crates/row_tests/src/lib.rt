@@ -1,4 +1,4 @@
-//! Tests of `tree_row`, `row_look` and `walk_words`, and nothing else: with the tests here, each library is proved once.
+//! Tests of `tree_row` and `walk_words`, and nothing else: with the tests here, each library is proved once.
 #![tactic(auto)]
 
 #[cfg(test)]
@@ -14,6 +14,10 @@ mod opens;
 #[cfg(test)]
 mod rows;
 #[cfg(test)]
+mod sizes;
+#[cfg(test)]
 mod torn;
+#[cfg(test)]
+mod torn_index;
 #[cfg(test)]
 mod walks;

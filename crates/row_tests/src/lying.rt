@@ -4,10 +4,9 @@ use crate::torn::SMALL;
 use directory_tree::Last;
 use names::Errno;
 use path_lookup::{Scratch, WalkFault};
-use row_look::{Reached, RowEntry, RowLook, reach};
 use std::alloc::Global;
 use std::test::Fail;
-use tree_row::{Cells, KnownRow};
+use tree_row::{Cells, KnownRow, Reached, RowEntry, RowLook, reach};
 
 /// The cells of a row, one of which returns another word after `honest_reads` reads.
 #[derive(Drop)]

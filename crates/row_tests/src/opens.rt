@@ -14,14 +14,14 @@ type Open<'a> = (&'a [u8], usize, Result<(&'a [u8], u64), Errno>);
 
 const OPENS: [Open<'static>; 5] = [
     (b"/", 0, Ok((b"/", 1))),
-    (b"/a_long_directory", 14, Ok((b"/a_long_directory/", 2))),
+    (b"/a_long_directory", 7, Ok((b"/a_long_directory/", 2))),
     (
         b"/a_long_directory/file.of.17.bytes.",
-        19,
+        14,
         Ok((b"/a_long_directory/file.of.17.bytes.", 3)),
     ),
-    (b"/x", 17, Err(Errno::ENOENT)),
-    (b"/ring", 9, Err(Errno::ELOOP)),
+    (b"/x", 5, Err(Errno::ENOENT)),
+    (b"/ring", 12, Err(Errno::ELOOP)),
 ];
 
 // Whether the open, which reads at most `most` words at a time, ends as listed, after the listed number of words.
@@ -116,8 +116,8 @@ fn no_word_is_read_where_none_may_be(rt: HostRuntime) -> Result<(), Fail> {
     let mut room = [0; 4096];
     let came = reach_on(words, &row, 0, b"/x", ask, &mut Scratch::new(), &mut room);
     assert_eq!(rt; came.words.count(), 0);
-    // The kind of the first slot past the root's.
-    assert_eq!(rt; came.end, Err(Lack::Wants(164)));
+    // The word of the index at the home of `x`; the nine slots end at 1,476.
+    assert_eq!(rt; came.end, Err(Lack::Wants(1476 + 8)));
     Ok(())
 }
 

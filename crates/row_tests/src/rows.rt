@@ -1,4 +1,4 @@
-//! Rows made of tables of entries.
+//! Rows made of tables of entries. Their index is made here, without `row_index`.
 use names::Path;
 use std::alloc::Global;
 use std::test::Fail;
@@ -74,7 +74,7 @@ pub(crate) fn path(text: &[u8]) -> Result<Path<'_>, Fail> {
     Ok(Path::check(text).ok().ok_or("a path")?)
 }
 
-/// The row of these slots, with room for `capacity` entries.
+/// The row of these slots, with room for `capacity` entries. Its index names those that aren't free, added in this order.
 pub(crate) fn row_of(alloc: Global, capacity: usize, slots: &[Slot]) -> Result<KnownRow, Fail> {
     if capacity > 16384 {
         return Err("a capacity")?;
@@ -82,8 +82,44 @@ pub(crate) fn row_of(alloc: Global, capacity: usize, slots: &[Slot]) -> Result<K
     let mut row = KnownRow::new(alloc, capacity).ok().ok_or("memory")?;
     for slot in slots {
         put(&mut row, slot)?;
+        if slot.kind != FREE {
+            add_to_index(&mut row, slot.parent, slot.component, slot.number)?;
+        }
     }
     Ok(row)
+}
+
+/// The place of the index's word at which the search for an entry begins. The index follows the slots.
+pub(crate) fn home_place(row: &KnownRow, parent: u64, component: &[u8]) -> Result<usize, Fail> {
+    let base = SLOT_LENGTH * (row.capacity() + 1);
+    let size = row.length().checked_sub(base).ok_or("an index")?;
+    let mut hash = parent;
+    for byte in component {
+        hash = hash.wrapping_mul(31).wrapping_add(u64::from(*byte));
+    }
+    // The hash has 32 bits.
+    let home = (hash as usize % (1 << 32))
+        .checked_rem(size)
+        .ok_or("an index")?;
+    Ok(base.checked_add(home).ok_or("a place")?)
+}
+
+/// The first word that is 0, from the home of an entry on, then names a slot.
+pub(crate) fn add_to_index(
+    row: &mut KnownRow,
+    parent: u64,
+    component: &[u8],
+    number: usize,
+) -> Result<(), Fail> {
+    let home = home_place(row, parent, component)?;
+    let base = SLOT_LENGTH * (row.capacity() + 1);
+    for place in (home..row.length()).chain(base..home) {
+        if place < row.length() && row.cell(place) == 0 {
+            row.set(place, (number as u64).wrapping_add(1));
+            return Ok(());
+        }
+    }
+    Err("a full index")?
 }
 
 fn put(row: &mut KnownRow, slot: &Slot) -> Result<(), Fail> {

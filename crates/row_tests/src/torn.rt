@@ -2,10 +2,9 @@
 use crate::rows::{Slot, path, row_of};
 use directory_tree::Last;
 use path_lookup::{Scratch, WalkFault};
-use row_look::{RowLook, reach};
 use std::alloc::Global;
 use std::test::Fail;
-use tree_row::{DIRECTORY, FILE, KnownRow, LINK};
+use tree_row::{DIRECTORY, FILE, KnownRow, LINK, RowLook, reach};
 
 pub(crate) const SMALL: [Slot<'static>; 3] = [
     Slot {
@@ -34,7 +33,7 @@ pub(crate) const SMALL: [Slot<'static>; 3] = [
     },
 ];
 
-// 0, 1, the capacity, the slot's own number, and the greatest word.
+// 0, 1, the capacity, the slot's own number, and the greatest word. In the index 3 and 4 name slots 2 and 3.
 fn words_for(place: usize) -> [u64; 5] {
     [0, 1, 3, place as u64 / 164, 0xffff_ffff_ffff_ffff]
 }

@@ -4,10 +4,9 @@ use change_checks::ChangeLook;
 use directory_tree::Last;
 use names::Errno;
 use path_lookup::{Look, Scratch, WalkFault, name_of_place, resolve};
-use row_look::{RowLook, reach};
 use std::process::Abort;
 use std::test::Fail;
-use tree_row::{DIRECTORY, FILE, KnownRow};
+use tree_row::{DIRECTORY, FILE, KnownRow, RowLook, reach};
 
 // A path, whether a link at its end is followed, and the name of what it leads to.
 type Walk<'a> = (&'a [u8], Last, Result<&'a [u8], Errno>);

@@ -18,7 +18,7 @@ use Rattle.path_lookup.specs.World.{World}
 use Rattle.path_lookup.specs.Walking.{IsFault}
 use Rattle.row_rule.specs.declared.cell.Cell.{Cell}
 use Rattle.row_rule.specs.Row.{Agrees}
-use Rattle.row_look.proofs.Deciding.{world_of, seen_of, torn_by}
+use Rattle.tree_row.proofs.Deciding.{world_of, seen_of, torn_by}
 use Rattle.tree_row.specs.Worlds.{SeesBy}
 use Rattle.walk_words.specs.declared.outcome.Outcome.{Outcome}
 use Rattle.walk_words.specs.declared.outcome.Lack.{Lack}

@@ -12,7 +12,7 @@ use Rattle.std.proofs.lemmas.Option.{get_or_from_slice_get}
 use Rattle.directory_tree.proofs.Basics.{some_inj}
 use Rattle.row_rule.specs.declared.cell.Cell.{Cell}
 use Rattle.row_rule.specs.Row.{Agrees}
-use Rattle.row_look.specs.Known.{known_at}
+use Rattle.tree_row.specs.Known.{known_at}
 use Rattle.walk_words.specs.Words.{word_in, IsUnread}
 
 pub unread : (reads : List Cell) (place : ℕ) → word_in reads place ≡ None → IsUnread reads place

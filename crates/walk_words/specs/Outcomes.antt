@@ -6,7 +6,7 @@ use Rattle.mediation.specs.Opening.{Reached}
 use Rattle.mediation.specs.Judging.{reached_of}
 use Rattle.row_rule.specs.declared.cell.Cell.{Cell}
 use Rattle.row_rule.specs.Row.{Agrees}
-use Rattle.row_look.specs.Known.{InEach}
+use Rattle.tree_row.specs.Known.{InEach}
 use Rattle.tree_row.specs.Rows.{row_length}
 use Rattle.walk_words.specs.declared.outcome.Outcome.{Outcome}
 use Rattle.walk_words.specs.declared.outcome.Outcome.TheVariants as outcome

@@ -13,8 +13,7 @@ use crate::words::WalkWords;
 use mediation::{can_be_asked, reach_path};
 use names::{Errno, Path, Perms};
 use path_lookup::{NAME_ROOM, Scratch};
-use row_look::RowLook;
-use tree_row::KnownRow;
+use tree_row::{KnownRow, RowLook};
 
 /// Finds what an open reaches (open(2), path_resolution(7)), as far as the words already read and at most `most` further words
 /// of `row` decide it. Reads only words that the walk needs, none of them twice. Writes the name of the file to the front of

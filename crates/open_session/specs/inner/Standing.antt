@@ -5,7 +5,7 @@ use Rattle.mediation.specs.Judging.{reached_of}
 use Rattle.row_rule.specs.declared.view.WalkerView.{WalkerView}
 use Rattle.row_rule.specs.Row.{Agrees}
 use Rattle.row_rule.specs.Steps.{ending}
-use Rattle.row_look.specs.Known.{InEach}
+use Rattle.tree_row.specs.Known.{InEach}
 use Rattle.event_core.specs.Machine as machine
 use Rattle.event_core.specs.Machine.Stage.{resting, begun, unpublished, policed, walking, checked}
 use Rattle.event_core.specs.Walking.{Decides, MayRead, Tells}

@@ -7,8 +7,8 @@ use directory_tree::Change;
 use names::{Errno, LONGEST_PATH, Path};
 use path_guard::Row;
 use path_lookup::WalkFault;
-use row_look::RowLook;
 use std::marker::PhantomData;
+use tree_row::RowLook;
 
 /// The keeper of that row.
 #[derive(Drop)]

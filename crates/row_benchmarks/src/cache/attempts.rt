@@ -3,7 +3,7 @@ use dentry_cache::{Attempt, Walker};
 use directory_tree::Last;
 use names::Path;
 use path_lookup::{NAME_ROOM, Scratch};
-use row_look::{RowLook, reach};
+use tree_row::{RowLook, reach};
 
 /// The outcome of some attempts.
 #[derive(Clone, Copy, Debug, PartialEq, Eq)]

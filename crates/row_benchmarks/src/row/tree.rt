@@ -5,11 +5,10 @@ use crate::growing::Growing;
 use directory_tree::{Change, Last, root_alone_is_well_formed};
 use names::Path;
 use path_lookup::{NAME_ROOM, Scratch};
-use row_look::{RowLook, reach};
 use row_plan::{change_row, plan};
 use std::alloc::Global;
 use std::marker::Model;
-use tree_row::{KnownRow, MOST_ENTRIES, opening_row_encodes_root};
+use tree_row::{KnownRow, MOST_ENTRIES, RowLook, opening_row_encodes_root, reach};
 
 /// A row that encodes a tree, and the number of the next node.
 #[derive(Drop)]

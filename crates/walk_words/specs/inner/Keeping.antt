@@ -1,7 +1,7 @@
 -- The map that represents the words that were read.
 use Rattle.std.specs.Prelude.{◌≡◌, ℕ, ◌≤◌, List, length}
 use Rattle.row_rule.specs.declared.cell.Cell.{Cell}
-use Rattle.row_look.specs.Known.{known_at}
+use Rattle.tree_row.specs.Known.{known_at}
 use Rattle.walk_words.specs.Words.{word_in}
 
 pub record AreKept (capacity : ℕ) (words : List (ℕ × ℕ)) (reads : List Cell) : Type 0 where

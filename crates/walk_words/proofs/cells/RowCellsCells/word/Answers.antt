@@ -1,5 +1,5 @@
 use Rattle.std.proofs.Common.{◌≤◌, length, take, drop, Some, sym, ◌∙◌, subst, arith}
-use Rattle.row_look.proofs.Taking.{none_of}
+use Rattle.tree_row.proofs.Taking.{none_of}
 use Rattle.walk_words.specs.declared.outcome.Lack.TheVariants as lack
 use Rattle.walk_words.specs.Words.{ReadsOn}
 use Rattle.walk_words.specs.inner.Reading.{IsHonest}
