@@ -1,10 +1,9 @@
 #!/bin/sh
 # Times the row that threads share, in a half-full tree with room for N entries: one change, one attempt to follow a path, and a
 # walker that meets its keeper; then how many attempts a second each of one and of four walkers makes, alone and while a keeper
-# renames all the time, and the share of them that were busy. All walkers go to the same file, one of those in the root. There
-# is no index yet: a child is found by reading slots one after another, so times grow with the room. Each number is the median
-# of RUNS runs, of CHANGES changes and as many attempts as read some CELLS cells. On a busy machine UNDER='chrt -f 20', as root,
-# gives the runs priority.
+# renames all the time, and the share of them that were busy. All walkers go to the same file, one of those in the root. Each
+# number is the median of RUNS runs, of CHANGES changes and as many attempts as read some CELLS cells if each read a cell of every
+# slot. On a busy machine UNDER='chrt -f 20', as root, gives the runs priority.
 set -eu
 cd "$(dirname "$0")/.."
 RUNS=${RUNS:-7}
@@ -54,7 +53,7 @@ renames() {
 }
 
 echo
-echo 'microseconds of one, with room for so many entries and no index'
+echo 'microseconds of one, with room for so many entries'
 printf '%-8s %10s %10s\n' '' 1024 16384
 for name in mkdir create symlink link unlink rmdir rename replace walk1 walk4 walk16 middle meet; do
     printf '%-8s' "$name"
@@ -70,7 +69,7 @@ for name in mkdir create symlink link unlink rmdir rename replace walk1 walk4 wa
 done
 
 echo
-echo 'attempts a second of each walker, with no index'
+echo 'attempts a second of each walker'
 printf '%-8s %8s %9s %9s %6s %7s %10s\n' entries '' one four ratio 'busy, %' 'renames/s'
 for capacity in 1024 16384; do
     for side in '' _beside; do

@@ -3,8 +3,7 @@
 # directories down, and one four down through one symbolic link and through four. First nothing is changed; then a keeper
 # renames a directory that the file isn't below, or the file's own directory, or a publisher replaces the profile, each all the
 # time, and then with a rest of REST microseconds after each change. Next to it are the same opens of the same tree behind std's
-# RwLock in Rust (bench/rwlock_tree.rs, by rustc -O). There is no index yet: a session finds a child by reading slots one after
-# another.
+# RwLock in Rust (bench/rwlock_tree.rs, by rustc -O).
 #
 # A rate counts the opens that were answered, in all threads, without those that were Busy; their share of all opens is next to
 # it. Then come the changes made meanwhile, and the ratio of both rates. Each number is the median of RUNS runs, both programs by
@@ -94,7 +93,7 @@ table() {
 }
 
 echo
-echo 'thousands of opens a second, and of changes; a child is found by reading slots: there is no index yet'
+echo 'thousands of opens a second, and of changes'
 printf '%-8s | %-21s | %-15s | %6s | | %-21s | %-15s |\n' '' 'sessions, 1 thread' 'RwLock' '' 'sessions, 4 threads' 'RwLock'
 half=$(printf ' | %7s %5s %7s | %7s %7s | %6s' opens Busy% changes opens changes ratio)
 printf '%-8s%s |%s\n' file "$half" "$half"

@@ -1,7 +1,6 @@
 #!/bin/sh
 # Times plans of changes, and walks, over a half-full tree in a row in memory with room for N entries: what one of each takes,
-# and how many there are a second. There is no index yet: a child is found by reading slots one after another, at least one cell
-# of each, so times grow with the room. Each is the least of RUNS runs of COUNT, as the program reports it, without building the
+# and how many there are a second. Each is the least of RUNS runs of COUNT, as the program reports it, without building the
 # tree.
 set -eu
 cd "$(dirname "$0")/.."

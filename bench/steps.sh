@@ -1,6 +1,5 @@
 #!/bin/sh
-# Times ./aa-trace on scripts of events, and prints for each the ratio to one of half the size. There is no index yet: a walk and
-# a change find a child by reading slots one after another, so times also grow with the number of entries.
+# Times ./aa-trace on scripts of events, and prints for each the ratio to one of half the size.
 # Each time is the least of RUNS runs of the whole program, minus that of a run on an empty script, in milliseconds.
 set -eu
 cd "$(dirname "$0")/.."
