@@ -22,7 +22,9 @@ mod tally;
 use crate::exploring::explore;
 use crate::failure::Failure;
 use crate::scene::Scene;
-use crate::scenes::{another_file, moved_file, renamed_directory, two_opens, two_renames};
+use crate::scenes::{
+    another_file, moved_file, renamed_directory, two_opens, two_renames, word_moved_back,
+};
 use crate::tally::Tally;
 use std::alloc::{AllocError, Global};
 use std::{env, io};
@@ -51,6 +53,10 @@ fn main(rt: HostRuntime) -> io::Result<()> {
         (
             "an open beside another file at its path and a removal",
             another_file(alloc),
+        ),
+        (
+            "an open beside a removal that moves its word of the index back",
+            word_moved_back(alloc),
         ),
     ];
     for (name, scene) in &scenes {

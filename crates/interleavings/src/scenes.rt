@@ -22,13 +22,14 @@ pub(crate) fn two_opens(alloc: Global, cells: usize) -> Result<Scene, Failure> {
     })
 }
 
-/// A directory moves above the file that is opened.
+/// A directory above the file that is opened gets another name, and the old one again. As the searches for both begin at the same
+/// word of the index, each rename sets one cell.
 pub(crate) fn renamed_directory(alloc: Global) -> Result<Scene, Failure> {
     let mut changes = Vec::new(alloc);
     changes.push(Change::Mkdir(path("/d")?))?;
     changes.push(Change::Create(path("/d/f")?))?;
-    changes.push(rename("/d", "/e")?)?;
-    changes.push(rename("/e", "/d")?)?;
+    changes.push(rename("/d", "/h")?)?;
+    changes.push(rename("/h", "/d")?)?;
     let mut policy = Vec::new(alloc);
     policy.push(published(alloc, "profile p {\n  /d/f r,\n}\n")?)?;
     Ok(Scene {
@@ -60,12 +61,13 @@ pub(crate) fn moved_file(alloc: Global) -> Result<Scene, Failure> {
     })
 }
 
-/// A file goes away and comes back while its profile is replaced.
+/// A file goes away and comes back while its profile is replaced. As the searches for both names begin at the same word of the index,
+/// each rename sets one cell.
 pub(crate) fn two_renames(alloc: Global) -> Result<Scene, Failure> {
     let mut changes = Vec::new(alloc);
     changes.push(Change::Create(path("/f")?))?;
-    changes.push(rename("/f", "/g")?)?;
-    changes.push(rename("/g", "/f")?)?;
+    changes.push(rename("/f", "/j")?)?;
+    changes.push(rename("/j", "/f")?)?;
     let mut policy = Vec::new(alloc);
     policy.push(published(alloc, "profile p {\n  /f r,\n}\n")?)?;
     policy.push(published(alloc, "profile p {\n  deny /f r,\n}\n")?)?;
@@ -73,6 +75,25 @@ pub(crate) fn two_renames(alloc: Global) -> Result<Scene, Failure> {
         opens: vec![in alloc; "/f"]?,
         changes,
         changes_before: 1,
+        policy,
+        policy_before: 1,
+        grain: Grain::Event,
+    })
+}
+
+/// The searches for two files begin at the same word of the index. As the first file goes, the word of the second, which is opened,
+/// moves back.
+pub(crate) fn word_moved_back(alloc: Global) -> Result<Scene, Failure> {
+    let mut changes = Vec::new(alloc);
+    changes.push(Change::Create(path("/Aa")?))?;
+    changes.push(Change::Create(path("/BB")?))?;
+    changes.push(Change::Unlink(path("/Aa")?))?;
+    let mut policy = Vec::new(alloc);
+    policy.push(published(alloc, "profile p {\n  /BB r,\n}\n")?)?;
+    Ok(Scene {
+        opens: vec![in alloc; "/BB"]?,
+        changes,
+        changes_before: 2,
         policy,
         policy_before: 1,
         grain: Grain::Event,
