@@ -10,18 +10,13 @@ use denote.Param.SendFields.{declared_send, as_row_send}
 use denote.Struct.Field.{row_field}
 use denote.Struct.Tuple.{TupleAt, type_at}
 use Rattle.std.proofs.Crossing as boxes
-use Rattle.dentry_cache.proofs.walker.Walker.TheSendSync as walker
-use Rattle.profile_registry.proofs.Sending.{reader_send}
+use Rattle.path_session.proofs.Sending.{session_send}
 use Rattle.path_guard.proofs.Sending.{guard_sync}
 use Rattle.guarded_row.specs.declared.row.Row as row
-use Rattle.path_session.specs.contracts.session.Session as session
 use Rattle.mediating_server.specs.contracts.desk.Requests as requests
 use Rattle.mediating_server.specs.contracts.desk.Desk as desk
 use Rattle.mediating_server.specs.contracts.worker.Worker as worker
 use Rattle.mediating_server.specs.contracts.server.Scene as scene
-
-pub session_send : IsSend session.the_row
-session_send = search (sendable, reader_send, walker.the_send, boxes.crosses) depth 40 fits 20000
 
 module _ (I O : RattleType) (input : IsSend I) (output : IsSend O) where
   requests_send : IsSend (requests.the_row I)
