@@ -75,7 +75,7 @@ most_prop a b = hlevel codes
 other_prop : (a b : ℕ) → IsProp (a ≢ b)
 other_prop a b = hlevel codes
 
--- a search comes to one word at most that names a slot
+-- a search finds at most one word that names a slot
 module _ (size : ℕ) (word : ℕ → ℕ) (home s : ℕ) where
   abbrev Here : ℕ → Type 0
   Here k = word (around size (home + k)) ≡ s + 1

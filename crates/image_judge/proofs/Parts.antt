@@ -43,7 +43,7 @@ name_of names offsets part first last i is lt room ascend within =
     (le-leb (get_or part i 0) (get_or part (i + 1) 0) ascend)
     ∙ ap (λ (z : Bool). if z then Some (part_name_at names part i) else None) (le-leb (get_or part (i + 1) 0) (length names) within)
 
--- the record of a name's last state tells the answer, and each byte of the name was a step
+-- the record of a name's last state gives the answer, and each byte of the name was a step
 pub told_by : (t : Table) (ask : Perms) (name : List ℕ) (s : ℕ) (r : Record) (v : Verdict) (a : Answer) (steps : ℕ) →
     state_after t name ≡ Some s → record_of t s ≡ Some r → IsTold r ask v → a ≡ answer_of v steps → steps ≡ length name →
     IsToldByTable t ask name a

@@ -31,7 +31,7 @@ fn expect_no_change(rt: &impl Abort, keeper: &mut Keeper, change: &Change<'_>) {
     assert_eq!(rt; keeper.cells_left(), None);
     assert_eq!(rt; keeper.set(), Err(NotNow));
     assert_eq!(rt; keeper.close(), Err(NotNow));
-    // The slot after the root's: its kind, node, parent (0 as it stands), length and component; and one word of the index.
+    // The slot after the root's: its kind, node, parent (which is 0 already), length and component; and one word of the index.
     assert_eq!(rt; keeper.test(change), Ok(Ok(5)));
 }
 

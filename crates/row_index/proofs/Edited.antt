@@ -220,7 +220,7 @@ inserts base size used used' home past homes s row after fits keeps own low new 
     (λ q close other. set_other row base p (s + 1) q other) used' s steps own low new now more fewer vacancy refl
     (set_here row base p (s + 1) (omega arith)))
 
--- how sweeping goes on and ends
+-- how sweeping continues and ends
 pub swept_zero : (base size p most : ℕ) (row : List ℕ) → most ≡ 0 → swept base size row p most ≡ row
 unfolding swept
 swept_zero base size p most row e = rw e
@@ -237,7 +237,7 @@ swept_more base size p left most row e one =
     let s : left ≡ suc most = omega arith in
     rw (s, eq-eqb (index_at row base p) 1 one)
 
--- how vacating goes on and ends
+-- how vacating continues and ends
 pub vacated_zero : (base size : ℕ) (home : ℕ → ℕ) (row : List ℕ) (p q most : ℕ) → most ≡ 0
     → vacated base size home row p q most ≡ with_word row base p 1
 unfolding vacated

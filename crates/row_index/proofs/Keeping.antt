@@ -7,7 +7,7 @@ use Rattle.row_index.specs.Places.{around, way}
 use Rattle.row_index.specs.Index.{IsFound, Indexes, IsVacancy, Ends}
 use Rattle.row_index.proofs.Rounds.{around_within, around_way, way_apart, way_around, way_on, way_within}
 
--- a word that a search comes to, said of its place
+-- the word that a search finds, by its place
 pub found_place : (size : ℕ) (word : ℕ → ℕ) (h s : ℕ) → h < size → (p : ℕ) → p < size → word p ≡ s + 1
     → ((r : ℕ) → r < size → way size h r < way size h p → word r ≢ 0) → IsFound size word h s
 found_place size word h s low p within here before = record {
@@ -73,7 +73,7 @@ module _ (size : ℕ) (word : ℕ → ℕ) (used : ℕ → Type 0) (home : ℕ �
   -- one word changes
   module _ (past : (x : ℕ) → used x → 0 < x) (homes : (x : ℕ) → used x → home x < size) (word' : ℕ → ℕ) (p : ℕ) (within : p < size)
       (same : (q : ℕ) → q < size → q ≢ p → word' q ≡ word q) where
-    -- a word that isn't 0 after the change hides nobody
+    -- a word that isn't 0 after the change hides no slot
     still : (q : ℕ) → q < size → word' p ≢ 0 → word q ≢ 0 → word' q ≢ 0
     still q near filled was e = dite (ℕ_discrete q p)
         (λ here. filled (ap word' (sym here) ∙ e))
@@ -92,7 +92,7 @@ module _ (size : ℕ) (word : ℕ → ℕ) (used : ℕ → Type 0) (home : ℕ �
           reached = λ i l. still (around size (home s + i)) (around_within size (home s + i) (omega arith)) filled (at.reached i l);
         }
 
-    -- a slot that wasn't used comes to the first vacancy on its way
+    -- a slot that wasn't used takes the first vacancy on its way
     pub inserted : (used' : ℕ → Type 0) (s steps : ℕ) → 0 < s → home s < size → ¬ (used s) → used' s
         → ((x : ℕ) → used x → used' x) → ((x : ℕ) → used' x → (x ≡ s) ⊎ used x)
         → IsVacancy size word (home s) steps → p ≡ around size (home s + steps) → word' p ≡ s + 1 → Indexes size word' used' home
@@ -165,7 +165,7 @@ module _ (size : ℕ) (word : ℕ → ℕ) (used : ℕ → Type 0) (home : ℕ �
               ]);
         }
 
-    -- a word that names nobody becomes free, where no slot's way passes it
+    -- a word that names no slot becomes free, where no slot's way passes it
     pub freed_keeps : word p ≤ 1 → word' p ≤ 1
         → ((x q : ℕ) → used x → q < size → word q ≡ x + 1 → ¬ (way size (home x) p < way size (home x) q)) → Indexes size word' used home
     freed_keeps low set none =
@@ -195,7 +195,7 @@ module _ (size : ℕ) (word : ℕ → ℕ) (used : ℕ → Type 0) (home : ℕ �
               ]);
         }
 
-    -- a word that names nobody, and after which a free one comes, becomes free
+    -- a word that names no slot becomes free, where a free one follows it
     pub swept : word p ≤ 1 → word (around size (p + 1)) ≡ 0 → word' p ≡ 0 → Indexes size word' used home
     swept low next set = freed_keeps low (omega arith) (λ x q is near at l.
         let low_home = homes x is in

@@ -61,7 +61,7 @@ around_apart size h i k hs is ks same = elim (around_either size (h + i)) [
   ]
 ]
 
--- a search that goes on from place to place
+-- a search that continues from place to place
 pub around_start : (size home : ℕ) → home < size → home ≡ around size (home + 0)
 around_start size home h = let e = around_low size (home + 0) (omega arith) in omega arith
 

@@ -2,7 +2,7 @@
 use Rattle.std.specs.Prelude.{◌≡◌, ◌≢◌, ◌⊎◌, ℕ, ◌+◌, ◌<◌, ◌≤◌}
 use Rattle.row_index.specs.Places.{around}
 
--- A search from a slot's home, going round, comes to its word after this many others, none of which is 0.
+-- A search from a slot's home, going round, finds its word after this many others, none of which is 0.
 pub record IsFound (size : ℕ) (word : ℕ → ℕ) (home s : ℕ) : Type 0 where
   pub steps : ℕ
   pub within : steps < size

@@ -12,7 +12,7 @@ use Rattle.row_plan.specs.Leaves.{AddsToIndex, RemovesFromIndex}
 use Rattle.row_plan.specs.inner.Planned.{HasVacancy, Finds, NamesUsed}
 use Rattle.row_plan.specs.inner.Words.{NamesIn}
 
--- a search that comes to a slot's word doesn't end without it
+-- a search that finds a slot's word doesn't end without it
 pub missed : (size : ℕ) (word : ℕ → ℕ) (h s steps : ℕ) → IsFound size word h s → Ends size word h steps
     → ((i : ℕ) → i < steps → word (around size (h + i)) ≢ s + 1) → ⊥
 missed size word h s steps at ends others =
@@ -40,7 +40,7 @@ module _ (capacity base size : ℕ) (base_is : base ≡ index_base capacity) (si
       (subst (λ (z : ℕ). NamesIn capacity (index_base capacity) z before row) (sym size_is) named)
 
   module _ (d : ℕ) (c : List ℕ) (h : ℕ) (home_is : h ≡ home size d c) where
-    -- what is said of these numbers is said of the index
+    -- what holds for these numbers holds for the index
     of_index : (P : ℕ → ℕ → ℕ → Type 0) → P base size h → P (index_base capacity) (index_length capacity)
         (home (index_length capacity) d c)
     of_index P x =

@@ -1,4 +1,4 @@
--- How the vacating of a place of an index goes on and ends, in the row that a plan makes.
+-- How the vacating of a place of an index continues and ends, in the row that a plan makes.
 use Rattle.std.proofs.Common.{◌≡◌, ◌≢◌, ℕ, ◌+◌, ◌<◌, ◌≤◌, List, length, true, false, refl, sym, ap, ◌∙◌, subst, arith}
 use mathlib.Core.Logic.{dite}
 use native.Mathlib.Decide.{ℕ_discrete}

@@ -10,7 +10,7 @@ use Rattle.std.proofs.lemmas.List.Sums.{sum_by-cons, sum_by-set, get_or-le-sum_b
 use Rattle.row_tally.specs.declared.note.Note.{Note}
 use Rattle.row_tally.specs.Notes.{note_at, is_entry_in, entry_in, entries_in}
 
--- the note that stands for a missing one
+-- the note that is returned for a missing one
 abbrev no_note : Note
 no_note = record { kind = 0; parent = 0 }
 

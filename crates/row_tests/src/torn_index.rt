@@ -53,7 +53,7 @@ const ELSEWHERE: [Torn<'static>; 9] = [
     ([0, 2, 2, 0, 4, 3, 0, 0], b"/a", Ok(1)),
     ([0, 2, 0, 0, 4, 4, 3, 0], b"/l", Ok(3)),
     ([0, 2, 0, 0, 4, 4, 3, 0], b"/a/f", Ok(2)),
-    // A slot's word follows one that is free, or stands before its home.
+    // A slot's word follows one that is free, or is before its home.
     ([0, 0, 2, 0, 4, 3, 0, 0], b"/a", ABSENT),
     ([2, 0, 0, 0, 4, 3, 0, 0], b"/a", ABSENT),
     ([0, 2, 0, 0, 4, 1, 0, 3], b"/a/f", ABSENT),

@@ -46,7 +46,7 @@ led_more t text begins states reached after i led next within k lt =
     ∙ ap (next_state t (get_or reached k 0)) (get_or-drop from text i 0 ∙ sym (at_each text begins i k lt))
     ∙ next k lt
 
--- a name's first bytes, and those behind
+-- a name's first bytes, and those after them
 pub whole : (t : Table) (text : List ℕ) (begin end shared m n : ℕ) → begin + shared ≤ end →
     state_after t (take shared (drop begin text)) ≡ Some m
     → state_from t m (take (end - (begin + shared)) (drop (begin + shared) text)) ≡ Some n →

@@ -29,7 +29,7 @@ pub state_next : (t : Table) (start : ℕ) (bytes : List ℕ) (i s : ℕ) → i 
 state_next t start bytes i s lt at = ap (state_from t start) (take_more bytes i 0 lt) ∙ goes_one_more t start s (take i bytes)
     (get_or bytes i 0) at
 
--- what a state leads to by some bytes leads on by those behind
+-- what a state leads to by some bytes leads on by those after them
 goes_on_by : (t : Table) (m n : ℕ) (xs ys : List ℕ) (o : Option ℕ) →
     ((k : ℕ) → state_from t k xs ≡ Some m → state_from t k (xs ++ ys) ≡ Some n)
     → option_and_then (λ (k : ℕ). state_from t k xs) o ≡ Some m → option_and_then (λ (k : ℕ). state_from t k (xs ++ ys)) o ≡ Some n

@@ -35,7 +35,7 @@ module _ (capacity : ℕ) (row : List ℕ) (w : World) (enc : EncodesWorld capac
       (subst (λ (z : ℕ). Ends size word z steps) (sym (home_is s h)) ends)
       (λ i l. subst (λ (z : ℕ). word (around size (z + i)) ≢ s + 1) (sym (home_is s h)) (none i s l h))
 
-  -- a word past the slots stands in no index
+  -- no index has a word past the slots
   pub far : (p n : ℕ) → p < size → word p ≡ n → capacity + 2 ≤ n → ⊥
   far p n near is over = elim (enc.tree.index.others p near) [
     | inl low ↦ absurd (omega arith)

@@ -1,4 +1,4 @@
--- What a search in the index tells, in each row that may be the one that is read and encodes a tree.
+-- What a search in the index finds, in each row that may be the one that is read and encodes a tree.
 use Rattle.std.specs.Prelude.{◌≢◌, ℕ, ◌+◌, ◌<◌, List, Option, Some, None}
 use Rattle.path_lookup.specs.World.{World}
 use Rattle.tree_row.specs.Slots.{slot_at, IsChildSlot}

@@ -13,7 +13,7 @@ HasVacancy capacity row directory component =
     ¬ ((i : ℕ) → i < index_length capacity →
     2 ≤ index_at row (index_base capacity) (around (index_length capacity) (home (index_length capacity) directory component + i)))
 
--- a search from there comes to the word of a slot
+-- a search from there finds the word of a slot
 abbrev pub Finds : ℕ → List ℕ → ℕ → List ℕ → ℕ → Type 0
 Finds capacity row directory component s =
     IsFound (index_length capacity) (index_at row (index_base capacity)) (home (index_length capacity) directory component) s

@@ -1,4 +1,4 @@
--- An edge goes on with the open range, or ends it and opens another. The bytes before it have the open range's target.
+-- An edge continues the open range, or ends it and opens another. The bytes before it have the open range's target.
 use Rattle.std.proofs.Common.{rules, ◌≡◌, ◌-◌, ◌+◌, None, refl, subst, arith}
 use Rattle.automata.proofs.Fronts.{none_yet}
 use Rattle.glob_automaton.specs.inner.States.{lists_of, IsTargetOf}
