@@ -37,18 +37,21 @@ pub fn name_of<L: Look>(
         Kind::File | Kind::Link => NAME_ROOM,
     };
     let mut below = entry;
+    let mut component = [0; LONGEST_COMPONENT];
     while let Some(directory) = look.parent(below)? {
-        start = put_component(look, below, room, start)?;
+        start = put_component(look, below, &mut component, room, start)?;
         below = directory;
     }
     room.copy_within(start.., 0);
     Ok(NAME_ROOM - start)
 }
 
-// Writes the entry's component, with a slash before it, in front of what begins at `start`, and returns where it begins.
+// Writes the entry's component, with a slash before it, in front of what begins at `start`, and returns where it begins. What
+// was in `component` is lost.
 fn put_component<L: Look>(
     look: &mut L,
     entry: L::Entry,
+    component: &mut [u8; LONGEST_COMPONENT],
     room: &mut [u8; NAME_ROOM],
     start: usize,
 ) -> Result<usize, WalkFault>
@@ -64,8 +67,7 @@ fn put_component<L: Look>(
     ensures fault { IfErr result (λ fault. (front : World → List ℕ) → IsFault (L.lacks look.new) (L.sees look.new)
         (λ w. judged (front w ++ slash ∷ (component_at (L.means entry w) ++ drop start room.old))) fault) }
 {
-    let mut text = [0; LONGEST_COMPONENT];
-    let length = look.component(entry, &mut text)?;
+    let length = look.component(entry, component)?;
     if length == 0 {
         // An entry of a directory has a component.
         return Err(WalkFault::Torn);
@@ -73,6 +75,6 @@ fn put_component<L: Look>(
     if length + 1 >= start {
         return Err(WalkFault::Refused(Errno::ENAMETOOLONG));
     }
-    let start = put_in_front(room, start, &text[..length]);
+    let start = put_in_front(room, start, &component[..length]);
     Ok(put_in_front(room, start, b"/"))
 }
