@@ -14,9 +14,9 @@ use Rattle.row_index.proofs.Cells.{inserts_before, removes_before, inserts_long,
 use Rattle.row_index.proofs.Vacancies.{not_full}
 use Rattle.row_index.proofs.Sizes.{index_some, index_enough}
 use Rattle.row_index.proofs.Homes.{home_within}
-use Rattle.tree_row.specs.Slots.{Slot, slot_at, entry_at, IsUsed, IsDirectorySlot, IsInRange, IsRootSlot}
+use Rattle.tree_row.specs.Slots.{Slot, slot_at, entry_at, IsUsed, IsDirectorySlot, IsInRange, IsRootSlot, packed}
 use Rattle.tree_row.specs.Rows.{EncodesSlots, Encodes, IsIndexed, home_of, homes_in, index_base}
-use Rattle.row_plan.specs.Leaves.{packed, with_words, without_slot, without_any, with_place, AddsToIndex, RemovesFromIndex, RemovesAny}
+use Rattle.row_plan.specs.Leaves.{with_words, without_slot, without_any, with_place, AddsToIndex, RemovesFromIndex, RemovesAny}
 use Rattle.row_plan.specs.inner.Rows.{KeepsOthers, SlotsEncode}
 use Rattle.row_plan.specs.inner.Planned.{HasVacancy, Finds, NamesUsed}
 use Rattle.row_plan.proofs.Filling.{slot_stays, outside, length-with_words}

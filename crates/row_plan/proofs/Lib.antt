@@ -2,7 +2,6 @@ pub mod Drafting
 pub mod Dropping
 pub mod IndexEdits
 pub mod Vacated
-pub mod Packing
 pub mod Filling
 pub mod Settling
 pub mod Making

@@ -2,7 +2,6 @@
 -- one plan.
 use Rattle.std.specs.Prelude.{◌≡◌, ℕ, zero, suc, ◌+◌, ◌*◌, ◌/◌, List, [], ◌∷◌, length, slice_index, slice_set, Option, Some, None}
 use Rattle.std.specs.Option.{option_map}
-use Rattle.std.specs.Int.{from_le_bytes, w64}
 use Rattle.directory_tree.specs.declared.node.NodeKind.{NodeKind}
 use Rattle.directory_tree.specs.declared.node.NodeKind.TheVariants.{Directory, File, Link}
 use Rattle.change_checks.specs.declared.act.Act.{Act}
@@ -11,7 +10,7 @@ use Rattle.change_checks.specs.Act.{kind_of_new}
 use Rattle.row_index.specs.Places.{index_length}
 use Rattle.row_index.specs.Hashing.{home}
 use Rattle.row_index.specs.Edits.{Inserts, Removes}
-use Rattle.tree_row.specs.Slots.{Slot, slot_at}
+use Rattle.tree_row.specs.Slots.{Slot, slot_at, packed}
 use Rattle.tree_row.specs.Rows.{index_base, homes_in}
 use Rattle.tree_row.specs.Questions.{IsFirstFree}
 use Rattle.tree_row.specs.declared.look.RowEntry.{RowEntry}
@@ -20,12 +19,6 @@ use Rattle.tree_row.specs.declared.look.RowEntry.{RowEntry}
 abbrev pub with_words : List ℕ → ℕ → (ℕ → ℕ) → ℕ → List ℕ
 with_words row base word zero = row
 with_words row base word (suc n) = slice_set (with_words row base word n) (base + n) (word n)
-
--- eight bytes of a text as a word, and zeros past its end
-unfoldable pub packed : List ℕ → ℕ → ℕ
-packed text k = from_le_bytes w64 (slice_index text (8 * k) ∷ slice_index text (8 * k + 1) ∷ slice_index text
-    (8 * k + 2) ∷ slice_index text (8 * k + 3)
-    ∷ slice_index text (8 * k + 4) ∷ slice_index text (8 * k + 5) ∷ slice_index text (8 * k + 6) ∷ slice_index text (8 * k + 7) ∷ [])
 
 abbrev pub with_text : List ℕ → ℕ → List ℕ → List ℕ
 with_text row base text = with_words row base (packed text) ((length text + 7) / 8)

@@ -4,12 +4,12 @@ ghost use Rattle.std.specs.Prelude.{slice_index_or, slice_set};
 ghost use Rattle.std.specs.List.{All};
 ghost use Rattle.tree_row.specs.Rows.{row_length};
 ghost use Rattle.row_plan.specs.Leaves.{with_words, with_text};
-ghost use Rattle.row_plan.specs.inner.Rows.{Drafts, SameFrom, IsRead, IsPacked};
+ghost use Rattle.row_plan.specs.inner.Rows.{Drafts, SameFrom, IsRead};
+ghost use Rattle.tree_row.specs.inner.Words.{IsPacked};
 
-use crate::pack::packed_word;
 use names::NoMemory;
 use row_rule::Cell;
-use tree_row::Cells;
+use tree_row::{Cells, packed_word};
 
 /// Adds a cell to a plan, unless its word is there already.
 pub(crate) fn add_cell<C: Cells>(

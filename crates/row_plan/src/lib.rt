@@ -11,7 +11,6 @@ mod draft;
 mod index;
 mod laws;
 mod memory;
-mod pack;
 mod planning;
 mod slot;
 mod tree_rows;

@@ -1,5 +1,5 @@
 -- What the words of an index tell of the slots that they name.
-use Rattle.std.proofs.Common.{◌≡◌, ◌≢◌, ℕ, ◌+◌, ◌<◌, ◌≤◌, List, None, sym, ap, ◌∙◌, subst, arith}
+use Rattle.std.proofs.Common.{◌≡◌, ◌≢◌, ℕ, ◌+◌, ◌<◌, ◌≤◌, List, Some, None, sym, ap, ◌∙◌, subst, arith}
 use Rattle.std.specs.Prelude.{slice_index}
 use mathlib.Core.Logic.{inl, inr, dite}
 use native.Mathlib.Decide.{ℕ_discrete}
@@ -41,6 +41,23 @@ module _ (capacity : ℕ) (row : List ℕ) (w : World) (enc : EncodesWorld capac
     | inl low ↦ absurd (omega arith)
     | inr there ↦ let e = there.2 in let u = there.1 in let l = u.within in absurd (omega arith)
   ]
+
+-- a slot that a word of the index names is used
+pub named_used : (capacity : ℕ) (row : List ℕ) (w : World) → EncodesWorld capacity row w → (place word s : ℕ) →
+    place < index_length capacity → index_at row (index_base capacity) place ≡ word → word ≡ s + 1 → 0 < s →
+    IsUsed (capacity + 1) (slot_at row) s
+named_used capacity row w enc place word s near at is past = elim (enc.tree.index.others place near) [
+  | inl low ↦ absurd (omega arith)
+  | inr there ↦ subst (IsUsed (capacity + 1) (slot_at row)) (let same = there.2 in let e : there.0 ≡ s = omega arith in e) there.1
+]
+
+pub found_named : (capacity : ℕ) (may may' : List ℕ → Type 0) (d : ℕ) (c : List ℕ) (place word s : ℕ) → Fewer may may' →
+    place < index_length capacity → Reads may (λ row. slice_index row (index_base capacity + place)) word →
+    TellsNamed capacity may' d c word (Some s) → TellsFound capacity may' d c (Some s)
+found_named capacity may may' d c place word s fewer near reads (past, within, is, child) = (
+  within,
+  λ row w m enc. child row w m enc (named_used capacity row w enc place word s near (reads row (fewer row m)) is past),
+)
 
 -- no word read so far names the child
 abbrev pub NoneBefore : ℕ → (List ℕ → Type 0) → ℕ → List ℕ → ℕ → Type 0

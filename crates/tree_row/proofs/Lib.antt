@@ -1,4 +1,5 @@
 pub mod Bytes
+pub mod Packing
 pub mod Slots
 pub mod SeenSlots
 pub mod Counting

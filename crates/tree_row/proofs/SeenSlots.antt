@@ -11,10 +11,8 @@ use Rattle.directory_tree.specs.Components.{is_filled}
 use Rattle.directory_tree.proofs.Basics.{true_is_false}
 use Rattle.path_lookup.specs.World.{World}
 use Rattle.tree_row.specs.Slots.{slot_at, text_at, kind_from, entry_at, IsUsed, IsChildSlot, IsDirectorySlot}
-use Rattle.std.specs.Prelude.{true}
-use Rattle.tree_row.specs.Finding.{TellsFound, EncodesNone}
+use Rattle.tree_row.specs.Finding.{InEncoding, TellsFound, EncodesNone}
 use Rattle.tree_row.specs.Worlds.{spot_at, EncodesWorld, SeesBy, Knows, Fewer, Reads}
-use Rattle.tree_row.specs.Questions.{TellsChild}
 use Rattle.tree_row.proofs.Bytes.{length-text}
 use Rattle.tree_row.proofs.Slots as slots
 
@@ -37,6 +35,15 @@ module _ (capacity : ℕ) (row : List ℕ) (w : World) (enc : EncodesWorld capac
       ≡ Some (w.named s)
   seen_child d s c h = ap (λ (z : Spot). child_of w.tree z c) (enc.named d) ∙ slots.child_found (capacity + 1) (slot_at row) w.tree
       enc.tree.slots d s c h ∙ ap Some (sym (enc.named s))
+
+  -- an entry is in one slot
+  pub one_child : (d s r : ℕ) (c : List ℕ) → IsChildSlot (capacity + 1) (slot_at row) d c s →
+      IsChildSlot (capacity + 1) (slot_at row) d c r → s ≡ r
+  one_child d s r c h k =
+      let f = slot_at row in
+      let one = slots.found_there (capacity + 1) f w.tree enc.tree.slots s (f d).node c h.used (ap (λ (z : ℕ). (f z).node) h.under) h.named in
+      let other = slots.found_there (capacity + 1) f w.tree enc.tree.slots r (f d).node c k.used (ap (λ (z : ℕ). (f z).node) k.under) k.named in
+      enc.tree.slots.once s r h.used k.used (cc (sym one ∙ other))
 
   pub seen_no_child : (d : ℕ) (c : List ℕ) → d < capacity + 1 → (slot_at row d).kind ≢ 0 →
       ((s : ℕ) → ¬ (IsChildSlot (capacity + 1) (slot_at row) d c s)) → child_of w.tree (w.named d) c ≡ None
@@ -156,14 +163,15 @@ module _ (capacity after : ℕ) (may may' : List ℕ → Type 0) (same : after �
   parent_seen p reads w (row, h, enc) = seen_parent after row w enc s p known.within (known.filled row w h enc) past (reads row h)
 
 pub found_known : (capacity after : ℕ) (may : List ℕ → Type 0) (d : ℕ) (c : List ℕ) (s : ℕ) → after ≡ capacity → s < after + 1 →
-    TellsChild capacity may d c s true → Knows after may s
+    InEncoding capacity may (λ row. IsChildSlot (capacity + 1) (slot_at row) d c s) → Knows after may s
 found_known capacity after may d c s same within tells = record {
   within = within;
   filled = λ row w h enc. (tells row w h (subst (λ (z : ℕ). EncodesWorld z row w) same enc)).used.used;
 }
 
 pub found_seen : (capacity after : ℕ) (may : List ℕ → Type 0) (d : ℕ) (c : List ℕ) (s : ℕ) → after ≡ capacity →
-    TellsChild capacity may d c s true → (w : World) → SeesBy after may w → child_of w.tree (w.named d) c ≡ Some (w.named s)
+    InEncoding capacity may (λ row. IsChildSlot (capacity + 1) (slot_at row) d c s) → (w : World) → SeesBy after may w →
+    child_of w.tree (w.named d) c ≡ Some (w.named s)
 found_seen capacity after may d c s same tells w (row, h, enc) = let e = subst (λ (z : ℕ). EncodesWorld z row w) same enc in
     seen_child capacity row w e d s c (tells row w h e)
 

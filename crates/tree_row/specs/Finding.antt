@@ -1,7 +1,8 @@
 -- What a search in the index finds, in each row that may be the one that is read and encodes a tree.
-use Rattle.std.specs.Prelude.{◌≢◌, ℕ, ◌+◌, ◌<◌, List, Option, Some, None}
+use Rattle.std.specs.Prelude.{◌≡◌, ◌≢◌, ℕ, ◌+◌, ◌<◌, Bool, List, Option, Some, None}
 use Rattle.path_lookup.specs.World.{World}
-use Rattle.tree_row.specs.Slots.{slot_at, IsChildSlot}
+use Rattle.tree_row.specs.Slots.{slot_at, IsUsed, IsChildSlot}
+use Rattle.tree_row.specs.Questions.{Tells}
 use Rattle.tree_row.specs.Worlds.{EncodesWorld}
 
 -- what holds in each of them
@@ -19,9 +20,15 @@ TellsFound capacity may directory component (Some s) = (s < capacity + 1)
 TellsFound capacity may directory component None =
     InEncoding capacity may (λ row. (s : ℕ) → ¬ (IsChildSlot (capacity + 1) (slot_at row) directory component s))
 
+-- whether a slot, if it is used, holds such an entry
+abbrev pub TellsChild : ℕ → (List ℕ → Type 0) → ℕ → List ℕ → ℕ → Bool → Type 0
+TellsChild capacity may directory component s is = InEncoding capacity may
+    (λ row. IsUsed (capacity + 1) (slot_at row) s → Tells is (IsChildSlot (capacity + 1) (slot_at row) directory component s))
+
 -- the slot that a word of the index names, if it is that of such an entry
 abbrev pub TellsNamed : ℕ → (List ℕ → Type 0) → ℕ → List ℕ → ℕ → Option ℕ → Type 0
-TellsNamed capacity may directory component word (Some s) = (s < capacity + 1)
-    × InEncoding capacity may (λ row. IsChildSlot (capacity + 1) (slot_at row) directory component s)
+TellsNamed capacity may directory component word (Some s) = (0 < s) × (s < capacity + 1) × (word ≡ s + 1)
+    × InEncoding capacity may
+    (λ row. IsUsed (capacity + 1) (slot_at row) s → IsChildSlot (capacity + 1) (slot_at row) directory component s)
 TellsNamed capacity may directory component word None =
     InEncoding capacity may (λ row. (s : ℕ) → IsChildSlot (capacity + 1) (slot_at row) directory component s → word ≢ s + 1)

@@ -1,8 +1,6 @@
 -- What the answers to questions about single slots mean, in each row that may be the one that is read.
 use Rattle.std.specs.Prelude.{◌≡◌, ℕ, ◌+◌, ◌≤◌, Bool, true, false, List, Option, Some, None}
-use Rattle.path_lookup.specs.World.{World}
-use Rattle.tree_row.specs.Slots.{Slot, slot_at, IsUsed, IsFree, IsChildSlot}
-use Rattle.tree_row.specs.Worlds.{EncodesWorld}
+use Rattle.tree_row.specs.Slots.{Slot, slot_at, IsUsed, IsFree}
 
 -- the answer to a question
 abbrev pub Tells : Bool → Type 0 → Type 0
@@ -23,12 +21,6 @@ IsChildless n f directory = (s : ℕ) → ¬ (IsEntryOf n f directory s)
 
 abbrev pub TellsChildless : ℕ → (List ℕ → Type 0) → ℕ → Bool → Type 0
 TellsChildless capacity may directory is = (row : List ℕ) → may row → Tells is (IsChildless (capacity + 1) (slot_at row) directory)
-
--- of the rows that encode a tree
-abbrev pub TellsChild : ℕ → (List ℕ → Type 0) → ℕ → List ℕ → ℕ → Bool → Type 0
-TellsChild capacity may directory component s is =
-    (row : List ℕ) (w : World) → may row → EncodesWorld capacity row w →
-    Tells is (IsChildSlot (capacity + 1) (slot_at row) directory component s)
 
 -- the first of the free slots
 pub record IsFirstFree (n : ℕ) (f : ℕ → Slot) (s : ℕ) : Type 0 where

@@ -8,7 +8,7 @@
 --     4 to 35    the component, eight bytes a cell, the lowest first
 --     36 to 163  the link's text, likewise
 use Rattle.std.specs.Prelude.{◌≡◌, ◌≢◌, ℕ, zero, suc, ◌+◌, ◌*◌, ◌/◌, ◌%◌, ◌<◌, ◌≤◌, List, [], ◌∷◌, ◌++◌, length, slice_index}
-use Rattle.std.specs.Int.{byte_at}
+use Rattle.std.specs.Int.{byte_at, from_le_bytes, w64}
 use Rattle.names.specs.declared.paths.TheConstants.{LONGEST_COMPONENT}
 use Rattle.directory_tree.specs.declared.node.NodeKind.{NodeKind}
 use Rattle.directory_tree.specs.declared.node.NodeKind.TheVariants.{Directory, File, Link}
@@ -23,6 +23,12 @@ slots_length n = 164 * n
 abbrev pub text_at : List ℕ → ℕ → ℕ → List ℕ
 text_at row base zero = []
 text_at row base (suc n) = text_at row base n ++ byte_at (n % 8) (slice_index row (base + n / 8)) ∷ []
+
+-- eight bytes of a text as a word, and zeros past its end
+unfoldable pub packed : List ℕ → ℕ → ℕ
+packed text k = from_le_bytes w64 (slice_index text (8 * k) ∷ slice_index text (8 * k + 1) ∷ slice_index text
+    (8 * k + 2) ∷ slice_index text (8 * k + 3)
+    ∷ slice_index text (8 * k + 4) ∷ slice_index text (8 * k + 5) ∷ slice_index text (8 * k + 6) ∷ slice_index text (8 * k + 7) ∷ [])
 
 -- what a slot's cells say
 pub record Slot : Type 0 where

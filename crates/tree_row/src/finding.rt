@@ -1,11 +1,14 @@
 //! Entries found by the index of a row.
 ghost use Rattle.std.specs.Prelude.{◌≡◌, ◌⊎◌, ◌<◌, ◌≤◌, ◌+◌, IfOk, IfErr};
 ghost use Rattle.tree_row.specs.Worlds.{Fewer};
-ghost use Rattle.tree_row.specs.Finding.{TellsNamed, TellsFound, EncodesNone};
+ghost use Rattle.tree_row.specs.Finding.{TellsChild, TellsNamed, TellsFound, EncodesNone};
 
 use crate::cells::Cells;
-use crate::question::is_child;
-use crate::slot::{SLOT_LENGTH, word_at};
+use crate::slot::{
+    COMPONENT, LENGTHS, PARENT, SLOT_LENGTH, TEXT_FACTOR, cell_place, slot_word, word_at,
+};
+use crate::text::has_text;
+use names::LONGEST_COMPONENT;
 use path_lookup::Torn;
 use row_index::{DELETED_WORD, FREE_WORD, home, index_length, next_place};
 
@@ -63,4 +66,34 @@ fn named_child<C: Cells>(
         return Ok(Some(slot));
     }
     Ok(None)
+}
+
+// Whether a slot, if it is used, holds the entry of a component in the directory of a slot. An index names only used slots, so the
+// kind isn't read; and the component only if the directory and the length match.
+#[tactic(auto, using(crate::proofs::SeenSlots::length_differs, crate::proofs::SeenSlots::too_long))]
+fn is_child<C: Cells>(
+    cells: &mut C,
+    directory: usize,
+    component: &[u8],
+    slot: usize,
+) -> Result<bool, Torn>
+    requires { slot < C.capacity_of (C.kept cells.old) + 1 }
+    ensures kept { C.kept cells.new ≡ C.kept cells.old }
+    ensures fewer { Fewer (C.may cells.old) (C.may cells.new) }
+    ensures ok { IfOk result (TellsChild (C.capacity_of (C.kept cells.old)) (C.may cells.new) directory component.now slot) }
+    ensures err { IfErr result (λ _. C.unknown cells.new) }
+{
+    if slot_word(cells, slot, PARENT)? != directory as u64 {
+        return Ok(false);
+    }
+    let lengths = slot_word(cells, slot, LENGTHS)?;
+    let count = component.len();
+    if lengths % TEXT_FACTOR != count as u64 {
+        return Ok(false);
+    }
+    if count > LONGEST_COMPONENT {
+        return Ok(false);
+    }
+    let base = cell_place(cells, slot, COMPONENT);
+    has_text(cells, base, component)
 }

@@ -6,7 +6,8 @@ ghost use Rattle.path_lookup.specs.World.{World, IsTorn};
 ghost use Rattle.tree_row.specs.Slots.{slot_at, IsFree};
 ghost use Rattle.tree_row.specs.Rows.{Encodes};
 ghost use Rattle.tree_row.specs.OpeningRow.{opening_row};
-ghost use Rattle.tree_row.specs.Questions.{TellsChild, TellsEntryOf, TellsFree};
+ghost use Rattle.tree_row.specs.Questions.{TellsEntryOf, TellsFree};
+ghost use Rattle.tree_row.specs.Finding.{TellsFound};
 ghost use Rattle.tree_row.specs.Worlds.{EncodesWorld, Reads, SeesBy};
 
 use crate::cells::Cells;
@@ -32,32 +33,39 @@ pub fn one_row_one_tree()
         find t.entries d c ≡ find u.entries d c }
 {}
 
-/// In a row that may be the one that is read, a question about a slot has one answer.
+/// In a row that may be the one that is read, a question about a slot has one answer, and so has a search if it encodes a tree.
 pub fn questions_have_one_answer<C: Cells>()
     ensures word { (cells : C) (row : List ℕ) (word : List ℕ → ℕ) (one other : ℕ) → C.may cells row →
         Reads (C.may cells) word one → Reads (C.may cells) word other → one ≡ other }
     ensures entry { (cells : C) (row : List ℕ) (capacity directory s : ℕ) → C.may cells row →
         TellsEntryOf capacity (C.may cells) directory s true → TellsEntryOf capacity (C.may cells) directory s false → ⊥ }
-    ensures child { (cells : C) (row : List ℕ) (w : World) (capacity directory s : ℕ) (component : List ℕ) → C.may cells row →
+    ensures child { (cells : C) (row : List ℕ) (w : World) (capacity directory one other : ℕ) (component : List ℕ) →
+        C.may cells row → EncodesWorld capacity row w →
+        TellsFound capacity (C.may cells) directory component (Some one) →
+        TellsFound capacity (C.may cells) directory component (Some other) → one ≡ other }
+    ensures no_child { (cells : C) (row : List ℕ) (w : World) (capacity directory s : ℕ) (component : List ℕ) → C.may cells row →
         EncodesWorld capacity row w →
-        TellsChild capacity (C.may cells) directory component s true → TellsChild capacity (C.may cells) directory component s false → ⊥ }
+        TellsFound capacity (C.may cells) directory component (Some s) → TellsFound capacity (C.may cells) directory component None → ⊥ }
     ensures free { (cells : C) (row : List ℕ) (capacity one other : ℕ) → C.may cells row →
         TellsFree capacity (C.may cells) (Some one) → TellsFree capacity (C.may cells) (Some other) → one ≡ other }
     ensures full { (cells : C) (row : List ℕ) (capacity s : ℕ) → C.may cells row →
         TellsFree capacity (C.may cells) (Some s) → TellsFree capacity (C.may cells) None → ⊥ }
 {}
 
-/// Answers that no row gives: an entry in a free slot, an entry of another component or in another directory, the root's slot
-/// or a used one as a free one, a free slot though another precedes it, and none though one is free.
+/// Answers that no row gives: an entry in a free slot; of a search, a free slot, or an entry of another component or in another
+/// directory; the root's slot or a used one as a free one, a free slot though another precedes it, and none though one is free.
 pub fn wrong_answers_are_refused<C: Cells>()
     ensures entry_in_a_free_slot { (cells : C) (row : List ℕ) (capacity directory s : ℕ) → C.may cells row →
         (slot_at row s).kind ≡ 0 → TellsEntryOf capacity (C.may cells) directory s true → ⊥ }
+    ensures free_slot_is_found { (cells : C) (row : List ℕ) (w : World) (capacity directory s : ℕ) (component : List ℕ) →
+        C.may cells row → EncodesWorld capacity row w →
+        (slot_at row s).kind ≡ 0 → TellsFound capacity (C.may cells) directory component (Some s) → ⊥ }
     ensures another_component { (cells : C) (row : List ℕ) (w : World) (capacity directory s : ℕ) (component : List ℕ) →
         C.may cells row → EncodesWorld capacity row w →
-        (slot_at row s).component ≢ component → TellsChild capacity (C.may cells) directory component s true → ⊥ }
+        (slot_at row s).component ≢ component → TellsFound capacity (C.may cells) directory component (Some s) → ⊥ }
     ensures another_directory { (cells : C) (row : List ℕ) (w : World) (capacity directory s : ℕ) (component : List ℕ) →
         C.may cells row → EncodesWorld capacity row w →
-        (slot_at row s).parent ≢ directory → TellsChild capacity (C.may cells) directory component s true → ⊥ }
+        (slot_at row s).parent ≢ directory → TellsFound capacity (C.may cells) directory component (Some s) → ⊥ }
     ensures root { (cells : C) (row : List ℕ) (capacity : ℕ) → C.may cells row → TellsFree capacity (C.may cells) (Some 0) → ⊥ }
     ensures second_free_slot { (cells : C) (row : List ℕ) (capacity r s : ℕ) → C.may cells row →
         IsFree (capacity + 1) (slot_at row) r → r < s → TellsFree capacity (C.may cells) (Some s) → ⊥ }

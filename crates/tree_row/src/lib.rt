@@ -10,6 +10,7 @@ mod known;
 mod known_row;
 mod laws;
 mod look;
+mod pack;
 mod part;
 mod question;
 mod reached;
@@ -27,8 +28,9 @@ pub use laws::{
     torn_rows_encode_no_tree, wrong_answers_are_refused,
 };
 pub use look::{RowEntry, RowLook};
+pub use pack::packed_word;
 pub use part::{name_known, name_place_known, walk_known};
-pub use question::{free_slot, is_child, is_childless, is_entry_of};
+pub use question::{free_slot, is_childless, is_entry_of};
 pub use reached::{Reached, reach};
 pub use reading::{Reading, name_and_read, name_place_and_read, walk_and_read};
 pub use slot::{

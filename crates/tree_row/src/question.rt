@@ -1,12 +1,10 @@
 //! Questions about single slots of a row.
 ghost use Rattle.std.specs.Prelude.{◌≡◌, ◌<◌, ◌+◌, IfOk, IfErr};
 ghost use Rattle.tree_row.specs.Worlds.{Fewer};
-ghost use Rattle.tree_row.specs.Questions.{TellsEntryOf, TellsChildless, TellsChild, TellsFree};
+ghost use Rattle.tree_row.specs.Questions.{TellsEntryOf, TellsChildless, TellsFree};
 
 use crate::cells::Cells;
-use crate::slot::{COMPONENT, FREE, KIND, LENGTHS, PARENT, TEXT_FACTOR, cell_place, slot_word};
-use crate::text::has_text;
-use names::LONGEST_COMPONENT;
+use crate::slot::{FREE, KIND, PARENT, slot_word};
 use path_lookup::Torn;
 
 /// Whether a slot past the root's holds an entry of the directory of a slot. Reads one word of a free slot, two of any other.
@@ -23,37 +21,6 @@ pub fn is_entry_of<C: Cells>(cells: &mut C, directory: usize, slot: usize) -> Re
         return Ok(false);
     }
     Ok(slot_word(cells, slot, PARENT)? == directory as u64)
-}
-
-/// Whether a slot past the root's holds the entry of a component in the directory of a slot. Its component is read only if its
-/// directory and its length match.
-#[tactic(auto, using(crate::proofs::SeenSlots::length_differs, crate::proofs::SeenSlots::too_long))]
-pub fn is_child<C: Cells>(
-    cells: &mut C,
-    directory: usize,
-    component: &[u8],
-    slot: usize,
-) -> Result<bool, Torn>
-    requires past { 0 < slot }
-    requires slot { slot < C.capacity_of (C.kept cells.old) + 1 }
-    ensures kept { C.kept cells.new ≡ C.kept cells.old }
-    ensures fewer { Fewer (C.may cells.old) (C.may cells.new) }
-    ensures ok { IfOk result (TellsChild (C.capacity_of (C.kept cells.old)) (C.may cells.new) directory component.now slot) }
-    ensures err { IfErr result (λ _. C.unknown cells.new) }
-{
-    if !is_entry_of(cells, directory, slot)? {
-        return Ok(false);
-    }
-    let lengths = slot_word(cells, slot, LENGTHS)?;
-    let count = component.len();
-    if lengths % TEXT_FACTOR != count as u64 {
-        return Ok(false);
-    }
-    if count > LONGEST_COMPONENT {
-        return Ok(false);
-    }
-    let base = cell_place(cells, slot, COMPONENT);
-    has_text(cells, base, component)
 }
 
 /// Whether no slot holds an entry of the directory of a slot. Unless the cells know it, one or two words of each slot are read, up

@@ -1,25 +1,18 @@
 //! Texts in a row, eight bytes per cell.
-ghost use Rattle.std.specs.Prelude.{◌≡◌, ◌<◌, ◌≤◌, ◌+◌, ◌^◌, ◌/◌, ◌%◌, ℕ, List, OnOk, IfOk, IfErr, length, take};
-ghost use Rattle.std.specs.Int.{byte_at};
+ghost use Rattle.std.specs.Prelude.{◌≡◌, ◌<◌, ◌≤◌, ◌+◌, ◌^◌, ◌/◌, ℕ, List, OnOk, IfOk, IfErr, length, take, drop};
 ghost use Rattle.tree_row.specs.Slots.{text_at};
 ghost use Rattle.tree_row.specs.Rows.{row_length};
 ghost use Rattle.tree_row.specs.Worlds.{Fewer};
 ghost use Rattle.tree_row.specs.Questions.{Tells};
+ghost use Rattle.tree_row.specs.inner.Words.{IsStart};
 
 use crate::cells::Cells;
+use crate::pack::packed_word;
 use crate::slot::word_at;
 use path_lookup::Torn;
 
-// Returns one byte of a word; the lowest is byte 0.
-#[tactic(auto, using(crate::proofs::Bytes::byte_is))]
-fn byte_of(word: u64, i: usize) -> u8
-    requires { i < 8 }
-    ensures { result ≡ byte_at i word }
-{
-    word.to_le_bytes()[i]
-}
-
-/// Copies a text of `count` bytes, which begins at the cell at `base`, to the front of `room`. Each word is read once.
+/// Copies a text of `count` bytes, which begins at the cell at `base`, to the front of `room`. Each word is read once. What was in
+/// `room` after them may be lost.
 pub fn read_text<C: Cells>(
     cells: &mut C,
     base: usize,
@@ -34,19 +27,30 @@ pub fn read_text<C: Cells>(
     ensures ok { OnOk result ((row : List ℕ) → C.may cells.new row → text_at row base count ≡ take count room.new) }
     ensures err { IfErr result (λ _. C.unknown cells.new) }
 {
-    let mut word = 0;
-    for i in 0..count {
-        if i % 8 == 0 {
-            word = word_at(cells, base + i / 8)?;
-        }
-        room[i] = byte_of(word, i % 8);
+    for k in 0..count.div_ceil(8) {
+        let word = word_at(cells, base + k)?;
+        put_word(&mut room[8 * k..], word);
     }
     Ok(())
 }
 
+// Writes the bytes of a word, the lowest first, to the front of some room, as many as it has.
+fn put_word(room: &mut [u8], word: u64)
+    ensures long { length room.new ≡ length room.old }
+    ensures start { IsStart word room.new }
+    ensures rest { drop 8 room.new ≡ drop 8 room.old }
+{
+    let bytes = word.to_le_bytes();
+    let count = room.len();
+    if count >= 8 {
+        room[..8].copy_from_slice(&bytes);
+    } else {
+        room.copy_from_slice(&bytes[..count]);
+    }
+}
+
 /// Whether the text that begins at the cell at `base`, and is as long as `text`, equals `text`. Each word is read once, and none
-/// past the first byte that differs.
-#[tactic(auto, using(crate::proofs::Bytes::text_differs))]
+/// past the first that differs.
 pub(crate) fn has_text<C: Cells>(cells: &mut C, base: usize, text: &[u8]) -> Result<bool, Torn>
     requires within { base + (length text.now + 7) / 8 ≤ row_length (C.capacity_of (C.kept cells.old)) }
     requires small { base + length text.now < 2 ^ 33 }
@@ -55,14 +59,26 @@ pub(crate) fn has_text<C: Cells>(cells: &mut C, base: usize, text: &[u8]) -> Res
     ensures ok { IfOk result (λ same. (row : List ℕ) → C.may cells.new row → Tells same (text_at row base (length text.now) ≡ text.now)) }
     ensures err { IfErr result (λ _. C.unknown cells.new) }
 {
-    let mut word = 0;
-    for (i, byte) in text.iter().enumerate() {
-        if i % 8 == 0 {
-            word = word_at(cells, base + i / 8)?;
-        }
-        if byte_of(word, i % 8) != *byte {
+    for k in 0..text.len().div_ceil(8) {
+        let word = word_at(cells, base + k)?;
+        if !is_start(word, &text[8 * k..]) {
             return Ok(false);
         }
     }
     Ok(true)
+}
+
+// Whether the bytes of a word, the lowest first, are the first of a text, as far as it goes.
+fn is_start(word: u64, text: &[u8]) -> bool
+    ensures { Tells result (IsStart word text.now) }
+{
+    if text.len() >= 8 {
+        return word == packed_word(text, 0);
+    }
+    for (i, byte) in text.iter().enumerate() {
+        if word.to_le_bytes()[i] != *byte {
+            return false;
+        }
+    }
+    true
 }

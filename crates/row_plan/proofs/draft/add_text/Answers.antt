@@ -2,10 +2,11 @@ use Rattle.std.proofs.Common.{◌≡◌, ℕ, ◌+◌, ◌/◌, ◌<◌, ◌∙�
 use mathlib.Core.Logic.{inr}
 use Rattle.std.specs.Prelude.{slice_set}
 use Rattle.row_index.proofs.Sizes.{index_most}
-use Rattle.row_plan.specs.Leaves.{packed, with_words}
+use Rattle.row_plan.specs.Leaves.{with_words}
 use Rattle.row_plan.specs.inner.Rows.{Drafts}
-use Rattle.row_plan.proofs.Packing.{packs}
+use Rattle.tree_row.proofs.Packing.{packs}
 use Rattle.row_plan.proofs.Filling.{outside, drafts_more}
+use Rattle.tree_row.specs.Slots.{packed}
 use Rattle.row_plan.proofs.draft.add_text.Goals as goal
 
 pub returns-in_err-add_cell-clause-packed : goal.returns-in_err-add_cell-clause-packed

@@ -5,7 +5,7 @@ use Rattle.row_index.specs.Hashing.{home}
 use Rattle.row_index.proofs.Rounds.{around_start, around_more}
 use Rattle.tree_row.specs.Worlds.{Reads}
 use Rattle.tree_row.specs.Finding.{TellsNamed}
-use Rattle.tree_row.proofs.IndexSearch.{before_more, ends_free, ends_all}
+use Rattle.tree_row.proofs.IndexSearch.{before_more, ends_free, ends_all, found_named}
 use Rattle.tree_row.proofs.finding.find_child.Goals as goal
 
 pub loop-step-init : goal.loop-step-init
@@ -38,12 +38,21 @@ returns-then-word-eq-FREE_WORD-clause-ok g c =
 
 pub returns-in-Some-clause-ok : goal.returns-in-Some-clause-ok
 returns-in-Some-clause-ok g c =
+    let capacity : ℕ = g.C.Cells.capacity_of (g.C.Cells.kept c.args.cells.now) in
     let kept = c.word_at.ensures.kept ∙ c.loop-step.invariant.kept in
-    subst (λ (z : ℕ). TellsNamed z (g.C.Cells.may c.named_child.new.cells) c.args.directory c.args.component.now c.in_ok-word.word
+    let long : c.index_length-size.result ≡ index_length capacity = c.index_length-size.ensures.length
+    ∙ ap index_length c.capacity-capacity.ensures.capacity in
+    let reads = subst (λ (z : ℕ). Reads (g.C.Cells.may c.word_at.new.cells)
+    (λ row. slice_index row (164 * (z + 1) + c.loop-step.place)) c.in_ok-word.word)
+    c.capacity-capacity.ensures.capacity c.in_ok-word.ensures.ok in
+    let told = subst (λ (z : ℕ). TellsNamed z (g.C.Cells.may c.named_child.new.cells) c.args.directory c.args.component.now c.in_ok-word.word
     (Some c.in-Some.slot)) (ap g.C.Cells.capacity_of kept)
     (subst (TellsNamed (g.C.Cells.capacity_of (g.C.Cells.kept c.word_at.new.cells))
     (g.C.Cells.may c.named_child.new.cells) c.args.directory c.args.component.now c.in_ok-word.word) c.in-Some.is
-    c.in_ok-slot.ensures.ok)
+    c.in_ok-slot.ensures.ok) in
+    found_named capacity (g.C.Cells.may c.word_at.new.cells) (g.C.Cells.may c.named_child.new.cells) c.args.directory
+    c.args.component.now c.loop-step.place c.in_ok-word.word c.in-Some.slot c.named_child.ensures.fewer
+    (subst (λ (z : ℕ). c.loop-step.place < z) long c.loop-step.invariant.within) reads told
 
 pub loop-step-preserved : goal.loop-step-preserved
 loop-step-preserved g c =

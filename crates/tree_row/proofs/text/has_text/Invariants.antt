@@ -1,13 +1,13 @@
-use Rattle.std.proofs.Common.{◌≡◌, ◌≢◌, ℕ, ◌+◌, ◌/◌, ◌%◌, List, take}
+use Rattle.std.proofs.Common.{◌≡◌, ℕ, ◌+◌, ◌*◌, ◌/◌, ◌%◌, ◌<◌, List, length}
 use Rattle.std.specs.Prelude.{slice_index}
-use Rattle.tree_row.specs.Slots.{text_at}
+use Rattle.std.specs.Int.{byte_at}
 use Rattle.tree_row.specs.Worlds.{Fewer}
 use Rattle.tree_row.proofs.text.has_text.Given as goal
 
-abbrev pub invariant-loop-i : goal.invariant-loop-i
-invariant-loop-i g l = record {
+abbrev pub invariant-loop-k : goal.invariant-loop-k
+invariant-loop-k g l = record {
   kept : g.C.Cells.kept l.cells ≡ g.C.Cells.kept l.initial.cells;
   fewer : Fewer (g.C.Cells.may l.initial.cells) (g.C.Cells.may l.cells);
-  text : (row : List ℕ) → g.C.Cells.may l.cells row → text_at row l.base l.i ≡ take l.i l.text;
-  word : l.i % 8 ≢ 0 → (row : List ℕ) → g.C.Cells.may l.cells row → slice_index row (l.base + l.i / 8) ≡ l.word;
+  text : (row : List ℕ) → g.C.Cells.may l.cells row → (i : ℕ) → i < 8 * l.k → i < length l.text
+      → byte_at (i % 8) (slice_index row (l.base + i / 8)) ≡ slice_index l.text i;
 }
