@@ -10,7 +10,7 @@ use crate::profiles::judge_name;
 use directory_tree::Last;
 use matcher::AnyProfile;
 use names::{Errno, Path, Permission, Perms};
-use path_lookup::{Look, NAME_ROOM, Scratch, WalkFault, name_of, resolve};
+use path_lookup::{Look, NAME_ROOM, Scratch, WalkFault, reach};
 use verdicts::Verdict;
 
 /// The node of a file that was reached, and the length of its name.
@@ -109,26 +109,10 @@ pub fn reach_path<L: Look>(
         reached_by_path w.tree path.now ≡ Ok (reached_of room.new file)) }
     ensures fault { IfErr result (IsFault (L.lacks look.new) (L.sees look.new) (λ w. reached_by_path w.tree path.now)) }
 {
-    let entry = resolve(look, path, Last::Follow, scratch)?;
-    reach_entry(look, entry, room)
-}
-
-/// The name and the node of an entry.
-fn reach_entry<L: Look>(
-    look: &mut L,
-    entry: L::Entry,
-    room: &mut [u8; NAME_ROOM],
-) -> Result<Reached, WalkFault>
-    requires { L.knows look.old entry }
-    ensures kept { L.kept look.new ≡ L.kept look.old }
-    ensures narrows { Narrows (L.sees look.old) (L.sees look.new) }
-    ensures keeps { (e : L.Entry) → L.knows look.old e → L.knows look.new e }
-    ensures fits { IfOk result (λ file. file.name_length ≤ 4095) }
-    ensures answer { IfOk result (λ file. (w : World) → L.sees look.new w →
-        reached_at w.tree (L.means entry w) ≡ Ok (reached_of room.new file)) }
-    ensures fault { IfErr result (IsFault (L.lacks look.new) (L.sees look.new) (λ w. reached_at w.tree (L.means entry w))) }
-{
-    let name_length = name_of(look, entry, room)?;
-    let node = look.node(entry)?;
-    Ok(Reached { node, name_length })
+    let found = reach(look, path, Last::Follow, scratch, room)?;
+    let node = look.node(found.entry)?;
+    Ok(Reached {
+        node,
+        name_length: found.length,
+    })
 }

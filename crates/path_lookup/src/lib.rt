@@ -4,10 +4,12 @@
 #![tactic(auto)]
 
 mod arrival;
+mod direct;
 mod fault;
 mod look;
 mod name;
 mod place;
+mod reached;
 mod scratch;
 mod target;
 mod walk;
@@ -16,6 +18,7 @@ pub use fault::WalkFault;
 pub use look::{Look, Torn};
 pub use name::{NAME_ROOM, name_of};
 pub use place::{find_directory, name_of_place};
+pub use reached::{Reached, reach};
 pub use scratch::Scratch;
 pub use target::{EndSlash, SplitPath, split_path};
 pub use walk::resolve;

@@ -1,5 +1,6 @@
 //! The walk along a path.
-ghost use Rattle.std.specs.Prelude.{◌≡◌, ◌≤◌, ◌+◌, ◌*◌, ◌<◌, ◌++◌, ℕ, List, IfOk, IfErr, Ok, length};
+ghost use Rattle.std.specs.Prelude.{◌≡◌, ◌≤◌, ◌+◌, ◌*◌, ◌<◌, ◌++◌, ℕ, List, IfOk, IfErr, Ok, true, length};
+ghost use Rattle.directory_tree.specs.Name.{name_of};
 ghost use Rattle.directory_tree.specs.Walk.{walk};
 ghost use Rattle.directory_tree.specs.Spots.{kind_at};
 ghost use Rattle.path_lookup.specs.World.{World, Narrows, IsTorn};
@@ -8,6 +9,7 @@ ghost use Rattle.path_lookup.specs.Walking.{IsFault};
 ghost use Rattle.path_lookup.specs.inner.Steps.{IsDirectory, ComesTo, GoesOn, HasRoom, most_left, onward_from, progress_entry, start_at};
 
 use crate::arrival::{Arrival, arrive};
+use crate::direct::{Course, walk_directly};
 use crate::fault::WalkFault;
 use crate::look::{Look, Torn};
 use crate::scratch::Scratch;
@@ -32,7 +34,47 @@ pub fn resolve<L: Look>(
     ensures found { IfOk result (λ e. (w : World) → L.sees look.new w → walk w.tree last path.now ≡ Ok (L.means e w)) }
     ensures fault { IfErr result (IsFault (L.lacks look.new) (L.sees look.new) (λ w. walk w.tree last path.now)) }
 {
-    resolve_text(look, path.as_bytes(), last, scratch)
+    let Found { entry, is_named: _ } = resolve_named(look, path, last, scratch)?;
+    Ok(entry)
+}
+
+/// What a path leads to.
+pub(crate) struct Found<E: Copy> {
+    pub entry: E,
+    /// Whether the path is the entry's name.
+    pub is_named: bool,
+}
+
+/// Where a path leads, as [`resolve`] finds it, and whether the path was seen to be the name of what is there. Allocates nothing.
+pub(crate) fn resolve_named<L: Look>(
+    look: &mut L,
+    path: &Path<'_>,
+    last: Last,
+    scratch: &mut Scratch,
+) -> Result<Found<L::Entry>, WalkFault>
+    ensures kept { L.kept look.new ≡ L.kept look.old }
+    ensures narrows { Narrows (L.sees look.old) (L.sees look.new) }
+    ensures keeps { (e : L.Entry) → L.knows look.old e → L.knows look.new e }
+    ensures known { IfOk result (λ found. L.knows look.new found.entry) }
+    ensures found { IfOk result (λ found. (w : World) → L.sees look.new w → walk w.tree last path.now ≡ Ok (L.means found.entry w)) }
+    ensures named { IfOk result (λ found. found.is_named ≡ true → (w : World) → L.sees look.new w →
+        name_of w.tree (L.means found.entry w) ≡ path.now) }
+    ensures fault { IfErr result (IsFault (L.lacks look.new) (L.sees look.new) (λ w. walk w.tree last path.now)) }
+{
+    match walk_directly(look, path.as_bytes(), last)? {
+        Course::Named(entry) => Ok(Found {
+            entry,
+            is_named: true,
+        }),
+        Course::Left(directory, left) => {
+            scratch.begin(left);
+            let entry = resolve_from(look, directory, MOST_LINKS, last, scratch)?;
+            Ok(Found {
+                entry,
+                is_named: false,
+            })
+        }
+    }
 }
 
 /// Where any text leads, as [`resolve`] does for a path. Allocates nothing.
@@ -51,8 +93,32 @@ pub(crate) fn resolve_text<L: Look>(
     ensures fault { IfErr result (IsFault (L.lacks look.new) (L.sees look.new) (λ w. walk w.tree last text.now)) }
 {
     scratch.begin(text);
-    let mut directory = look.root();
-    let mut links = MOST_LINKS;
+    let root = look.root();
+    resolve_from(look, root, MOST_LINKS, last, scratch)
+}
+
+// Where the text that is left leads from a directory, with this many links left.
+fn resolve_from<L: Look>(
+    look: &mut L,
+    start: L::Entry,
+    most_links: usize,
+    last: Last,
+    scratch: &mut Scratch,
+) -> Result<L::Entry, WalkFault>
+    requires known { L.knows look.old start }
+    requires directory { (w : World) → L.sees look.old w → IsDirectory w.tree (L.means start w) }
+    requires room { HasRoom (length scratch.old) most_links }
+    ensures kept { L.kept look.new ≡ L.kept look.old }
+    ensures narrows { Narrows (L.sees look.old) (L.sees look.new) }
+    ensures keeps { (e : L.Entry) → L.knows look.old e → L.knows look.new e }
+    ensures known { IfOk result (L.knows look.new) }
+    ensures found { IfOk result (λ e. (w : World) → L.sees look.new w →
+        onward_from w last most_links (L.means start w) scratch.old ≡ Ok (L.means e w)) }
+    ensures fault { IfErr result (IsFault (L.lacks look.new) (L.sees look.new)
+        (λ w. onward_from w last most_links (L.means start w) scratch.old)) }
+{
+    let mut directory = start;
+    let mut links = most_links;
     loop {
         match step(look, directory, links, last, scratch)? {
             Progress::Done(entry) => return Ok(entry),

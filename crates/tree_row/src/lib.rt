@@ -13,7 +13,6 @@ mod look;
 mod pack;
 mod part;
 mod question;
-mod reached;
 mod reading;
 mod slot;
 mod stop;
@@ -30,8 +29,8 @@ pub use laws::{
 pub use look::{RowEntry, RowLook};
 pub use pack::packed_word;
 pub use part::{name_known, name_place_known, walk_known};
+pub use path_lookup::{Reached, reach};
 pub use question::{free_slot, is_childless, is_entry_of};
-pub use reached::{Reached, reach};
 pub use reading::{Reading, name_and_read, name_place_and_read, walk_and_read};
 pub use slot::{
     COMPONENT, DIRECTORY, FILE, FREE, KIND, LENGTHS, LINK, NODE, PARENT, SLOT_LENGTH, TEXT,

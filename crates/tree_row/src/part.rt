@@ -12,11 +12,10 @@ ghost use Rattle.tree_row.specs.inner.Wanting.{IsHonest, stop_from};
 use crate::cells::Cells;
 use crate::known::KnownWords;
 use crate::look::{RowEntry, RowLook};
-use crate::reached::{Reached, reach};
 use crate::stop::Stop;
 use directory_tree::Last;
 use names::{LONGEST_PATH, Path};
-use path_lookup::{NAME_ROOM, Scratch, WalkFault, name_of_place, resolve};
+use path_lookup::{NAME_ROOM, Reached, Scratch, WalkFault, name_of_place, reach, resolve};
 
 /// The cells of a row, of which some words are known.
 #[derive(Drop)]

@@ -14,11 +14,10 @@ use crate::cells::Cells;
 use crate::known::KnownWords;
 use crate::known_row::KnownRow;
 use crate::look::{RowEntry, RowLook};
-use crate::reached::{Reached, reach};
 use crate::stop::Stop;
 use directory_tree::Last;
 use names::{LONGEST_PATH, Path};
-use path_lookup::{NAME_ROOM, Scratch, WalkFault, name_of_place, resolve};
+use path_lookup::{NAME_ROOM, Reached, Scratch, WalkFault, name_of_place, reach, resolve};
 use std::alloc::Global;
 
 /// The outcome of a walk that read words.

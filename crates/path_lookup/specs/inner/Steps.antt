@@ -1,19 +1,24 @@
 -- How far a walk has come.
-use Rattle.std.specs.Prelude.{◌≡◌, ℕ, zero, suc, ◌+◌, ◌*◌, ◌<◌, ◌≤◌, List, ◌++◌, Ok, Err, if◌then◌else◌}
+use Rattle.std.specs.Prelude.{◌≡◌, ◌≢◌, ℕ, zero, suc, ◌+◌, ◌*◌, ◌<◌, ◌≤◌, List, ◌∷◌, ◌++◌, true, false, length, bytes_eq, Ok, Err}
+use Rattle.std.specs.Prelude.{if◌then◌else◌}
 use Rattle.names.specs.declared.errors.Errno.TheVariants.{ELOOP}
-use Rattle.names.specs.Paths.{begins_with_slash}
+use Rattle.names.specs.Paths.{begins_with_slash, components}
 use Rattle.path_lookup.specs.declared.arrival.Arrival.{Arrival}
 use Rattle.path_lookup.specs.declared.arrival.Arrival.TheVariants as arrival
 use Rattle.directory_tree.specs.declared.node.Last.{Last}
 use Rattle.directory_tree.specs.declared.node.NodeKind.TheVariants.{Link}
+use Rattle.path_lookup.specs.declared.direct.Course.{Course}
+use Rattle.path_lookup.specs.declared.direct.Course.TheVariants as course
 use Rattle.path_lookup.specs.declared.walk.Progress.{Progress}
 use Rattle.path_lookup.specs.declared.walk.Progress.TheVariants as progress
-use Rattle.directory_tree.specs.Components.{Step, steps_of}
+use Rattle.directory_tree.specs.Components.{Step, slash, dot, dot_dot, steps_of}
 use Rattle.directory_tree.specs.Apply.{max_text}
 use Rattle.directory_tree.specs.Tree.{Tree}
-use Rattle.directory_tree.specs.Walk.{Spot, Walked, spot_of, start_of, resolve}
+use Rattle.directory_tree.specs.Name.{name_of}
+use Rattle.directory_tree.specs.Walk.{Spot, Walked, max_links, is_last, spot_of, start_of, resolve, walk}
 use Rattle.directory_tree.specs.Walk.Spot.{Root}
-use Rattle.directory_tree.specs.Spots.{node_at, kind_at}
+use Rattle.directory_tree.specs.declared.node.Kind.TheVariants as kind
+use Rattle.directory_tree.specs.Spots.{shape_of, node_at, kind_at}
 use Rattle.path_lookup.specs.World.{World}
 
 -- the spot is a directory's
@@ -40,7 +45,8 @@ module _ {E : Type 0} (means : E → World → Spot) (w : World) (last : Last) w
       × IsDirectory w.tree (means e w)
   ArrivesAt links d xs answer (arrival.Link e) = (text : List ℕ) × (kind_at (means e w) ≡ Link text)
       × (answer ≡ after_link w.tree last links (start_of text d) (steps_of text ++ xs))
-  ArrivesAt links d xs answer (arrival.End e) = answer ≡ Ok (means e w)
+  ArrivesAt links d xs answer (arrival.End e) = (answer ≡ Ok (means e w)) × (shape_of (kind_at (means e w)) ≢ kind.Directory)
+      × (is_last xs ≡ true)
 
   -- the walk that has come so far, with this text left, gives this answer
   abbrev pub ComesTo : List ℕ → Walked → Progress E → Type 0
@@ -72,3 +78,26 @@ work_left left links = left + 1024 * links
 abbrev pub GoesOn : {E : Type 0} → ℕ → ℕ → ℕ → Progress E → Type 0
 GoesOn before after links (progress.At e links_left) = HasRoom after links_left × (work_left after links_left < work_left before links)
 GoesOn before after links (progress.Done e) = Unit {0}
+
+-- the walk along a text leads on from a directory whose name is the text so far, or to an entry whose name is the whole text
+module _ {E : Type 0} (means : E → World → Spot) (w : World) (last : Last) (text : List ℕ) where
+  abbrev pub LeadsTo : Course E → Type 0
+  LeadsTo (course.Named e) = (walk w.tree last text ≡ Ok (means e w)) × (name_of w.tree (means e w) ≡ text)
+  LeadsTo (course.Left e left) = (walk w.tree last text ≡ onward_from w last max_links (means e w) left.now)
+      × IsDirectory w.tree (means e w)
+
+abbrev pub course_entry : {E : Type 0} → Course E → E
+course_entry (course.Named e) = e
+course_entry (course.Left e left) = e
+
+-- no more is left than there was
+abbrev pub IsLeftOf : {E : Type 0} → List ℕ → Course E → Type 0
+IsLeftOf text (course.Named e) = Unit {0}
+IsLeftOf text (course.Left e left) = length left.now ≤ length text
+
+-- text that begins with a slash and a component, which an entry may have, and the text after it
+pub record IsOwnComponent (left component rest : List ℕ) : Type 0 where
+  pub whole : left ≡ slash ∷ (component ++ rest)
+  pub first : components left ≡ component ∷ components rest
+  pub no_dot : bytes_eq component dot ≡ false
+  pub no_dot_dot : bytes_eq component dot_dot ≡ false

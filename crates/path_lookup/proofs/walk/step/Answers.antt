@@ -37,7 +37,7 @@ returns-in-End-clause-answer g c = λ w seen.
     let ends : is_last (steps_of c.in-Some.rest.now) ≡ c.is_empty.result = ends_here c.in-Some.rest.now ∙ sym c.is_empty.ensures in
     let look = g.L.Look in
     let arrival = rw c.in-End.is at c.in_ok-arrival.ensures.answer w seen c.args.links (steps_of c.in-Some.rest.now) ends in
-    ap (λ ps. resolve w.tree c.args.last c.args.links (node_at (look.means c.args.directory w)) (map step_of ps)) first ∙ arrival
+    ap (λ ps. resolve w.tree c.args.last c.args.links (node_at (look.means c.args.directory w)) (map step_of ps)) first ∙ arrival.0
 
 pub returns-in-Link-clause-fault : goal.returns-in-Link-clause-fault
 returns-in-Link-clause-fault g c = λ w seen.

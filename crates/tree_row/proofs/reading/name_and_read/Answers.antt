@@ -4,7 +4,7 @@ use Rattle.directory_tree.specs.Apply.{and_then}
 use Rattle.directory_tree.specs.Name.{judged_name}
 use Rattle.directory_tree.specs.Walk.{walk}
 use Rattle.tree_row.specs.declared.look.RowEntry.{RowEntry}
-use Rattle.tree_row.specs.declared.reached.Reached.{Reached}
+use Rattle.path_lookup.specs.declared.reached.Reached.{Reached}
 use Rattle.tree_row.specs.declared.reading.ReadCells.{ReadCells}
 use Rattle.tree_row.specs.declared.stop.Stop.{Stop}
 use Rattle.tree_row.specs.Reading.{StopsReading}

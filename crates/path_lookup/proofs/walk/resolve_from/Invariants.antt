@@ -1,9 +1,8 @@
--- From here the text that is left leads where the whole text leads.
+-- From here the text that is left leads where all of it leads from the start.
 use Rattle.std.proofs.Common.{◌≡◌, length}
-use Rattle.directory_tree.specs.Walk.{walk}
 use Rattle.path_lookup.specs.World.{World, Narrows}
 use Rattle.path_lookup.specs.inner.Steps.{IsDirectory, HasRoom, work_left, onward_from}
-use Rattle.path_lookup.proofs.walk.resolve_text.Given as goal
+use Rattle.path_lookup.proofs.walk.resolve_from.Given as goal
 
 abbrev pub invariant-loop-entry : goal.invariant-loop-entry
 invariant-loop-entry g l = record {
@@ -13,8 +12,8 @@ invariant-loop-entry g l = record {
   known : g.L.Look.knows l.look l.directory;
   room : HasRoom (length l.scratch) l.links;
   directory : (w : World) → g.L.Look.sees l.look w → IsDirectory w.tree (g.L.Look.means l.directory w);
-  here : (w : World) → g.L.Look.sees l.look w → walk w.tree l.last l.text ≡ onward_from w l.last l.links
-      (g.L.Look.means l.directory w) l.scratch;
+  here : (w : World) → g.L.Look.sees l.look w → onward_from w l.last l.most_links
+      (g.L.Look.means l.fn.start w) l.fn.scratch ≡ onward_from w l.last l.links (g.L.Look.means l.directory w) l.scratch;
 }
 
 abbrev pub decreases-loop-entry : goal.decreases-loop-entry

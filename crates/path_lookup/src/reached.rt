@@ -6,9 +6,13 @@ ghost use Rattle.directory_tree.specs.Walk.{walk};
 ghost use Rattle.path_lookup.specs.World.{World, Narrows};
 ghost use Rattle.path_lookup.specs.Walking.{IsFault};
 
+use crate::fault::WalkFault;
+use crate::look::Look;
+use crate::name::{NAME_ROOM, name_of};
+use crate::scratch::Scratch;
+use crate::walk::{Found, resolve_named};
 use directory_tree::Last;
 use names::{LONGEST_PATH, Path};
-use path_lookup::{Look, NAME_ROOM, Scratch, WalkFault, name_of, resolve};
 
 /// Where a path leads.
 #[derive(Clone, Copy, Debug, PartialEq, Eq)]
@@ -19,8 +23,8 @@ pub struct Reached<E> {
     pub length: usize,
 }
 
-/// Where a path leads, and its name, which is written to the front of `room`: [`resolve`] and then [`name_of`]. No memory is
-/// taken.
+/// Where a path leads, as [`resolve`](crate::resolve) finds it, and its name, which is written to the front of `room`, as
+/// [`name_of`] does; but a path that is seen to be the name is copied. Allocates nothing.
 pub fn reach<L: Look>(
     look: &mut L,
     path: &Path<'_>,
@@ -39,7 +43,13 @@ pub fn reach<L: Look>(
     ensures fault { IfErr result
         (IsFault (L.lacks look.new) (L.sees look.new) (λ w. and_then (walk w.tree last path.now) (judged_name w.tree))) }
 {
-    let entry = resolve(look, path, last, scratch)?;
+    let Found { entry, is_named } = resolve_named(look, path, last, scratch)?;
+    if is_named {
+        let name = path.as_bytes();
+        let length = name.len();
+        room[..length].copy_from_slice(name);
+        return Ok(Reached { entry, length });
+    }
     let length = name_of(look, entry, room)?;
     Ok(Reached { entry, length })
 }
