@@ -86,11 +86,7 @@ pub(crate) fn remove_from_index<C: Cells>(
 }
 
 // The place of the first word from a home on that is free or deleted.
-fn vacant_place<C: Cells>(
-    cells: &mut C,
-    plan: &[Cell],
-    search: &Search,
-) -> Option<usize>
+fn vacant_place<C: Cells>(cells: &mut C, plan: &[Cell], search: &Search) -> Option<usize>
     requires search { IsInRow (C.capacity_of (C.kept cells.old)) search.now }
     requires known { IsRead (C.whole (C.kept cells.old)) }
     ensures kept { C.kept cells.new ≡ C.kept cells.old }
