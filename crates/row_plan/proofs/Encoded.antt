@@ -47,10 +47,10 @@ module _ (capacity : ℕ) (row : List ℕ) (w : World) (enc : EncodesWorld capac
   abbrev pub U : ℕ → Type 0
   U = IsUsed n f
 
-  counted : (x : ℕ) → U x → (0 < x) × (x ≤ capacity)
+  pub counted : (x : ℕ) → U x → (0 < x) × (x ≤ capacity)
   counted x is = (is.past_root, let l = is.within in omega arith)
 
-  fits : (between : List ℕ) → length between ≡ length row → index_base capacity + size ≤ length between
+  pub fits : (between : List ℕ) → length between ≡ length row → index_base capacity + size ≤ length between
   fits between long = let l = enc.tree.long in omega arith
 
   standing : (s : ℕ) (between : List ℕ) → s < n → KeepsOthers row s between → indexing.Words capacity between U (homes_in size row)
@@ -80,7 +80,7 @@ module _ (capacity : ℕ) (row : List ℕ) (w : World) (enc : EncodesWorld capac
   made_vacant own s p c between within sets =
       indexing.vacant capacity U counted row between (fits between sets.long) (standing s between within sets.others) p c
 
-  -- a new entry, where its node's number is written otherwise in the slot that is planned
+  -- a new entry; `number` is the number of its node as the plan has it
   pub made : (node_kind : NodeKind) (number node next p : ℕ) (c : List ℕ) (plan : List Cell) → p < n →
       find t.entries (node_at (w.named p)) c ≡ None → shape_of (kind_at (w.named p)) ≡ kind.Directory → length c ≤ LONGEST_COMPONENT →
       length (text_in node_kind) ≤ max_text → number ≡ node → AddsEntry capacity row (new_slot node_kind number p c) plan →

@@ -112,13 +112,16 @@ module _ {capacity : ℕ} {row : List ℕ} {w : World} {enc : EncodesWorld capac
   own = subst used (sym is.slot) entry_used
 
   apart : WithoutAny capacity used gone s
-  apart = subst₂ (WithoutAny capacity used) (sym is.replaced) (sym is.slot) (apart_any capacity row w enc m.entry.slot entry_used m.replaced is.tested.other)
+  apart = subst₂ (WithoutAny capacity used) (sym is.replaced) (sym is.slot)
+      (apart_any capacity row w enc m.entry.slot entry_used m.replaced is.tested.other)
 
   within : IfSome gone (λ r. r < capacity + 1)
-  within = subst (λ (o : Option ℕ). IfSome o (λ r. r < capacity + 1)) (sym is.replaced) (within_any capacity row w enc m.replaced is.holds.3)
+  within = subst (λ (o : Option ℕ). IfSome o (λ r. r < capacity + 1)) (sym is.replaced)
+      (within_any capacity row w enc m.replaced is.holds.3)
 
   there : IfSome gone used
-  there = subst (λ (o : Option ℕ). IfSome o used) (sym is.replaced) (any_used capacity row w enc m.to.directory.slot name m.replaced is.holds.3 is.tested.onto)
+  there = subst (λ (o : Option ℕ). IfSome o used) (sym is.replaced)
+      (any_used capacity row w enc m.to.directory.slot name m.replaced is.holds.3 is.tested.onto)
 
   pub replaced_is_found : FindsAny capacity (write row plan) p name gone × NamesUsed capacity row (write row plan)
   replaced_is_found = replaced_found capacity row w enc s p name gone plan own within is.moves apart

@@ -36,6 +36,7 @@ returns-clause-ok g c = IfOk-weaker c.plan_entry.result _ _ (λ plan plans next 
     (λ i. record { kind = 2; node = number i; parent = c.slot-2.ensures i; component = component; text = [] }) added in (
       adds.lean,
       made capacity row w enc File (slot_at row file).node (node_at (w.named file)) w.tree.next p component plan.items
-          c.requires.slots.1.within tested.free tested.directory c.requires.fits (omega arith) (sym (node_is capacity row w enc file)) adds,
+          c.requires.slots.1.within tested.free tested.directory c.requires.fits (omega arith)
+          (sym (node_is capacity row w enc file)) adds,
       (adds.slot, adds.first, adds.added),
     )) c.plan_entry.ensures.ok

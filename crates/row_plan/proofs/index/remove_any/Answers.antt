@@ -9,8 +9,8 @@ use Rattle.row_plan.proofs.index.remove_any.Goals as goal
 pub remove_from_index-requires-clause-planned : goal.remove_from_index-requires-clause-planned
 remove_from_index-requires-clause-planned g c =
     let k = g.C.Cells.kept c.args.cells.now in
-    subst (MayRemove (g.C.Cells.capacity_of k) (g.C.Cells.whole k) c.args.plan.now.items c.args.directory c.args.component.now) c.in-Some.is
-    c.requires.planned
+    subst (MayRemove (g.C.Cells.capacity_of k) (g.C.Cells.whole k) c.args.plan.now.items c.args.directory c.args.component.now)
+    c.in-Some.is c.requires.planned
 
 pub returns-in-Some-clause-ok : goal.returns-in-Some-clause-ok
 returns-in-Some-clause-ok g c =
