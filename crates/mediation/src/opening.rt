@@ -111,8 +111,6 @@ pub fn reach_path<L: Look>(
 {
     let found = reach(look, path, Last::Follow, scratch, room)?;
     let node = look.node(found.entry)?;
-    Ok(Reached {
-        node,
-        name_length: found.length,
-    })
+    let name_length = found.length;
+    Ok(Reached { node, name_length })
 }

@@ -15,14 +15,15 @@ use Rattle.row_index.specs.Hashing.{home}
 use Rattle.row_index.proofs.Keeping.{reused}
 use Rattle.row_index.specs.Edits.{index_at}
 use Rattle.directory_tree.proofs.Found.{found_at}
-use Rattle.tree_row.specs.Slots.{Slot, slot_at, IsUsed, IsFree}
+use Rattle.tree_row.specs.Slots.{Slot, slot_at, IsUsed}
 use Rattle.tree_row.specs.Rows.{Encodes, index_base, home_of, homes_in}
 use Rattle.tree_row.specs.Worlds.{EncodesWorld}
 use Rattle.tree_row.proofs.Slots.{one_directory}
 use Rattle.row_rule.specs.declared.cell.Cell.{Cell}
 use Rattle.row_rule.specs.Row.{write}
-use Rattle.row_plan.specs.Leaves.{text_in, new_slot, AddsToIndex, RemovesFromIndex, RemovesAny}
+use Rattle.row_plan.specs.Leaves.{text_in, new_slot, with_slot, AddsToIndex, RemovesFromIndex, RemovesAny}
 use Rattle.row_plan.specs.inner.Rows.{SetsSlot, FreesSlot, MovesSlot, FreesAny, KeepsOthers, SlotsEncode, moved_slot}
+use Rattle.row_plan.specs.inner.Entries.{AddsEntry}
 use Rattle.row_plan.specs.inner.Planned.{HasVacancy, Finds, FindsAny, NamesUsed}
 use Rattle.row_plan.proofs.Settling.{other_stays, other_kind}
 use Rattle.row_plan.proofs.Making.{code_used}
@@ -46,10 +47,10 @@ module _ (capacity : ℕ) (row : List ℕ) (w : World) (enc : EncodesWorld capac
   abbrev pub U : ℕ → Type 0
   U = IsUsed n f
 
-  counted : (x : ℕ) → U x → (0 < x) × (x ≤ capacity)
+  pub counted : (x : ℕ) → U x → (0 < x) × (x ≤ capacity)
   counted x is = (is.past_root, let l = is.within in omega arith)
 
-  fits : (between : List ℕ) → length between ≡ length row → index_base capacity + size ≤ length between
+  pub fits : (between : List ℕ) → length between ≡ length row → index_base capacity + size ≤ length between
   fits between long = let l = enc.tree.long in omega arith
 
   standing : (s : ℕ) (between : List ℕ) → s < n → KeepsOthers row s between → indexing.Words capacity between U (homes_in size row)
@@ -79,13 +80,20 @@ module _ (capacity : ℕ) (row : List ℕ) (w : World) (enc : EncodesWorld capac
   made_vacant own s p c between within sets =
       indexing.vacant capacity U counted row between (fits between sets.long) (standing s between within sets.others) p c
 
-  -- a new entry
-  pub made : (node_kind : NodeKind) (node next s p : ℕ) (c between after : List ℕ) → p < n →
-      find t.entries (node_at (w.named p)) c ≡ None → shape_of (kind_at (w.named p)) ≡ kind.Directory → IsFree n f s →
-      length c ≤ LONGEST_COMPONENT → length (text_in node_kind) ≤ max_text → SetsSlot row s (new_slot node_kind node p c) between →
-      AddsToIndex capacity p c s between after →
-      Encodes capacity after (with_entry t (entry (node_at (w.named p)) c node node_kind) next)
-  made node_kind node next s p c between after within none directory free short short_text sets put =
+  -- a new entry; `number` is the number of its node as the plan has it
+  pub made : (node_kind : NodeKind) (number node next p : ℕ) (c : List ℕ) (plan : List Cell) → p < n →
+      find t.entries (node_at (w.named p)) c ≡ None → shape_of (kind_at (w.named p)) ≡ kind.Directory → length c ≤ LONGEST_COMPONENT →
+      length (text_in node_kind) ≤ max_text → number ≡ node → AddsEntry capacity row (new_slot node_kind number p c) plan →
+      Encodes capacity (write row plan) (with_entry t (entry (node_at (w.named p)) c node node_kind) next)
+  made node_kind number node next p c plan within none directory short short_text is planned =
+      let adds : AddsEntry capacity row (new_slot node_kind node p c) plan =
+      subst (λ (z : ℕ). AddsEntry capacity row (new_slot node_kind z p c) plan) is planned in
+      let s = adds.slot in
+      let own = new_slot node_kind node p c in
+      let between = with_slot row s own in
+      let after = write row plan in
+      let sets = adds.sets in
+      let free = adds.first.free in
       let u = with_entry t (entry (node_at (w.named p)) c node node_kind) next in
       let slots : SlotsEncode capacity between u =
       enacting.enacts_new capacity row w enc node_kind node next s p c between within none directory free short short_text sets in
@@ -100,8 +108,8 @@ module _ (capacity : ℕ) (row : List ℕ) (w : World) (enc : EncodesWorld capac
       (λ x is. still_used s between sets.others x is (apart x is))
       (λ x is. dite (ℕ_discrete x s) (λ e. inl e) (λ other. inr (was_used s between sets.others x is other)))
       (λ x is. ap (home_of size) (stays s between sets.others x is (apart x is)))
-      (ap (home_of size) sets.here) put in
-      let same = indexing.adding_stays capacity p s c between after put in
+      (ap (home_of size) sets.here) adds.added in
+      let same = indexing.adding_stays capacity p s c between after adds.added in
       indexing.encodes capacity between after u slots same.0 same.1 words
 
   -- the slot of an entry has the home of its directory's slot and its component

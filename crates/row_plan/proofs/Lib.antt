@@ -1,6 +1,5 @@
 pub mod Drafting
 pub mod Dropping
-pub mod IndexEdits
 pub mod Vacated
 pub mod Filling
 pub mod Settling

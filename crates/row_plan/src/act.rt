@@ -1,16 +1,15 @@
 //! The cells that an act sets.
-ghost use Rattle.std.specs.Prelude.{◌≡◌, ◌≤◌, ◌+◌, ℕ, List, IfOk, length, true};
+ghost use Rattle.std.specs.Prelude.{◌≡◌, ◌<◌, ◌≤◌, ◌+◌, ℕ, List, IfOk, length};
 ghost use Rattle.std.specs.Option.{option_map};
 ghost use Rattle.names.specs.declared.paths.TheConstants.{LONGEST_COMPONENT};
-ghost use Rattle.directory_tree.specs.Apply.{has_room};
-ghost use Rattle.path_lookup.specs.World.{World};
+ghost use Rattle.directory_tree.specs.Apply.{max_text};
 ghost use Rattle.change_checks.specs.Act.{kind_of_new, Fits, FitsNode};
 ghost use Rattle.change_checks.specs.declared.act.Act.TheVariants as act;
 ghost use Rattle.tree_row.specs.Slots.{slot_at};
 ghost use Rattle.tree_row.specs.Questions.{IsFirstFree};
-ghost use Rattle.tree_row.specs.Worlds.{EncodesWorld};
 ghost use Rattle.row_plan.specs.Leaves.{code_of, text_in};
-ghost use Rattle.row_plan.specs.inner.Acts.{IsTreeRead, NamesSlots, PassedTests, PlansAct};
+ghost use Rattle.row_plan.specs.inner.Acts.{HasRoom, IsTreeRead, NamesSlots, PassedTests, PlansAct};
+ghost use Rattle.row_plan.specs.inner.Entries.{slot_of, PlansEntry};
 
 use crate::index::{add_to_index, remove_any, remove_from_index};
 use crate::slot::{NewEntry, clear_slot, fill_slot, move_slot};
@@ -38,7 +37,6 @@ pub(crate) fn plan_make<C: Cells>(
     ensures ok { IfOk result (λ plan. PlansAct (C.capacity_of (C.kept cells.old)) (C.whole (C.kept cells.old)) next
         (act.Make place.now node.now) plan.items) }
 {
-    let slot = vacant_slot(cells);
     let entry = NewEntry {
         kind: kind_word(node),
         node: next,
@@ -46,15 +44,7 @@ pub(crate) fn plan_make<C: Cells>(
         component: place.component,
         text: link_text(node),
     };
-    let mut plan = fill_slot(alloc, cells, slot, &entry)?;
-    add_to_index(
-        cells,
-        &mut plan,
-        slot,
-        place.directory.slot(),
-        place.component,
-    )?;
-    Ok(plan)
+    plan_entry(alloc, cells, &entry)
 }
 
 // The number that the kind of the new node has in a slot.
@@ -78,24 +68,6 @@ fn link_text<'a>(node: &NewNode<'a>) -> &'a [u8]
     }
 }
 
-// The first free slot of a tree that has room for one more entry.
-fn vacant_slot<C: Cells>(cells: &mut C) -> usize
-    requires { (row : List ℕ) × (w : World) × C.whole (C.kept cells.old) row × EncodesWorld (C.capacity_of (C.kept cells.old)) row w
-        × (has_room (C.capacity_of (C.kept cells.old)) w.tree ≡ true) }
-    ensures kept { C.kept cells.new ≡ C.kept cells.old }
-    ensures free { (row : List ℕ) → C.whole (C.kept cells.old) row → IsFirstFree (C.capacity_of (C.kept cells.old) + 1)
-        (slot_at row) result }
-{
-    slots_are_counted();
-    let Ok(found) = free_slot(cells) else {
-        unreachable!();
-    };
-    match found {
-        Some(slot) => slot,
-        None => unreachable!(),
-    }
-}
-
 /// The cells of one more entry for a file (link(2)).
 pub(crate) fn plan_link<C: Cells>(
     alloc: Global,
@@ -111,7 +83,6 @@ pub(crate) fn plan_link<C: Cells>(
     ensures ok { IfOk result (λ plan. (next : ℕ) → PlansAct (C.capacity_of (C.kept cells.old)) (C.whole (C.kept cells.old)) next
         (act.Link file place.now) plan.items) }
 {
-    let slot = vacant_slot(cells);
     let Ok(node) = slot_word(cells, file.slot(), NODE) else {
         unreachable!();
     };
@@ -122,15 +93,44 @@ pub(crate) fn plan_link<C: Cells>(
         component: place.component,
         text: &[],
     };
-    let mut plan = fill_slot(alloc, cells, slot, &entry)?;
-    add_to_index(
-        cells,
-        &mut plan,
-        slot,
-        place.directory.slot(),
-        place.component,
-    )?;
+    plan_entry(alloc, cells, &entry)
+}
+
+// The cells of a new entry: it is put into the first free slot, which is added to the index.
+fn plan_entry<C: Cells>(
+    alloc: Global,
+    cells: &mut C,
+    entry: &NewEntry<'_>,
+) -> Result<Vec<Cell>, NoMemory>
+    requires room { HasRoom (C.capacity_of (C.kept cells.old)) (C.whole (C.kept cells.old)) }
+    requires parent { entry.now.parent < C.capacity_of (C.kept cells.old) + 1 }
+    requires fits { length entry.now.component.now ≤ LONGEST_COMPONENT }
+    requires text_fits { length entry.now.text.now ≤ max_text }
+    ensures kept { C.kept cells.new ≡ C.kept cells.old }
+    ensures ok { IfOk result (λ plan. PlansEntry (C.capacity_of (C.kept cells.old)) (C.whole (C.kept cells.old)) (slot_of entry.now)
+        plan.items) }
+{
+    let slot = vacant_slot(cells);
+    let mut plan = fill_slot(alloc, cells, slot, entry)?;
+    add_to_index(cells, &mut plan, slot, entry.parent, entry.component)?;
     Ok(plan)
+}
+
+// The first free slot of a tree that has room for one more entry.
+fn vacant_slot<C: Cells>(cells: &mut C) -> usize
+    requires room { HasRoom (C.capacity_of (C.kept cells.old)) (C.whole (C.kept cells.old)) }
+    ensures kept { C.kept cells.new ≡ C.kept cells.old }
+    ensures free { (row : List ℕ) → C.whole (C.kept cells.old) row → IsFirstFree (C.capacity_of (C.kept cells.old) + 1)
+        (slot_at row) result }
+{
+    slots_are_counted();
+    let Ok(found) = free_slot(cells) else {
+        unreachable!();
+    };
+    match found {
+        Some(slot) => slot,
+        None => unreachable!(),
+    }
 }
 
 /// The cells of an entry that is removed (unlink(2), rmdir(2)).

@@ -1,5 +1,6 @@
 //! A place of a row's index that a plan vacates.
 ghost use Rattle.std.specs.Prelude.{◌≡◌, ◌<◌, ◌≤◌, ◌+◌, ◌-◌, ◌^◌, ℕ, List, OnOk, length};
+ghost use Rattle.names.specs.declared.paths.TheConstants.{LONGEST_COMPONENT};
 ghost use Rattle.row_index.specs.Edits.{freed, passes, place_after, vacated};
 ghost use Rattle.tree_row.specs.Slots.{slot_at, IsUsed};
 ghost use Rattle.tree_row.specs.Rows.{row_length, homes_in};
@@ -112,17 +113,30 @@ fn home_of_slot<C: Cells>(cells: &mut C, size: usize, slot: usize) -> usize
 {
     // The capacity is at most `MOST_ENTRIES`, so the number of a directory's slot is small.
     let _most = cells.capacity();
+    let count = component_length(cells, slot);
     let Ok(directory) = slot_word(cells, slot, PARENT) else {
         unreachable!();
     };
-    let Ok(lengths) = slot_word(cells, slot, LENGTHS) else {
-        unreachable!();
-    };
-    let count = (lengths % TEXT_FACTOR) as usize;
     let base = cell_place(cells, slot, COMPONENT);
     let mut room = [0; LONGEST_COMPONENT];
     let Ok(()) = read_text(cells, base, count, &mut room) else {
         unreachable!();
     };
     home(size, directory as usize, &room[..count])
+}
+
+// The number of bytes of the component of an entry, by its slot.
+fn component_length<C: Cells>(cells: &mut C, slot: usize) -> usize
+    requires read { IsTreeRead (C.capacity_of (C.kept cells.old)) (C.whole (C.kept cells.old)) }
+    requires used { InEncoding (C.capacity_of (C.kept cells.old)) (C.whole (C.kept cells.old))
+        (λ row. IsUsed (C.capacity_of (C.kept cells.old) + 1) (slot_at row) slot) }
+    ensures kept { C.kept cells.new ≡ C.kept cells.old }
+    ensures length { InEncoding (C.capacity_of (C.kept cells.old)) (C.whole (C.kept cells.old))
+        (λ row. result ≡ length (slot_at row slot).component) }
+    ensures short { result ≤ LONGEST_COMPONENT }
+{
+    let Ok(lengths) = slot_word(cells, slot, LENGTHS) else {
+        unreachable!();
+    };
+    (lengths % TEXT_FACTOR) as usize
 }

@@ -1,5 +1,6 @@
 -- The bytes of words.
-use Rattle.std.proofs.Common.{◌≡◌, ℕ, zero, suc, ◌+◌, ◌-◌, ◌*◌, ◌/◌, ◌%◌, ◌<◌, ◌≤◌, List, [], length, get_or, take, drop, sym, refl, ap, ◌∙◌, arith, add-one}
+use Rattle.std.proofs.Common.{◌≡◌, ℕ, zero, suc, ◌+◌, ◌-◌, ◌*◌, ◌/◌, ◌%◌, ◌<◌, ◌≤◌, List, [], length, get_or, take, drop}
+use Rattle.std.proofs.Common.{sym, refl, ap, ◌∙◌, arith, add-one}
 use Rattle.std.specs.Prelude.{slice_index}
 use Rattle.std.specs.Int.{byte_at, to_le_bytes, w64}
 use Rattle.std.proofs.lemmas.List.{
@@ -43,7 +44,8 @@ text_byte row base (suc n) i l = dite (ℕ_discrete i n)
 
 -- a text of these bytes is the front of this one
 pub text_taken : (row : List ℕ) (base count : ℕ) (text : List ℕ) → count ≤ length text →
-    ((i : ℕ) → i < count → byte_at (i % 8) (slice_index row (base + i / 8)) ≡ slice_index text i) → text_at row base count ≡ take count text
+    ((i : ℕ) → i < count → byte_at (i % 8) (slice_index row (base + i / 8)) ≡ slice_index text i) →
+    text_at row base count ≡ take count text
 text_taken row base count text fits same =
     let long = length-text row base count in
     ext_get_or 0 _ _ (long ∙ sym (length-take-le count text fits))

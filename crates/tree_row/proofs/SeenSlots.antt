@@ -41,8 +41,9 @@ module _ (capacity : ℕ) (row : List ℕ) (w : World) (enc : EncodesWorld capac
       IsChildSlot (capacity + 1) (slot_at row) d c r → s ≡ r
   one_child d s r c h k =
       let f = slot_at row in
-      let one = slots.found_there (capacity + 1) f w.tree enc.tree.slots s (f d).node c h.used (ap (λ (z : ℕ). (f z).node) h.under) h.named in
-      let other = slots.found_there (capacity + 1) f w.tree enc.tree.slots r (f d).node c k.used (ap (λ (z : ℕ). (f z).node) k.under) k.named in
+      let there = slots.found_there (capacity + 1) f w.tree enc.tree.slots in
+      let one = there s (f d).node c h.used (ap (λ (z : ℕ). (f z).node) h.under) h.named in
+      let other = there r (f d).node c k.used (ap (λ (z : ℕ). (f z).node) k.under) k.named in
       enc.tree.slots.once s r h.used k.used (cc (sym one ∙ other))
 
   pub seen_no_child : (d : ℕ) (c : List ℕ) → d < capacity + 1 → (slot_at row d).kind ≢ 0 →

@@ -7,8 +7,8 @@ use Rattle.row_plan.proofs.index.named_place.Given as goal
 abbrev pub invariant-loop-step : goal.invariant-loop-step
 invariant-loop-step g l = record {
   kept : g.C.Cells.kept l.cells ≡ g.C.Cells.kept l.initial.cells;
-  at : l.step < l.size → l.place ≡ around l.size (l.home + l.step);
-  within : l.place < l.size;
+  at : l.step < l.search.size → l.place ≡ around l.search.size (l.search.home + l.step);
+  within : l.place < l.search.size;
   others : (row after : List ℕ) → g.C.Cells.whole (g.C.Cells.kept l.initial.cells) row → Drafts row l.plan after
-      → (i : ℕ) → i < l.step → index_at after l.base (around l.size (l.home + i)) ≢ l.slot + 1;
+      → (i : ℕ) → i < l.step → index_at after l.search.base (around l.search.size (l.search.home + i)) ≢ l.slot + 1;
 }

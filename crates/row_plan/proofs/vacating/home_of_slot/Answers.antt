@@ -1,86 +1,41 @@
-use Rattle.std.proofs.Common.{◌≡◌, ◌<◌, ◌≤◌, ◌+◌, ◌*◌, ◌%◌, ◌∙◌, ℕ, List, sym, subst, arith}
+use Rattle.std.proofs.Common.{◌≡◌, ◌<◌, ◌+◌, ◌*◌, ◌%◌, ◌∙◌, sym, subst, arith}
 use Rattle.std.specs.Prelude.{slice_index}
 use Rattle.std.proofs.lemmas.List.{length-take-le}
-use Rattle.path_lookup.specs.World.{World}
 use Rattle.row_index.specs.Hashing.{home}
-use Rattle.tree_row.specs.Slots.{slot_at, text_at, IsUsed}
-use Rattle.tree_row.specs.Worlds.{EncodesWorld}
+use Rattle.tree_row.specs.Slots.{text_at}
 use Rattle.tree_row.proofs.Bytes.{length-text}
 use Rattle.row_plan.proofs.vacating.home_of_slot.Goals as goal
-
-short : (capacity : ℕ) (row : List ℕ) (w : World) (s lengths : ℕ) → EncodesWorld capacity row w → IsUsed (capacity + 1) (slot_at row) s
-    → slice_index row (164 * s + 3) ≡ lengths → lengths % 65536 ≤ 255
-short capacity row w s lengths enc used is =
-    let range = (enc.tree.slots.in_range s used).component in
-    let long = length-text row (164 * s + 4) (slice_index row (164 * s + 3) % 65536) in
-    subst (λ (z : ℕ). z % 65536 ≤ 255) is (omega arith)
 
 pub slot_word-requires-clause-slot : goal.slot_word-requires-clause-slot
 slot_word-requires-clause-slot g c =
     let (row, w, whole, enc) = c.requires.read in
+    subst (λ k. c.args.slot < g.C.Cells.capacity_of k + 1) (sym c.component_length-count.ensures.kept)
     (c.requires.used row w whole enc).within
-
-pub slot_word-requires-2-clause-slot : goal.slot_word-requires-2-clause-slot
-slot_word-requires-2-clause-slot g c =
-    let (row, w, whole, enc) = c.requires.read in
-    subst (λ k. c.args.slot < g.C.Cells.capacity_of k + 1) (sym c.slot_word.ensures.kept) (c.requires.used row w whole enc).within
 
 pub cell_place-base-requires-clause-slot : goal.cell_place-base-requires-clause-slot
 cell_place-base-requires-clause-slot g c =
     let (row, w, whole, enc) = c.requires.read in
-    let kept = c.slot_word-2.ensures.kept ∙ c.slot_word.ensures.kept in
-    subst (λ k. c.args.slot < g.C.Cells.capacity_of k + 1) (sym kept) (c.requires.used row w whole enc).within
-
-pub read_text-requires-clause-room : goal.read_text-requires-clause-room
-read_text-requires-clause-room g c =
-    let (row, w, whole, enc) = c.requires.read in
-    let kept = c.slot_word-2.ensures.kept ∙ c.slot_word.ensures.kept in
-    let may = (g.met.C.Cells.whole_may c.slot_word-2.new.cells row (subst (λ k. g.C.Cells.whole k row) (sym kept) whole)).0 in
-    short (g.C.Cells.capacity_of (g.C.Cells.kept c.args.cells.now)) row w c.args.slot c.in-Ok-slot_word.lengths enc
-    (c.requires.used row w whole enc) (c.in-Ok-slot_word.ensures.ok row may)
+    subst (λ k. c.args.slot < g.C.Cells.capacity_of k + 1) (sym (c.slot_word.ensures.kept ∙ c.component_length-count.ensures.kept))
+    (c.requires.used row w whole enc).within
 
 pub read_text-requires-clause-within : goal.read_text-requires-clause-within
 read_text-requires-clause-within g c =
     let (row, w, whole, enc) = c.requires.read in
-    let kept = c.slot_word-2.ensures.kept ∙ c.slot_word.ensures.kept in
-    let may = (g.met.C.Cells.whole_may c.slot_word-2.new.cells row (subst (λ k. g.C.Cells.whole k row) (sym kept) whole)).0 in
-    let few =
-    short (g.C.Cells.capacity_of (g.C.Cells.kept c.args.cells.now)) row w c.args.slot c.in-Ok-slot_word.lengths enc
-    (c.requires.used row w whole enc) (c.in-Ok-slot_word.ensures.ok row may)
-    in
-    let slot = subst (λ k. c.args.slot < g.C.Cells.capacity_of k + 1) (sym kept) (c.requires.used row w whole enc).within in
+    let slot = subst (λ k. c.args.slot < g.C.Cells.capacity_of k + 1)
+    (sym (c.slot_word.ensures.kept ∙ c.component_length-count.ensures.kept)) (c.requires.used row w whole enc).within in
     let at = c.cell_place-base.ensures.place in
-    omega arith
-
-pub slice_bounds-room-end : goal.slice_bounds-room-end
-slice_bounds-room-end g c =
-    let (row, w, whole, enc) = c.requires.read in
-    let kept = c.slot_word-2.ensures.kept ∙ c.slot_word.ensures.kept in
-    let may = (g.met.C.Cells.whole_may c.slot_word-2.new.cells row (subst (λ k. g.C.Cells.whole k row) (sym kept) whole)).0 in
-    let few =
-    short (g.C.Cells.capacity_of (g.C.Cells.kept c.args.cells.now)) row w c.args.slot c.in-Ok-slot_word.lengths enc
-    (c.requires.used row w whole enc) (c.in-Ok-slot_word.ensures.ok row may)
-    in
-    let long = c.read_text.auto.room in
     omega arith
 
 pub slice_bounds-home-end : goal.slice_bounds-home-end
 slice_bounds-home-end g c =
-    let (row, w, whole, enc) = c.requires.read in
-    let kept = c.slot_word-2.ensures.kept ∙ c.slot_word.ensures.kept in
-    let may = (g.met.C.Cells.whole_may c.slot_word-2.new.cells row (subst (λ k. g.C.Cells.whole k row) (sym kept) whole)).0 in
-    let few =
-    short (g.C.Cells.capacity_of (g.C.Cells.kept c.args.cells.now)) row w c.args.slot c.in-Ok-slot_word.lengths enc
-    (c.requires.used row w whole enc) (c.in-Ok-slot_word.ensures.ok row may)
-    in
     let long = c.read_text.auto.room in
-    sym (length-take-le (c.in-Ok-slot_word.lengths % 65536) c.read_text.new.room (omega arith))
+    sym (length-take-le c.component_length-count.result c.read_text.new.room (omega arith))
 
 pub home-requires-clause-directory : goal.home-requires-clause-directory
 home-requires-clause-directory g c =
     let (row, w, whole, enc) = c.requires.read in
-    let may = (g.met.C.Cells.whole_may c.slot_word.new.cells row
-    (subst (λ k. g.C.Cells.whole k row) (sym c.slot_word.ensures.kept) whole)).0 in
+    let kept = c.slot_word.ensures.kept ∙ c.component_length-count.ensures.kept in
+    let may = (g.met.C.Cells.whole_may c.slot_word.new.cells row (subst (λ k. g.C.Cells.whole k row) (sym kept) whole)).0 in
     let within = (enc.tree.slots.in_directory c.args.slot (c.requires.used row w whole enc)).within in
     let is : slice_index row (164 * c.args.slot + 2) ≡ c.in-Ok.directory = c.in-Ok.ensures.ok row may in
     let most = c.capacity-most.ensures.small in
@@ -89,12 +44,14 @@ home-requires-clause-directory g c =
 
 pub returns-clause-home : goal.returns-clause-home
 returns-clause-home g c row w whole enc =
-    let whole_one = subst (λ k. g.C.Cells.whole k row) (sym c.slot_word.ensures.kept) whole in
-    let whole_two = subst (λ k. g.C.Cells.whole k row) (sym c.slot_word-2.ensures.kept) whole_one in
-    let whole_three = subst (λ k. g.C.Cells.whole k row) (sym c.read_text.ensures.kept) whole_two in
+    let s = c.args.slot in
+    let kept = c.slot_word.ensures.kept ∙ c.component_length-count.ensures.kept in
+    let whole_one = subst (λ k. g.C.Cells.whole k row) (sym kept) whole in
+    let whole_two = subst (λ k. g.C.Cells.whole k row) (sym c.read_text.ensures.kept) whole_one in
     let parent = c.in-Ok.ensures.ok row (g.met.C.Cells.whole_may c.slot_word.new.cells row whole_one).0 in
-    let lengths = c.in-Ok-slot_word.ensures.ok row (g.met.C.Cells.whole_may c.slot_word-2.new.cells row whole_two).0 in
-    let text = c.in-Ok-read_text.ensures.ok row (g.met.C.Cells.whole_may c.read_text.new.cells row whole_three).0 in
+    let count = c.component_length-count.ensures.length row w whole enc
+    ∙ length-text row (164 * s + 4) (slice_index row (164 * s + 3) % 65536) in
+    let text = c.in-Ok-read_text.ensures.ok row (g.met.C.Cells.whole_may c.read_text.new.cells row whole_two).0 in
     let place = c.cell_place-base.ensures.place in
-    let component = sym text ∙ (λ i. text_at row (place i) (sym lengths i % 65536)) in
+    let component = sym text ∙ (λ i. text_at row (place i) (count i)) in
     c.home.ensures.home ∙ (λ i. home c.args.size (sym parent i) (component i))

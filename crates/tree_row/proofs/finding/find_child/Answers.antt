@@ -45,8 +45,8 @@ returns-in-Some-clause-ok g c =
     let reads = subst (λ (z : ℕ). Reads (g.C.Cells.may c.word_at.new.cells)
     (λ row. slice_index row (164 * (z + 1) + c.loop-step.place)) c.in_ok-word.word)
     c.capacity-capacity.ensures.capacity c.in_ok-word.ensures.ok in
-    let told = subst (λ (z : ℕ). TellsNamed z (g.C.Cells.may c.named_child.new.cells) c.args.directory c.args.component.now c.in_ok-word.word
-    (Some c.in-Some.slot)) (ap g.C.Cells.capacity_of kept)
+    let told = subst (λ (z : ℕ). TellsNamed z (g.C.Cells.may c.named_child.new.cells) c.args.directory
+    c.args.component.now c.in_ok-word.word (Some c.in-Some.slot)) (ap g.C.Cells.capacity_of kept)
     (subst (TellsNamed (g.C.Cells.capacity_of (g.C.Cells.kept c.word_at.new.cells))
     (g.C.Cells.may c.named_child.new.cells) c.args.directory c.args.component.now c.in_ok-word.word) c.in-Some.is
     c.in_ok-slot.ensures.ok) in
