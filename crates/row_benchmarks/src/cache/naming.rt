@@ -28,7 +28,7 @@ pub(crate) fn run_names<R: Clock + Print>(
     keeper: &mut Keeper,
     are_there: &[bool],
 ) -> io::Result<bool> {
-    let (files, others) = are_there.split_at(numbered_files(plan.entries));
+    let (files, others) = are_there.split_at(are_there.len() / 2);
     let files = Numbers {
         first: 1,
         are_there: files,
