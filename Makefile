@@ -4,7 +4,7 @@
 # make bench      prints times: large inputs, each with the ratio to half the size or to another input; compiling profiles;
 #                 the loop that runs names through a table, and many names side by side, next to loops in C; names judged from
 #                 C; plans and walks over a row, and changes and walks over the row that threads share; reads of published
-#                 profiles, and opens in threads, both next to a lock
+#                 profiles, and opens in threads, both next to a lock; stat(2) and open(2) of the same files
 # make tour       runs every command of README.md and docs/TOUR.md, and compares what it prints
 # make calls      calls the library for C, and compares its answers with those of ./aa-trace
 # make embed      builds the examples for embedders, ./embed in C and ./embed_rs in Rust, and runs them
@@ -72,6 +72,7 @@ bench: aa-trace
 	sh bench/steps.sh
 	sh bench/registry.sh
 	sh bench/open.sh
+	sh bench/linux.sh
 
 calls: aa-trace $(LIBRARY)
 	tools/batch-loop

@@ -373,6 +373,7 @@ fn main() {
     for (beside_name, beside) in besides {
         for (name, path, depth) in [
             ("down_1", "", 1),
+            ("down_2", "", 2),
             ("down_4", "", 4),
             ("down_8", "", 8),
             ("down_16", "", 16),

@@ -1,5 +1,9 @@
 //! Changes of the tree that threads share, and walks over it, in one thread and in several.
 mod attempts;
+mod drawing;
+mod lines;
+mod naming;
+mod numbered;
 mod plan;
 mod rates;
 mod report;
@@ -9,16 +13,19 @@ mod trips;
 
 use self::plan::planned;
 use self::report::run_all;
-use self::tree::half_full;
+use self::tree::filled;
+use crate::growing::FEWEST_ENTRIES;
 use std::alloc::Global;
 use std::io;
 use std::io::Print;
 use std::rt::Clock;
 use std::thread::Threads;
+use tree_row::MOST_ENTRIES;
 
-/// Makes CHANGES changes of each kind in a tree that has room for CAPACITY entries and is half full, and ATTEMPTS attempts of each
-/// walk in each thread, and prints whether each walk that ended well found its file. The words are `CAPACITY CHANGES ATTEMPTS`;
-/// with none it makes a few in a small tree, and times nothing.
+/// Makes CHANGES changes of each kind in a tree that has room for CAPACITY entries and is filled to TENTHS tenths of it, and
+/// ATTEMPTS attempts of each walk in each thread; then DRAWN changes of drawn files with numbered names, and the walks to names that
+/// no entry has, and to numbered names, once more. Prints whether each walk that ended well found its file, or that there is none.
+/// The words are `CAPACITY TENTHS CHANGES ATTEMPTS DRAWN`; with none it does a little in a small tree, and times nothing.
 ///
 /// What is timed has a line of its own: its name, how often it was done, and how many nanoseconds that took; for walks in several
 /// threads also how many were busy, and how many changes were made meanwhile.
@@ -28,9 +35,12 @@ pub fn time_cache<R: Clock + Print + Threads + Sync>(
     words: &[String],
 ) -> io::Result<()> {
     let Some(plan) = planned(words) else {
-        return println!(rt; "usage: cache [CAPACITY CHANGES ATTEMPTS]");
+        return println!(rt;
+            "usage: cache [CAPACITY TENTHS CHANGES ATTEMPTS DRAWN], with a CAPACITY of {FEWEST_ENTRIES} to {MOST_ENTRIES}, {}",
+            "and at most 9 TENTHS that are 20 entries or more"
+        );
     };
-    let Some(mut keeper) = half_full(alloc, plan.capacity) else {
+    let Some(mut keeper) = filled(alloc, plan.capacity, plan.entries) else {
         return println!(rt; "no memory");
     };
     let outcome = if run_all(rt, alloc, &plan, &mut keeper)? {

@@ -1,5 +1,6 @@
 //! The trees that are timed, and how they are filled.
 use crate::changes::path;
+use crate::numbers::{NumberedName, name_of_number};
 use directory_tree::Change;
 
 /// A tree that changes are made in.
@@ -17,8 +18,8 @@ const DEPTH: usize = 16;
 /// The path of the deepest of these directories.
 pub(crate) const DEEPEST: &[u8] = b"/d/d/d/d/d/d/d/d/d/d/d/d/d/d/d/d";
 
-// The number of entries before the files with numbered names.
-const FIRST_NUMBER: usize = DEPTH + 3;
+// The number of entries other than the files with numbered names.
+const OTHERS: usize = DEPTH + 3;
 
 /// Fills a tree that has the root alone with `entries` entries, and returns whether all were made: directories, each in the one
 /// before, the entries that are moved and removed, and files with numbered names.
@@ -48,28 +49,22 @@ fn make_empty<T: Growing>(tree: &mut T) -> bool {
     }
 }
 
-// Creates files with numbered names until the tree has that many entries.
+// Creates the files with numbered names, from 1 on, until the tree has that many entries.
 fn fill<T: Growing>(tree: &mut T, entries: usize) -> bool {
-    for number in FIRST_NUMBER..entries {
-        if !create(tree, &name_of_number(number)) {
+    for before in 0..numbered_files(entries) {
+        if !create(tree, &name_of_number(before + 1)) {
             return false;
         }
     }
     true
 }
 
-/// The name of the middle one of these files, in a tree of `entries` entries.
-pub(crate) fn middle_name(entries: usize) -> [u8; 6] {
-    name_of_number(entries / 2 + FIRST_NUMBER / 2)
+/// The number of these files in a tree of `entries` entries.
+pub(crate) fn numbered_files(entries: usize) -> usize {
+    entries.saturating_sub(OTHERS)
 }
 
-// A slash and five digits.
-fn name_of_number(number: usize) -> [u8; 6] {
-    let mut name = *b"/00000";
-    let mut rest = number;
-    for place in 0..5 {
-        name[5 - place] = b'0' + (rest % 10) as u8;
-        rest /= 10;
-    }
-    name
+/// The name of the middle one of them.
+pub(crate) fn middle_name(entries: usize) -> NumberedName {
+    name_of_number(numbered_files(entries) / 2 + 1)
 }

@@ -5,6 +5,7 @@
 mod cache;
 mod changes;
 mod growing;
+mod numbers;
 mod row;
 
 pub use cache::time_cache;

@@ -11,13 +11,19 @@ pub(crate) struct Route {
     pub renamed: &'static [u8],
 }
 
-/// Files 1, 4, 8 and 16 directories down, and one that is four down by one symbolic link and by four.
-pub(crate) const ROUTES: [Route; 6] = [
+/// Files 1, 2, 4, 8 and 16 directories down, and one that is four down by one symbolic link and by four.
+pub(crate) const ROUTES: [Route; 7] = [
     Route {
         name: "down_1",
         file: b"/d01/file",
         directory: b"/d01",
         renamed: b"/gone",
+    },
+    Route {
+        name: "down_2",
+        file: b"/d01/d02/file",
+        directory: b"/d01/d02",
+        renamed: b"/d01/gone",
     },
     Route {
         name: "down_4",

@@ -1,9 +1,8 @@
 //! Walkers in several threads, timed.
-use super::attempts::{Tally, walk_often};
+use super::attempts::{Aim, Tally, walk_often};
 use crate::changes::path;
 use dentry_cache::{Keeper, Walker};
 use directory_tree::Change;
-use names::Path;
 use std::alloc::{AllocError, Global};
 use std::io;
 use std::rt::Clock;
@@ -58,7 +57,7 @@ pub(crate) fn measure<R: Clock + Threads + Sync>(
     alloc: Global,
     keeper: &mut Keeper,
     side: Side,
-    path: &Path<'_>,
+    aim: Aim<'_>,
     attempts: u64,
 ) -> io::Result<Option<Rate>> {
     let mut walkers = Vec::new(alloc);
@@ -70,23 +69,23 @@ pub(crate) fn measure<R: Clock + Threads + Sync>(
     }
     if side.is_beside {
         let done = AtomicBool::new(false);
-        walk_beside(rt, keeper, walkers, path, attempts, &done)
+        walk_beside(rt, keeper, walkers, aim, attempts, &done)
     } else {
-        Ok(Some(walk_all(rt, walkers, path, attempts)?))
+        Ok(Some(walk_all(rt, walkers, aim, attempts)?))
     }
 }
 
 fn walk_all<R: Clock + Threads + Sync>(
     rt: &R,
     walkers: Vec<Walker>,
-    path: &Path<'_>,
+    aim: Aim<'_>,
     attempts: u64,
 ) -> io::Result<Rate> {
     let start = Instant::now(rt)?;
     let ended = map_vec(
         rt,
         walkers,
-        &|walker: Walker| { walk_often(walker, path, attempts) },
+        &|walker: Walker| { walk_often(walker, aim, attempts) },
     )?;
     let took = start.elapsed(rt)?;
     let mut tally = Tally::NONE;
@@ -105,14 +104,14 @@ fn walk_beside<R: Clock + Threads + Sync>(
     rt: &R,
     keeper: &mut Keeper,
     walkers: Vec<Walker>,
-    path: &Path<'_>,
+    aim: Aim<'_>,
     attempts: u64,
     done: &AtomicBool,
 ) -> io::Result<Option<Rate>> {
     let (walked, renames) = join(
         rt,
         || {
-            let walked = walk_all(rt, walkers, path, attempts);
+            let walked = walk_all(rt, walkers, aim, attempts);
             done.store(true, Ordering::SeqCst);
             walked
         },

@@ -1,7 +1,9 @@
 //! What the plan asks for, each with its line.
-use super::attempts::Tally;
+use super::attempts::{Aim, Tally};
+use super::lines::{print_rate, print_time};
+use super::naming::{numbers_there, run_drawn, run_names};
 use super::plan::Plan;
-use super::rates::{Rate, SIDES, Side, measure};
+use super::rates::{SIDES, measure};
 use super::timing::{time_attempts, time_changes, time_clock, time_meets};
 use super::trips::{KINDS, trip_of};
 use crate::changes::path;
@@ -13,7 +15,6 @@ use std::io;
 use std::io::Print;
 use std::rt::Clock;
 use std::thread::Threads;
-use std::time::Duration;
 
 /// Does all that the plan asks for, and prints the times where it asks for them. Returns whether each change was made, and each
 /// walk that ended well found what is there.
@@ -23,15 +24,28 @@ pub(crate) fn run_all<R: Clock + Print + Threads + Sync>(
     plan: &Plan,
     keeper: &mut Keeper,
 ) -> io::Result<bool> {
-    let middle = middle_name(plan.capacity / 2);
+    let middle = middle_name(plan.entries);
     let Some(middle) = path(&middle) else {
         return Ok(false);
     };
-    let changed = run_changes(rt, plan, keeper)?;
-    let walked = run_walks(rt, plan, keeper, &middle)?;
-    let met = run_meets(rt, plan, keeper)?;
-    let went = run_sides(rt, alloc, plan, keeper, &middle)?;
-    Ok(changed && walked && met && went)
+    let middle = there(&middle);
+    let mut are_there = numbers_there(alloc, plan)?;
+    Ok(
+        run_changes(rt, plan, keeper)?
+            && run_walks(rt, plan, keeper, middle)?
+            && run_names(rt, plan, keeper, &are_there)?
+            && run_meets(rt, plan, keeper)?
+            && run_sides(rt, alloc, plan, keeper, middle)?
+            && run_drawn(rt, plan, keeper, &mut are_there)?,
+    )
+}
+
+// Attempts that go to an entry.
+fn there<'a>(path: &'a Path<'a>) -> Aim<'a> {
+    Aim {
+        path,
+        is_there: true,
+    }
 }
 
 // Each kind of change, and the clock that times it.
@@ -60,16 +74,16 @@ fn run_walks<R: Clock + Print>(
     rt: &R,
     plan: &Plan,
     keeper: &mut Keeper,
-    middle: &Path<'_>,
+    middle: Aim<'_>,
 ) -> io::Result<bool> {
     let (Some(walk1), Some(walk4), Some(walk16)) = (path(b"/d"), path(b"/d/d/d/d"), path(DEEPEST))
     else {
         return Ok(false);
     };
     Ok(
-        run_walk(rt, plan, keeper, "walk1", &walk1)?
-            && run_walk(rt, plan, keeper, "walk4", &walk4)?
-            && run_walk(rt, plan, keeper, "walk16", &walk16)?
+        run_walk(rt, plan, keeper, "walk1", there(&walk1))?
+            && run_walk(rt, plan, keeper, "walk4", there(&walk4))?
+            && run_walk(rt, plan, keeper, "walk16", there(&walk16))?
             && run_walk(rt, plan, keeper, "middle", middle)?,
     )
 }
@@ -79,12 +93,12 @@ fn run_walk<R: Clock + Print>(
     plan: &Plan,
     keeper: &mut Keeper,
     name: &str,
-    path: &Path<'_>,
+    aim: Aim<'_>,
 ) -> io::Result<bool> {
     let Ok(walker) = keeper.walker() else {
         return Ok(false);
     };
-    let (took, tally) = time_attempts(rt, walker, path, plan.attempts)?;
+    let (took, tally) = time_attempts(rt, walker, aim, plan.attempts)?;
     print_time(rt, plan, name, plan.attempts, took)?;
     Ok(tally == Tally::NONE)
 }
@@ -103,42 +117,16 @@ fn run_sides<R: Clock + Print + Threads + Sync>(
     alloc: Global,
     plan: &Plan,
     keeper: &mut Keeper,
-    file: &Path<'_>,
+    file: Aim<'_>,
 ) -> io::Result<bool> {
     for side in SIDES {
         let Some(rate) = measure(rt, alloc, keeper, side, file, plan.attempts)? else {
             return Ok(false);
         };
-        if plan.is_timed {
-            print_rate(rt, side, plan.attempts, &rate)?;
-        }
+        print_rate(rt, plan, side, &rate)?;
         if rate.tally.wrong > 0 || rate.tally.busy > 0 && !side.is_beside {
             return Ok(false);
         }
     }
     Ok(true)
-}
-
-fn print_rate<R: Print>(rt: &R, side: Side, attempts: u64, rate: &Rate) -> io::Result<()> {
-    let count = attempts.saturating_mul(side.walkers as u64);
-    let nanoseconds = rate.took.as_nanos();
-    let Tally { busy, .. } = rate.tally;
-    println!(rt;
-        "{} {count} {nanoseconds} {busy} {}",
-        side.name, rate.renames
-    )
-}
-
-fn print_time<R: Print>(
-    rt: &R,
-    plan: &Plan,
-    name: &str,
-    count: u64,
-    took: Duration,
-) -> io::Result<()> {
-    if plan.is_timed {
-        println!(rt; "{name} {count} {}", took.as_nanos())
-    } else {
-        Ok(())
-    }
 }

@@ -1,10 +1,11 @@
 //! What one thread does, timed.
 ghost use Rattle.std.specs.Prelude.{◌≡◌};
 
-use super::attempts::{Tally, walk_often};
+use super::attempts::{Aim, Tally, walk_often};
+use super::drawing::draw_changes;
+use super::numbered::{Numbers, walk_numbers};
 use super::trips::Trip;
 use dentry_cache::{Keeper, Walker};
-use names::Path;
 use std::io;
 use std::rt::Clock;
 use std::time::{Duration, Instant};
@@ -42,12 +43,40 @@ pub(crate) fn time_clock<R: Clock>(rt: &R, count: u64) -> io::Result<Duration> {
 pub(crate) fn time_attempts<R: Clock>(
     rt: &R,
     walker: Walker,
-    path: &Path<'_>,
+    aim: Aim<'_>,
     count: u64,
 ) -> io::Result<(Duration, Tally)> {
     let start = Instant::now(rt)?;
-    let (_, tally) = walk_often(walker, path, count);
+    let (_, tally) = walk_often(walker, aim, count);
     Ok((start.elapsed(rt)?, tally))
+}
+
+/// How long `count` attempts to reach numbers took, and their outcome; none if there are no numbers.
+pub(crate) fn time_numbers<R: Clock>(
+    rt: &R,
+    walker: Walker,
+    numbers: Numbers<'_>,
+    count: u64,
+) -> io::Result<Option<(Duration, Tally)>> {
+    let start = Instant::now(rt)?;
+    let Some((_, tally)) = walk_numbers(walker, numbers, count) else {
+        return Ok(None);
+    };
+    Ok(Some((start.elapsed(rt)?, tally)))
+}
+
+/// How long it took to draw `drawn` changes and make them, and how many were made; none if one is refused.
+pub(crate) fn time_drawn<R: Clock>(
+    rt: &R,
+    keeper: &mut Keeper,
+    are_there: &mut [bool],
+    drawn: u64,
+) -> io::Result<Option<(Duration, u64)>> {
+    let start = Instant::now(rt)?;
+    let Some(made) = draw_changes(keeper, are_there, drawn) else {
+        return Ok(None);
+    };
+    Ok(Some((start.elapsed(rt)?, made)))
 }
 
 /// How long a walker took to meet its keeper `count` times; none where no walker can be had.

@@ -19,13 +19,13 @@ impl Growing for Grown {
     }
 }
 
-/// The keeper of a tree that has room for `capacity` entries, and half of them; none where memory is refused.
-pub(crate) fn half_full(alloc: Global, capacity: usize) -> Option<Keeper>
+/// The keeper of a tree that has room for `capacity` entries, and `entries` of them; none if memory runs out.
+pub(crate) fn filled(alloc: Global, capacity: usize, entries: usize) -> Option<Keeper>
     requires { capacity ≤ MOST_ENTRIES }
 {
     let keeper = Keeper::new(alloc, capacity).ok()?;
     let mut tree = Grown { keeper };
-    if grow(&mut tree, capacity / 2) {
+    if grow(&mut tree, entries) {
         Some(tree.keeper)
     } else {
         None
