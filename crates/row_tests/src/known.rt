@@ -14,9 +14,9 @@ use tree_row::{
 type Walk<'a> = (&'a [u8], usize, Result<&'a [u8], Errno>);
 
 // A component's search reads the words of the index from its home on, up to the one that names its slot, or one that is 0. Of each
-// slot that they name it reads the kind and the directory, then the lengths if the directory is the one that is searched, and then
-// the component's words, as far as they agree, if the length is the same, too. Of the 16 words those at 0, 1, 2, 8 and 12 name the
-// slots 1, 2, 3, 5 and 7.
+// slot that they name it reads the directory, then the lengths if the directory is the one that is searched, and then the
+// component's words, as far as they agree, if the length is the same, too. The walk then reads the kind of the slot that is found.
+// Of the 16 words those at 0, 1, 2, 8 and 12 name the slots 1, 2, 3, 5 and 7.
 const WALKS: [Walk<'static>; 5] = [
     // No word at all: the root is the root in every row.
     (b"/", 0, Ok(b"/")),
@@ -28,11 +28,11 @@ const WALKS: [Walk<'static>; 5] = [
         13,
         Ok(b"/a_long_directory/file.of.17.bytes."),
     ),
-    // Words 8 and 9 of the index; slot 5, whose component is longer: 3 words.
-    (b"/x", 5, Err(Errno::ENOENT)),
-    // Words 0 to 2 of the index; slots 1 and 2, which are in another directory: 2 words each; slot 3: 3 words, its component, and
+    // Words 8 and 9 of the index; slot 5, whose component is longer: 2 words.
+    (b"/x", 4, Err(Errno::ENOENT)),
+    // Words 0 to 2 of the index; slots 1 and 2, which are in another directory: a word each; slot 3: 3 words, its component, and
     // its text.
-    (b"/ring", 12, Err(Errno::ELOOP)),
+    (b"/ring", 10, Err(Errno::ELOOP)),
 ];
 
 // Gives a walk the words that it asks for, one after the other. Returns whether it asks for none twice, and the number of words

@@ -1,8 +1,12 @@
-//! Tests of `tree_row` and `walk_words`, and nothing else: with the tests here, each library is proved once.
+//! Tests of `tree_row`, `row_tally` and `walk_words`, and nothing else: with the tests here, each library is proved once.
 #![tactic(auto)]
 
 #[cfg(test)]
 mod circles;
+#[cfg(test)]
+mod drawing;
+#[cfg(test)]
+mod followed;
 #[cfg(test)]
 mod known;
 #[cfg(test)]
@@ -15,6 +19,10 @@ mod opens;
 mod rows;
 #[cfg(test)]
 mod sizes;
+#[cfg(test)]
+mod tallies;
+#[cfg(test)]
+mod tally_cells;
 #[cfg(test)]
 mod torn;
 #[cfg(test)]

@@ -20,8 +20,8 @@ const OPENS: [Open<'static>; 5] = [
         14,
         Ok((b"/a_long_directory/file.of.17.bytes.", 3)),
     ),
-    (b"/x", 5, Err(Errno::ENOENT)),
-    (b"/ring", 12, Err(Errno::ELOOP)),
+    (b"/x", 4, Err(Errno::ENOENT)),
+    (b"/ring", 10, Err(Errno::ELOOP)),
 ];
 
 // Whether the open, which reads at most `most` words at a time, ends as listed, after the listed number of words.
