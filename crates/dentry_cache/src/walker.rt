@@ -13,7 +13,7 @@ use row_rule::{Busy, version_between};
 use std::marker::{Brand, Model};
 use std::mem;
 use std::sync::Arc;
-use tree_row::Cells;
+use tree_row::{Cells, RowIndex, index_of};
 
 /// A reader of the row. Contracts see it as its table, the row's capacity, and what it knows.
 #[derive(Drop)]
@@ -42,12 +42,15 @@ pub struct Attempt {
     table: Arc<RowTable>,
     seat: RowSeat,
     capacity: usize,
+    // where the row's index is, which each search asks for
+    index: RowIndex,
     began: u64,
 }
 
 impl Model for Attempt {
     ghost use Rattle.std.specs.Prelude.{◌≡◌};
     ghost use Rattle.std.specs.Arc.{arc_value};
+    ghost use Rattle.tree_row.specs.Finding.{IsIndexOf};
     ghost use Rattle.dentry_cache.specs.Models.{Walk};
     ghost use Rattle.dentry_cache.specs.Seats.{walker_of};
     ghost use Rattle.dentry_cache.specs.inner.Knowing.{walk, WalkerKnows};
@@ -57,7 +60,7 @@ impl Model for Attempt {
     ghost view = { λ w. walk w.seat w.capacity };
 
     ghost invariant = { λ w. WalkerKnows (arc_value w.table).shared.table_id (arc_value w.table).shared.key w.seat w.capacity
-        × ((walker_of w.seat.me.0).noted ≡ w.began) };
+        × ((walker_of w.seat.me.0).noted ≡ w.began) × IsIndexOf w.capacity w.index };
 }
 
 impl Walker {
@@ -97,6 +100,7 @@ impl Walker {
             table,
             seat,
             capacity,
+            index: index_of(capacity),
             began,
         }
     }
@@ -136,6 +140,7 @@ impl Attempt {
             table,
             mut seat,
             capacity,
+            index: _,
             began,
         } = self;
         let ended = steps::end_walk::<Brand>(&table, &mut seat);
@@ -153,6 +158,7 @@ impl Attempt {
             table,
             seat: left,
             capacity,
+            index: _,
             began: _,
         } = self;
         Walker::of(table, left, capacity)
@@ -180,6 +186,10 @@ impl Cells for Attempt {
 
     fn capacity(&self) -> usize {
         self.capacity
+    }
+
+    fn index(&self) -> RowIndex {
+        self.index
     }
 
     fn word(&mut self, place: usize) -> Option<u64> {

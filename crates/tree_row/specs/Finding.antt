@@ -1,6 +1,10 @@
 -- What a search in the index finds, in each row that may be the one that is read and encodes a tree.
-use Rattle.std.specs.Prelude.{◌≡◌, ◌≢◌, ℕ, ◌+◌, ◌<◌, Bool, List, Option, Some, None}
+use Rattle.std.specs.Prelude.{◌≡◌, ◌≢◌, ℕ, ◌+◌, ◌^◌, ◌<◌, ◌≤◌, Bool, List, Option, Some, None}
 use Rattle.path_lookup.specs.World.{World}
+use Rattle.row_index.specs.Places.{index_length}
+use Rattle.tree_row.specs.declared.cells.TheConstants.{MOST_ENTRIES}
+use Rattle.tree_row.specs.declared.index.RowIndex.{RowIndex}
+use Rattle.tree_row.specs.Rows.{index_base}
 use Rattle.tree_row.specs.Slots.{slot_at, IsUsed, IsChildSlot}
 use Rattle.tree_row.specs.Questions.{Tells}
 use Rattle.tree_row.specs.Worlds.{EncodesWorld}
@@ -32,3 +36,11 @@ TellsNamed capacity may directory component word (Some s) = (0 < s) × (s < capa
     (λ row. IsUsed (capacity + 1) (slot_at row) s → IsChildSlot (capacity + 1) (slot_at row) directory component s)
 TellsNamed capacity may directory component word None =
     InEncoding capacity may (λ row. (s : ℕ) → IsChildSlot (capacity + 1) (slot_at row) directory component s → word ≢ s + 1)
+
+-- where the index of a row is that has room for `capacity` entries besides the root, as many as are allowed
+pub record IsIndexOf (capacity : ℕ) (index : RowIndex) : Type 0 where
+  pub base : index.base ≡ index_base capacity
+  pub length : index.length ≡ index_length capacity
+  pub power : (k : ℕ) × (index.length ≡ 2 ^ k)
+  pub few : capacity ≤ MOST_ENTRIES
+  pub small : index.base + index.length < 2 ^ 32

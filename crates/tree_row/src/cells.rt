@@ -3,6 +3,9 @@ ghost use Rattle.std.specs.Prelude.{◌≡◌, ◌<◌, ◌≤◌, ◌+◌, ℕ,
 ghost use Rattle.tree_row.specs.Rows.{row_length};
 ghost use Rattle.tree_row.specs.Worlds.{Fewer, Reads};
 ghost use Rattle.tree_row.specs.Questions.{NoneFreeBefore, TellsChildless};
+ghost use Rattle.tree_row.specs.Finding.{IsIndexOf};
+
+use crate::index::{RowIndex, index_of};
 
 /// The maximum number of entries, besides the root, that a row may have room for.
 pub const MOST_ENTRIES: usize = 16384;
@@ -30,6 +33,13 @@ pub trait Cells {
     fn capacity(&self) -> usize
         ensures capacity { result ≡ capacity_of (kept self.now) }
         ensures small { result ≤ MOST_ENTRIES };
+
+    /// Returns where the row's index is. Nothing is read.
+    fn index(&self) -> RowIndex
+        ensures { IsIndexOf (capacity_of (kept self.now)) result }
+    {
+        index_of(self.capacity())
+    }
 
     /// Returns the word at a place, if it is known.
     fn word(&mut self, place: usize) -> Option<u64>

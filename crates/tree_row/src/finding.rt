@@ -4,13 +4,14 @@ ghost use Rattle.tree_row.specs.Worlds.{Fewer};
 ghost use Rattle.tree_row.specs.Finding.{TellsChild, TellsNamed, TellsFound, EncodesNone};
 
 use crate::cells::Cells;
+use crate::index::RowIndex;
 use crate::slot::{
-    COMPONENT, LENGTHS, PARENT, SLOT_LENGTH, TEXT_FACTOR, cell_place, slot_word, word_at,
+    COMPONENT, LENGTHS, PARENT, TEXT_FACTOR, cell_place, slot_word, word_at,
 };
 use crate::text::has_text;
 use names::LONGEST_COMPONENT;
 use path_lookup::Torn;
-use row_index::{DELETED_WORD, FREE_WORD, home, index_length, next_place};
+use row_index::{DELETED_WORD, FREE_WORD, home, next_place};
 
 /// Returns the slot of the entry of a component in the directory of a slot, if there is such an entry. The words of the index are
 /// read from the entry's home on, until one names its slot, one is free, or all were read. Each slot that a word names is compared.
@@ -25,9 +26,7 @@ pub fn find_child<C: Cells>(
     ensures ok { IfOk result (TellsFound (C.capacity_of (C.kept cells.old)) (C.may cells.new) directory component.now) }
     ensures err { IfErr result (λ _. C.unknown cells.new ⊎ EncodesNone (C.capacity_of (C.kept cells.old)) (C.may cells.new)) }
 {
-    let capacity = cells.capacity();
-    let size = index_length(capacity);
-    let base = SLOT_LENGTH * (capacity + 1);
+    let RowIndex { base, length: size } = cells.index();
     let mut place = home(size, directory, component);
     for step in 0..size {
         let word = word_at(cells, base + place)?;

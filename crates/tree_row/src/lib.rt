@@ -6,6 +6,7 @@
 
 mod cells;
 mod finding;
+mod index;
 mod known;
 mod known_row;
 mod laws;
@@ -20,6 +21,7 @@ mod text;
 
 pub use cells::{Cells, MOST_ENTRIES};
 pub use finding::find_child;
+pub use index::{RowIndex, index_of};
 pub use known::KnownWords;
 pub use known_row::KnownRow;
 pub use laws::{

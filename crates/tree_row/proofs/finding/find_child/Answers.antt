@@ -1,4 +1,4 @@
-use Rattle.std.proofs.Common.{◌≡◌, ℕ, ◌+◌, ◌*◌, ◌<◌, ◌∙◌, Some, None, refl, ap, subst, arith}
+use Rattle.std.proofs.Common.{◌≡◌, ℕ, ◌+◌, ◌<◌, ◌∙◌, Some, None, refl, ap, subst, arith}
 use Rattle.std.specs.Prelude.{slice_index}
 use Rattle.row_index.specs.Places.{around, index_length}
 use Rattle.row_index.specs.Hashing.{home}
@@ -10,7 +10,7 @@ use Rattle.tree_row.proofs.finding.find_child.Goals as goal
 
 pub loop-step-init : goal.loop-step-init
 loop-step-init g c =
-    let size : ℕ = c.index_length-size.result in
+    let size : ℕ = c.index-base.result.length in
     let low : home size c.args.directory c.args.component.now < size = subst
     (λ (z : ℕ). z < size) c.home-place.ensures.home c.home-place.ensures.within in
     record {
@@ -24,13 +24,12 @@ loop-step-init g c =
 pub returns-then-word-eq-FREE_WORD-clause-ok : goal.returns-then-word-eq-FREE_WORD-clause-ok
 returns-then-word-eq-FREE_WORD-clause-ok g c =
     let capacity : ℕ = g.C.Cells.capacity_of (g.C.Cells.kept c.args.cells.now) in
-    let long : c.index_length-size.result ≡ index_length capacity = c.index_length-size.ensures.length
-    ∙ ap index_length c.capacity-capacity.ensures.capacity in
+    let long : c.index-base.result.length ≡ index_length capacity = c.index-base.ensures.length in
     let at = subst (λ (z : ℕ). c.loop-step.place ≡ around z (home z c.args.directory c.args.component.now + c.loop-step.step)) long
     (c.loop-step.invariant.at (omega arith)) in
     let reads = subst (λ (z : ℕ). Reads (g.C.Cells.may c.word_at.new.cells)
-    (λ row. slice_index row (164 * (z + 1) + c.loop-step.place)) c.in_ok-word.word)
-    c.capacity-capacity.ensures.capacity c.in_ok-word.ensures.ok in
+    (λ row. slice_index row (z + c.loop-step.place)) c.in_ok-word.word)
+    c.index-base.ensures.base c.in_ok-word.ensures.ok in
     ends_free capacity (g.C.Cells.may c.loop-step.cells)
     (g.C.Cells.may c.word_at.new.cells) c.args.directory c.args.component.now c.word_at.ensures.fewer
     c.loop-step.step c.loop-step.place c.in_ok-word.word at reads
@@ -40,11 +39,10 @@ pub returns-in-Some-clause-ok : goal.returns-in-Some-clause-ok
 returns-in-Some-clause-ok g c =
     let capacity : ℕ = g.C.Cells.capacity_of (g.C.Cells.kept c.args.cells.now) in
     let kept = c.word_at.ensures.kept ∙ c.loop-step.invariant.kept in
-    let long : c.index_length-size.result ≡ index_length capacity = c.index_length-size.ensures.length
-    ∙ ap index_length c.capacity-capacity.ensures.capacity in
+    let long : c.index-base.result.length ≡ index_length capacity = c.index-base.ensures.length in
     let reads = subst (λ (z : ℕ). Reads (g.C.Cells.may c.word_at.new.cells)
-    (λ row. slice_index row (164 * (z + 1) + c.loop-step.place)) c.in_ok-word.word)
-    c.capacity-capacity.ensures.capacity c.in_ok-word.ensures.ok in
+    (λ row. slice_index row (z + c.loop-step.place)) c.in_ok-word.word)
+    c.index-base.ensures.base c.in_ok-word.ensures.ok in
     let told = subst (λ (z : ℕ). TellsNamed z (g.C.Cells.may c.named_child.new.cells) c.args.directory
     c.args.component.now c.in_ok-word.word (Some c.in-Some.slot)) (ap g.C.Cells.capacity_of kept)
     (subst (TellsNamed (g.C.Cells.capacity_of (g.C.Cells.kept c.word_at.new.cells))
@@ -56,18 +54,18 @@ returns-in-Some-clause-ok g c =
 
 pub loop-step-preserved : goal.loop-step-preserved
 loop-step-preserved g c =
-    let size : ℕ = c.index_length-size.result in
+    let size : ℕ = c.index-base.result.length in
     let capacity : ℕ = g.C.Cells.capacity_of (g.C.Cells.kept c.args.cells.now) in
     let kept = c.word_at.ensures.kept ∙ c.loop-step.invariant.kept in
     let low : home size c.args.directory c.args.component.now < size = subst
     (λ (z : ℕ). z < size) c.home-place.ensures.home c.home-place.ensures.within in
     let at = c.loop-step.invariant.at (omega arith) in
-    let long : size ≡ index_length capacity = c.index_length-size.ensures.length ∙ ap index_length c.capacity-capacity.ensures.capacity in
+    let long : size ≡ index_length capacity = c.index-base.ensures.length in
     let at_long = subst (λ (z : ℕ). c.loop-step.place ≡ around z
     (home z c.args.directory c.args.component.now + c.loop-step.step)) long at in
     let reads = subst (λ (z : ℕ). Reads (g.C.Cells.may c.word_at.new.cells)
-    (λ row. slice_index row (164 * (z + 1) + c.loop-step.place)) c.in_ok-word.word)
-    c.capacity-capacity.ensures.capacity c.in_ok-word.ensures.ok in
+    (λ row. slice_index row (z + c.loop-step.place)) c.in_ok-word.word)
+    c.index-base.ensures.base c.in_ok-word.ensures.ok in
     let told = subst (λ (z : ℕ). TellsNamed z
     (g.C.Cells.may c.named_child.new.cells) c.args.directory c.args.component.now c.in_ok-word.word None) (ap g.C.Cells.capacity_of kept)
     (subst (TellsNamed (g.C.Cells.capacity_of (g.C.Cells.kept c.word_at.new.cells))
@@ -89,8 +87,7 @@ loop-step-preserved g c =
 pub returns-clause-ok : goal.returns-clause-ok
 returns-clause-ok g c =
     let capacity : ℕ = g.C.Cells.capacity_of (g.C.Cells.kept c.args.cells.now) in
-    let long : c.index_length-size.result ≡ index_length capacity = c.index_length-size.ensures.length
-    ∙ ap index_length c.capacity-capacity.ensures.capacity in
-    let end : c.loop-step.step ≡ c.index_length-size.result = omega arith in
+    let long : c.index-base.result.length ≡ index_length capacity = c.index-base.ensures.length in
+    let end : c.loop-step.step ≡ c.index-base.result.length = omega arith in
     ends_all capacity (g.C.Cells.may c.loop-step.cells) c.args.directory c.args.component.now c.loop-step.step
     (end ∙ long) c.loop-step.invariant.none
