@@ -9,7 +9,7 @@ use Rattle.std.proofs.lemmas.List.Sums.{prefix_len_passes, prefix_len_stops, pre
 use mathlib.Core.Logic.{dite}
 use native.Mathlib.Decide.{ℕ_discrete}
 use Rattle.names.specs.Paths.{is_slash}
-use Rattle.names.proofs.PathLemmas.{step_at_part}
+use Rattle.names.proofs.PathLemmas.{step_at_part, left_slash}
 use Rattle.directory_tree.specs.Components.{slash, dot, dot_dot}
 use Rattle.directory_tree.specs.Tree.{Tree, Entry, WellFormed, find}
 use Rattle.directory_tree.specs.Walk.{Spot, spot_of}
@@ -54,6 +54,7 @@ module _ (left : List ℕ) (begins : slice_index left 0 ≡ slash) (some : 0 < l
             (after ∙ ap (λ (z : List ℕ). drop (position_or_len is_slash z) z) (sym at)) filled;
         no_dot = no_dot;
         no_dot_dot = no_dot_dot;
+        slash_after = left_slash left rest (after ∙ ap (λ (z : List ℕ). drop (position_or_len is_slash z) z) (sym at));
       }
 
 pub no_rest : (rest : List ℕ) → (length rest == 0) ≡ true → rest ≡ []

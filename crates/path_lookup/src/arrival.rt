@@ -55,6 +55,7 @@ pub(crate) fn arrive<L: Look>(
 
 /// What a component that is neither `.` nor `..` leads to from a directory: the entry that it names there. `ends`: no component
 /// follows. Allocates nothing.
+#[inline(always)]
 pub(crate) fn arrive_down<L: Look>(
     look: &mut L,
     directory: L::Entry,

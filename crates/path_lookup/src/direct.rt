@@ -5,7 +5,7 @@ ghost use Rattle.names.specs.Paths.{is_slash};
 ghost use Rattle.directory_tree.specs.Walk.{walk};
 ghost use Rattle.path_lookup.specs.World.{World, Narrows};
 ghost use Rattle.path_lookup.specs.Walking.{IsFault};
-ghost use Rattle.path_lookup.specs.inner.Steps.{IsOwnComponent, LeadsTo, IsLeftOf, course_entry};
+ghost use Rattle.path_lookup.specs.inner.Steps.{IsOwnComponent, LeadsTo, IsLeftOf, IsKnown};
 
 use crate::arrival::{Arrival, arrive_down};
 use crate::fault::WalkFault;
@@ -17,8 +17,10 @@ use names::LONGEST_PATH;
 pub(crate) enum Course<'a, E: Copy> {
     /// It leads to this entry, whose name it is.
     Named(E),
+    /// It leads to this directory and, there, to this link, after which the walk continues along this text.
+    Link(E, E, &'a [u8]),
     /// It leads to this directory, from which the walk continues along this text: it begins with what is no component that an
-    /// entry can have, or with one that names a link, or it is empty.
+    /// entry can have, or it is empty.
     Left(E, &'a [u8]),
 }
 
@@ -33,7 +35,7 @@ pub(crate) fn walk_directly<'a, L: Look>(
     ensures kept { L.kept look.new ≡ L.kept look.old }
     ensures narrows { Narrows (L.sees look.old) (L.sees look.new) }
     ensures keeps { (e : L.Entry) → L.knows look.old e → L.knows look.new e }
-    ensures known { IfOk result (λ course. L.knows look.new (course_entry course)) }
+    ensures known { IfOk result (IsKnown (L.knows look.new)) }
     ensures leads { IfOk result (λ course. (w : World) → L.sees look.new w → LeadsTo L.means w last text.now course) }
     ensures left { IfOk result (IsLeftOf text.now) }
     ensures fault { IfErr result (IsFault (L.lacks look.new) (L.sees look.new) (λ w. walk w.tree last text.now)) }
@@ -48,7 +50,7 @@ pub(crate) fn walk_directly<'a, L: Look>(
                 left = rest;
             }
             Arrival::End(entry) => return Ok(Course::Named(entry)),
-            Arrival::Link(_) => return Ok(Course::Left(directory, left)),
+            Arrival::Link(link) => return Ok(Course::Link(directory, link, rest)),
         }
     }
     Ok(Course::Left(directory, left))

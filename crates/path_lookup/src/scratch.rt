@@ -1,7 +1,12 @@
 //! The text that is left to walk.
-ghost use Rattle.std.specs.Prelude.{◌≡◌, ◌+◌, ◌-◌, ◌≤◌, ◌++◌, [], length, drop};
+ghost use Rattle.std.specs.Prelude.{◌≡◌, ◌+◌, ◌-◌, ◌≤◌, ◌++◌, ℕ, List, [], IfOk, IfErr, length, drop};
+ghost use Rattle.names.specs.Paths.{begins_with_slash};
+ghost use Rattle.directory_tree.specs.declared.node.NodeKind.TheVariants.{Link};
+ghost use Rattle.directory_tree.specs.Spots.{kind_at};
+ghost use Rattle.path_lookup.specs.World.{World, Narrows, IsTorn};
 ghost use Rattle.path_lookup.specs.inner.Steps.{most_left};
 
+use crate::look::{Look, Torn};
 use crate::walk::MOST_LINKS;
 use directory_tree::LONGEST_LINK_TEXT;
 use names::LONGEST_PATH;
@@ -18,6 +23,8 @@ const ROOM: usize = LONGEST_PATH + MOST_LINKS * LONGEST_LINK_TEXT;
 pub struct Scratch {
     room: [u8; ROOM],
     start: usize,
+    // That of the link that was read last.
+    text: [u8; LONGEST_LINK_TEXT],
 }
 
 impl Model for Scratch {
@@ -39,6 +46,7 @@ impl Scratch {
         Scratch {
             room: [0; ROOM],
             start: ROOM,
+            text: [0; LONGEST_LINK_TEXT],
         }
     }
 
@@ -65,12 +73,26 @@ impl Scratch {
         self.start += count;
     }
 
-    /// Puts this text in front of what is left.
-    pub(crate) fn put_in_front(&mut self, text: &[u8])
-        requires { length text.now + length self.old ≤ most_left }
-        ensures { self.new ≡ text.now ++ self.old }
+    /// Reads the text of a link, puts it in front of what is left, and returns whether it begins with a slash.
+    pub(crate) fn put_text_of<L: Look>(
+        &mut self,
+        look: &mut L,
+        link: L::Entry,
+    ) -> Result<bool, Torn>
+        requires link { L.knows look.old link }
+        requires room { length self.old + LONGEST_LINK_TEXT ≤ most_left }
+        ensures kept { L.kept look.new ≡ L.kept look.old }
+        ensures narrows { Narrows (L.sees look.old) (L.sees look.new) }
+        ensures keeps { (e : L.Entry) → L.knows look.old e → L.knows look.new e }
+        ensures longer { IfOk result (λ _. length self.new ≤ length self.old + LONGEST_LINK_TEXT) }
+        ensures text { IfOk result (λ from_root. (w : World) (text : List ℕ) → L.sees look.new w → kind_at (L.means link w) ≡ Link text →
+            (self.new ≡ text ++ self.old) × (begins_with_slash text ≡ from_root)) }
+        ensures torn { IfErr result (λ _. IsTorn (L.lacks look.new) (L.sees look.new)) }
     {
+        let length = look.link_text(link, &mut self.text)?;
+        let text = &self.text[..length];
         self.start = put_in_front(&mut self.room, self.start, text);
+        Ok(text.first() == Some(&b'/'))
     }
 }
 

@@ -61,11 +61,21 @@ pub(crate) fn resolve_named<L: Look>(
         name_of w.tree (L.means found.entry w) ≡ path.now) }
     ensures fault { IfErr result (IsFault (L.lacks look.new) (L.sees look.new) (λ w. walk w.tree last path.now)) }
 {
-    match walk_directly(look, path.as_bytes(), last)? {
+    let course = walk_directly(look, path.as_bytes(), last)?;
+    match course {
         Course::Named(entry) => Ok(Found {
             entry,
             is_named: true,
         }),
+        Course::Link(directory, link, rest) => {
+            scratch.begin(rest);
+            let next = follow(look, directory, link, scratch)?;
+            let entry = resolve_from(look, next, MOST_LINKS - 1, last, scratch)?;
+            Ok(Found {
+                entry,
+                is_named: false,
+            })
+        }
         Course::Left(directory, left) => {
             scratch.begin(left);
             let entry = resolve_from(look, directory, MOST_LINKS, last, scratch)?;
@@ -196,11 +206,7 @@ fn follow<L: Look>(
         (scratch.new ≡ text ++ scratch.old) × (L.means start w ≡ start_at text (L.means directory w))) }
     ensures torn { IfErr result (λ _. IsTorn (L.lacks look.new) (L.sees look.new)) }
 {
-    let mut room = [0; LONGEST_LINK_TEXT];
-    let length = look.link_text(link, &mut room)?;
-    let text = &room[..length];
-    scratch.put_in_front(text);
-    if text.first() == Some(&b'/') {
+    if scratch.put_text_of(look, link)? {
         Ok(look.root())
     } else {
         Ok(directory)

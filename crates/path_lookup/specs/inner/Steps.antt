@@ -83,16 +83,20 @@ GoesOn before after links (progress.Done e) = Unit {0}
 module _ {E : Type 0} (means : E → World → Spot) (w : World) (last : Last) (text : List ℕ) where
   abbrev pub LeadsTo : Course E → Type 0
   LeadsTo (course.Named e) = (walk w.tree last text ≡ Ok (means e w)) × (name_of w.tree (means e w) ≡ text)
+  LeadsTo (course.Link d e left) = ArrivesAt means w last max_links (node_at (means d w)) (steps_of left.now)
+      (walk w.tree last text) (arrival.Link e) × IsDirectory w.tree (means d w)
   LeadsTo (course.Left e left) = (walk w.tree last text ≡ onward_from w last max_links (means e w) left.now)
       × IsDirectory w.tree (means e w)
 
-abbrev pub course_entry : {E : Type 0} → Course E → E
-course_entry (course.Named e) = e
-course_entry (course.Left e left) = e
+abbrev pub IsKnown : {E : Type 0} → (E → Type 0) → Course E → Type 0
+IsKnown knows (course.Named e) = knows e
+IsKnown knows (course.Link d e left) = knows d × knows e
+IsKnown knows (course.Left e left) = knows e
 
 -- no more is left than there was
 abbrev pub IsLeftOf : {E : Type 0} → List ℕ → Course E → Type 0
 IsLeftOf text (course.Named e) = Unit {0}
+IsLeftOf text (course.Link d e left) = (length left.now ≤ length text) × (0 < length left.now → begins_with_slash left.now ≡ true)
 IsLeftOf text (course.Left e left) = length left.now ≤ length text
 
 -- text that begins with a slash and a component, which an entry may have, and the text after it
@@ -101,3 +105,4 @@ pub record IsOwnComponent (left component rest : List ℕ) : Type 0 where
   pub first : components left ≡ component ∷ components rest
   pub no_dot : bytes_eq component dot ≡ false
   pub no_dot_dot : bytes_eq component dot_dot ≡ false
+  pub slash_after : 0 < length rest → begins_with_slash rest ≡ true

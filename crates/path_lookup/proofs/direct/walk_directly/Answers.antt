@@ -72,3 +72,23 @@ returns-in-End-clause-leads g c = λ w seen.
           (here.directory w before) c.in-Some.component.now child rest
           ∙ ap (λ z. stem w.tree (look.means directory w) ++ z) (sym c.in-Some.ensures.whole) ∙ here.name w before,
     )
+
+pub returns-in-Link-clause-leads : goal.returns-in-Link-clause-leads
+returns-in-Link-clause-leads g c = λ w seen.
+    let look = g.L.Look in
+    let here = c.loop-component.invariant in
+    let got = c.in_ok-arrival.ensures in
+    let rest = c.in-Some.rest.now in
+    let directory = c.loop-component.directory in
+    let ends : is_last (steps_of rest) ≡ c.is_empty.result = ends_here rest ∙ sym c.is_empty.ensures in
+    let before = got.narrows w seen in
+    let arrival = rw c.in-Link.is at got.answer w seen max_links (steps_of rest) ends in (
+      (
+        arrival.0,
+        arrival.1,
+        here.here w before
+            ∙ ap (λ ps. resolve w.tree c.args.last max_links (node_at (look.means directory w)) (map step_of ps)) c.in-Some.ensures.first
+            ∙ arrival.2,
+      ),
+      here.directory w before,
+    )

@@ -1,0 +1,56 @@
+use Rattle.std.proofs.Common.{◌≡◌, ◌∙◌, sym, ap, arith}
+use Rattle.directory_tree.specs.Walk.{walk}
+use Rattle.path_lookup.specs.World.{World}
+use Rattle.path_lookup.specs.inner.Steps.{IsDirectory, onward_from}
+use Rattle.path_lookup.proofs.Stepping.{fault_along, passed_on, followed}
+use Rattle.path_lookup.proofs.walk.resolve_named.Goals as goal
+
+pub resolve_from-requires-clause-directory : goal.resolve_from-requires-clause-directory
+resolve_from-requires-clause-directory g c =
+    let look = g.L.Look in
+    let rest = c.in-Link.rest.now in
+    let start = c.in_ok-next-in-Link.ensures in
+    let slash = (rw c.in-Link.is at c.in_ok-course.ensures.left).1 in
+    let on : (w : World) → look.sees c.follow.new.look w →
+    (walk w.tree c.args.last c.as_bytes.result.now ≡ onward_from w c.args.last 39 (look.means c.in_ok-next-in-Link.next w)
+    c.follow.new.scratch) × IsDirectory w.tree (look.means c.in_ok-next-in-Link.next w) = λ w seen.
+    let leads = rw c.in-Link.is at c.in_ok-course.ensures.leads w (start.narrows w seen) in
+    followed w.tree c.args.last 40 (look.means c.in-Link.directory w) (look.means c.in_ok-next-in-Link.next w)
+    (look.means c.in-Link.link w) rest c.begin.new.self c.follow.new.scratch (walk w.tree c.args.last c.as_bytes.result.now)
+    (λ e. absurd (omega arith)) c.begin.ensures slash leads.1 leads.0 (λ text kind. start.text w text seen kind) in
+    λ w seen. (on w seen).1
+
+pub returns-in_err-entry-in-Link-clause-fault : goal.returns-in_err-entry-in-Link-clause-fault
+returns-in_err-entry-in-Link-clause-fault g c =
+    let look = g.L.Look in
+    let rest = c.in-Link.rest.now in
+    let start = c.in_ok-next-in-Link.ensures in
+    let slash = (rw c.in-Link.is at c.in_ok-course.ensures.left).1 in
+    let on : (w : World) → look.sees c.follow.new.look w →
+    (walk w.tree c.args.last c.as_bytes.result.now ≡ onward_from w c.args.last 39 (look.means c.in_ok-next-in-Link.next w)
+    c.follow.new.scratch) × IsDirectory w.tree (look.means c.in_ok-next-in-Link.next w) = λ w seen.
+    let leads = rw c.in-Link.is at c.in_ok-course.ensures.leads w (start.narrows w seen) in
+    followed w.tree c.args.last 40 (look.means c.in-Link.directory w) (look.means c.in_ok-next-in-Link.next w)
+    (look.means c.in-Link.link w) rest c.begin.new.self c.follow.new.scratch (walk w.tree c.args.last c.as_bytes.result.now)
+    (λ e. absurd (omega arith)) c.begin.ensures slash leads.1 leads.0 (λ text kind. start.text w text seen kind) in
+    passed_on c.from_residual-in_err-entry-in-Link.result c.in_err-entry-in-Link.field-0.0 _
+    c.from_residual-in_err-entry-in-Link.ensures.1
+    (fault_along _ _ _ (λ w. walk w.tree c.args.last c.args.path.now) c.in_err-entry-in-Link.field-0.0
+    (λ w seen. ap (walk w.tree c.args.last) (sym c.as_bytes.ensures.bytes) ∙ (on w (c.in_err-entry-in-Link.ensures.narrows w seen)).0)
+    c.in_err-entry-in-Link.ensures.fault)
+
+pub returns-in_ok-entry-in-Link-clause-found : goal.returns-in_ok-entry-in-Link-clause-found
+returns-in_ok-entry-in-Link-clause-found g c =
+    let look = g.L.Look in
+    let rest = c.in-Link.rest.now in
+    let start = c.in_ok-next-in-Link.ensures in
+    let slash = (rw c.in-Link.is at c.in_ok-course.ensures.left).1 in
+    let on : (w : World) → look.sees c.follow.new.look w →
+    (walk w.tree c.args.last c.as_bytes.result.now ≡ onward_from w c.args.last 39 (look.means c.in_ok-next-in-Link.next w)
+    c.follow.new.scratch) × IsDirectory w.tree (look.means c.in_ok-next-in-Link.next w) = λ w seen.
+    let leads = rw c.in-Link.is at c.in_ok-course.ensures.leads w (start.narrows w seen) in
+    followed w.tree c.args.last 40 (look.means c.in-Link.directory w) (look.means c.in_ok-next-in-Link.next w)
+    (look.means c.in-Link.link w) rest c.begin.new.self c.follow.new.scratch (walk w.tree c.args.last c.as_bytes.result.now)
+    (λ e. absurd (omega arith)) c.begin.ensures slash leads.1 leads.0 (λ text kind. start.text w text seen kind) in
+    λ w seen. ap (walk w.tree c.args.last) (sym c.as_bytes.ensures.bytes)
+    ∙ (on w (c.in_ok-entry-in-Link.ensures.narrows w seen)).0 ∙ c.in_ok-entry-in-Link.ensures.found w seen
