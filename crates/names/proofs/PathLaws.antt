@@ -2,10 +2,10 @@
 use Rattle.std.proofs.Common.{ℕ, ◌≡◌, ◌<◌, ◌≤◌, ◌≢◌, ◌-◌, Bool, true, false, List, [], ◌∷◌, ◌++◌, length, filter, not, get_or, arith, sym}
 use Rattle.std.proofs.Common.{ap, refl, ◌∙◌, cond, suc, nat_lt, ◌==◌, Option, Some, None}
 use Rattle.std.specs.List.{slice_split, onto_first, All, list_any}
-use Rattle.std.proofs.lemmas.Bool.{not-true, eqb-false, ltb-false, false_from_ne_true, false≢true}
+use Rattle.std.proofs.lemmas.Bool.{not-true, eqb-false, ltb-false, le-ltb, false_from_ne_true, false≢true}
 use Rattle.std.proofs.lemmas.List.{length-append, get_or-append_right, append_assoc, append-nil}
 use Rattle.std.proofs.lemmas.List.Elements.{All-nil, All-cons, All-head, All-tail, All-append, All-filter, filter_passes, filter-append}
-use Rattle.std.proofs.lemmas.List.Folds.{list_any_at}
+use Rattle.std.proofs.lemmas.List.Folds.{list_any_at, list_any_none}
 use Rattle.std.proofs.lemmas.List.Splits.{length-slice_split}
 use Rattle.names.specs.declared.errors.Errno.TheVariants.{ENOENT, EINVAL, ENAMETOOLONG}
 use Rattle.names.specs.Paths.{is_slash, is_empty, begins_with_slash, ends_with_slash, closing_component, components, has_long_component}
@@ -58,6 +58,38 @@ components_have P Q xs each dot from =
 pub components_parts : (xs : List ℕ) → All IsPart (components xs)
 components_parts xs = components_have IsPart (λ b. b ≢ 47) xs (λ k d l e. eqb-false (get_or xs k d) 47 e) (omega arith)
     (λ part full bytes. (full, bytes))
+
+-- a byte in front makes no part longer by more than one
+onto_longer : (x n : ℕ) (parts : List (List ℕ)) → All (λ part. length part ≤ n) parts →
+    All (λ part. length part ≤ suc n) (onto_first x parts)
+onto_longer x n [] h = All-cons (λ part. length part ≤ suc n) (x ∷ []) [] (omega arith) (All-nil (λ part. length part ≤ suc n))
+onto_longer x n (part ∷ parts) h = All-cons (λ l. length l ≤ suc n) (x ∷ part) parts
+    (omega (arith, All-head (λ l. length l ≤ n) part parts h))
+    (λ k d l. omega (arith, All-tail (λ l. length l ≤ n) part parts h k d l))
+
+-- a part is at most as long as the text
+parts_short : (xs : List ℕ) → All (λ part. length part ≤ length xs) (slice_split is_slash xs)
+parts_short [] = All-cons (λ part. length part ≤ 0) [] [] (omega arith) (All-nil (λ part. length part ≤ 0))
+parts_short (x ∷ xs) = by (is_slash x) (parts_short xs)
+  where
+    by : (b : Bool) → All (λ part. length part ≤ length xs) (slice_split is_slash xs) →
+        All (λ part. length part ≤ suc (length xs)) (cond b ([] ∷ slice_split is_slash xs) (onto_first x (slice_split is_slash xs)))
+    by true rest = All-cons (λ part. length part ≤ suc (length xs)) [] (slice_split is_slash xs) (omega arith)
+        (λ k d l. omega (arith, rest k d l))
+    by false rest = onto_longer x (length xs) (slice_split is_slash xs) rest
+
+-- a component is at most as long as the text
+component_lengths : (xs : List ℕ) → All (λ component. length component ≤ length xs) (components xs)
+component_lengths [] = All-nil (λ component. length component ≤ 0)
+component_lengths (x ∷ xs) =
+    let P : List ℕ → Type 0 = λ component. length component ≤ suc (length xs) in
+    All-append P (filter some (slice_split is_slash (x ∷ xs))) (closing_component (x ∷ xs))
+    (All-filter some P (slice_split is_slash (x ∷ xs)) (parts_short (x ∷ xs))) (closing_has P (x ∷ xs) (omega arith))
+
+-- a text of at most 255 bytes has no longer component
+pub short_text : (xs : List ℕ) → length xs ≤ 255 → has_long_component xs ≡ false
+short_text xs h = list_any_none (λ component. nat_lt 255 (length component)) (components xs)
+    (λ k d l. le-ltb 255 (length (get_or (components xs) k d)) (omega (arith, component_lengths xs k d l)))
 
 onto_append : (x : ℕ) (parts others : List (List ℕ)) → 0 < length parts → onto_first x (parts ++ others) ≡ onto_first x parts ++ others
 onto_append x [] others h = absurd (omega arith)

@@ -141,7 +141,9 @@ pub fn split_component(text: &[u8]) -> Option<(&[u8], &[u8])>
 pub fn has_long_component(text: &[u8]) -> bool
     ensures { result ≡ has_long_component text.now }
 {
-    Components::of(text).any(|component| component.len() > LONGEST_COMPONENT)
+    // No component is longer than the text, so most texts need no walk.
+    text.len() > LONGEST_COMPONENT
+        && Components::of(text).any(|component| component.len() > LONGEST_COMPONENT)
 }
 
 // The bytes from the first one on that isn't a slash.
