@@ -1,10 +1,11 @@
 //! Texts in a row, eight bytes per cell.
-ghost use Rattle.std.specs.Prelude.{◌≡◌, ◌<◌, ◌≤◌, ◌+◌, ◌^◌, ◌/◌, ℕ, List, OnOk, IfOk, IfErr, length, take, drop};
+ghost use Rattle.std.specs.Prelude.{◌≡◌, ◌<◌, ◌≤◌, ◌+◌, ◌^◌, ◌/◌, ℕ, List, OnOk, IfOk, IfErr, length, take, drop, slice_index};
+ghost use Rattle.std.specs.Int.{byte_at};
 ghost use Rattle.tree_row.specs.Slots.{text_at};
 ghost use Rattle.tree_row.specs.Rows.{row_length};
 ghost use Rattle.tree_row.specs.Worlds.{Fewer};
 ghost use Rattle.tree_row.specs.Questions.{Tells};
-ghost use Rattle.tree_row.specs.inner.Words.{IsStart};
+ghost use Rattle.tree_row.specs.inner.Words.{IsStart, HasFourAt};
 
 use crate::cells::Cells;
 use crate::pack::packed_word;
@@ -68,17 +69,40 @@ pub(crate) fn has_text<C: Cells>(cells: &mut C, base: usize, text: &[u8]) -> Res
     Ok(true)
 }
 
-// Whether the bytes of a word, the lowest first, are the first of a text, as far as it goes.
+// Whether the bytes of a word, the lowest first, are the first of a text, as far as it goes. Fewer than eight are compared without
+// a loop, since most names of files are that short: the pieces at the front and at the end may overlap.
 fn is_start(word: u64, text: &[u8]) -> bool
     ensures { Tells result (IsStart word text.now) }
 {
-    if text.len() >= 8 {
-        return word == packed_word(text, 0);
+    let count = text.len();
+    if count >= 8 {
+        word == packed_word(text, 0)
+    } else if count >= 4 {
+        has_four_at(word, text, 0) && has_four_at(word, text, count - 4)
+    } else if count >= 1 {
+        has_byte_at(word, text, 0)
+            && has_byte_at(word, text, count / 2)
+            && has_byte_at(word, text, count - 1)
+    } else {
+        true
     }
-    for (i, byte) in text.iter().enumerate() {
-        if word.to_le_bytes()[i] != *byte {
-            return false;
-        }
-    }
-    true
+}
+
+// Whether the four bytes at an index of a text are those that a word has there.
+fn has_four_at(word: u64, text: &[u8], i: usize) -> bool
+    requires low { i ≤ 4 }
+    requires within { i + 4 ≤ length text.now }
+    ensures { Tells result (HasFourAt word text.now i) }
+{
+    (word >> (8 * i)) % 0x1_0000_0000
+        == u64::from(u32::from_le_bytes([text[i], text[i + 1], text[i + 2], text[i + 3]]))
+}
+
+// Whether the byte at an index of a text is the one that a word has there.
+fn has_byte_at(word: u64, text: &[u8], i: usize) -> bool
+    requires low { i < 8 }
+    requires within { i < length text.now }
+    ensures { Tells result (byte_at i word ≡ slice_index text.now i) }
+{
+    (word >> (8 * i)) % 0x100 == u64::from(text[i])
 }
