@@ -5,9 +5,7 @@ ghost use Rattle.tree_row.specs.Finding.{TellsChild, TellsNamed, TellsFound, Enc
 
 use crate::cells::Cells;
 use crate::index::RowIndex;
-use crate::slot::{
-    COMPONENT, LENGTHS, PARENT, TEXT_FACTOR, cell_place, slot_word, word_at,
-};
+use crate::slot::{COMPONENT, LENGTHS, PARENT, TEXT_FACTOR, cell_place, slot_word, word_at};
 use crate::text::has_text;
 use names::LONGEST_COMPONENT;
 use path_lookup::Torn;
