@@ -12,7 +12,7 @@ use Rattle.path_lookup.specs.World.{World}
 use Rattle.change_checks.specs.declared.act.Act.{Act}
 use Rattle.change_checks.specs.declared.act.Act.TheVariants as act
 use Rattle.change_checks.specs.declared.act.NewNode.TheVariants as new
-use Rattle.tree_row.specs.Slots.{slot_at, text_at}
+use Rattle.tree_row.specs.Slots.{slot_at, text_at, packed}
 use Rattle.row_index.specs.Places.{around, index_length}
 use Rattle.row_index.specs.Hashing.{home}
 use Rattle.row_index.proofs.Rounds.{around_within}
@@ -25,7 +25,8 @@ use Rattle.tree_row.proofs.Opening.{length-opening, opens}
 use Rattle.tree_row.specs.declared.look.RowEntry.{RowEntry}
 use Rattle.row_rule.specs.declared.cell.Cell.{Cell}
 use Rattle.row_rule.specs.Row.{write}
-use Rattle.row_plan.specs.Leaves.{packed, with_slot, new_slot, AddsToIndex}
+use Rattle.row_plan.specs.Leaves.{with_slot, new_slot, AddsToIndex}
+use Rattle.row_plan.specs.inner.Entries.{AddsEntry}
 use Rattle.row_plan.specs.inner.Rows.{SetsSlot}
 use Rattle.row_plan.specs.Plan.{IsLean, outcome_in}
 use Rattle.row_plan.proofs.Drafting.{begins, grows}
@@ -207,12 +208,24 @@ module _ (capacity : ℕ) (room : 1 ≤ capacity) where
   makes : outcome_in capacity world mkdir_b ≡ Ok tree_with_b
   makes = ap (λ (b : Bool). apply root_alone b mkdir_b) has_place
 
+  -- the plan puts the entry into the first free slot, and adds this slot to the index
+  enters : AddsEntry capacity row (new_slot Directory 2 0 (98 ∷ [])) (five_cells capacity)
+  enters = record {
+    lean = lean;
+    slot = 1;
+    first = record {
+      free = record { past_root = omega arith; within = omega arith; free = zero_at 164 (omega arith) (omega arith) };
+      first = λ r free. let past = free.past_root in omega arith;
+    };
+    sets = subst (SetsSlot row 1 (new_slot Directory 2 0 (98 ∷ []))) leaves sets;
+    added = subst (λ (z : List ℕ). AddsToIndex capacity 0 (98 ∷ []) 1 z final) leaves adds;
+  }
+
   encodes : Encodes capacity final tree_with_b
   encodes =
       let old = opens capacity in
-      made capacity row world record { tree = old; named = λ s. refl } Directory 2 3 1 0 (98 ∷ []) after final old.slots.root.within refl
-      refl record { past_root = omega arith; within = omega arith; free = zero_at 164 (omega arith) (omega arith) } (omega arith)
-      (omega arith) sets adds
+      made capacity row world record { tree = old; named = λ s. refl } Directory 2 2 3 0 (98 ∷ []) (five_cells capacity)
+      old.slots.root.within refl refl (omega arith) (omega arith) refl enters
 
   pub is_plan : IsPlan capacity row [] mkdir_b (five_cells capacity)
   is_plan =
@@ -233,19 +246,7 @@ module _ (capacity : ℕ) (room : 1 ≤ capacity) where
             tested = record { free = refl; directory = refl; room = has_place };
             holds = record { within = old.slots.root.within; filled = λ e. absurd (omega arith) };
           };
-          leaves = (
-            1,
-            record {
-              free = record {
-                past_root = omega arith;
-                within = omega arith;
-                free =
-                    zero_at 164 (omega arith) (omega arith);
-              };
-              first = λ r free. let past = free.past_root in omega arith;
-            },
-            subst (λ (z : List ℕ). AddsToIndex capacity 0 (98 ∷ []) 1 z final) leaves adds,
-          );
+          leaves = (enters.slot, enters.first, enters.added);
         },
       )
 
