@@ -66,11 +66,22 @@ script_of() {
     }'
 }
 
-# cells_of COUNT: a call that reads up to COUNT cells, one per line. The last file takes more of them.
+# PATH_OF_FILE is that of a file 400 directories down, and deep_tree prints a policy and the changes that make it
+DEEP=400
+PATH_OF_FILE=$(awk -v deep="$DEEP" 'BEGIN { for (i = 0; i < deep; i++) path = path "/d"; print path "/f" }')
+deep_tree() {
+    awk -v deep="$DEEP" 'BEGIN {
+        print "policy\nprofile p {\n  /** r,\n}\n."
+        for (i = 0; i < deep; i++) { path = path "/d"; print "mkdir " path }
+        print "create " path "/f"
+    }'
+}
+
+# cells_of COUNT: a call that reads COUNT cells, one per line. The walk to that file takes more of them.
 cells_of() {
-    tree_of 1024
-    awk -v count="$1" 'BEGIN {
-        print "begin 1 p /d7/f127 r\npolicy-read 1\ncount 1"
+    deep_tree
+    awk -v count="$1" -v path="$PATH_OF_FILE" 'BEGIN {
+        print "begin 1 p " path " r\npolicy-read 1\ncount 1"
         for (i = 0; i < count; i++) print "cell 1 1"
         print "go 1"
     }'
@@ -88,7 +99,7 @@ row 'steps: 100,000 lines, 1,024 entries; half the lines' "$(least "$work/script
 row 'steps: the same; half the entries' "$(least "$work/script-entries")" "$(least "$work/script")"
 
 # The time to build the tree is subtracted. Each reading walks again over the cells that were read before.
-tree_of 1024 >"$work/tree"
+deep_tree >"$work/tree"
 laid_out=$(least "$work/tree")
 cells_of 2000 >"$work/cells"
 cells_of 1000 >"$work/cells-half"
