@@ -66,7 +66,7 @@ script_of() {
     }'
 }
 
-# PATH_OF_FILE is that of a file 400 directories down, and deep_tree prints a policy and the changes that make it
+# PATH_OF_FILE is that of a file 400 directories down, and deep_tree prints a policy and the changes that make it.
 DEEP=400
 PATH_OF_FILE=$(awk -v deep="$DEEP" 'BEGIN { for (i = 0; i < deep; i++) path = path "/d"; print path "/f" }')
 deep_tree() {

@@ -23,7 +23,7 @@ const ROOM: usize = LONGEST_PATH + MOST_LINKS * LONGEST_LINK_TEXT;
 pub struct Scratch {
     room: [u8; ROOM],
     start: usize,
-    // That of the link that was read last.
+    // The text of the link that was read last.
     text: [u8; LONGEST_LINK_TEXT],
 }
 

@@ -79,7 +79,8 @@ abbrev pub GoesOn : {E : Type 0} → ℕ → ℕ → ℕ → Progress E → Type
 GoesOn before after links (progress.At e links_left) = HasRoom after links_left × (work_left after links_left < work_left before links)
 GoesOn before after links (progress.Done e) = Unit {0}
 
--- the walk along a text leads on from a directory whose name is the text so far, or to an entry whose name is the whole text
+-- where the walk along a text has come: to an entry whose name the text is, to a link in a directory, or to a directory from which
+-- it continues along what is left
 module _ {E : Type 0} (means : E → World → Spot) (w : World) (last : Last) (text : List ℕ) where
   abbrev pub LeadsTo : Course E → Type 0
   LeadsTo (course.Named e) = (walk w.tree last text ≡ Ok (means e w)) × (name_of w.tree (means e w) ≡ text)
