@@ -16,6 +16,7 @@ pub use laws::{
     one_letter_each, paths_are_names, permissions_are_numbered,
 };
 pub use paths::{
-    Components, LONGEST_COMPONENT, LONGEST_PATH, Path, has_long_component, split_component,
+    Components, LONGEST_COMPONENT, LONGEST_PATH, Path, has_long_component, split_at_slash,
+    split_component,
 };
 pub use permissions::{Permission, Perms};

@@ -156,8 +156,8 @@ fn skip_slashes(bytes: &[u8]) -> &[u8]
     }
 }
 
-// The bytes before the first slash, and those from it on.
-fn split_at_slash(bytes: &[u8]) -> (&[u8], &[u8])
+/// The bytes before the first slash, and those from it on. No memory is taken.
+pub fn split_at_slash(bytes: &[u8]) -> (&[u8], &[u8])
     ensures before { result.0.now ≡ before_first is_slash bytes.now }
     ensures from { result.1.now ≡ drop (position_or_len is_slash bytes.now) bytes.now }
 {

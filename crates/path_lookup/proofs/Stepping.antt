@@ -8,16 +8,17 @@ use Rattle.names.specs.Paths.{begins_with_slash, components}
 use Rattle.names.proofs.PathLemmas.{some_component}
 use Rattle.path_lookup.specs.declared.fault.WalkFault.{WalkFault}
 use Rattle.path_lookup.specs.declared.fault.WalkFault.TheVariants.{Refused, Torn}
+use Rattle.path_lookup.specs.declared.arrival.Arrival.TheVariants as arrival
 use Rattle.directory_tree.specs.declared.node.Last.{Last}
 use Rattle.directory_tree.specs.declared.node.NodeKind.TheVariants.{Link}
 use Rattle.directory_tree.specs.Components.{Step, steps_of}
 use Rattle.directory_tree.specs.Tree.{Tree, root}
-use Rattle.directory_tree.specs.Walk.{Spot, Walked, start_of, is_last, resolve}
+use Rattle.directory_tree.specs.Walk.{Spot, Walked, max_links, start_of, is_last, resolve, walk}
 use Rattle.directory_tree.specs.Walk.Spot.{Root}
 use Rattle.directory_tree.specs.Spots.{node_at, kind_at}
 use Rattle.path_lookup.specs.World.{World}
 use Rattle.path_lookup.specs.Walking.{IsFault}
-use Rattle.path_lookup.specs.inner.Steps.{IsDirectory, after_link, start_at}
+use Rattle.path_lookup.specs.inner.Steps.{IsDirectory, ArrivesAt, after_link, onward_from, start_at}
 use Rattle.path_lookup.proofs.Joined.{some_step, resolve_joined}
 
 -- a fault is one of every question that has the same answer
@@ -76,3 +77,17 @@ followed t last links s p link rest before left answer some same slash directory
       is ∙ linked t last links s p text rest left some at.1 (at.0 ∙ ap (λ (z : List ℕ). text ++ z) same) slash,
       subst (IsDirectory t) (sym at.1) (start_directory t text s directory),
     )
+
+-- a walk that met a link before any other continues by the link's text, put in front of what follows it
+module _ {E : Type 0} (means : E → World → Spot) (sees : World → Type 0) (last : Last) (directory next link : E) (text : List ℕ) where
+  pub on_by_link : (rest before left : List ℕ) → before ≡ rest → (0 < length rest → begins_with_slash rest ≡ true)
+      → ((w : World) → sees w → ArrivesAt means w last max_links (node_at (means directory w)) (steps_of rest) (walk w.tree last text)
+      (arrival.Link link) × IsDirectory w.tree (means directory w))
+      → ((w : World) (target : List ℕ) → sees w → kind_at (means link w) ≡ Link target
+      → (left ≡ target ++ before) × (means next w ≡ start_at target (means directory w)))
+      → (w : World) → sees w
+      → (walk w.tree last text ≡ onward_from w last 39 (means next w) left) × IsDirectory w.tree (means next w)
+  on_by_link rest before left same slash leads put w seen =
+      let (arrives, from) = leads w seen in
+      followed w.tree last 40 (means directory w) (means next w) (means link w) rest before left (walk w.tree last text)
+      (λ e. absurd (omega arith)) same slash from arrives (λ target kind. put w target seen kind)

@@ -1,7 +1,5 @@
 //! The walk along a path that is, so far, the name of the directory that it has reached.
-ghost use Rattle.std.specs.Prelude.{◌≡◌, ◌≤◌, ℕ, List, IfOk, IfErr, IfSome, length, drop};
-ghost use Rattle.std.specs.List.{position_or_len, before_first};
-ghost use Rattle.names.specs.Paths.{is_slash};
+ghost use Rattle.std.specs.Prelude.{◌≡◌, ◌≤◌, ℕ, List, IfOk, IfErr, IfSome, length};
 ghost use Rattle.directory_tree.specs.Walk.{walk};
 ghost use Rattle.path_lookup.specs.World.{World, Narrows};
 ghost use Rattle.path_lookup.specs.Walking.{IsFault};
@@ -11,7 +9,7 @@ use crate::arrival::{Arrival, arrive_down};
 use crate::fault::WalkFault;
 use crate::look::Look;
 use directory_tree::Last;
-use names::LONGEST_PATH;
+use names::{LONGEST_PATH, split_at_slash};
 
 /// How far a path leads by entries alone.
 pub(crate) enum Course<'a, E: Copy> {
@@ -63,20 +61,9 @@ fn own_component(left: &[u8]) -> Option<(&[u8], &[u8])>
     if left.first() != Some(&b'/') {
         return None;
     }
-    let (component, rest) = until_slash(&left[1..]);
+    let (component, rest) = split_at_slash(&left[1..]);
     if component.is_empty() || component == b".".as_slice() || component == b"..".as_slice() {
         return None;
     }
     Some((component, rest))
-}
-
-// The bytes before the first slash, and those from it on.
-fn until_slash(bytes: &[u8]) -> (&[u8], &[u8])
-    ensures before { result.0.now ≡ before_first is_slash bytes.now }
-    ensures from { result.1.now ≡ drop (position_or_len is_slash bytes.now) bytes.now }
-{
-    match bytes.iter().position(|byte| *byte == b'/') {
-        Some(i) => bytes.split_at(i),
-        None => (bytes, &[]),
-    }
 }

@@ -1,8 +1,6 @@
 use Rattle.std.proofs.Common.{◌≡◌, ◌∙◌, sym, ap, arith}
 use Rattle.directory_tree.specs.Walk.{walk}
-use Rattle.path_lookup.specs.World.{World}
-use Rattle.path_lookup.specs.inner.Steps.{IsDirectory, onward_from}
-use Rattle.path_lookup.proofs.Stepping.{fault_along, passed_on, followed}
+use Rattle.path_lookup.proofs.Stepping.{fault_along, passed_on, on_by_link}
 use Rattle.path_lookup.proofs.walk.resolve_named.Goals as goal
 
 pub resolve_from-requires-clause-directory : goal.resolve_from-requires-clause-directory
@@ -11,13 +9,9 @@ resolve_from-requires-clause-directory g c =
     let rest = c.in-Link.rest.now in
     let start = c.in_ok-next-in-Link.ensures in
     let slash = (rw c.in-Link.is at c.in_ok-course.ensures.left).1 in
-    let on : (w : World) → look.sees c.follow.new.look w →
-    (walk w.tree c.args.last c.as_bytes.result.now ≡ onward_from w c.args.last 39 (look.means c.in_ok-next-in-Link.next w)
-    c.follow.new.scratch) × IsDirectory w.tree (look.means c.in_ok-next-in-Link.next w) = λ w seen.
-    let leads = rw c.in-Link.is at c.in_ok-course.ensures.leads w (start.narrows w seen) in
-    followed w.tree c.args.last 40 (look.means c.in-Link.directory w) (look.means c.in_ok-next-in-Link.next w)
-    (look.means c.in-Link.link w) rest c.begin.new.self c.follow.new.scratch (walk w.tree c.args.last c.as_bytes.result.now)
-    (λ e. absurd (omega arith)) c.begin.ensures slash leads.1 leads.0 (λ text kind. start.text w text seen kind) in
+    let on = on_by_link look.means (look.sees c.follow.new.look) c.args.last c.in-Link.directory c.in_ok-next-in-Link.next
+    c.in-Link.link c.as_bytes.result.now rest c.begin.new.self c.follow.new.scratch c.begin.ensures slash
+    (λ w seen. rw c.in-Link.is at c.in_ok-course.ensures.leads w (start.narrows w seen)) start.text in
     λ w seen. (on w seen).1
 
 pub returns-in_err-entry-in-Link-clause-fault : goal.returns-in_err-entry-in-Link-clause-fault
@@ -26,13 +20,9 @@ returns-in_err-entry-in-Link-clause-fault g c =
     let rest = c.in-Link.rest.now in
     let start = c.in_ok-next-in-Link.ensures in
     let slash = (rw c.in-Link.is at c.in_ok-course.ensures.left).1 in
-    let on : (w : World) → look.sees c.follow.new.look w →
-    (walk w.tree c.args.last c.as_bytes.result.now ≡ onward_from w c.args.last 39 (look.means c.in_ok-next-in-Link.next w)
-    c.follow.new.scratch) × IsDirectory w.tree (look.means c.in_ok-next-in-Link.next w) = λ w seen.
-    let leads = rw c.in-Link.is at c.in_ok-course.ensures.leads w (start.narrows w seen) in
-    followed w.tree c.args.last 40 (look.means c.in-Link.directory w) (look.means c.in_ok-next-in-Link.next w)
-    (look.means c.in-Link.link w) rest c.begin.new.self c.follow.new.scratch (walk w.tree c.args.last c.as_bytes.result.now)
-    (λ e. absurd (omega arith)) c.begin.ensures slash leads.1 leads.0 (λ text kind. start.text w text seen kind) in
+    let on = on_by_link look.means (look.sees c.follow.new.look) c.args.last c.in-Link.directory c.in_ok-next-in-Link.next
+    c.in-Link.link c.as_bytes.result.now rest c.begin.new.self c.follow.new.scratch c.begin.ensures slash
+    (λ w seen. rw c.in-Link.is at c.in_ok-course.ensures.leads w (start.narrows w seen)) start.text in
     passed_on c.from_residual-in_err-entry-in-Link.result c.in_err-entry-in-Link.field-0.0 _
     c.from_residual-in_err-entry-in-Link.ensures.1
     (fault_along _ _ _ (λ w. walk w.tree c.args.last c.args.path.now) c.in_err-entry-in-Link.field-0.0
@@ -45,12 +35,8 @@ returns-in_ok-entry-in-Link-clause-found g c =
     let rest = c.in-Link.rest.now in
     let start = c.in_ok-next-in-Link.ensures in
     let slash = (rw c.in-Link.is at c.in_ok-course.ensures.left).1 in
-    let on : (w : World) → look.sees c.follow.new.look w →
-    (walk w.tree c.args.last c.as_bytes.result.now ≡ onward_from w c.args.last 39 (look.means c.in_ok-next-in-Link.next w)
-    c.follow.new.scratch) × IsDirectory w.tree (look.means c.in_ok-next-in-Link.next w) = λ w seen.
-    let leads = rw c.in-Link.is at c.in_ok-course.ensures.leads w (start.narrows w seen) in
-    followed w.tree c.args.last 40 (look.means c.in-Link.directory w) (look.means c.in_ok-next-in-Link.next w)
-    (look.means c.in-Link.link w) rest c.begin.new.self c.follow.new.scratch (walk w.tree c.args.last c.as_bytes.result.now)
-    (λ e. absurd (omega arith)) c.begin.ensures slash leads.1 leads.0 (λ text kind. start.text w text seen kind) in
+    let on = on_by_link look.means (look.sees c.follow.new.look) c.args.last c.in-Link.directory c.in_ok-next-in-Link.next
+    c.in-Link.link c.as_bytes.result.now rest c.begin.new.self c.follow.new.scratch c.begin.ensures slash
+    (λ w seen. rw c.in-Link.is at c.in_ok-course.ensures.leads w (start.narrows w seen)) start.text in
     λ w seen. ap (walk w.tree c.args.last) (sym c.as_bytes.ensures.bytes)
     ∙ (on w (c.in_ok-entry-in-Link.ensures.narrows w seen)).0 ∙ c.in_ok-entry-in-Link.ensures.found w seen
