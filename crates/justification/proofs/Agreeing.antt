@@ -1,5 +1,5 @@
 -- Two findings on one version agree.
-use Rattle.std.proofs.Common.{◌≡◌, ℕ, List, Some, None, sym, ap, ◌∙◌}
+use Rattle.std.proofs.Common.{◌≡◌, ℕ, List, sym, ap, ◌∙◌}
 use Rattle.std.specs.Prelude.{Result, Ok, Err}
 use Rattle.directory_tree.proofs.Basics.{ok_inj, err_is_ok, some_inj}
 use Rattle.directory_tree.specs.declared.change.Change.{Change}
@@ -8,11 +8,11 @@ use Rattle.names.specs.declared.errors.Errno.{Errno}
 use Rattle.names.specs.declared.permissions.Perms.{Perms}
 use Rattle.verdicts.specs.declared.verdict.Verdict.{Verdict}
 use Rattle.mediation.specs.Deeds.{Deed}
-use Rattle.mediation.specs.Judge.{Judge, verdict_by}
+use Rattle.mediation.specs.Judge.{verdict_by}
 use Rattle.mediation.specs.Opening.{Reached, reached}
 use Rattle.justification.specs.declared.answer.Answer.TheVariants.{Judged, Failed}
 use Rattle.justification.specs.Justified.{Justified}
-use Rattle.justification.specs.Versions.{IsTreeAt, IsPublishedAt}
+use Rattle.justification.specs.Versions.{IsTreeAt}
 
 -- there is one tree of a version
 pub one_tree : (changes : List Change) (version : ℕ) (t u : Tree) → IsTreeAt changes version t → IsTreeAt changes version u → t ≡ u

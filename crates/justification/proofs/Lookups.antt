@@ -1,10 +1,10 @@
 -- What is published under a name after one more change.
-use Rattle.std.proofs.Common.{◌≡◌, ℕ, ◌+◌, ◌<◌, List, [], ◌∷◌, ◌++◌, Option, map, length, take, get_or, refl, sym, ap, ◌∙◌}
+use Rattle.std.proofs.Common.{◌≡◌, ℕ, ◌+◌, ◌<◌, List, [], ◌∷◌, ◌++◌, Option, map, length, take, get_or, sym, ap, ◌∙◌}
 use Rattle.std.proofs.lemmas.List.{take_more, map-append}
 use Rattle.std.specs.Prelude.{bytes_eq, if◌then◌else◌, Some, None}
 use Rattle.matcher.specs.declared.profiles.PolicyChange.{PolicyChange}
 use Rattle.mediation.proofs.DeedLaws.{after_both}
-use Rattle.mediation.specs.Deeds.{Deed, Policy, published, removed, after_deed, after_deeds, policy_after}
+use Rattle.mediation.specs.Deeds.{Deed, Policy, published, removed, after_deed, policy_after}
 use Rattle.mediation.specs.Judge.{Judge}
 use Rattle.mediation.specs.PolicyChanges.{deed_of}
 

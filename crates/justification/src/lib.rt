@@ -12,4 +12,7 @@ mod reaching;
 
 pub use answer::Answer;
 pub use justifying::justify;
-pub use laws::{judged_is_not_failed, one_verdict_is_justified};
+pub use laws::{
+    a_version_has_one_tree, current_judgment_is_the_answer, judged_is_not_failed,
+    justified_answers_stay_justified, one_verdict_is_justified,
+};

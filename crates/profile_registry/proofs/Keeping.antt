@@ -100,17 +100,17 @@ admits x views h = (
 )
 
 abbrev knowing : List Deed → Known
-knowing deeds = record { marker = record {}; seen = deeds; entries = 0 }
+knowing deeds = record { marker = record {}; seen = deeds; entries = 0; learned = [] }
 
 -- what a reader knows that was let in once more
 abbrev after_entry : List Deed → Known → Known
-after_entry deeds known = record { marker = record {}; seen = deeds; entries = known.entries + 1 }
+after_entry deeds known = record { marker = record {}; seen = deeds; entries = known.entries + 1; learned = known.learned }
 
 pub turns : (id : ℕ) (known : Known) → Turns IsPublished id known (λ x. x) sees
 turns id known x views h at = (
   after_entry h.0 known,
   (h.0, h.1, fits_set h.0 views id (after_entry h.0 known) (prefix_self h.0) h.2),
-  (h.2 id known at, h.1, refl),
+  (h.2 id known at, h.1, refl, refl),
 )
 
 pub brings : (id : ℕ) (known : Known) (x y : Store) (changes : List PolicyChange) → length known.seen ≡ x.version → contents_of y

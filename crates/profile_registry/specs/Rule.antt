@@ -29,11 +29,13 @@ IsPublished store views =
     × ((seat : ℕ) (known : Known) → get_elem? views seat ≡ some known → IsPrefix known.seen deeds)
 
 abbrev pub newcomer : Known
-newcomer = record { marker = record {}; seen = []; entries = 0 }
+newcomer = record { marker = record {}; seen = []; entries = 0; learned = [] }
 
--- A reader's entry, at a store: it sees at least what it had seen, and it is all that made the store. The entry is counted.
+-- A reader's entry, at a store: it sees at least what it had seen, and it is all that made the store. The entry is counted, and
+-- nothing is learned from a note.
 abbrev pub sees : Known → Store → Store → Known → Type 0
-sees before store after now = IsPrefix before.seen now.seen × IsMadeBy now.seen store × (now.entries ≡ before.entries + 1)
+sees before store after now =
+    IsPrefix before.seen now.seen × IsMadeBy now.seen store × (now.entries ≡ before.entries + 1) × (now.learned ≡ before.learned)
 
 -- The publisher's step, from a store to the next one: what it knew to be published, and after it what was staged.
 abbrev pub publishes : List Deed → Known → Store → Store → Known → Type 0
@@ -44,4 +46,4 @@ abbrev pub noted : Known → Known
 noted publisher = publisher
 
 abbrev pub learned : Known → Known → Known
-learned reader note = record reader { seen = note.seen }
+learned reader note = record reader { seen = note.seen; learned = note.seen }

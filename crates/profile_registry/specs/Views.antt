@@ -12,11 +12,12 @@ abbrev pub changes_of : Publishing → ℕ
 changes_of p = length p.published + length p.staged
 
 -- the changes that were published, up to where the reader saw them last, how often it was let in since it last learned a note,
--- and how often it wasn't answered
+-- how often it wasn't answered, and the changes of the note that it learned last
 pub record Reading : Type 0 where
   pub seen : List Deed
   pub entries : ℕ
   pub refused : ℕ
+  pub learned : List Deed
 
 -- Why a reader isn't answered: it isn't let in, and sees nothing new; or it is, and was given no share of the profile under the
 -- name.

@@ -23,7 +23,9 @@ impl PolicyReader {
         ensures seen { OnOk result (self.new.seen ≡ publisher.old.published) }
         ensures profile { IfOk result (λ found. option_map judge_shared found.0 ≡ policy_after publisher.old.published name.now) }
         ensures version { IfOk result (λ found. found.1 ≡ length publisher.old.published) }
-        ensures err { OnErr result ((self.new ≡ self.old) ⊎ IsPrefix publisher.old.published self.new.seen) }
+        ensures learned { OnOk result (self.new.learned ≡ publisher.old.published) }
+        ensures err { OnErr result ((self.new ≡ self.old)
+            ⊎ ((self.new.learned ≡ publisher.old.published) × IsPrefix publisher.old.published self.new.seen)) }
     {
         let Ok(told) = publisher.tell() else {
             return Err(NoEntry);

@@ -32,6 +32,7 @@ impl PolicyReader {
         ensures ok { OnOk result ((self.new.entries ≡ self.old.entries + 1) × (self.new.refused ≡ self.old.refused)) }
         ensures err { OnErr result (IsUnanswered self.old self.new name.now × (self.new.refused ≡ self.old.refused + 1)) }
         ensures unknown { OnErr result ((self.new.entries ≡ self.old.entries) ⊎ (known ≢ Some (length self.new.seen))) }
+        ensures learned { self.new.learned ≡ self.old.learned }
     {
         let Some(reader) = self.reader.take() else {
             unreachable!()
@@ -62,6 +63,7 @@ fn look_up_since(
         ⊎ (((view result.0.place).entries ≡ (view reader.place).entries + 1)
         × IsSome (policy_after (view result.0.place).seen name.now)
         × (known ≢ Some (length (view result.0.place).seen)))) }
+    ensures learned { (view result.0.place).learned ≡ (view reader.place).learned }
 {
     match reader.enter_as::<Sees>() {
         Ok(reading) => {

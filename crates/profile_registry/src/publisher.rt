@@ -165,7 +165,12 @@ impl Publisher {
 
     /// A new reader, which has seen all that was published.
     pub fn reader(&mut self) -> Result<PolicyReader, NoSeat>
-        ensures ok { IfOk result (λ reader. reader ≡ record { seen = self.old.published; entries = 0; refused = 0 }) }
+        ensures ok { IfOk result (λ reader. reader ≡ record {
+          seen = self.old.published;
+          entries = 0;
+          refused = 0;
+          learned = self.old.published;
+        }) }
         ensures same { self.new ≡ self.old }
     {
         Ok(PolicyReader::new(self.tell()?))

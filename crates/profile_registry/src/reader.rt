@@ -29,12 +29,13 @@ impl Model for Told {
 
     ghost view = { λ told. told.reader.place.me.0.client.seen };
 
-    // Its reader was never let in.
-    ghost invariant = { λ told. told.reader.place.me.0.client.entries ≡ 0 };
+    // Its reader was never let in, and knows the changes from a note.
+    ghost invariant = { λ told. (told.reader.place.me.0.client.entries ≡ 0)
+        × (told.reader.place.me.0.client.learned ≡ told.reader.place.me.0.client.seen) };
 }
 
 /// Reads the published policy, without waiting. Contracts see the changes that it has seen published, how often it was let in
-/// since it last learned a note, and how often it wasn't answered.
+/// since it last learned a note, how often it wasn't answered, and the changes that it learned last.
 #[derive(Drop)]
 pub struct PolicyReader {
     // `None` while it is lent to a call.
@@ -53,6 +54,7 @@ impl Model for PolicyReader {
       seen = unwrap_or (option_map (λ reader. reader.place.me.0.client.seen) r.reader) [];
       entries = unwrap_or (option_map (λ reader. reader.place.me.0.client.entries) r.reader) 0;
       refused = r.refusals.count;
+      learned = unwrap_or (option_map (λ reader. reader.place.me.0.client.learned) r.reader) [];
     } };
 
     ghost invariant = { λ r. IsSome r.reader };
@@ -60,7 +62,7 @@ impl Model for PolicyReader {
 
 impl Told {
     pub(crate) fn new(reader: StoreReader) -> Told
-        requires { (view reader.place).entries ≡ 0 }
+        requires { ((view reader.place).entries ≡ 0) × ((view reader.place).learned ≡ (view reader.place).seen) }
         ensures { result ≡ (view reader.place).seen }
     {
         Told { reader }
@@ -70,7 +72,7 @@ impl Told {
 impl PolicyReader {
     /// A reader that has learned these changes.
     pub(crate) fn new(told: Told) -> PolicyReader
-        ensures { result ≡ record { seen = told; entries = 0; refused = 0 } }
+        ensures { result ≡ record { seen = told; entries = 0; refused = 0; learned = told } }
     {
         let Told { reader } = told;
         PolicyReader {
@@ -88,6 +90,7 @@ impl PolicyReader {
         ensures version { IfOk result (λ found. found.1 ≡ length self.new.seen) }
         ensures ok { OnOk result ((self.new.entries ≡ self.old.entries + 1) × (self.new.refused ≡ self.old.refused)) }
         ensures err { OnErr result (IsUnanswered self.old self.new name.now × (self.new.refused ≡ self.old.refused + 1)) }
+        ensures learned { self.new.learned ≡ self.old.learned }
     {
         let Some(reader) = self.reader.take() else {
             unreachable!()
@@ -105,7 +108,7 @@ impl PolicyReader {
 
     /// Learns what a publisher reported: from now on the reader has seen these changes.
     pub fn learn(&mut self, told: Told)
-        ensures { self.new ≡ record { seen = told; entries = 0; refused = self.old.refused } }
+        ensures { self.new ≡ record { seen = told; entries = 0; refused = self.old.refused; learned = told } }
     {
         let Told { reader: learned } = told;
         self.reader = Some(learned);
@@ -124,6 +127,7 @@ fn look_up(
     ensures err { OnErr result.1 ((view result.0.place ≡ view reader.place)
         ⊎ (((view result.0.place).entries ≡ (view reader.place).entries + 1)
         × IsSome (policy_after (view result.0.place).seen name.now))) }
+    ensures learned { (view result.0.place).learned ≡ (view reader.place).learned }
 {
     match reader.enter_as::<Sees>() {
         Ok(reading) => {

@@ -1,0 +1,4 @@
+pub mod Questions
+pub mod Asking
+pub mod Finding
+pub mod inner
