@@ -56,14 +56,10 @@ fn another_question_finds_nothing(rt: HostRuntime) -> Result<(), Fail> {
 fn each_question_finds_its_own(rt: HostRuntime) -> Result<(), Fail> {
     let mut cache = cache(rt.alloc(), 8)?;
     keep(&mut cache, question(PATH), 0)?;
-    let mut number = 0;
-    for other in others() {
-        number += 1;
+    for (number, other) in (1..8).zip(others()) {
         keep(&mut cache, other, number)?;
     }
-    number = 0;
-    for other in others() {
-        number += 1;
+    for (number, other) in (1..8).zip(others()) {
         expect_found(&rt, &mut cache, other, number)?;
     }
     expect_found(&rt, &mut cache, question(PATH), 0)

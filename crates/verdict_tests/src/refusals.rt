@@ -5,25 +5,25 @@ use std::process::Abort;
 use std::test::Fail;
 use verdict_cache::VerdictCache;
 
-/// Paths, each longer than those before, so that each needs larger buffers.
-const LENGTHS: [usize; 8] = [1, 9, 17, 33, 65, 129, 257, 513];
-
 const BYTES: [u8; 513] = [b'/'; 513];
 
-/// Keeps the answer of a number under a path of this length. If memory is refused, what was kept stays, and nothing is new.
-fn keep_longer(
-    rt: &impl Abort,
-    cache: &mut VerdictCache,
-    length: usize,
-    number: u8,
-    stays: Option<(usize, u8)>,
-) -> Result<(), Fail> {
-    let path = BYTES.get(..length).ok_or("a longer path")?;
+/// The path of a number, longer than those of lesser numbers, so that it needs larger buffers.
+fn long_path(number: u8) -> Result<&'static [u8], Fail> {
+    Ok(
+        BYTES
+            .get(..number as usize * 64 + 1)
+            .ok_or("a longer path")?,
+    )
+}
+
+/// Keeps the answer of a number under its path. If memory is refused, what was kept last stays, and nothing is new.
+fn keep_longer(rt: &impl Abort, cache: &mut VerdictCache, number: u8) -> Result<(), Fail> {
+    let path = long_path(number)?;
     match keep_once(cache, question(path), number) {
         Ok(()) => Ok(()),
         Err(NoMemory) => {
-            if let Some((length, number)) = stays {
-                expect_path_found(rt, cache, length, number)?;
+            if number > 0 {
+                expect_kept(rt, cache, number - 1)?;
             }
             expect_nothing(rt, cache, question(path))?;
             Ok(keep_once(cache, question(path), number)?)
@@ -31,42 +31,29 @@ fn keep_longer(
     }
 }
 
-fn expect_path_found(
-    rt: &impl Abort,
-    cache: &mut VerdictCache,
-    length: usize,
-    number: u8,
-) -> Result<(), Fail> {
-    let path = BYTES.get(..length).ok_or("a longer path")?;
-    expect_found(rt, cache, question(path), number)
-}
-
-/// Keeps an answer under each path, and expects the last before and after.
-fn keep_each(rt: &impl Abort, cache: &mut VerdictCache) -> Result<(), Fail> {
-    let mut stays = None;
-    let mut number = 0;
-    for length in LENGTHS {
-        keep_longer(rt, cache, length, number, stays)?;
-        expect_path_found(rt, cache, length, number)?;
-        stays = Some((length, number));
-        number += 1;
-    }
-    Ok(())
+fn expect_kept(rt: &impl Abort, cache: &mut VerdictCache, number: u8) -> Result<(), Fail> {
+    expect_found(rt, cache, question(long_path(number)?), number)
 }
 
 #[test]
 fn refused_memory_changes_nothing(rt: HostRuntime) -> Result<(), Fail> {
     let mut cache = cache(rt.alloc(), 8)?;
-    keep_each(&rt, &mut cache)?;
-    let mut number = 0;
-    for length in LENGTHS {
-        expect_path_found(&rt, &mut cache, length, number)?;
-        number += 1;
+    for number in 0..8 {
+        keep_longer(&rt, &mut cache, number)?;
+        expect_kept(&rt, &mut cache, number)?;
+    }
+    for number in 0..8 {
+        expect_kept(&rt, &mut cache, number)?;
     }
     Ok(())
 }
 
 #[test]
 fn refused_memory_changes_nothing_where_it_is_full(rt: HostRuntime) -> Result<(), Fail> {
-    keep_each(&rt, &mut cache(rt.alloc(), 1)?)
+    let mut cache = cache(rt.alloc(), 1)?;
+    for number in 0..8 {
+        keep_longer(&rt, &mut cache, number)?;
+        expect_kept(&rt, &mut cache, number)?;
+    }
+    Ok(())
 }
