@@ -4,7 +4,8 @@
 # make bench      prints times: large inputs, each with the ratio to half the size or to another input; compiling profiles;
 #                 the loop that runs names through a table, and many names side by side, next to loops in C; names judged from
 #                 C; plans and walks over a row, and changes and walks over the row that threads share; reads of published
-#                 profiles, and opens in threads, both next to a lock; stat(2) and open(2) of the same files
+#                 profiles, and opens in threads, both next to a lock; opens of the same files again and again, with and without
+#                 kept verdicts; stat(2) and open(2) of the files that sessions open
 # make tour       runs every command of README.md and docs/TOUR.md, and compares what it prints
 # make calls      calls the library for C, and compares its answers with those of ./aa-trace
 # make embed      builds the examples for embedders, ./embed in C and ./embed_rs in Rust, and runs them
@@ -12,7 +13,8 @@
 # make storm      opens a file 1,600,000 times in 16 threads during renames and new profiles, then random paths a million times
 #                 during random changes, and checks each answer
 # make serve      runs a server whose four threads answer requests while its profile's file is replaced, and counts the answers
-# make drawn      makes 100,000 random changes in a row and in plain memory, which must give the same answers
+# make drawn      makes 100,000 random changes in a row and in plain memory, and runs random scripts of repeated opens on both, which
+#                 must give the same answers
 # make install    installs the program, the static library for C with its header, the manual page and completion for bash
 #                 below PREFIX, by default /usr/local, with DESTDIR put before it; builds what isn't built
 # make uninstall  removes what make install with the same PREFIX and DESTDIR installed
@@ -72,6 +74,7 @@ bench: aa-trace
 	sh bench/steps.sh
 	sh bench/registry.sh
 	sh bench/open.sh
+	sh bench/kept.sh
 	sh bench/linux.sh
 
 calls: aa-trace $(LIBRARY)
@@ -93,6 +96,7 @@ serve: need-rt
 
 drawn: need-rt
 	tools/drawn-changes
+	tools/drawn-scripts
 
 edits: need-rt
 	tools/more-edits --anew

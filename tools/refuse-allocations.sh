@@ -172,6 +172,17 @@ open p /s w
 SCRIPT
 refuse_all "$work/links" ./aa-trace run --capacity 9
 
+# Opens that are repeated, so that verdicts are kept, found again and dropped for others: memory that is refused to keep one or to
+# find one changes no answer.
+{
+    printf 'policy\nprofile p {\n  /a/* rw,\n  deny /a/f1* w,\n}\n.\nmkdir /a\n'
+    for name in $(seq 70); do echo "create /a/f$name"; done
+    for name in 1 1 2 2 1 $(seq 70) 1 70 70; do echo "open p /a/f$name rw"; done
+    echo 'rename /a/f1 /a/g'
+    for name in f1 g g f2 f2; do echo "open p /a/$name r"; done
+} >"$work/again"
+refuse_all "$work/again" ./aa-trace run --capacity 100
+
 # Expectations that hold and that don't, and words in quotes.
 cat >"$work/test" <<'SCRIPT'
 expect ok 1

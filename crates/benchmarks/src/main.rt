@@ -7,20 +7,28 @@
 //! - `registry` reads published profiles in threads, concurrently with a publisher;
 //! - `open` opens files by sessions in threads, concurrently with a keeper that renames and a publisher that replaces the profile,
 //!   which it reads from standard input;
-//! - `check` runs each of them once at its smallest size, `compile` with the profile of a file, and `open` with that of another.
+//! - `kept` opens the same files again and again, by sessions that keep verdicts and by sessions that keep none, by the profile on
+//!   standard input;
+//! - `check` runs each of them once at its smallest size, `compile` with the profile of a file, and `open` and `kept` with that of
+//!   another.
 //!
-//! The words after it say how much is done, and have it timed; with none `row`, `cache`, `registry` and `open` do a little, and
-//! print whether it was right. `compile` measures nothing itself: that is done by comparing whole runs.
+//! The words after it say how much is done, and have it timed; with none `row`, `cache`, `registry`, `open` and `kept` do a little,
+//! and print whether it was right. `compile` measures nothing itself: that is done by comparing whole runs.
 //!
 //! The definitions to believe are those in `specs/`.
 #![tactic(auto)]
 
 mod compile;
+mod keeping;
 mod opening;
+mod opens;
 mod profiles;
 mod registry;
+mod scene;
+mod tree;
 
 use crate::compile::print_states;
+use crate::keeping::time_kept;
 use crate::opening::time_opens;
 use crate::registry::time_registry;
 use row_benchmarks::{time_cache, time_row};
@@ -41,6 +49,7 @@ fn main(rt: HostRuntime) -> io::Result<()> {
         b"cache" => time_cache(&rt, rt.alloc(), words),
         b"registry" => time_registry(&rt, rt.alloc(), words),
         b"open" => time_opens(&rt, rt.alloc(), words, &input(&rt)?),
+        b"kept" => time_kept(&rt, rt.alloc(), words, &input(&rt)?),
         b"check" => check(&rt, words),
         _ => usage(&rt),
     }
@@ -48,7 +57,7 @@ fn main(rt: HostRuntime) -> io::Result<()> {
 
 fn usage<R: Print>(rt: &R) -> io::Result<()> {
     println!(rt;
-        "usage: benchmarks compile [COUNT] | row | cache | registry | open | check COMPILED OPENED"
+        "usage: benchmarks compile [COUNT] | row | cache | registry | open | kept | check COMPILED OPENED"
     )
 }
 
@@ -71,5 +80,7 @@ fn check<R: Runtime + AllocGlobal + Threads + Wait + Sync>(
     time_row(rt, rt.alloc(), &[])?;
     time_cache(rt, rt.alloc(), &[])?;
     time_registry(rt, rt.alloc(), &[])?;
-    time_opens(rt, rt.alloc(), &[], &fs::read(rt, opened.as_str())?)
+    let opened = fs::read(rt, opened.as_str())?;
+    time_opens(rt, rt.alloc(), &[], &opened)?;
+    time_kept(rt, rt.alloc(), &[], &opened)
 }

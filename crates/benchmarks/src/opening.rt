@@ -1,16 +1,14 @@
 //! Opens by sessions in threads, concurrently with a keeper that renames and a publisher that replaces the profile.
 mod changing;
-mod opens;
 mod plan;
 mod rates;
 mod report;
 mod routes;
-mod scene;
-mod tree;
 
 use self::plan::planned;
 use self::report::run_all;
-use self::scene::Scene;
+use crate::scene::Scene;
+use crate::tree::grown;
 use std::alloc::Global;
 use std::io;
 use std::io::Print;
@@ -20,7 +18,8 @@ use std::thread::Threads;
 
 /// Opens each file OPENS times in each thread, by the profile of this text, in a tree that has room for CAPACITY entries, and
 /// prints whether each open was answered by what is there; between two changes there is a rest of REST microseconds. The words are
-/// `CAPACITY OPENS REST`; with none it opens each file a few times, and times nothing.
+/// `CAPACITY OPENS REST plain`, or `kept` in place of `plain` for sessions that keep verdicts; with none it opens each file a few
+/// times by sessions that keep none, and times nothing.
 ///
 /// What is timed has a line of its own: the name of the file, what is changed meanwhile, how many threads open it, how many opens
 /// that were, how many nanoseconds they took, how many were answered `Busy`, how many were refused because a directory's name was
@@ -32,9 +31,14 @@ pub(crate) fn time_opens<R: Clock + Print + Threads + Wait + Sync>(
     profile: &[u8],
 ) -> io::Result<()> {
     let Some(plan) = planned(words) else {
-        return println!(rt; "usage: open [CAPACITY OPENS REST], with a profile on standard input");
+        return println!(rt;
+            "usage: open [CAPACITY OPENS REST plain|kept], with a profile on standard input"
+        );
     };
-    let Some(mut scene) = Scene::new(rt, alloc, plan.capacity, profile) else {
+    let Some(keeper) = grown(alloc, plan.capacity) else {
+        return println!(rt; "no memory");
+    };
+    let Some(mut scene) = Scene::new(rt, alloc, keeper, profile) else {
         return println!(rt; "no memory, or no profile");
     };
     let ran = run_all(rt, alloc, &plan, &mut scene);

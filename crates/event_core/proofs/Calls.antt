@@ -1,7 +1,6 @@
 -- What each call has read, after any legal run: what the policy said of its profile, and the counts, by events of its own span.
 use Rattle.std.proofs.Common.{◌≡◌, ◌≢◌, ℕ, ◌%◌, ◌==◌, Bool, true, false, List, [], ◌∷◌, ◌++◌, length, Some, None, Option, sym, refl, ap}
-use Rattle.std.proofs.Common.{◌∙◌, subst, arith, append_assoc, append-nil, length-append, eqb-true}
-use Rattle.std.proofs.lemmas.List.{take-append-le}
+use Rattle.std.proofs.Common.{◌∙◌, subst, arith, append_assoc, append-nil, eqb-true}
 use Rattle.std.proofs.lemmas.List.Elements.{All-append, All-cons, All-nil}
 use Rattle.std.proofs.lemmas.Bool.{eqb-false}
 use Rattle.std.proofs.Math.Seq.{take-length}
@@ -9,6 +8,7 @@ use Rattle.std.specs.Prelude.{if◌then◌else◌}
 use Rattle.std.specs.List.{All}
 use Rattle.mediation.specs.Deeds.{Deed, policy_after}
 use Rattle.mediation.specs.Judge.{Judge}
+use Rattle.justification.proofs.Later.{published_stays}
 use Rattle.justification.specs.declared.answer.Answer.{Answer}
 use Rattle.justification.specs.Versions.{IsPublishedAt}
 use Rattle.row_rule.specs.declared.view.KeeperView.{KeeperView}
@@ -100,18 +100,12 @@ happens_now : (capacity : ℕ) (events : List Event) (answers : List (ℕ × Ans
 happens_now capacity events answers m s call event other span Stood legal stood =
     (span.within, [], answers, m, refl, subst (λ (es : List Event). Legal capacity es answers m) span.parts legal, stood)
 
-published_later : (deeds more : List Deed) (version : ℕ) (profile : List ℕ) (o : Option Judge) → IsPublishedAt deeds version profile o →
-    IsPublishedAt (deeds ++ more) version profile o
-published_later deeds more version profile o (low, is) =
-    let long = length-append deeds more in
-    (omega arith, ap (λ (ds : List Deed). policy_after ds profile) (take-append-le version deeds more low) ∙ is)
-
 abbrev polled_later : (capacity : ℕ) (events : List Event) (deeds more : List Deed) (s : ℕ) (p : Policed) (event : Event)
     (other : ¬ (BeginsCall s event)) → Polled capacity events deeds s p → Polled capacity (events ++ event ∷ []) (deeds ++ more) s p
 polled_later capacity events deeds more s p event other k = record {
   span = longer events s p.call event other k.span;
   read = longer_happened capacity events s p.call event other k.span (read_policy s) (IsPolicyVersion p.policy_version) k.read;
-  published = published_later deeds more p.policy_version p.call.profile (Some p.judge) k.published;
+  published = published_stays deeds (deeds ++ more) p.policy_version p.call.profile (Some p.judge) (more, refl) k.published;
 }
 
 abbrev counted_later : (capacity : ℕ) (events : List Event) (deeds more : List Deed) (s : ℕ) (p : Policed) (w new : WalkerView) →
@@ -130,7 +124,7 @@ later capacity events deeds more room s event other (begun call) k = longer even
 later capacity events deeds more room s event other (unpublished call version) k = record {
   span = longer events s call event other k.span;
   read = longer_happened capacity events s call event other k.span (read_policy s) (IsPolicyVersion version) k.read;
-  published = published_later deeds more version call.profile None k.published;
+  published = published_stays deeds (deeds ++ more) version call.profile None (more, refl) k.published;
 }
 later capacity events deeds more room s event other (policed p) k = polled_later capacity events deeds more s p event other k
 later capacity events deeds more room s event other (walking p w next) k = counted_later capacity events deeds more s

@@ -1,6 +1,6 @@
 -- Each answer of a legal run is right.
-use Rattle.std.proofs.Common.{◌≡◌, ℕ, ◌+◌, ◌/◌, ◌%◌, List, [], ◌++◌, length, take, Some, sym, refl, ap, ◌∙◌, subst, arith, length-append}
-use Rattle.std.proofs.Math.Seq.{take-append_seam}
+use Rattle.std.proofs.Common.{◌≡◌, ℕ, ◌/◌, ◌%◌, List, [], length, take, Some, sym, refl, ap, ◌∙◌, subst, arith}
+use Rattle.std.proofs.Math.Seq.{take-length}
 use Rattle.std.specs.Prelude.{Result, Ok, Err}
 use mathlib.Core.List.{IsPrefix}
 use Rattle.names.specs.declared.errors.Errno.{Errno}
@@ -9,6 +9,7 @@ use Rattle.directory_tree.specs.Tree.{Tree}
 use Rattle.directory_tree.specs.Apply.{tree_after}
 use Rattle.directory_tree.proofs.Changes.{tree_after_well}
 use Rattle.mediation.specs.Opening.{Reached, reached}
+use Rattle.justification.proofs.Later.{tree_stays}
 use Rattle.justification.specs.declared.answer.Answer.{Answer}
 use Rattle.justification.specs.declared.answer.Answer.TheVariants.{Judged, Failed, NoProfile, Busy, NoEntry}
 use Rattle.justification.specs.Justified.{Justified}
@@ -51,13 +52,9 @@ even_version count version even half m is =
 seen_tree : (capacity : ℕ) (history seen : List Change) (version : ℕ) (t : Tree) → IsPrefix seen history → length seen ≡ version →
     tree_after capacity seen ≡ Ok t → IsTreeAt history version t
 seen_tree capacity history seen version t begins long made =
-    let all : length seen + length begins.0 ≡ length history = sym (length-append seen begins.0) ∙ ap length begins.1 in
-    let first_ones : take version history ≡ seen = ap (λ (h : List Change). take version h) (sym begins.1)
-    ∙ ap (λ (n : ℕ). take n (seen ++ begins.0)) (sym long) ∙ take-append_seam seen begins.0 in (
-      omega arith,
-      ap (λ (h : List Change). tree_after (length history) h) first_ones ∙ roomy_after (length history) capacity seen t
-          (omega arith) made,
-    )
+    let whole : take version seen ≡ seen = ap (λ (n : ℕ). take n seen) (sym long) ∙ take-length seen in
+    tree_stays seen history version t begins
+    (omega arith, ap (tree_after (length seen)) whole ∙ roomy_after (length seen) capacity seen t (omega arith) made)
 
 -- what the words that were read decide holds in the tree that was seen
 decided_tree : (m : Machine) (p : Policed) (w : WalkerView) (version : ℕ) (end : Result Reached Errno) (events : List Event)

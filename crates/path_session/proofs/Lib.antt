@@ -2,3 +2,4 @@ pub mod Seeing
 pub mod Standing
 pub mod Sending
 pub mod SharesKept
+pub mod KeptRight

@@ -4,7 +4,9 @@ use Rattle.std.proofs.Crossing as boxes
 use Rattle.profile_registry.proofs.Sending.{reader_send, any_send, any_sync}
 use Rattle.path_lookup.proofs.scratch.Scratch.TheSendSync as scratch
 use Rattle.dentry_cache.proofs.walker.Walker.TheSendSync as walker
+use Rattle.verdict_cache.proofs.cache.VerdictCache.TheSendSync as cache
 use Rattle.path_session.specs.contracts.session.Session as session
 
 pub session_send : IsSend session.the_row
-session_send = search (sendable, any_send, any_sync, walker.the_send, scratch.the_send, reader_send, boxes.crosses) depth 60 fits 20000
+session_send = search (sendable, any_send, any_sync, walker.the_send, scratch.the_send, cache.the_send, reader_send, boxes.crosses)
+    depth 60 fits 20000

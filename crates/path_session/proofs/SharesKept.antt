@@ -1,26 +1,22 @@
--- A share stays that of its version while more of the policy is seen.
-use Rattle.std.proofs.Common.{◌≡◌, ◌≤◌, ℕ, ◌+◌, List, length, take, Some, None, Option, sym, ap, ◌∙◌, subst, arith, length-append}
-use Rattle.std.proofs.lemmas.List.{take-append-le}
+-- A share stays that of its version while more of the policy is seen, and a reader stays in step with its publisher.
+use Rattle.std.proofs.Common.{◌≡◌, ℕ, true, List, length, take, Some, None, Option, sym, ap, ◌∙◌, subst, arith}
+use Rattle.std.proofs.lemmas.Bool.{eqb-true}
+use Rattle.std.specs.Prelude.{nat_eq}
 use Rattle.std.proofs.Math.Seq.{take-length}
-use Rattle.std.specs.Option.{option_map}
+use Rattle.std.specs.Option.{option_map, option_eq}
 use Rattle.std.specs.declared.alloc.Global.{Global}
 use Rattle.std.specs.declared.sync.Arc.{Arc}
 use mathlib.Core.List.{IsPrefix}
+use Rattle.justification.proofs.Later.{prefix_is_shorter, first_stay}
 use Rattle.matcher.specs.declared.profiles.AnyProfile.{AnyProfile}
 use Rattle.mediation.specs.Deeds.{Deed, policy_after}
 use Rattle.mediation.specs.PolicyChanges.{judge_shared}
-use Rattle.path_session.specs.inner.Sharing.{IsShareOf}
+use Rattle.profile_registry.proofs.Prefixes.{prefix_whole}
+use Rattle.profile_registry.specs.Views.{Reading}
+use Rattle.path_session.specs.inner.Sharing.{IsShareOf, IsInStep}
 
 abbrev Share : Type 0
 Share = Option (Arc AnyProfile Global)
-
-prefix_is_shorter : (xs ys : List Deed) → IsPrefix xs ys → length xs ≤ length ys
-prefix_is_shorter xs ys begins =
-    let all : length xs + length begins.0 ≡ length ys = sym (length-append xs begins.0) ∙ ap length begins.1 in
-    omega arith
-
-first_stay : (xs ys : List Deed) (n : ℕ) → IsPrefix xs ys → n ≤ length xs → take n ys ≡ take n xs
-first_stay xs ys n begins within = ap (take n) (sym begins.1) ∙ take-append-le n xs begins.0 within
 
 pub share_stays : (seen more : List Deed) (name : List ℕ) (version : Option ℕ) (share : Share) → IsPrefix seen more →
     IsShareOf seen name version share → IsShareOf more name version share
@@ -44,3 +40,12 @@ pub share_begins : (seen : List Deed) (name : List ℕ) (version : ℕ) (share :
 share_begins seen name version share all is =
     let whole = ap (λ (n : ℕ). take n seen) all ∙ take-length seen in
     (omega arith, is ∙ ap (λ (deeds : List Deed). policy_after deeds name) (sym whole))
+
+-- if it has read the version up to which it learned last, it has seen no more
+pub same_step : (before now : Reading) (known : Option ℕ) (version : ℕ) → IsPrefix before.seen now.seen → now.learned ≡ before.learned
+    → version ≡ length now.seen → IsInStep before known → option_eq nat_eq known (Some version) ≡ true → IsInStep now known
+same_step before now None version longer learned whole step same = tt
+same_step before now (Some v) version longer learned whole (all, counted) same =
+    let version_is : v ≡ version = eqb-true v version same in
+    let seen = prefix_whole before.seen now.seen longer (omega arith) in
+    (sym seen ∙ all ∙ sym learned, version_is ∙ whole)

@@ -1,5 +1,5 @@
 -- What contracts see of a session, and what they say about its calls.
-use Rattle.std.specs.Prelude.{◌≡◌, ◌+◌, ◌%◌, ℕ, List, [], length, Option, None, IsSome, Ok}
+use Rattle.std.specs.Prelude.{◌≡◌, ◌≢◌, ◌⊎◌, ◌+◌, ◌%◌, ◌^◌, ℕ, List, [], length, Option, None, IsSome, Ok}
 use mathlib.Core.List.{IsPrefix}
 use Rattle.names.specs.declared.permissions.Perms.{Perms}
 use Rattle.directory_tree.specs.declared.change.Change.{Change}
@@ -21,13 +21,14 @@ use Rattle.path_session.specs.declared.unanswered.Unanswered.{Unanswered}
 use Rattle.path_session.specs.declared.unanswered.Unanswered.TheVariants.{NoEntry, NoMemory}
 
 -- its walker, its reader of the policy, the profile that it opens by, the name that it judged last, and how often it met its
--- keeper, modulo 2^64
+-- keeper and answered by a verdict that it had kept, modulo 2^64
 pub record Sitting : Type 0 where
   pub walk : Walk
   pub reading : Reading
   pub profile : List ℕ
   pub judged : List ℕ
   pub meetings : ℕ
+  pub kept_answers : ℕ
 
 -- the view of a walker that is lent to a call, which no caller sees
 abbrev pub no_walk : Walk
@@ -55,13 +56,31 @@ HasReadPolicy before now (NoProfile policy) = now.reading.entries ≡ before.rea
 HasReadPolicy before now (Busy began ended) = now.reading.entries ≡ before.reading.entries + 1
 HasReadPolicy before now answer.NoEntry = IsUnanswered before.reading now.reading now.profile
 
--- it read the count twice, or not at all: if the policy gave no profile, no word is read
+-- It read the count twice, or once for a verdict that was kept, and then no cell. If the policy gave no profile, no word is read.
 abbrev pub HasReadCounts : WalkerView → WalkerView → Answer → Type 0
-HasReadCounts before now (Judged verdict node tree policy) = now.count_reads ≡ before.count_reads + 2
+HasReadCounts before now (Judged verdict node tree policy) =
+    (now.count_reads ≡ before.count_reads + 2) ⊎ ((now.count_reads ≡ before.count_reads + 1) × (now.reads ≡ []))
 HasReadCounts before now (Failed errno tree) = now.count_reads ≡ before.count_reads + 2
 HasReadCounts before now (NoProfile policy) = now ≡ before
 HasReadCounts before now (Busy began ended) = now.count_reads ≡ before.count_reads + 2
 HasReadCounts before now answer.NoEntry = now ≡ before
+
+-- An answer by a kept verdict is counted: in an attempt, exactly if the count was read once.
+abbrev pub counted : ℕ → ℕ
+counted n = (n + 1) % 2 ^ 64
+
+abbrev pub CountsKept : WalkerView → WalkerView → ℕ → ℕ → Type 0
+CountsKept before now kept kept_now =
+    ((now.count_reads ≡ before.count_reads + 1) × (kept_now ≡ counted kept))
+    ⊎ ((now.count_reads ≢ before.count_reads + 1) × (kept_now ≡ kept))
+
+-- with the keeper at hand, only a verdict may have been kept
+abbrev pub MayCountKept : ℕ → ℕ → Answer → Type 0
+MayCountKept kept kept_now (Judged verdict node tree policy) = (kept_now ≡ kept) ⊎ (kept_now ≡ counted kept)
+MayCountKept kept kept_now (Failed errno tree) = kept_now ≡ kept
+MayCountKept kept kept_now (NoProfile policy) = kept_now ≡ kept
+MayCountKept kept kept_now (Busy began ended) = kept_now ≡ kept
+MayCountKept kept kept_now answer.NoEntry = kept_now ≡ kept
 
 -- the versions are those of all changes that it has seen
 abbrev pub HasVersions : Sitting → Answer → Type 0

@@ -2,3 +2,6 @@
 pub mod Walks
 pub mod Settling
 pub mod Sharing
+pub mod Right
+pub mod Knowing
+pub mod Attempts

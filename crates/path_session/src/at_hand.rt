@@ -1,23 +1,23 @@
 //! Opens and hard links when both the keeper and the publisher are at hand.
-ghost use Rattle.std.specs.Prelude.{◌≡◌, ◌≢◌, [], IfOk, IfErr, OnOk, OnErr};
+ghost use Rattle.std.specs.Prelude.{◌≡◌, ◌≢◌, ◌⊎◌, [], IfOk, IfErr, IsOk, OnOk, OnErr};
 ghost use mathlib.Core.List.{IsPrefix};
 ghost use Rattle.dentry_cache.specs.Models.{met_at};
 ghost use Rattle.mediation.specs.Answers.{answered, name_opened, link_answered, name_linked};
 ghost use Rattle.mediation.specs.History.{open_answer, link_answer, after_link};
-ghost use Rattle.path_session.specs.Sitting.{IsSameSession, IsNoLinkOf, IsUntouchedUnlessMade};
+ghost use Rattle.path_session.specs.Sitting.{IsSameSession, IsNoLinkOf, IsUntouchedUnlessMade, counted};
 ghost use Rattle.path_session.specs.Standing.{history_of};
 
-use crate::keeping::reach_here;
 use crate::linking::link_by;
 use crate::session::Session;
 use crate::unanswered::Unanswered;
 use dentry_cache::Keeper;
-use mediation::{Answer, LinkAnswer, judge_name};
+use mediation::{Answer, LinkAnswer};
 use names::{NoMemory, Perms};
 use profile_registry::{NoEntry, Publisher};
 
 impl Session {
-    /// Opens a file as [`open_with`](Session::open_with) does, using all that the publisher has published.
+    /// Opens a file as [`open_with`](Session::open_with) does, using all that the publisher has published. The session's reader
+    /// is one of this publisher: what it learned last begins what is published.
     pub fn open_with_both(
         &mut self,
         keeper: &mut Keeper,
@@ -25,27 +25,37 @@ impl Session {
         path: &[u8],
         ask: Perms,
     ) -> Result<Answer, NoEntry>
-        requires { self.old.walk.table ≡ keeper.old.table }
+        requires row { self.old.walk.table ≡ keeper.old.table }
+        requires policy { IsPrefix self.old.reading.learned publisher.old.published }
         ensures same { IsSameSession self.old self.new × (keeper.new ≡ keeper.old) × (publisher.new ≡ publisher.old) }
         ensures met { IsPrefix self.old.walk.view.seen keeper.old.history × (self.new.walk.view ≡ met_at keeper.old.history) }
         ensures meetings { self.new.meetings ≢ self.old.meetings }
         ensures policy_seen { OnOk result (self.new.reading.seen ≡ publisher.old.published) }
+        ensures learned { IsPrefix self.new.reading.learned publisher.old.published }
         ensures answer { IfOk result (λ answer. answered self.new.judged answer
             ≡ open_answer (history_of keeper.old publisher.old.published) self.old.profile path.now ask) }
         ensures name { OnOk result (self.new.judged
             ≡ name_opened (open_answer (history_of keeper.old publisher.old.published) self.old.profile path.now ask)) }
+        ensures kept { (self.new.kept_answers ≡ self.old.kept_answers)
+            ⊎ (IsOk result × (self.new.kept_answers ≡ counted self.old.kept_answers)) }
         ensures err { OnErr result (self.new.judged ≡ []) }
     {
         self.name_length = 0;
         self.meet(keeper);
-        let policy_version = self
-            .share
-            .read_published(&mut self.reader, publisher, &self.profile)?;
-        let Some(profile) = &self.share.profile else {
+        let policy_version = self.known.read_published(publisher)?;
+        if self.known.published().is_none() {
             return Ok(Answer::NoProfile { policy_version });
-        };
+        }
         let tree_version = keeper.version();
-        match reach_here(keeper, path, ask, &mut self.scratch, &mut self.name) {
+        let opened = self.known.open_here(
+            keeper,
+            path,
+            ask,
+            policy_version,
+            &mut self.scratch,
+            &mut self.name,
+        );
+        match opened {
             Err(errno) => Ok(Answer::Failed {
                 errno,
                 tree_version,
@@ -53,7 +63,7 @@ impl Session {
             Ok(file) => {
                 self.name_length = file.name_length;
                 Ok(Answer::Judged {
-                    verdict: judge_name(profile, &self.name[..file.name_length], ask),
+                    verdict: file.verdict,
                     node: file.node,
                     tree_version,
                     policy_version,
@@ -62,7 +72,8 @@ impl Session {
         }
     }
 
-    /// Makes a hard link as [`link_with`](Session::link_with) does, using all that the publisher has published.
+    /// Makes a hard link as [`link_with`](Session::link_with) does, using all that the publisher has published. The session's
+    /// reader is one of this publisher, as in [`open_with_both`](Session::open_with_both).
     pub fn link_with_both(
         &mut self,
         keeper: &mut Keeper,
@@ -70,10 +81,12 @@ impl Session {
         old: &[u8],
         new: &[u8],
     ) -> Result<LinkAnswer, Unanswered>
+        requires { IsPrefix self.old.reading.learned publisher.old.published }
         ensures same { IsSameSession self.old self.new × (self.new.walk ≡ self.old.walk) × (self.new.meetings ≡ self.old.meetings)
-            × (keeper.new.table ≡ keeper.old.table) × (publisher.new ≡ publisher.old) }
+            × (self.new.kept_answers ≡ self.old.kept_answers) × (keeper.new.table ≡ keeper.old.table) × (publisher.new ≡ publisher.old) }
         ensures kept { IfOk result (λ answer. IsUntouchedUnlessMade answer keeper.old keeper.new) }
         ensures policy_seen { OnOk result (self.new.reading.seen ≡ publisher.old.published) }
+        ensures learned { IsPrefix self.new.reading.learned publisher.old.published }
         ensures ok { IfOk result (λ answer. link_answered self.new.judged answer
             ≡ link_answer (history_of keeper.old publisher.old.published) self.old.profile old.now new.now) }
         ensures name { OnOk result (self.new.judged
@@ -85,13 +98,10 @@ impl Session {
             × IsNoLinkOf (link_answer (history_of keeper.old publisher.old.published) self.old.profile old.now new.now) why) }
     {
         self.name_length = 0;
-        let Ok(policy_version) = self
-            .share
-            .read_published(&mut self.reader, publisher, &self.profile)
-        else {
+        let Ok(policy_version) = self.known.read_published(publisher) else {
             return Err(Unanswered::NoEntry);
         };
-        let Some(profile) = &self.share.profile else {
+        let Some(profile) = self.known.published() else {
             return Ok(LinkAnswer::NoProfile { policy_version });
         };
         match link_by(

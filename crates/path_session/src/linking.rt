@@ -37,9 +37,10 @@ impl Session {
         new: &[u8],
     ) -> Result<LinkAnswer, Unanswered>
         ensures same { IsSameSession self.old self.new × (self.new.walk ≡ self.old.walk) × (self.new.meetings ≡ self.old.meetings)
-            × (keeper.new.table ≡ keeper.old.table) }
+            × (self.new.kept_answers ≡ self.old.kept_answers) × (keeper.new.table ≡ keeper.old.table) }
         ensures kept { IfOk result (λ answer. IsUntouchedUnlessMade answer keeper.old keeper.new) }
         ensures policy_seen { IsPrefix self.old.reading.seen self.new.reading.seen }
+        ensures learned { self.new.reading.learned ≡ self.old.reading.learned }
         ensures policy_read { OnOk result (IsLetIn self.old self.new) }
         ensures ok { IfOk result (λ answer. link_answered self.new.judged answer
             ≡ link_answer (history_of keeper.old self.new.reading.seen) self.old.profile old.now new.now) }
@@ -53,10 +54,10 @@ impl Session {
             old.now new.now) why) }
     {
         self.name_length = 0;
-        let Ok(policy_version) = self.share.read_policy(&mut self.reader, &self.profile) else {
+        let Ok(policy_version) = self.known.read_policy() else {
             return Err(Unanswered::NoEntry);
         };
-        let Some(profile) = &self.share.profile else {
+        let Some(profile) = self.known.published() else {
             return Ok(LinkAnswer::NoProfile { policy_version });
         };
         match link_by(

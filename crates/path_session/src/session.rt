@@ -1,7 +1,8 @@
 //! A session, and what it keeps from call to call.
 ghost use Rattle.std.specs.Prelude.{◌≡◌, ◌≤◌, [], IfOk, OnOk, OnErr, IfErr};
 
-use crate::share::Share;
+use crate::kept::KeptVerdicts;
+use crate::knowledge::Knowledge;
 use dentry_cache::Walker;
 use names::NoMemory;
 use path_lookup::{NAME_ROOM, Scratch};
@@ -9,17 +10,12 @@ use profile_registry::PolicyReader;
 use std::alloc::Global;
 use std::marker::Model;
 
-/// Opens files by one published profile, over the row that threads share. It has the buffers that its calls need, and may move
-/// to another thread.
+/// Opens files by one published profile, over the row that threads share. It has the buffers that its calls need, keeps verdicts,
+/// and may move to another thread.
 #[derive(Drop)]
 pub struct Session {
     pub(crate) alloc: Global,
-    // `None` while it is lent to a call.
-    pub(crate) walker: Option<Walker>,
-    pub(crate) reader: PolicyReader,
-    pub(crate) profile: Vec<u8>,
-    // What it read last under that name, and at which version of the policy.
-    pub(crate) share: Share,
+    pub(crate) known: Knowledge,
     pub(crate) scratch: Scratch,
     // The name that was judged last is at the front.
     pub(crate) name: [u8; NAME_ROOM],
@@ -29,27 +25,27 @@ pub struct Session {
 }
 
 impl Model for Session {
-    ghost use Rattle.std.specs.Prelude.{◌≤◌, IsSome, [], take};
-    ghost use Rattle.std.specs.Option.{unwrap_or};
-    ghost use Rattle.path_session.specs.Sitting.{Sitting, no_walk};
-    ghost use Rattle.path_session.specs.inner.Sharing.{IsShareOf};
+    ghost use Rattle.std.specs.Prelude.{◌≤◌, take};
+    ghost use Rattle.path_session.specs.Sitting.{Sitting};
 
     ghost Value = { Sitting };
 
     ghost view = { λ s. record {
-      walk = unwrap_or s.walker no_walk;
-      reading = s.reader;
-      profile = s.profile.items;
+      walk = s.known.walk;
+      reading = s.known.reading;
+      profile = s.known.profile;
       judged = take s.name_length s.name;
       meetings = s.meetings;
+      kept_answers = s.known.kept_answers;
     } };
 
-    ghost invariant = { λ s. IsSome s.walker × (s.name_length ≤ 4095)
-        × IsShareOf s.reader.seen s.profile.items s.share.version s.share.profile };
+    ghost invariant = { λ s. s.name_length ≤ 4095 };
 }
 
 impl Session {
-    /// A session of a walker and a reader, which opens by the profile of this name. If memory is refused, both are returned.
+    /// A session of a walker and a reader, which opens by the profile of this name and keeps the 64 verdicts that it gave or
+    /// found last; after 64 opens in a row that found none of them, it looks for, and keeps, those of one open in eight, until one
+    /// is found. If memory is refused, walker and reader are returned.
     pub fn new(
         alloc: Global,
         walker: Walker,
@@ -63,6 +59,54 @@ impl Session {
           judged =
               [];
           meetings = 0;
+          kept_answers = 0;
+        }) }
+        ensures err { IfErr result (λ refused. (refused.1 ≡ walker) × (refused.2 ≡ reader)) }
+    {
+        match KeptVerdicts::new(alloc) {
+            Ok(verdicts) => Session::of(alloc, walker, reader, profile, verdicts),
+            Err(NoMemory) => Err((NoMemory, walker, reader)),
+        }
+    }
+
+    /// As [`new`](Session::new), of a session that keeps no verdicts: for paths that are hardly ever opened again, or where
+    /// memory is short. Its answers are the same.
+    pub fn without_kept_verdicts(
+        alloc: Global,
+        walker: Walker,
+        reader: PolicyReader,
+        profile: &[u8],
+    ) -> Result<Session, (NoMemory, Walker, PolicyReader)>
+        ensures ok { IfOk result (λ session. session ≡ record {
+          walk = walker;
+          reading = reader;
+          profile = profile.now;
+          judged =
+              [];
+          meetings = 0;
+          kept_answers = 0;
+        }) }
+        ensures err { IfErr result (λ refused. (refused.1 ≡ walker) × (refused.2 ≡ reader)) }
+    {
+        Session::of(alloc, walker, reader, profile, KeptVerdicts::none())
+    }
+
+    fn of(
+        alloc: Global,
+        walker: Walker,
+        reader: PolicyReader,
+        profile: &[u8],
+        verdicts: KeptVerdicts,
+    ) -> Result<Session, (NoMemory, Walker, PolicyReader)>
+        requires { verdicts ≡ [] }
+        ensures ok { IfOk result (λ session. session ≡ record {
+          walk = walker;
+          reading = reader;
+          profile = profile.now;
+          judged =
+              [];
+          meetings = 0;
+          kept_answers = 0;
         }) }
         ensures err { IfErr result (λ refused. (refused.1 ≡ walker) × (refused.2 ≡ reader)) }
     {
@@ -71,10 +115,7 @@ impl Session {
         };
         Ok(Session {
             alloc,
-            walker: Some(walker),
-            reader,
-            profile,
-            share: Share::new(),
+            known: Knowledge::new(walker, reader, profile, verdicts),
             scratch: Scratch::new(),
             name: [0; NAME_ROOM],
             name_length: 0,
@@ -90,8 +131,7 @@ impl Session {
         let Ok(profile) = Vec::from_slice(self.alloc, profile) else {
             return Err(NoMemory);
         };
-        self.profile = profile;
-        self.share = Share::new();
+        self.known.select(profile);
         Ok(())
     }
 
@@ -99,7 +139,14 @@ impl Session {
     pub fn profile(&self) -> &[u8]
         ensures { result.now ≡ self.now.profile }
     {
-        &self.profile
+        self.known.profile()
+    }
+
+    /// How many opens it answered by a verdict that it had kept, modulo 2^64.
+    pub fn kept_answers(&self) -> u64
+        ensures { result ≡ self.now.kept_answers }
+    {
+        self.known.kept_answers()
     }
 
     /// The name that the last answer judged (for a link, that of its new entry); empty if it judged none.

@@ -41,6 +41,7 @@ impl Share {
         requires { IsShareOf reader.old.seen name.now self.old.version self.old.profile }
         ensures kept { IsShareOf reader.new.seen name.now self.new.version self.new.profile }
         ensures seen { IsPrefix reader.old.seen reader.new.seen }
+        ensures learned { reader.new.learned ≡ reader.old.learned }
         ensures profile { OnOk result (option_map judge_shared self.new.profile ≡ policy_after reader.new.seen name.now) }
         ensures version { IfOk result (λ version. version ≡ length reader.new.seen) }
         ensures ok { OnOk result ((reader.new.entries ≡ reader.old.entries + 1) × (reader.new.refused ≡ reader.old.refused)) }
@@ -64,6 +65,9 @@ impl Share {
     ) -> Result<u64, NoEntry>
         ensures same { publisher.new ≡ publisher.old }
         ensures kept { IsShareOf reader.new.seen name.now self.new.version self.new.profile }
+        ensures longer { IsPrefix reader.old.seen publisher.old.published → IsPrefix reader.old.seen reader.new.seen }
+        ensures learned { IsPrefix reader.old.learned publisher.old.published → IsPrefix reader.new.learned publisher.old.published }
+        ensures all_learned { OnOk result (reader.new.learned ≡ publisher.old.published) }
         ensures seen { OnOk result (reader.new.seen ≡ publisher.old.published) }
         ensures profile { OnOk result (option_map judge_shared self.new.profile ≡ policy_after publisher.old.published name.now) }
         ensures version { IfOk result (λ version. version ≡ length publisher.old.published) }

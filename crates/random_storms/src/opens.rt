@@ -49,10 +49,11 @@ fn report<R: Print + Eprint>(rt: &R, outcome: &Outcome) -> io::Result<()> {
         counts.answers, counts.unjustified
     )?;
     eprintln!(rt;
-        "judged: allowed {}, denied {}, no rule {}; failed {}, without profile {}, busy {}, no entry {}",
+        "judged: allowed {}, denied {}, no rule {}, of these {} as kept; failed {}, without profile {}, busy {}, no entry {}",
         counts.allowed,
         counts.denied,
         counts.no_rule,
+        counts.kept,
         counts.failed,
         counts.no_profile,
         counts.busy,

@@ -1,5 +1,6 @@
 //! A bench that is a keeper, a publisher and one session.
 ghost use Rattle.std.specs.Prelude.{◌≡◌, ◌≤◌, [], IfOk};
+ghost use mathlib.Core.List.{IsPrefix};
 ghost use Rattle.mediation.specs.History.{new_history};
 ghost use Rattle.path_session.specs.Standing.{history_of};
 
@@ -23,7 +24,8 @@ pub struct SessionBench<'a, R: Wait> {
     pub(crate) session: Session,
     // Whether the last open or link was answered.
     pub(crate) has_answered: bool,
-    ghost beside: { session.walk.table ≡ keeper.table },
+    ghost row: { session.walk.table ≡ keeper.table },
+    ghost policy: { IsPrefix session.reading.learned publisher.published },
 }
 
 impl<'a, R: Wait> SessionBench<'a, R> {
@@ -71,7 +73,8 @@ fn first_session(
     publisher: &mut Publisher,
 ) -> Result<Session, NoMemory>
     ensures same { (keeper.new ≡ keeper.old) × (publisher.new ≡ publisher.old) }
-    ensures beside { IfOk result (λ session. session.walk.table ≡ keeper.old.table) }
+    ensures row { IfOk result (λ session. session.walk.table ≡ keeper.old.table) }
+    ensures policy { IfOk result (λ session. session.reading.learned ≡ publisher.old.published) }
 {
     let Ok(walker) = keeper.walker() else {
         return Err(NoMemory);

@@ -2,6 +2,8 @@
 #![tactic(auto)]
 
 #[cfg(test)]
+mod kept;
+#[cfg(test)]
 mod links;
 #[cfg(test)]
 mod opens;

@@ -1,5 +1,6 @@
 //! Profiles that are replaced or removed between the calls of one session, and other profiles that it selects.
 ghost use Rattle.std.specs.Prelude.{◌≡◌};
+ghost use mathlib.Core.List.{IsPrefix};
 
 use crate::opens::expect_both;
 use crate::testing::{
@@ -152,9 +153,11 @@ fn expect_all(
     keeper: &mut Keeper,
     policy_version: u64,
 ) -> Result<(), Fail>
-    requires { session.old.walk.table ≡ keeper.old.table }
-    ensures same { keeper.new.table ≡ keeper.old.table }
+    requires row { session.old.walk.table ≡ keeper.old.table }
+    requires policy { IsPrefix session.old.reading.learned publisher.old.published }
+    ensures same { (keeper.new.table ≡ keeper.old.table) × (publisher.new ≡ publisher.old) }
     ensures of { session.new.walk.table ≡ session.old.walk.table }
+    ensures learned { IsPrefix session.new.reading.learned publisher.old.published }
 {
     let read = perms(b"r")?;
     let opened = session.open_with_both(keeper, publisher, b"/d/f", read);
@@ -175,7 +178,8 @@ fn expect_denied(
     keeper: &mut Keeper,
     policy_version: u64,
 ) -> Result<(), Fail>
-    requires { session.old.walk.table ≡ keeper.old.table }
+    requires row { session.old.walk.table ≡ keeper.old.table }
+    requires policy { IsPrefix session.old.reading.learned publisher.old.published }
 {
     let denied = LinkAnswer::NotAllowed {
         verdict: LinkVerdict::Refused(Verdict::NoRule {
@@ -203,7 +207,8 @@ fn call_while_replaced<R: Abort + Wait>(
     session: &mut Session,
     keeper: &mut Keeper,
 ) -> Result<(), Fail>
-    requires { session.old.walk.table ≡ keeper.old.table }
+    requires row { session.old.walk.table ≡ keeper.old.table }
+    requires policy { IsPrefix session.old.reading.learned publisher.old.published }
 {
     let denying = denying(alloc)?;
     expect_all(rt, publisher, session, keeper, 1)?;

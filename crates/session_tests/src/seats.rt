@@ -1,5 +1,6 @@
 //! As many sessions as there are places for readers of the policy.
 ghost use Rattle.std.specs.Prelude.{◌≡◌};
+ghost use mathlib.Core.List.{IsPrefix};
 
 use crate::testing::{
     FILE, TREE, allowed, expect_beside, expect_with, first_keeper, new_publisher, perms,
@@ -51,9 +52,11 @@ fn expect_no_entry(
     keeper: &mut Keeper,
     publisher: &mut Publisher,
 ) -> Result<(), Fail>
-    requires { session.old.walk.table ≡ keeper.old.table }
-    ensures same { keeper.new.table ≡ keeper.old.table }
+    requires row { session.old.walk.table ≡ keeper.old.table }
+    requires policy { IsPrefix session.old.reading.learned publisher.old.published }
+    ensures same { (keeper.new.table ≡ keeper.old.table) × (publisher.new ≡ publisher.old) }
     ensures of { session.new.walk.table ≡ session.old.walk.table }
+    ensures learned { IsPrefix session.new.reading.learned publisher.old.published }
 {
     let answer = session.open_with_both(keeper, publisher, b"/d/f", perms(b"r")?);
     assert_eq!(rt; answer, Err(NoEntry));
@@ -72,7 +75,8 @@ fn expect_entry(
     keeper: &mut Keeper,
     publisher: &mut Publisher,
 ) -> Result<(), Fail>
-    requires { session.old.walk.table ≡ keeper.old.table }
+    requires row { session.old.walk.table ≡ keeper.old.table }
+    requires policy { IsPrefix session.old.reading.learned publisher.old.published }
 {
     let answer = session.open_with_both(keeper, publisher, b"/d/f", perms(b"r")?);
     let allowed = Answer::Judged {
@@ -98,9 +102,11 @@ fn expect_no_place(
     keeper: &mut Keeper,
     publisher: &mut Publisher,
 ) -> Result<(), Fail>
-    requires { session.old.walk.table ≡ keeper.old.table }
-    ensures same { keeper.new.table ≡ keeper.old.table }
+    requires row { session.old.walk.table ≡ keeper.old.table }
+    requires policy { IsPrefix session.old.reading.learned publisher.old.published }
+    ensures same { (keeper.new.table ≡ keeper.old.table) × (publisher.new ≡ publisher.old) }
     ensures of { session.new.walk.table ≡ session.old.walk.table }
+    ensures learned { IsPrefix session.new.reading.learned publisher.old.published }
 {
     expect_no_entry(rt, session, keeper, publisher)?;
     expect_with(rt, session, keeper, &[allowed()])?;

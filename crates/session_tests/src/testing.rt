@@ -1,6 +1,7 @@
 //! A keeper, a publisher, and sessions of both. An allocation that fails is retried once, as `rt try --test --fail-alloc N` makes
 //! one fail.
 ghost use Rattle.std.specs.Prelude.{◌≡◌, IfOk};
+ghost use mathlib.Core.List.{IsPrefix};
 
 use dentry_cache::{Keeper, Walker};
 use directory_tree::{Change, LinkBytes};
@@ -103,7 +104,9 @@ pub(crate) fn publish<R: Wait>(
     publisher: &mut Publisher,
     name: &[u8],
     profile: &Arc<AnyProfile>,
-) -> Result<u64, Fail> {
+) -> Result<u64, Fail>
+    ensures { IsPrefix publisher.old.published publisher.new.published }
+{
     if publisher.changes() >= 1 << 59 {
         return Err(Fail::from("too many changes"));
     }
@@ -114,7 +117,9 @@ pub(crate) fn publish<R: Wait>(
 }
 
 /// Makes the staged changes visible, and returns the policy's version.
-pub(crate) fn publish_staged<R: Wait>(rt: &R, publisher: &mut Publisher) -> Result<u64, Fail> {
+pub(crate) fn publish_staged<R: Wait>(rt: &R, publisher: &mut Publisher) -> Result<u64, Fail>
+    ensures { IsPrefix publisher.old.published publisher.new.published }
+{
     match publisher.publish(rt) {
         Ok(version) => Ok(version),
         Err(NoMemory) => Ok(publisher.publish(rt)?),
@@ -148,8 +153,9 @@ pub(crate) fn session(
     publisher: &mut Publisher,
     profile: &[u8],
 ) -> Result<Session, Fail>
-    ensures same { keeper.new ≡ keeper.old }
+    ensures same { (keeper.new ≡ keeper.old) × (publisher.new ≡ publisher.old) }
     ensures of { IfOk result (λ session. session.walk.table ≡ keeper.old.table) }
+    ensures learned { IfOk result (λ session. session.reading.learned ≡ publisher.old.published) }
 {
     let walker = walker(keeper)?;
     let reader: PolicyReader = publisher.reader()?;
@@ -170,7 +176,8 @@ pub(crate) fn first_session<R: Wait>(
     publisher: &mut Publisher,
     profile: &[u8],
 ) -> Result<(Keeper, Session), Fail>
-    ensures { IfOk result (λ both. both.1.walk.table ≡ both.0.table) }
+    ensures of { IfOk result (λ both. both.1.walk.table ≡ both.0.table) }
+    ensures learned { IfOk result (λ both. both.1.reading.learned ≡ publisher.new.published) }
 {
     publish_first(rt, alloc, publisher)?;
     let mut keeper = first_keeper(alloc)?;
@@ -194,7 +201,7 @@ pub(crate) fn sessions_of(
 
 /// Opens by the profile of another name from now on.
 pub(crate) fn select(session: &mut Session, profile: &[u8]) -> Result<(), Fail>
-    ensures { session.new.walk ≡ session.old.walk }
+    ensures { (session.new.walk ≡ session.old.walk) × (session.new.reading ≡ session.old.reading) }
 {
     match session.select(profile) {
         Ok(()) => Ok(()),
@@ -255,7 +262,8 @@ pub(crate) fn expect_beside(
     session: &mut Session,
     rows: &[Row<'_>],
 ) -> Result<(), Fail>
-    ensures { session.new.walk.table ≡ session.old.walk.table }
+    ensures of { session.new.walk.table ≡ session.old.walk.table }
+    ensures learned { session.new.reading.learned ≡ session.old.reading.learned }
 {
     for row in rows {
         let answer = session.try_open(row.path, perms(row.ask)?);
@@ -275,6 +283,7 @@ pub(crate) fn expect_with(
     requires { session.old.walk.table ≡ keeper.old.table }
     ensures same { keeper.new ≡ keeper.old }
     ensures of { session.new.walk.table ≡ session.old.walk.table }
+    ensures learned { session.new.reading.learned ≡ session.old.reading.learned }
 {
     for row in rows {
         let answer = session.open_with(keeper, row.path, perms(row.ask)?);

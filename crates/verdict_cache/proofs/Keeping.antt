@@ -9,14 +9,14 @@ use Rattle.lru.proofs.Pairs.{lookup-lookup_entry}
 use Rattle.verdict_cache.specs.Questions.{Asked, Kept, Verdicts, verdicts, asks, found_under, with_first, with_kept}
 use Rattle.verdict_cache.specs.inner.SameQuestions.{asks_Decides, asks_equiv, equal_questions}
 
-by_answer : {P : Type 0} (b : Bool) → (b ≡ true → P) → (b ≡ false → P) → P
+pub by_answer : {P : Type 0} (b : Bool) → (b ≡ true → P) → (b ≡ false → P) → P
 by_answer true p q = p refl
 by_answer false p q = q refl
 
-cond-true : {A : Type 0} {b : Bool} (x y : A) → b ≡ true → cond b x y ≡ x
+pub cond-true : {A : Type 0} {b : Bool} (x y : A) → b ≡ true → cond b x y ≡ x
 cond-true x y e = ap (λ c. cond c x y) e
 
-cond-false : {A : Type 0} {b : Bool} (x y : A) → b ≡ false → cond b x y ≡ y
+pub cond-false : {A : Type 0} {b : Bool} (x y : A) → b ≡ false → cond b x y ≡ y
 cond-false x y e = ap (λ c. cond c x y) e
 
 module _ {K V : Type 0} (test : K → Bool) where
@@ -35,7 +35,7 @@ module _ {K V : Type 0} (test other : K → Bool) (differ : (k : K) → test k �
       (λ y. ap (lookup other) (cond-true es _ y) ∙ sym (cond-false _ _ (differ e.0 y)))
       (λ n. ap (lookup other) (cond-false es _ n) ∙ ap (cond (other e.0) (Some e.1)) (found_without es))
 
-abbrev Entries : Type 0
+abbrev pub Entries : Type 0
 Entries = List (Asked × Kept)
 
 apart : (q other : Asked) → other ≢ q → (p : Asked) → asks q p ≡ true → asks other p ≡ false

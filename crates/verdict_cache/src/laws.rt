@@ -1,5 +1,5 @@
 //! Laws that show the definitions of `specs/` sane. The functions do nothing: each stands for its contract.
-ghost use Rattle.std.specs.Prelude.{◌≡◌, ◌≢◌, true, None, Some, Contains, ◌⊎◌};
+ghost use Rattle.std.specs.Prelude.{◌≡◌, ◌≢◌, ◌<◌, ◌≤◌, length, true, None, Some, Contains, ◌⊎◌};
 ghost use Rattle.verdict_cache.specs.Questions.{Asked, Kept, Verdicts, asks, found_under, with_first, with_kept};
 
 /// Two questions are taken for one exactly if they are equal: they ask for the same, by the same profile, at the same versions.
@@ -28,4 +28,11 @@ pub fn entries_stay()
     ensures keep { (q : Asked) (k : Kept) (c : Verdicts) (e : Asked × Kept) → Contains (with_kept q k c).entries e →
         Contains c.entries e ⊎ (e ≡ (q, k)) }
     ensures found { (q : Asked) (k : Kept) (c : Verdicts) → found_under q c ≡ Some k → Contains c.entries (q, k) }
+{}
+
+/// A look leaves the number of entries as it is, and a keep leaves it within the capacity.
+pub fn entries_are_bounded()
+    ensures look { (q : Asked) (c : Verdicts) → length (with_first q c).entries ≡ length c.entries }
+    ensures keep { (q : Asked) (k : Kept) (c : Verdicts) → 0 < c.capacity → length c.entries ≤ c.capacity →
+        length (with_kept q k c).entries ≤ c.capacity }
 {}

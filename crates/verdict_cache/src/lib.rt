@@ -13,5 +13,7 @@ mod question;
 
 pub use cache::VerdictCache;
 pub use judged::Found;
-pub use laws::{entries_stay, keeps_are_found, looks_change_no_answer, questions_are_equal};
+pub use laws::{
+    entries_are_bounded, entries_stay, keeps_are_found, looks_change_no_answer, questions_are_equal,
+};
 pub use question::Question;

@@ -9,3 +9,5 @@ mod questions;
 mod refusals;
 #[cfg(test)]
 mod testing;
+#[cfg(test)]
+mod threads;

@@ -1,6 +1,6 @@
 //! What is changed concurrently with opens, until they are done.
-use super::scene::Policy;
-use super::tree::path;
+use crate::scene::Policy;
+use crate::tree::path;
 use dentry_cache::Keeper;
 use directory_tree::Change;
 use std::rt::Clock;

@@ -2,6 +2,7 @@
 ghost use Rattle.std.specs.Prelude.{◌≤◌};
 ghost use Rattle.tree_row.specs.declared.cells.TheConstants.{MOST_ENTRIES};
 
+use crate::scene::SessionKind;
 use std::time::Duration;
 use tree_row::MOST_ENTRIES;
 
@@ -12,6 +13,8 @@ pub(crate) struct Plan {
     pub opens: u64,
     /// How long the keeper or the publisher rests after each change.
     pub rest: Duration,
+    /// Which sessions open.
+    pub kind: SessionKind,
     /// Whether times are printed.
     pub is_timed: bool,
     ghost fits: { capacity ≤ MOST_ENTRIES },
@@ -27,15 +30,17 @@ pub(crate) fn planned(words: &[String]) -> Option<Plan> {
             capacity: FEWEST_ENTRIES,
             opens: 100,
             rest: Duration::ZERO,
+            kind: SessionKind::Plain,
             is_timed: false,
         });
     }
-    if words.len() != 3 {
+    let [capacity, opens, rest, kind] = words else {
         return None;
-    }
-    let capacity: usize = words[0].as_str().parse().ok()?;
-    let opens: u64 = words[1].as_str().parse().ok()?;
-    let rest: u64 = words[2].as_str().parse().ok()?;
+    };
+    let capacity: usize = capacity.as_str().parse().ok()?;
+    let opens: u64 = opens.as_str().parse().ok()?;
+    let rest: u64 = rest.as_str().parse().ok()?;
+    let kind = SessionKind::named(kind.as_bytes())?;
     if capacity < FEWEST_ENTRIES || capacity > MOST_ENTRIES {
         return None;
     }
@@ -43,6 +48,7 @@ pub(crate) fn planned(words: &[String]) -> Option<Plan> {
         capacity,
         opens,
         rest: Duration::from_micros(rest),
+        kind,
         is_timed: true,
     })
 }

@@ -1,17 +1,17 @@
 //! Sessions in several threads, timed.
 use super::changing::{publish_until, rename_until};
-use super::opens::{Tally, open_often};
 use super::routes::Route;
-use super::scene::Scene;
-use super::tree::{ASIDE, AWAY};
+use crate::opens::{Opened, open_in_threads};
+use crate::scene::{Scene, SessionKind};
+use crate::tree::{ASIDE, AWAY};
 use path_session::Session;
-use std::alloc::{AllocError, Global};
+use std::alloc::Global;
 use std::io;
 use std::rt::Clock;
 use std::sync::Wait;
 use std::sync::atomic::{AtomicBool, Ordering};
-use std::thread::{Threads, join, map_vec};
-use std::time::{Duration, Instant};
+use std::thread::{Threads, join};
+use std::time::Duration;
 
 /// What is changed all the time meanwhile.
 #[derive(Clone, Copy, PartialEq, Eq)]
@@ -48,25 +48,18 @@ impl Beside {
 pub(crate) struct Side {
     pub route: Route,
     pub beside: Beside,
+    pub kind: SessionKind,
     pub threads: usize,
     /// How many there are in each thread.
     pub opens: u64,
     pub rest: Duration,
 }
 
-/// How long the opens of all threads took, their outcome, and how many changes were made meanwhile.
+/// The opens of all threads, and how many changes were made meanwhile.
 #[derive(Clone, Copy)]
 pub(crate) struct Rate {
-    pub took: Duration,
-    pub tally: Tally,
+    pub opened: Opened,
     pub changes: u64,
-}
-
-/// The same without the number of changes.
-#[derive(Clone, Copy)]
-struct Opened {
-    took: Duration,
-    tally: Tally,
 }
 
 /// The rate of the sessions; none if a change is refused.
@@ -76,23 +69,13 @@ pub(crate) fn measure<R: Clock + Threads + Wait + Sync>(
     scene: &mut Scene,
     side: &Side,
 ) -> io::Result<Option<Rate>> {
-    let mut sessions = Vec::new(alloc);
-    for _ in 0..side.threads {
-        let Some(session) = scene.session(alloc) else {
-            return Err(AllocError.into());
-        };
-        sessions.push(session)?;
-    }
+    let sessions = scene.sessions(alloc, side.kind, side.threads)?;
     let done = AtomicBool::new(false);
     let (opened, changes) = open_beside(rt, scene, sessions, side, &done);
-    let (Opened { took, tally }, Some(changes)) = (opened?, changes) else {
+    let (opened, Some(changes)) = (opened?, changes) else {
         return Ok(None);
     };
-    Ok(Some(Rate {
-        took,
-        tally,
-        changes,
-    }))
+    Ok(Some(Rate { opened, changes }))
 }
 
 // Opens in all threads concurrently with the changes.
@@ -139,27 +122,7 @@ fn open_all<R: Clock + Threads + Sync>(
     opens: u64,
     done: &AtomicBool,
 ) -> io::Result<Opened> {
-    let opened = time_opens(rt, sessions, file, opens);
+    let opened = open_in_threads(rt, sessions, &[file], opens);
     done.store(true, Ordering::SeqCst);
     opened
-}
-
-fn time_opens<R: Clock + Threads + Sync>(
-    rt: &R,
-    sessions: Vec<Session>,
-    file: &[u8],
-    opens: u64,
-) -> io::Result<Opened> {
-    let start = Instant::now(rt)?;
-    let ended = map_vec(
-        rt,
-        sessions,
-        &|session: Session| { open_often(session, file, opens) },
-    )?;
-    let took = start.elapsed(rt)?;
-    let mut tally = Tally::NONE;
-    for one in &ended {
-        tally = tally.and(*one);
-    }
-    Ok(Opened { took, tally })
 }

@@ -1,9 +1,9 @@
 //! What the plan asks for, each with its line.
-use super::opens::Tally;
 use super::plan::Plan;
 use super::rates::{BESIDES, Beside, Rate, Side, measure};
 use super::routes::ROUTES;
-use super::scene::Scene;
+use crate::opens::Tally;
+use crate::scene::Scene;
 use std::alloc::Global;
 use std::io;
 use std::io::Print;
@@ -38,6 +38,7 @@ fn run_beside<R: Clock + Print + Threads + Wait + Sync>(
         let one = Side {
             route,
             beside,
+            kind: plan.kind,
             threads: 1,
             opens: plan.opens,
             rest: plan.rest,
@@ -63,7 +64,7 @@ fn run_side<R: Clock + Print + Threads + Wait + Sync>(
     if plan.is_timed {
         print_rate(rt, side, &rate)?;
     }
-    Ok(is_right(side.beside, &rate.tally))
+    Ok(is_right(side.beside, &rate.opened.tally))
 }
 
 // Whether the opens were answered by what is there.
@@ -75,13 +76,13 @@ fn is_right(beside: Beside, tally: &Tally) -> bool {
 
 fn print_rate<R: Print>(rt: &R, side: &Side, rate: &Rate) -> io::Result<()> {
     let opens = side.opens.saturating_mul(side.threads as u64);
-    let Tally { busy, missing, .. } = rate.tally;
+    let Tally { busy, missing, .. } = rate.opened.tally;
     println!(rt;
         "{} {} {} {opens} {} {busy} {missing} {}",
         side.route.name,
         side.beside.name(),
         side.threads,
-        rate.took.as_nanos(),
+        rate.opened.took.as_nanos(),
         rate.changes
     )
 }

@@ -10,4 +10,6 @@ pub(crate) struct Answered {
     /// The name of the profile that the session opened by.
     pub profile: ProfileName,
     pub answer: Answer,
+    /// Whether it had kept the verdict.
+    pub is_kept: bool,
 }

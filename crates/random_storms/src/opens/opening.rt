@@ -92,6 +92,7 @@ impl<M: Row> Opener<M> {
         let Some(question) = scene.questions.get(number) else {
             return Ok(());
         };
+        let before = self.session.kept_answers();
         let answer = if self.random.below(TRIED) == 0 {
             self.session.try_open(&question.path, question.ask)
         } else {
@@ -103,6 +104,7 @@ impl<M: Row> Opener<M> {
             question: number,
             profile: self.profile,
             answer,
+            is_kept: self.session.kept_answers() != before,
         })?;
         Ok(())
     }

@@ -21,16 +21,21 @@ pub(crate) struct Counts {
     pub no_profile: u64,
     pub busy: u64,
     pub no_entry: u64,
+    /// How many of the judged ones were verdicts that the session had kept.
+    pub kept: u64,
 }
 
 impl Counts {
     /// Counts an answer.
-    fn count(&mut self, answer: &Answer, is_justified: bool) {
+    fn count(&mut self, answered: &Answered, is_justified: bool) {
         self.answers = self.answers.saturating_add(1);
         if !is_justified {
             self.unjustified = self.unjustified.saturating_add(1);
         }
-        let of_kind = match answer {
+        if answered.is_kept {
+            self.kept = self.kept.saturating_add(1);
+        }
+        let of_kind = match &answered.answer {
             Answer::Judged { verdict, .. } => match verdict {
                 Verdict::Allowed => &mut self.allowed,
                 Verdict::Denied { .. } => &mut self.denied,
@@ -108,7 +113,7 @@ fn count_all(
     let trail = Trail::new(alloc, &question.path, question.ask, changes)?;
     for answered in answers {
         let is_justified = trail.justifies(&answered.answer, answered.profile.as_bytes(), policy);
-        counts.count(&answered.answer, is_justified);
+        counts.count(answered, is_justified);
     }
     Ok(())
 }

@@ -4,9 +4,9 @@ use Rattle.path_session.proofs.Seeing.{tree_at, look_sees}
 use Rattle.path_session.proofs.quick.walk_beside.Goals.{in-Ok-reached, in-Err-reached+in-Refused}
 use Rattle.path_session.proofs.quick.walk_beside.Goals as goal
 
-pub unreachable-requires-in-Torn : goal.unreachable-requires-in-Torn
-unreachable-requires-in-Torn c =
-    let (last, noted, version, seen, saw) = rw c.in-Ok-ended.is at c.end-walker-2.ensures.ok in
+pub unreachable-requires : goal.unreachable-requires
+unreachable-requires c =
+    let (last, noted, version, seen, saw) = rw c.in-Ok.is at c.end-walker.ensures.ok in
     elim (rw c.in-Torn.is at c.in-Err-reached.ensures.fault) [
       | inl lacks ↦ lacks
       | inr none ↦ none saw.world (look_sees _ _ _ c.into_cells.ensures saw)
@@ -14,8 +14,8 @@ unreachable-requires-in-Torn c =
 
 pub returns-clause-ok : goal.returns-clause-ok
 returns-clause-ok c =
-    let (last, noted, version, seen, saw) = rw c.in-Ok-ended.is at c.end-walker-2.ensures.ok in
-    let half = ap (λ (w : WalkerView). w.noted) c.end-walker-2.ensures.ended ∙ noted in
+    let (last, noted, version, seen, saw) = rw c.in-Ok.is at c.end-walker.ensures.ok in
+    let half = ap (λ (w : WalkerView). w.noted) c.end-walker.ensures.ended ∙ noted in
     let at = tree_at _ _ _ _ version saw.made in
     elim c.match-reached.branch [
       | in-Ok-reached w ↦ record {

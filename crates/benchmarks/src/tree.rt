@@ -13,6 +13,9 @@ const DIRECTORIES: &[u8] = b"/d01/d02/d03/d04/d05/d06/d07/d08/d09/d10/d11/d12/d1
 /// The number of bytes that each of them has in that path.
 const STEP: usize = 4;
 
+/// How many there are.
+const DEEPEST: usize = 16;
+
 /// The files of each directory.
 const FILES: [&[u8]; 6] = [b"/conf", b"/data", b"/lock", b"/log", b"/state", b"/file"];
 
@@ -32,12 +35,17 @@ pub(crate) fn grown(alloc: Global, capacity: usize) -> Option<Keeper>
     link(&mut keeper, b"/three", b"two")?;
     link(&mut keeper, b"/four", b"three")?;
     make_directory(&mut keeper, ASIDE)?;
-    for depth in 1..DIRECTORIES.len() / STEP + 1 {
-        let directory = &DIRECTORIES[..STEP * depth];
+    for depth in 1..DEEPEST + 1 {
+        let directory = directory(depth);
         make_directory(&mut keeper, directory)?;
         make_files(alloc, &mut keeper, directory)?;
     }
     Some(keeper)
+}
+
+/// The directory `depth` directories down, or the deepest.
+pub(crate) fn directory(depth: usize) -> &'static [u8] {
+    &DIRECTORIES[..STEP * depth.min(DEEPEST)]
 }
 
 fn link(keeper: &mut Keeper, name: &[u8], text: &[u8]) -> Option<u64> {
@@ -50,13 +58,18 @@ fn make_directory(keeper: &mut Keeper, name: &[u8]) -> Option<u64> {
     keeper.apply(&change).ok()
 }
 
+/// Makes a file.
+pub(crate) fn make_file(keeper: &mut Keeper, name: &[u8]) -> Option<u64> {
+    let change = Change::Create(path(name)?);
+    keeper.apply(&change).ok()
+}
+
 // Returns how many files were made.
 fn make_files(alloc: Global, keeper: &mut Keeper, directory: &[u8]) -> Option<usize> {
     for file in FILES {
         let mut name = Vec::from_slice(alloc, directory).ok()?;
         name.extend_from_slice(file).ok()?;
-        let change = Change::Create(path(&name)?);
-        keeper.apply(&change).ok()?;
+        make_file(keeper, &name)?;
     }
     Some(FILES.len())
 }

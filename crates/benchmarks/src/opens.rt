@@ -1,6 +1,10 @@
-//! The opens of one session.
+//! The opens of sessions, in a thread each.
 use names::{Errno, Permission, Perms};
 use path_session::{Answer, Session};
+use std::io;
+use std::rt::Clock;
+use std::thread::{Threads, map_vec};
+use std::time::{Duration, Instant};
 use verdicts::Verdict;
 
 /// The outcome of some opens.
@@ -18,7 +22,7 @@ pub(crate) struct Tally {
 
 impl Tally {
     /// Of no opens.
-    pub(crate) const NONE: Tally = Tally {
+    const NONE: Tally = Tally {
         allowed: 0,
         missing: 0,
         busy: 0,
@@ -26,7 +30,7 @@ impl Tally {
     };
 
     /// Of these opens and others.
-    pub(crate) fn and(self, other: Tally) -> Tally {
+    fn and(self, other: Tally) -> Tally {
         Tally {
             allowed: self.allowed.saturating_add(other.allowed),
             missing: self.missing.saturating_add(other.missing),
@@ -52,14 +56,50 @@ impl Tally {
     }
 }
 
-/// Opens a file `opens` times to read it, and returns the outcome.
-pub(crate) fn open_often(session: Session, file: &[u8], opens: u64) -> Tally {
+/// How long the opens of all threads took, and their outcome.
+#[derive(Clone, Copy)]
+pub(crate) struct Opened {
+    pub took: Duration,
+    pub tally: Tally,
+}
+
+/// Opens the files of these paths by turns, `opens` times by each session, which has a thread of its own.
+pub(crate) fn open_in_threads<R: Clock + Threads + Sync>(
+    rt: &R,
+    sessions: Vec<Session>,
+    paths: &[&[u8]],
+    opens: u64,
+) -> io::Result<Opened> {
+    let start = Instant::now(rt)?;
+    let ended = map_vec(
+        rt,
+        sessions,
+        &|session: Session| { open_by_turns(session, paths, opens) },
+    )?;
+    let took = start.elapsed(rt)?;
+    let mut tally = Tally::NONE;
+    for one in &ended {
+        tally = tally.and(*one);
+    }
+    Ok(Opened { took, tally })
+}
+
+// Opens files by turns to read them, and returns the outcome. With no path nothing is opened.
+fn open_by_turns(session: Session, paths: &[&[u8]], opens: u64) -> Tally {
     let mut session = session;
     let to_read = Perms::NONE.with(Permission::Read);
     let mut tally = Tally::NONE;
+    let mut next = 0;
     for _ in 0..opens {
-        let answer = session.try_open(file, to_read);
+        let Some(path) = paths.get(next) else {
+            return tally;
+        };
+        let answer = session.try_open(path, to_read);
         tally.count(&answer);
+        next += 1;
+        if next == paths.len() {
+            next = 0;
+        }
     }
     tally
 }

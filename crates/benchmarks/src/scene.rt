@@ -1,16 +1,12 @@
 //! The tree and the policy that sessions open by.
-ghost use Rattle.std.specs.Prelude.{◌≤◌};
-
-use super::tree::grown;
 use crate::profiles::{compiled, stage};
 use dentry_cache::Keeper;
 use matcher::AnyProfile;
 use names::NoMemory;
 use path_session::Session;
 use profile_registry::Publisher;
-use std::alloc::Global;
+use std::alloc::{AllocError, Global};
 use std::sync::{Arc, Wait};
-use tree_row::MOST_ENTRIES;
 
 /// The name that the profile is published under.
 const PROFILE: &[u8] = b"profile";
@@ -30,13 +26,39 @@ pub(crate) struct Policy {
     second: Arc<AnyProfile>,
 }
 
+/// Whether sessions keep verdicts.
+#[derive(Clone, Copy)]
+pub(crate) enum SessionKind {
+    Plain,
+    Kept,
+}
+
+impl SessionKind {
+    pub(crate) fn name(self) -> &'static str {
+        match self {
+            SessionKind::Plain => "plain",
+            SessionKind::Kept => "kept",
+        }
+    }
+
+    /// The kind that has this name.
+    pub(crate) fn named(name: &[u8]) -> Option<SessionKind> {
+        match name {
+            b"plain" => Some(SessionKind::Plain),
+            b"kept" => Some(SessionKind::Kept),
+            _ => None,
+        }
+    }
+}
+
 impl Scene {
-    /// The tree, with room for `capacity` entries, and the published profile of this text; none if memory runs out, or the text is
-    /// no profile's.
-    pub(crate) fn new<R: Wait>(rt: &R, alloc: Global, capacity: usize, text: &[u8]) -> Option<Scene>
-        requires { capacity ≤ MOST_ENTRIES }
-    {
-        let keeper = grown(alloc, capacity)?;
+    /// The keeper of a tree, and the published profile of this text; none if memory runs out, or the text is no profile's.
+    pub(crate) fn new<R: Wait>(
+        rt: &R,
+        alloc: Global,
+        keeper: Keeper,
+        text: &[u8],
+    ) -> Option<Scene> {
         let first = compiled(alloc, text)?;
         let second = compiled(alloc, text)?;
         let publisher = Publisher::new(alloc).ok()?;
@@ -52,11 +74,31 @@ impl Scene {
         Some(Scene { keeper, policy })
     }
 
-    /// A new session.
-    pub(crate) fn session(&mut self, alloc: Global) -> Option<Session> {
+    /// New sessions.
+    pub(crate) fn sessions(
+        &mut self,
+        alloc: Global,
+        kind: SessionKind,
+        count: usize,
+    ) -> Result<Vec<Session>, AllocError> {
+        let mut sessions = Vec::new(alloc);
+        for _ in 0..count {
+            let Some(session) = self.session(alloc, kind) else {
+                return Err(AllocError);
+            };
+            sessions.push(session)?;
+        }
+        Ok(sessions)
+    }
+
+    fn session(&mut self, alloc: Global, kind: SessionKind) -> Option<Session> {
         let walker = self.keeper.walker().ok()?;
         let reader = self.policy.publisher.reader().ok()?;
-        match Session::new(alloc, walker, reader, PROFILE) {
+        let made = match kind {
+            SessionKind::Plain => Session::without_kept_verdicts(alloc, walker, reader, PROFILE),
+            SessionKind::Kept => Session::new(alloc, walker, reader, PROFILE),
+        };
+        match made {
             Ok(session) => Some(session),
             Err(_) => None,
         }
