@@ -1,6 +1,5 @@
 //! A bench that is a keeper, a publisher and one session.
 ghost use Rattle.std.specs.Prelude.{◌≡◌, ◌≤◌, [], IfOk};
-ghost use mathlib.Core.List.{IsPrefix};
 ghost use Rattle.mediation.specs.History.{new_history};
 ghost use Rattle.path_session.specs.Standing.{history_of};
 
@@ -9,6 +8,7 @@ use names::NoMemory;
 use path_session::Session;
 use profile_registry::Publisher;
 use std::alloc::Global;
+use std::marker::Model;
 use std::sync::Wait;
 use tree_row::MOST_ENTRIES;
 
@@ -24,8 +24,18 @@ pub struct SessionBench<'a, R: Wait> {
     pub(crate) session: Session,
     // Whether the last open or link was answered.
     pub(crate) has_answered: bool,
-    ghost row: { session.walk.table ≡ keeper.table },
-    ghost policy: { IsPrefix session.reading.learned publisher.published },
+}
+
+impl<'a, R: Wait> Model for SessionBench<'a, R> {
+    ghost use Rattle.std.specs.Prelude.{◌≡◌};
+    ghost use mathlib.Core.List.{IsPrefix};
+    ghost use Rattle.session_bench.specs.Benching.{Benching};
+
+    ghost Value = { Benching };
+
+    ghost view = { λ b. record { keeper = b.keeper; publisher = b.publisher; session = b.session; has_answered = b.has_answered } };
+
+    ghost invariant = { λ b. (b.session.walk.table ≡ b.keeper.table) × IsPrefix b.session.reading.learned b.publisher.published };
 }
 
 impl<'a, R: Wait> SessionBench<'a, R> {

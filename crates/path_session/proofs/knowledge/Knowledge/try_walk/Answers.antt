@@ -35,9 +35,9 @@ returns-clause-ok c =
     let known = λ (version : ℕ) (kept : Kept).
     found_right _ now.seen _ own.reading.seen c.self.inside.verdicts c.args.path.now c.deref.result.now own.profile c.args.ask version
     c.args.policy_version kept longer same named right in
-    let tried = tried_on c.in-Some.walker.view now _ (λ version. IsRightFor now.seen own.reading.seen (asked_by own c.args.path.now c.args.ask
-    version c.args.policy_version)) c.args.path.now c.args.ask c.attempt-walker.new.room c.attempt-walker.result.1 known
-    c.attempt-walker.ensures.ok in
-    subst (λ (before : WalkerView). IfOk c.attempt-walker.result.1 (HasTried before now (λ version. IsRightFor now.seen own.reading.seen
-    (asked_by own c.args.path.now c.args.ask version c.args.policy_version)) c.args.path.now c.args.ask c.attempt-walker.new.room))
-    walker tried
+    let Known = λ (version : ℕ). IsRightFor now.seen own.reading.seen
+    (asked_by own c.args.path.now c.args.ask version c.args.policy_version) in
+    let tried = tried_on c.in-Some.walker.view now _ Known c.args.path.now c.args.ask c.attempt-walker.new.room c.attempt-walker.result.1
+    known c.attempt-walker.ensures.ok in
+    subst (λ (before : WalkerView). IfOk c.attempt-walker.result.1 (HasTried before now Known c.args.path.now c.args.ask
+    c.attempt-walker.new.room)) walker tried
