@@ -56,11 +56,7 @@ fn expect_kept_here(
 }
 
 // The first open of a file is walked, and every one after it is answered by what was kept, with its node, its verdict and its name.
-fn keep_and_find(
-    rt: &impl Abort,
-    session: &mut Session,
-    keeper: &mut Keeper,
-) -> Result<(), Fail>
+fn keep_and_find(rt: &impl Abort, session: &mut Session, keeper: &mut Keeper) -> Result<(), Fail>
     requires { session.old.walk.table ≡ keeper.old.table }
     ensures same { keeper.new ≡ keeper.old }
     ensures of { session.new.walk.table ≡ session.old.walk.table }
@@ -78,10 +74,7 @@ fn keep_and_find(
 }
 
 // Another path, other permissions and another profile are other questions.
-fn ask_otherwise(
-    rt: &impl Abort,
-    session: &mut Session,
-) -> Result<(), Fail>
+fn ask_otherwise(rt: &impl Abort, session: &mut Session) -> Result<(), Fail>
     ensures of { session.new.walk.table ≡ session.old.walk.table }
     ensures learned { session.new.reading.learned ≡ session.old.reading.learned }
 {
@@ -121,7 +114,12 @@ fn open_in_a_new_tree(
     let change = Change::Rename(path(b"/d")?, path(b"/e")?);
     apply(keeper, &change).ok().ok_or("a rename")?;
     let gone = unjudged(b"/d/f", failed(Errno::ENOENT, TREE + 1));
-    let there = opened(b"/e/f", b"r", judged(Verdict::Allowed, FILE, TREE + 1), b"/e/f");
+    let there = opened(
+        b"/e/f",
+        b"r",
+        judged(Verdict::Allowed, FILE, TREE + 1),
+        b"/e/f",
+    );
     expect_kept(rt, session, &[gone, there], 0)?;
     expect_kept(rt, session, &[there], 1)
 }
@@ -215,18 +213,38 @@ fn expect_with_both<R: Abort + Wait>(
     requires policy { IsPrefix session.old.reading.learned publisher.old.published }
 {
     let read = perms(b"r")?;
-    assert!(rt; session.open_with_both(keeper, publisher, b"/d/f", read).is_ok());
-    assert!(rt; session.open_with_both(keeper, publisher, b"/d/f", read).is_ok());
+    assert!(rt;
+        session
+            .open_with_both(keeper, publisher, b"/d/f", read)
+            .is_ok()
+    );
+    assert!(rt;
+        session
+            .open_with_both(keeper, publisher, b"/d/f", read)
+            .is_ok()
+    );
     assert_eq!(rt; session.kept_answers(), 1);
     expect_kept(rt, session, &[allowed()], 0)?;
-    assert!(rt; session.open_with_both(keeper, publisher, b"/l/f", read).is_ok());
+    assert!(rt;
+        session
+            .open_with_both(keeper, publisher, b"/l/f", read)
+            .is_ok()
+    );
     assert_eq!(rt; session.kept_answers(), 2);
     let other = compiled(alloc, b"profile q {\n}\n")?;
     assert_eq!(rt; publish(rt, publisher, b"q", &other)?, 2);
     session.try_open(b"/d/f", read);
-    assert!(rt; session.open_with_both(keeper, publisher, b"/d/f", read).is_ok());
+    assert!(rt;
+        session
+            .open_with_both(keeper, publisher, b"/d/f", read)
+            .is_ok()
+    );
     assert_eq!(rt; session.kept_answers(), 2);
-    assert!(rt; session.open_with_both(keeper, publisher, b"/d/f", read).is_ok());
+    assert!(rt;
+        session
+            .open_with_both(keeper, publisher, b"/d/f", read)
+            .is_ok()
+    );
     assert_eq!(rt; session.kept_answers(), 3);
     Ok(())
 }

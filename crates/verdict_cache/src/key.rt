@@ -46,7 +46,10 @@ impl Key {
         ensures { OnOk result (self.new ≡ asked_of question.now) }
     {
         self.path.set(question.path)?;
-        self.profile.set(question.profile)?;
+        // Questions that follow one another are mostly by one profile.
+        if question.profile != self.profile.as_slice() {
+            self.profile.set(question.profile)?;
+        }
         self.ask = question.ask;
         self.tree_version = question.tree_version;
         self.policy_version = question.policy_version;
