@@ -11,21 +11,29 @@ use std::thread::Threads;
 #[derive(Clone, Copy)]
 pub(crate) struct Mix {
     pub name: &'static str,
-    pub files: u8,
+    pub files: u16,
 }
 
-/// The same file, as many as a session keeps verdicts, and one more, by which it finds none of them.
-pub(crate) const MIXES: [Mix; 3] = [
+// How many verdicts a session keeps.
+const KEPT: u16 = 64;
+
+/// The same file; as many by turns as a session keeps verdicts; one more, where the verdict that was used least recently is always
+/// the one that is asked for next; and so many that none is found again.
+pub(crate) const MIXES: [Mix; 4] = [
     Mix {
         name: "one",
         files: 1,
     },
     Mix {
         name: "turns_64",
-        files: FILES - 1,
+        files: KEPT,
     },
     Mix {
         name: "turns_65",
+        files: KEPT + 1,
+    },
+    Mix {
+        name: "turns_500",
         files: FILES,
     },
 ];
