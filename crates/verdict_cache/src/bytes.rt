@@ -34,13 +34,14 @@ impl HashedBytes {
         }
     }
 
-    /// Puts other bytes in place of these. It allocates only where they are longer than any before.
-    pub(crate) fn set(&mut self, bytes: &[u8]) -> Result<(), NoMemory>
+    /// Puts other bytes, with their hash, in place of these. It allocates only where they are longer than any before.
+    pub(crate) fn set(&mut self, bytes: &[u8], hash: u64) -> Result<(), NoMemory>
+        requires { hash ≡ hash_of bytes.now }
         ensures { OnOk result (self.new ≡ bytes.now) }
     {
         match set_bytes(&mut self.bytes, bytes) {
             Ok(()) => {
-                self.hash = hash_of(bytes);
+                self.hash = hash;
                 Ok(())
             }
             Err(NoMemory) => {
@@ -63,7 +64,8 @@ impl HashedBytes {
     }
 }
 
-fn hash_of(bytes: &[u8]) -> u64
+/// The hash of bytes.
+pub(crate) fn hash_of(bytes: &[u8]) -> u64
     ensures { result ≡ hash_of bytes.now }
 {
     let mut hasher = FoldHasher::default();

@@ -5,7 +5,7 @@ ghost use Rattle.verdict_cache.specs.Asking.{asked_of};
 ghost use Rattle.verdict_cache.specs.Finding.{IsAnswer};
 ghost use Rattle.verdict_cache.specs.Questions.{verdicts, with_first, with_kept};
 
-use crate::bytes::set_bytes;
+use crate::bytes::{hash_of, set_bytes};
 use crate::judged::{Found, Judged};
 use crate::key::Key;
 use crate::question::Question;
@@ -70,13 +70,14 @@ impl VerdictCache {
         ensures found { IfOk result (IsAnswer (asked_of question.entry) self.old room.old room.new) }
         ensures err { OnErr result ((self.new ≡ self.old) × (room.new ≡ room.old)) }
     {
-        // The same open again needs no hash.
+        let path_hash = hash_of(question.path);
+        // The same open again needs no look-up. Another path mostly has another hash, which is compared faster.
         if let Some((key, judged)) = self.entries.peek_mru() {
-            if key.is_of(&question) {
+            if key.path_hash() == path_hash && key.is_of(&question) {
                 return Ok(Some(judged.show(room)));
             }
         }
-        self.key.set(&question)?;
+        self.key.set(&question, path_hash)?;
         match self.entries.get(&self.key) {
             Some(judged) => Ok(Some(judged.show(room))),
             None => Ok(None),

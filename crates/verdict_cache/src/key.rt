@@ -2,10 +2,10 @@
 ghost use Rattle.std.specs.Prelude.{◌≡◌, ◌+◌, ◌*◌, ◌^◌, OnOk};
 ghost use Rattle.verdict_cache.specs.Asking.{asked_of};
 ghost use Rattle.verdict_cache.specs.Questions.{asks};
-ghost use Rattle.verdict_cache.specs.inner.Hashing.{writes};
+ghost use Rattle.verdict_cache.specs.inner.Hashing.{hash_of, writes};
 ghost use Rattle.verdict_cache.specs.inner.SameQuestions.{asks_equiv, asks_per, same_writes};
 
-use crate::bytes::HashedBytes;
+use crate::bytes::{HashedBytes, hash_of};
 use crate::question::Question;
 use names::{NoMemory, Perms};
 use std::alloc::Global;
@@ -41,14 +41,16 @@ impl Key {
         }
     }
 
-    /// Makes it the key of a question. It allocates only where the bytes are longer than any before.
-    pub(crate) fn set(&mut self, question: &Question<'_>) -> Result<(), NoMemory>
+    /// Makes it the key of a question, whose path has this hash. It allocates only where the bytes are longer than any before.
+    pub(crate) fn set(&mut self, question: &Question<'_>, path_hash: u64) -> Result<(), NoMemory>
+        requires { path_hash ≡ hash_of question.now.path.now }
         ensures { OnOk result (self.new ≡ asked_of question.now) }
     {
-        self.path.set(question.path)?;
+        self.path.set(question.path, path_hash)?;
         // Questions that follow one another are mostly by one profile.
         if question.profile != self.profile.as_slice() {
-            self.profile.set(question.profile)?;
+            self.profile
+                .set(question.profile, hash_of(question.profile))?;
         }
         self.ask = question.ask;
         self.tree_version = question.tree_version;
@@ -63,7 +65,14 @@ impl Key {
         if self.is_of(question) {
             return Ok(());
         }
-        self.set(question)
+        self.set(question, hash_of(question.path))
+    }
+
+    /// The hash of its path.
+    pub(crate) fn path_hash(&self) -> u64
+        ensures { result ≡ hash_of self.now.path }
+    {
+        self.path.hash()
     }
 
     /// Returns whether it is the key of the question.
