@@ -99,8 +99,12 @@ fn session_of<M: Row>(
 ) -> Result<Session, Fail>
     ensures { IfOk result (λ session. session.walk.table ≡ M.table) }
 {
-    let walker = row.walker(rt).ok().ok_or("a walker")?;
-    let reader = publisher.reader().ok().ok_or("a reader")?;
+    let Ok(walker) = row.walker(rt) else {
+        return Err(Fail::new("a walker"));
+    };
+    let Ok(reader) = publisher.reader() else {
+        return Err(Fail::new("a reader"));
+    };
     match Session::new(alloc, walker, reader, b"p") {
         Ok(session) => Ok(session),
         Err(_) => Err(Fail::new("a session")),
