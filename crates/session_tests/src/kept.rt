@@ -1,5 +1,5 @@
 //! Verdicts that are kept, and those that aren't.
-ghost use Rattle.std.specs.Prelude.{◌≡◌};
+ghost use Rattle.std.specs.Prelude.{◌≡◌, ◌≤◌, ◌+◌};
 ghost use mathlib.Core.List.{IsPrefix};
 
 use crate::testing::{
@@ -168,7 +168,9 @@ fn kept_again(rt: HostRuntime) -> Result<(), Fail> {
 }
 
 // Opens the file by paths with this many slashes and fewer, the shortest first, and returns how many were kept.
-fn open_by_slashes(session: &mut Session, most: usize) -> Result<u64, Fail> {
+fn open_by_slashes(session: &mut Session, most: usize) -> Result<u64, Fail>
+    requires { most ≤ KEPT + 1 }
+{
     let slashes = [b'/'; KEPT + 1];
     let read = perms(b"r")?;
     let before = session.kept_answers();
