@@ -1,7 +1,7 @@
 //! Which questions are looked up: all of them, until a whole cache of them in a row found nothing.
 use crate::kept::KEPT_VERDICTS;
 
-/// After that many, one question in so many is looked up and kept.
+/// One question in this many is then looked up and kept.
 const SAMPLED: usize = 8;
 
 /// How many questions in a row found nothing. If more paths are opened by turns than verdicts are kept, each verdict is dropped

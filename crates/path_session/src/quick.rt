@@ -1,5 +1,6 @@
 //! Opens concurrently with the keeper.
-ghost use Rattle.std.specs.Prelude.{◌≡◌, ◌≢◌, ◌+◌, ◌%◌, ◌≤◌, [], ℕ, List, Contains, IfOk, IfErr, Ok, Err, length};
+ghost use Rattle.std.specs.Prelude.{◌≡◌, ◌≢◌, ◌+◌, ◌%◌, ◌≤◌, [], length};
+ghost use Rattle.std.specs.Prelude.{ℕ, List, Contains, IfOk, IfErr, Ok, Err};
 ghost use mathlib.Core.List.{IsPrefix};
 ghost use Rattle.mediation.specs.Deeds.{policy_after};
 ghost use Rattle.mediation.specs.Judging.{reached_of};
