@@ -10,9 +10,9 @@ ghost use Rattle.row_plan.specs.inner.Planned.{search_for, IsInRow, MayAdd, MayR
 use crate::draft::{planned_word, set_word};
 use crate::vacating::vacate;
 use names::NoMemory;
-use row_index::{DELETED_WORD, FREE_WORD, home, index_length, next_place, word_of};
+use row_index::{DELETED_WORD, FREE_WORD, home, next_place, word_of};
 use row_rule::Cell;
-use tree_row::{Cells, SLOT_LENGTH};
+use tree_row::Cells;
 
 // A search in the index: where the index begins in the row, its length, and the place at which the search begins.
 #[derive(Drop)]
@@ -28,12 +28,11 @@ fn search_for<C: Cells>(cells: &C, directory: usize, component: &[u8]) -> Search
     ensures search { result ≡ search_for (C.capacity_of (C.kept cells.now)) directory component.now }
     ensures in_row { IsInRow (C.capacity_of (C.kept cells.now)) result }
 {
-    let capacity = cells.capacity();
-    let size = index_length(capacity);
+    let index = cells.index();
     Search {
-        base: SLOT_LENGTH * (capacity + 1),
-        size,
-        home: home(size, directory, component),
+        base: index.base,
+        size: index.length,
+        home: home(index.length, directory, component),
     }
 }
 
