@@ -42,7 +42,7 @@ impl KeptVerdicts {
     {
         KeptVerdicts {
             cache: None,
-            misses: Misses::default(),
+            misses: Misses::NONE,
             passed_over: false,
         }
     }
@@ -56,7 +56,7 @@ impl KeptVerdicts {
         };
         Ok(KeptVerdicts {
             cache: Some(VerdictCache::new(alloc, capacity)?),
-            misses: Misses::default(),
+            misses: Misses::NONE,
             passed_over: false,
         })
     }
@@ -91,7 +91,6 @@ impl KeptVerdicts {
         };
         self.passed_over = self.misses.pass_over();
         if self.passed_over {
-            self.misses.miss();
             return None;
         }
         let Ok(Some(found)) = cache.look(question, room) else {

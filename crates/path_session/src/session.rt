@@ -44,8 +44,8 @@ impl Model for Session {
 
 impl Session {
     /// A session of a walker and a reader, which opens by the profile of this name and keeps the 64 verdicts that it gave or
-    /// found last; after 64 opens in a row that found none of them, it looks for, and keeps, those of one open in eight, until one
-    /// is found. If memory is refused, walker and reader are returned.
+    /// found last. After 64 opens in a row that found none of them (16, once that has happened), it looks for, and keeps, those of
+    /// one open in 16, until one is found. If memory is refused, walker and reader are returned.
     pub fn new(
         alloc: Global,
         walker: Walker,

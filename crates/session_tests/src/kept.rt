@@ -190,7 +190,7 @@ fn fill<R: Abort + Wait>(rt: &R, alloc: Global, publisher: &mut Publisher) -> Re
     assert_eq!(rt; open_by_slashes(&mut session, KEPT)?, KEPT as u64);
     assert_eq!(rt; open_by_slashes(&mut session, KEPT + 1)?, KEPT as u64);
     assert_eq!(rt; open_by_slashes(&mut session, KEPT + 1)?, 0);
-    assert_eq!(rt; open_by_slashes(&mut session, KEPT + 1)?, 58);
+    assert_eq!(rt; open_by_slashes(&mut session, KEPT + 1)?, 50);
     Ok(())
 }
 
