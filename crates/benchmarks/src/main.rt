@@ -19,18 +19,11 @@
 #![tactic(auto)]
 
 mod compile;
-mod keeping;
-mod opening;
-mod opens;
-mod profiles;
 mod registry;
-mod scene;
-mod tree;
 
 use crate::compile::print_states;
-use crate::keeping::time_kept;
-use crate::opening::time_opens;
 use crate::registry::time_registry;
+use open_benchmarks::{time_kept, time_opens};
 use row_benchmarks::{time_cache, time_row};
 use std::io::{Input, Print, Read};
 use std::rt::Runtime;

@@ -1,6 +1,6 @@
 //! Reads, timed.
-use crate::profiles::{compiled, stage};
 use names::NoMemory;
+use open_benchmarks::{compiled, stage};
 use profile_registry::{PolicyReader, Publisher};
 use std::alloc::{AllocError, Global};
 use std::io;

@@ -1,8 +1,8 @@
 //! Many readers concurrently with one publisher.
 use super::plan::Plan;
-use crate::profiles::{compiled, stage, stage_removal};
 use matcher::AnyProfile;
 use names::NoMemory;
+use open_benchmarks::{compiled, stage, stage_removal};
 use profile_registry::{PolicyReader, Publisher};
 use std::alloc::Global;
 use std::sync::{Arc, Wait};

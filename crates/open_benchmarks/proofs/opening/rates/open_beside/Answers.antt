@@ -2,8 +2,8 @@ use denote.Exit.{no}
 use denote.Param.Send.{shr_send, shr_slice_send}
 use Rattle.std.proofs.Crossing.{Vec-send}
 use Rattle.path_session.proofs.Sending.{session_send}
-use Rattle.benchmarks.proofs.Sending.{byte_sync, number_sync, flag_sync, of_five}
-use Rattle.benchmarks.proofs.opening.rates.open_beside.Goals as goal
+use Rattle.open_benchmarks.proofs.Sending.{byte_sync, number_sync, flag_sync, of_five}
+use Rattle.open_benchmarks.proofs.opening.rates.open_beside.Goals as goal
 
 pub join-requires-send-F : goal.join-requires-send-F
 join-requires-send-F g c κs within =

@@ -1,6 +1,6 @@
 use denote.Param.Send.{sendable}
 use Rattle.path_session.proofs.Sending.{session_send}
-use Rattle.benchmarks.proofs.opens.open_in_threads.Goals as goal
+use Rattle.open_benchmarks.proofs.opens.open_in_threads.Goals as goal
 
 pub map_vec-requires-send-J : goal.map_vec-requires-send-J
 map_vec-requires-send-J g c κs within = search (sendable, session_send) depth 40

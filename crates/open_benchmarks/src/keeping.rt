@@ -20,7 +20,7 @@ use std::thread::Threads;
 ///
 /// What is timed has a line of its own: which files are opened, how many directories down they are, how many threads open them, by
 /// which sessions, how many opens that were, how many nanoseconds they took, and whether all of them were allowed.
-pub(crate) fn time_kept<R: Clock + Print + Threads + Wait + Sync>(
+pub fn time_kept<R: Clock + Print + Threads + Wait + Sync>(
     rt: &R,
     alloc: Global,
     words: &[String],

@@ -24,7 +24,7 @@ use std::thread::Threads;
 /// What is timed has a line of its own: the name of the file, what is changed meanwhile, how many threads open it, how many opens
 /// that were, how many nanoseconds they took, how many were answered `Busy`, how many were refused because a directory's name was
 /// gone, and how many changes were made meanwhile.
-pub(crate) fn time_opens<R: Clock + Print + Threads + Wait + Sync>(
+pub fn time_opens<R: Clock + Print + Threads + Wait + Sync>(
     rt: &R,
     alloc: Global,
     words: &[String],

@@ -1,0 +1,14 @@
+//! Opens by sessions in threads, timed: of one file while a keeper renames or a publisher replaces the profile ([`time_opens`]), and
+//! of the same files again and again, by sessions that keep verdicts and by ones that keep none ([`time_kept`]).
+#![tactic(auto)]
+
+mod keeping;
+mod opening;
+mod opens;
+mod profiles;
+mod scene;
+mod tree;
+
+pub use keeping::time_kept;
+pub use opening::time_opens;
+pub use profiles::{compiled, stage, stage_removal};
