@@ -1,8 +1,8 @@
 #!/bin/sh
 # Times opens of the same files again and again (Session::try_open), in a tree that nothing changes, by sessions that keep verdicts
 # (Session::new), next to the same opens by sessions that keep none (Session::without_kept_verdicts): one file; 64 files by turns, as
-# many as a session keeps verdicts; 65, of which it would find none if it always kept the last ones, so after 64 opens in vain it
-# keeps only some; and 500, of which it finds none. They are 2 directories down or 16, and are opened in one thread and in four, each
+# many as a session keeps verdicts; 65, of which it would find none if it always kept the last ones, so after some opens in vain it
+# keeps few; and 500, of which it finds hardly any. They are 2 directories down or 16, and are opened in one thread and in four, each
 # with a session of its own.
 #
 # A rate is thousands of opens a second, in all threads: the median of RUNS runs, in which sessions of both kinds take turns, of
