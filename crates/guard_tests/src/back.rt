@@ -1,7 +1,7 @@
 //! What was changed, and published, is found.
 ghost use Rattle.std.specs.Prelude.{◌≡◌};
 
-use crate::testing::{allowed, create, keeper, path, publish, session, to_read};
+use crate::testing::{allowed, create, keeper, path, publish, publish_as, session, to_read};
 use dentry_cache::Keeper;
 use directory_tree::Change;
 use names::Errno;
@@ -49,7 +49,17 @@ fn expect_allowed<M: Row, R: Abort + Wait>(
     Ok(())
 }
 
-// A profile takes the place of the first, and then goes.
+// The file is denied at this version of the policy.
+fn denied(policy_version: u64) -> Answer {
+    Answer::Judged {
+        verdict: Verdict::Denied { rule: 1 },
+        node: 2,
+        tree_version: 1,
+        policy_version,
+    }
+}
+
+// A profile takes the place of the first. One of another name comes and goes, and changes nothing for this one; then this one goes.
 fn expect_denied<M: Row, R: Abort + Wait>(
     rt: &R,
     alloc: Global,
@@ -60,15 +70,14 @@ fn expect_denied<M: Row, R: Abort + Wait>(
 {
     let denying = b"profile p {\n  deny /f r,\n}\n";
     assert_eq!(rt; publish(rt, alloc, guard, denying)?, 2);
-    let denied = Answer::Judged {
-        verdict: Verdict::Denied { rule: 1 },
-        node: 2,
-        tree_version: 1,
-        policy_version: 2,
-    };
-    expect_open(rt, guard, session, denied);
-    assert_eq!(rt; guard.remove(rt, b"p"), Ok(3));
-    expect_open(rt, guard, session, Answer::NoProfile { policy_version: 3 });
+    expect_open(rt, guard, session, denied(2));
+    let other = b"profile q {\n  /f r,\n}\n";
+    assert_eq!(rt; publish_as(rt, alloc, guard, b"q", other)?, 3);
+    expect_open(rt, guard, session, denied(3));
+    assert_eq!(rt; guard.remove(rt, b"q"), Ok(4));
+    expect_open(rt, guard, session, denied(4));
+    assert_eq!(rt; guard.remove(rt, b"p"), Ok(5));
+    expect_open(rt, guard, session, Answer::NoProfile { policy_version: 5 });
     Ok(())
 }
 

@@ -27,7 +27,9 @@ fn expect_made<M: Row>(rt: &(impl Abort + Wait), guard: &Guard<M>, session: &mut
     assert_eq!(rt; answer, allowed(2, 2, 1));
 }
 
-fn expect_unmade<M: Row>(rt: &(impl Abort + Wait), guard: &Guard<M>, session: &mut Session) {
+fn expect_unmade<M: Row>(rt: &(impl Abort + Wait), guard: &Guard<M>, session: &mut Session)
+    requires { session.old.walk.table ≡ M.table }
+{
     let wider = LinkAnswer::NotAllowed {
         verdict: LinkVerdict::Wider {
             extra: Perms::NONE.with(Permission::Write),

@@ -37,17 +37,28 @@ pub(crate) fn create<M: Row>(rt: &impl Wait, guard: &Guard<M>, name: &[u8]) -> R
     Ok(guard.change(rt, &change).ok().ok_or("a change")?)
 }
 
-/// Publishes the profile p.
+/// Publishes the profile of a text under the name p.
 pub(crate) fn publish<M: Row>(
     rt: &impl Wait,
     alloc: Global,
     guard: &Guard<M>,
     text: &[u8],
 ) -> Result<u64, Fail> {
+    publish_as(rt, alloc, guard, b"p", text)
+}
+
+/// Publishes the profile of a text under a name.
+pub(crate) fn publish_as<M: Row>(
+    rt: &impl Wait,
+    alloc: Global,
+    guard: &Guard<M>,
+    name: &[u8],
+    text: &[u8],
+) -> Result<u64, Fail> {
     let profile = compiled(alloc, text)?;
     Ok(
         guard
-            .replace(rt, b"p", profile)
+            .replace(rt, name, profile)
             .ok()
             .ok_or("a publication")?,
     )

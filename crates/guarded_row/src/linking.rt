@@ -1,8 +1,7 @@
 //! Hard links.
-ghost use Rattle.std.specs.Prelude.{◌≡◌, [], IfOk, IfErr, OnOk};
-ghost use mathlib.Core.List.{IsPrefix};
-ghost use Rattle.path_session.specs.Sitting.{IsSameSession, IsLetIn};
-ghost use Rattle.guarded_row.specs.Linking.{IsAnswerSomewhere, IsNoAnswer};
+ghost use Rattle.std.specs.Prelude.{◌≡◌, ◌≢◌, IfOk, IfErr, OnOk};
+ghost use Rattle.path_session.specs.Sitting.{IsSameSession, HasSeenMore, IsLetIn};
+ghost use Rattle.guarded_row.specs.Linking.{IsAnswerOf, IsNoAnswerOf};
 
 use crate::guarded::GuardedRow;
 use crate::row::Row;
@@ -19,11 +18,13 @@ impl<M: Row> GuardedRow<M> {
         old: &[u8],
         new: &[u8],
     ) -> Result<LinkAnswer, Unanswered>
-        ensures same { IsSameSession session.old session.new × (session.new.walk ≡ session.old.walk) }
-        ensures policy_seen { IsPrefix session.old.reading.seen session.new.reading.seen }
+        requires { session.old.walk.table ≡ M.table }
+        ensures same { IsSameSession session.old session.new × (session.new.kept_answers ≡ session.old.kept_answers) }
+        ensures history { HasSeenMore session.old session.new }
+        ensures meetings { session.new.meetings ≢ session.old.meetings }
         ensures policy_read { OnOk result (IsLetIn session.old session.new) }
-        ensures ok { IfOk result (IsAnswerSomewhere session.new old.now new.now) }
-        ensures err { IfErr result (IsNoAnswer session.old session.new old.now new.now) }
+        ensures ok { IfOk result (IsAnswerOf M.table session.new old.now new.now) }
+        ensures err { IfErr result (IsNoAnswerOf M.table session.old session.new old.now new.now) }
     {
         let mut keeper = self.lock(rt);
         let answer = keeper.link(session, old, new);

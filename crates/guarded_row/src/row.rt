@@ -1,14 +1,14 @@
 //! The keeper of one row, which its type names.
-ghost use Rattle.std.specs.Prelude.{◌≡◌, ◌≢◌, [], IfOk, IfErr, OnOk};
-ghost use mathlib.Core.List.{IsPrefix};
+ghost use Rattle.std.specs.Prelude.{◌≡◌, ◌≢◌, [], IfOk, IfErr, OnOk, length};
 ghost use Rattle.atomic_table.specs.Seated.{TableId};
+ghost use Rattle.dentry_cache.specs.Models.{Makes, Hinders};
 ghost use Rattle.justification.specs.Justified.{Justified};
 ghost use Rattle.mediation.specs.Deeds.{policy_after};
 ghost use Rattle.row_rule.specs.Steps.{newcomer};
 ghost use Rattle.path_session.specs.Sitting.{IsSameSession, HasSeenMore, HasReadPolicy, HasVersions, IsNameJudged};
 ghost use Rattle.path_session.specs.Sitting.{IsByPublished, CountsRefusals, IsLetIn};
 ghost use Rattle.guarded_row.specs.Opening.{IsNotBusy};
-ghost use Rattle.guarded_row.specs.Linking.{IsAnswerSomewhere, IsNoAnswer};
+ghost use Rattle.guarded_row.specs.Linking.{IsAnswerOf, IsNoAnswerOf};
 
 use dentry_cache::{Keeper, NoSeat, Walker};
 use directory_tree::Change;
@@ -45,7 +45,12 @@ impl<M: Row> RowKeeper<M> {
     }
 
     /// Makes a change of the tree, and returns the version that it makes, or why not; then nothing was changed.
-    pub(crate) fn change(&mut self, change: &Change<'_>) -> Result<u64, Errno> {
+    pub(crate) fn change(&mut self, change: &Change<'_>) -> Result<u64, Errno>
+        ensures ok { IfOk result (λ version. Makes self.old.keeper change.now self.new.keeper
+            × (version ≡ length self.new.keeper.history)) }
+        ensures same { IfErr result (λ _. self.new.keeper ≡ self.old.keeper) }
+        ensures err { IfErr result (Hinders self.old.keeper change.now) }
+    {
         self.keeper.apply(change)
     }
 
@@ -73,19 +78,22 @@ impl<M: Row> RowKeeper<M> {
         session.open_with(&mut self.keeper, path, ask)
     }
 
-    /// Makes a hard link by a session.
+    /// Makes a hard link by a session of this row, which has then seen all changes before it.
     pub(crate) fn link(
         &mut self,
         session: &mut Session,
         old: &[u8],
         new: &[u8],
     ) -> Result<LinkAnswer, Unanswered>
-        ensures same { IsSameSession session.old session.new × (session.new.walk ≡ session.old.walk) }
-        ensures policy_seen { IsPrefix session.old.reading.seen session.new.reading.seen }
+        requires { session.old.walk.table ≡ M.table }
+        ensures same { IsSameSession session.old session.new × (session.new.kept_answers ≡ session.old.kept_answers) }
+        ensures history { HasSeenMore session.old session.new }
+        ensures meetings { session.new.meetings ≢ session.old.meetings }
         ensures policy_read { OnOk result (IsLetIn session.old session.new) }
-        ensures ok { IfOk result (IsAnswerSomewhere session.new old.now new.now) }
-        ensures err { IfErr result (IsNoAnswer session.old session.new old.now new.now) }
+        ensures ok { IfOk result (IsAnswerOf M.table session.new old.now new.now) }
+        ensures err { IfErr result (IsNoAnswerOf M.table session.old session.new old.now new.now) }
     {
+        session.meet(&mut self.keeper);
         session.link_with(&mut self.keeper, old, new)
     }
 }

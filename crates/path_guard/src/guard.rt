@@ -1,5 +1,8 @@
 //! The guard, and what it does except opens.
-ghost use Rattle.std.specs.Prelude.{◌≡◌, ◌^◌, ◌<◌, [], IfOk};
+ghost use Rattle.std.specs.Prelude.{◌≡◌, ◌^◌, ◌<◌, [], ◌++◌, IfOk, IfErr, length};
+ghost use Rattle.mediation.specs.Deeds.{published, removed};
+ghost use Rattle.mediation.specs.PolicyChanges.{judge_shared};
+ghost use Rattle.path_guard.specs.Publishing.{IsPublished, IsUnpublished};
 ghost use Rattle.row_rule.specs.Steps.{newcomer};
 
 use crate::fault::SessionFault;
@@ -7,7 +10,7 @@ use dentry_cache::Keeper;
 use directory_tree::Change;
 use guarded_row::{GuardedRow, Row};
 use matcher::AnyProfile;
-use names::{Errno, NoMemory};
+use names::Errno;
 use path_session::Session;
 use profile_registry::{PolicyReader, Publisher};
 use std::alloc::Global;
@@ -102,27 +105,49 @@ impl<M: Row> Guard<M> {
     }
 }
 
+/// Publishes a profile under a name, after what is staged.
 fn replace_in<R: Wait>(
     rt: &R,
     publisher: &mut Publisher,
     name: &[u8],
     profile: Arc<AnyProfile>,
-) -> Result<u64, Errno> {
+) -> Result<u64, Errno>
+    ensures ok { IfOk result (IsPublished publisher.old (published name.now (judge_shared profile)) publisher.new) }
+    ensures err { IfErr result (IsUnpublished publisher.old (published name.now (judge_shared profile)) publisher.new) }
+{
     if publisher.changes() >= MOST_CHANGES {
         return Err(Errno::EOVERFLOW);
     }
-    publisher.replace(name, profile).map_err(no_memory)?;
-    publisher.publish(rt).map_err(no_memory)
+    if publisher.replace(name, profile).is_err() {
+        return Err(Errno::ENOMEM);
+    }
+    publish_in(rt, publisher)
 }
 
-fn remove_in<R: Wait>(rt: &R, publisher: &mut Publisher, name: &[u8]) -> Result<u64, Errno> {
+/// Removes what is published under a name, after what is staged.
+fn remove_in<R: Wait>(rt: &R, publisher: &mut Publisher, name: &[u8]) -> Result<u64, Errno>
+    ensures ok { IfOk result (IsPublished publisher.old (removed name.now) publisher.new) }
+    ensures err { IfErr result (IsUnpublished publisher.old (removed name.now) publisher.new) }
+{
     if publisher.changes() >= MOST_CHANGES {
         return Err(Errno::EOVERFLOW);
     }
-    publisher.remove(name).map_err(no_memory)?;
-    publisher.publish(rt).map_err(no_memory)
+    if publisher.remove(name).is_err() {
+        return Err(Errno::ENOMEM);
+    }
+    publish_in(rt, publisher)
 }
 
-fn no_memory(_refused: NoMemory) -> Errno {
-    Errno::ENOMEM
+/// Publishes what is staged.
+fn publish_in<R: Wait>(rt: &R, publisher: &mut Publisher) -> Result<u64, Errno>
+    ensures ok { IfOk result (λ version. (publisher.new ≡ record {
+      published = publisher.old.published ++ publisher.old.staged;
+      staged = [];
+    }) × (version ≡ length publisher.new.published)) }
+    ensures err { IfErr result (λ errno. (errno ≡ Errno.ENOMEM) × (publisher.new ≡ publisher.old)) }
+{
+    match publisher.publish(rt) {
+        Ok(version) => Ok(version),
+        Err(_) => Err(Errno::ENOMEM),
+    }
 }

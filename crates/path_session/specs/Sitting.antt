@@ -90,11 +90,11 @@ HasVersions now (NoProfile policy) = policy ≡ length now.reading.seen
 HasVersions now (Busy began ended) = Unit {0}
 HasVersions now answer.NoEntry = Unit {0}
 
--- The tree's version is half the count that the walk began with. A busy walk reports both its counts, and if the first one is odd
--- it read no cell.
+-- The tree's version is half the count that the walk began with, and the count read last was the same. A busy walk reports both its
+-- counts, and if the first one is odd it read no cell.
 abbrev pub IsByCounts : WalkerView → Answer → Type 0
-IsByCounts now (Judged verdict node tree policy) = now.noted ≡ tree + tree
-IsByCounts now (Failed errno tree) = now.noted ≡ tree + tree
+IsByCounts now (Judged verdict node tree policy) = (now.noted ≡ tree + tree) × (now.last ≡ now.noted)
+IsByCounts now (Failed errno tree) = (now.noted ≡ tree + tree) × (now.last ≡ now.noted)
 IsByCounts now (NoProfile policy) = Unit {0}
 IsByCounts now (Busy began ended) = (now.noted ≡ began) × (now.last ≡ ended) × (began % 2 ≡ 1 → now.reads ≡ [])
 IsByCounts now answer.NoEntry = Unit {0}

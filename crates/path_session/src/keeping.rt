@@ -81,8 +81,8 @@ impl Session {
         }
     }
 
-    // The walker meets the keeper.
-    pub(crate) fn meet(&mut self, keeper: &mut Keeper)
+    /// Meets the keeper: the session has then seen all changes of the tree. It reads no count, and waits for nobody.
+    pub fn meet(&mut self, keeper: &mut Keeper)
         requires { self.old.walk.table ≡ keeper.old.table }
         ensures same { IsSameSession self.old self.new × (keeper.new ≡ keeper.old) × (self.new.reading ≡ self.old.reading)
             × (self.new.judged ≡ self.old.judged) × (self.new.kept_answers ≡ self.old.kept_answers) }

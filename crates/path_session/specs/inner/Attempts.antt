@@ -12,6 +12,7 @@ use Rattle.path_session.specs.inner.Walks.{HasWalked}
 pub record HasReadOnce (before now : WalkerView) (version : ℕ) : Type 0 where
   pub version_is : version ≡ length now.seen
   pub half : now.noted ≡ version + version
+  pub same_count : now.last ≡ now.noted
   pub once : now.count_reads ≡ before.count_reads + 1
   pub unread : now.reads ≡ []
 

@@ -14,11 +14,12 @@ abbrev pub end_of : List ℕ → Result code.Reached Errno → Result Reached Er
 end_of room (Ok file) = Ok (reached_of room file)
 end_of room (Err errno) = Err errno
 
--- in the tree of all changes that were seen, whose version is half the first count, the walk ends like this
+-- in the tree of all changes that were seen, whose version is half of both counts, the walk ends like this
 pub record HasWalked (now : WalkerView) (path : List ℕ) (ask : Perms) (room : List ℕ) (version : ℕ)
     (file : Result code.Reached Errno) : Type 0 where
   pub version_is : version ≡ length now.seen
   pub half : now.noted ≡ version + version
+  pub same_count : now.last ≡ now.noted
   pub tree : Tree
   pub is_at : IsTreeAt now.seen version tree
   pub end : reached tree path ask ≡ end_of room file

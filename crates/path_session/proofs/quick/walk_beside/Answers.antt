@@ -1,4 +1,4 @@
-use Rattle.std.proofs.Common.{ap, ◌∙◌, inl, inr}
+use Rattle.std.proofs.Common.{ap, ◌∙◌, sym, inl, inr}
 use Rattle.row_rule.specs.declared.view.WalkerView.{WalkerView}
 use Rattle.path_session.proofs.Seeing.{tree_at, look_sees}
 use Rattle.path_session.proofs.quick.walk_beside.Goals.{in-Ok-reached, in-Err-reached+in-Refused}
@@ -15,12 +15,14 @@ unreachable-requires c =
 pub returns-clause-ok : goal.returns-clause-ok
 returns-clause-ok c =
     let (last, noted, version, seen, saw) = rw c.in-Ok.is at c.end-walker.ensures.ok in
-    let half = ap (λ (w : WalkerView). w.noted) c.end-walker.ensures.ended ∙ noted in
+    let same = ap (λ (w : WalkerView). w.noted) c.end-walker.ensures.ended in
+    let half = same ∙ noted in
     let at = tree_at _ _ _ _ version saw.made in
     elim c.match-reached.branch [
       | in-Ok-reached w ↦ record {
         version_is = version;
         half = half;
+        same_count = last ∙ sym same;
         tree = saw.world.tree;
         is_at = at;
         end = rw w.file-is ((rw w.in-Ok-reached.is at c.reach_file-reached.ensures.answer) saw.world
@@ -29,6 +31,7 @@ returns-clause-ok c =
       | in-Err-reached+in-Refused w ↦ record {
         version_is = version;
         half = half;
+        same_count = last ∙ sym same;
         tree = saw.world.tree;
         is_at = at;
         end = rw w.file-is ((rw w.in-Refused.is at w.in-Err-reached.ensures.fault) saw.world (look_sees _ _ _ c.into_cells.ensures saw));
