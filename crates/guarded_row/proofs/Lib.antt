@@ -1,1 +1,3 @@
 pub mod Sending
+mod Trying
+mod Opened

@@ -1,3 +1,4 @@
 pub mod Opening
 pub mod Linking
+pub mod Tries
 pub mod inner

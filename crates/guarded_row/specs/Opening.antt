@@ -1,5 +1,5 @@
 -- What is said of opens by a guarded row.
-use Rattle.std.specs.Prelude.{◌≢◌, ◌⊎◌, ◌<◌}
+use Rattle.std.specs.Prelude.{◌≡◌, ◌≢◌, ◌⊎◌, ◌+◌, ◌<◌, ◌≤◌}
 use Rattle.justification.specs.declared.answer.Answer.{Answer}
 use Rattle.justification.specs.declared.answer.Answer.TheVariants.{Judged, Failed, NoProfile, Busy, NoEntry}
 use Rattle.path_session.specs.Sitting.{Sitting}
@@ -29,3 +29,18 @@ HasLooked before now (Failed errno tree) =
 HasLooked before now (NoProfile policy) = Unit {0}
 HasLooked before now (Busy began ended) = before.walk.view.count_reads < now.walk.view.count_reads
 HasLooked before now NoEntry = Unit {0}
+
+-- It was tried three times at most, each time with one reading of the policy, and the keeper wasn't met; or it was tried three times,
+-- and once more when the keeper was met.
+abbrev pub IsByTries : Sitting → Sitting → Type 0
+IsByTries before now =
+    ((now.meetings ≡ before.meetings) × (now.reading.entries ≤ before.reading.entries + 3))
+    ⊎ ((now.meetings ≢ before.meetings) × (now.reading.entries ≡ before.reading.entries + 4))
+
+-- if there was no entry, the policy was read four times at most
+abbrev pub IsTriedFirst : Sitting → Sitting → Answer → Type 0
+IsTriedFirst before now (Judged verdict node tree policy) = IsByTries before now
+IsTriedFirst before now (Failed errno tree) = IsByTries before now
+IsTriedFirst before now (NoProfile policy) = IsByTries before now
+IsTriedFirst before now (Busy began ended) = ⊥
+IsTriedFirst before now NoEntry = now.reading.entries ≤ before.reading.entries + 4

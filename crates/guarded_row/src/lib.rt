@@ -8,6 +8,7 @@ mod guarded;
 mod linking;
 mod opening;
 mod row;
+mod tries;
 
 pub use guarded::GuardedRow;
 pub use path_session::{Answer, LinkAnswer, Session, Unanswered};

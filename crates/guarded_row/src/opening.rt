@@ -3,11 +3,12 @@ ghost use Rattle.std.specs.Prelude.{◌≡◌, ◌≢◌};
 ghost use Rattle.justification.specs.Justified.{Justified};
 ghost use Rattle.mediation.specs.Deeds.{policy_after};
 ghost use Rattle.path_session.specs.Sitting.{IsSameSession, HasSeenMore, HasVersions, IsNameJudged, IsByPublished, CountsRefusals};
-ghost use Rattle.guarded_row.specs.Opening.{IsNotBusy, HasAsked, HasLooked};
-ghost use Rattle.guarded_row.specs.inner.Tries.{HasTried};
+ghost use Rattle.guarded_row.specs.Opening.{IsNotBusy, HasAsked, HasLooked, IsTriedFirst};
+ghost use Rattle.guarded_row.specs.inner.Tries.{HasOpened};
 
 use crate::guarded::GuardedRow;
 use crate::row::Row;
+use crate::tries::try_up_to;
 use names::Perms;
 use path_session::{Answer, Session};
 use std::sync::{MutexGuard, Wait};
@@ -26,6 +27,7 @@ impl<M: Row> GuardedRow<M> {
         ensures history { HasSeenMore session.old session.new }
         ensures policy_read { HasAsked session.old session.new result }
         ensures tree_read { HasLooked session.old session.new result }
+        ensures tries { IsTriedFirst session.old session.new result }
         ensures versions { HasVersions session.new result }
         ensures justified { Justified session.old.profile path.now ask session.new.walk.view.seen session.new.reading.seen result }
         ensures name { IsNameJudged session.new.walk.view.seen path.now ask result session.new.judged }
@@ -47,21 +49,7 @@ impl<M: Row> GuardedRow<M> {
 
 /// Tries to open a file concurrently with the keeper, again where a change came between.
 fn open_quickly(session: &mut Session, path: &[u8], ask: Perms) -> Answer
-    ensures same { IsSameSession session.old session.new × (session.new.meetings ≡ session.old.meetings) }
-    ensures history { HasSeenMore session.old session.new }
-    ensures policy_read { HasAsked session.old session.new result }
-    ensures tree_read { HasLooked session.old session.new result }
-    ensures versions { HasVersions session.new result }
-    ensures justified { Justified session.old.profile path.now ask session.new.walk.view.seen session.new.reading.seen result }
-    ensures name { IsNameJudged session.new.walk.view.seen path.now ask result session.new.judged }
-    ensures published { IsByPublished (policy_after session.new.reading.seen session.old.profile) result }
-    ensures refused { CountsRefusals session.old session.new result }
+    ensures { HasOpened TRIES session.old session.new path.now ask result }
 {
-    for _ in 1..TRIES {
-        match session.try_open(path, ask) {
-            Answer::Busy { .. } => {}
-            answer => return answer,
-        }
-    }
-    session.try_open(path, ask)
+    try_up_to(TRIES, session, path, ask)
 }

@@ -2,7 +2,7 @@
 ghost use Rattle.justification.specs.Justified.{Justified};
 ghost use Rattle.mediation.specs.Deeds.{policy_after};
 ghost use Rattle.path_session.specs.Sitting.{IsSameSession, HasSeenMore, HasVersions, IsNameJudged, IsByPublished, CountsRefusals};
-ghost use Rattle.guarded_row.specs.Opening.{IsNotBusy, HasAsked, HasLooked};
+ghost use Rattle.guarded_row.specs.Opening.{IsNotBusy, HasAsked, HasLooked, IsTriedFirst};
 ghost use Rattle.std.specs.Prelude.{◌≡◌};
 
 use crate::guard::Guard;
@@ -22,6 +22,7 @@ impl<M: Row> Guard<M> {
         ensures history { HasSeenMore session.old session.new }
         ensures policy_read { HasAsked session.old session.new result }
         ensures tree_read { HasLooked session.old session.new result }
+        ensures tries { IsTriedFirst session.old session.new result }
         ensures versions { HasVersions session.new result }
         ensures justified { Justified session.old.profile path.now ask session.new.walk.view.seen session.new.reading.seen result }
         ensures name { IsNameJudged session.new.walk.view.seen path.now ask result session.new.judged }

@@ -1,11 +1,30 @@
--- Opens that were all busy.
-use Rattle.std.specs.Prelude.{◌≡◌, ◌≤◌}
-use Rattle.path_session.specs.Sitting.{Sitting, IsSameSession, HasSeenMore}
+-- What holds after the tries of a session that left the lock alone.
+use Rattle.std.specs.Prelude.{◌≡◌, ◌≤◌, ◌+◌, ℕ, List}
+use Rattle.names.specs.declared.permissions.Perms.{Perms}
+use Rattle.justification.specs.declared.answer.Answer.{Answer}
+use Rattle.justification.specs.declared.answer.Answer.TheVariants.{Judged, Failed, NoProfile, Busy, NoEntry}
+use Rattle.justification.specs.Justified.{Justified}
+use Rattle.mediation.specs.Deeds.{policy_after}
+use Rattle.path_session.specs.Sitting.{Sitting, IsSameSession, HasSeenMore, HasVersions, IsNameJudged, IsByPublished, CountsRefusals}
+use Rattle.guarded_row.specs.Opening.{HasAsked, HasLooked}
 
-pub record HasTried (before now : Sitting) : Type 0 where
+-- each try but one that wasn't answered read the policy once; they all were made if the last one was busy
+abbrev pub CountsTries : ℕ → Sitting → Sitting → Answer → Type 0
+CountsTries most before now (Judged verdict node tree policy) = now.reading.entries ≤ before.reading.entries + most
+CountsTries most before now (Failed errno tree) = now.reading.entries ≤ before.reading.entries + most
+CountsTries most before now (NoProfile policy) = now.reading.entries ≤ before.reading.entries + most
+CountsTries most before now (Busy began ended) = now.reading.entries ≡ before.reading.entries + most
+CountsTries most before now NoEntry = now.reading.entries ≤ before.reading.entries + most
+
+pub record HasOpened (most : ℕ) (before now : Sitting) (path : List ℕ) (ask : Perms) (answer : Answer) : Type 0 where
   pub same : IsSameSession before now
   pub meetings : now.meetings ≡ before.meetings
   pub history : HasSeenMore before now
-  pub entries : before.reading.entries ≤ now.reading.entries
-  pub refused : now.reading.refused ≡ before.reading.refused
-  pub count_reads : before.walk.view.count_reads ≤ now.walk.view.count_reads
+  pub asked : HasAsked before now answer
+  pub looked : HasLooked before now answer
+  pub counts : CountsTries most before now answer
+  pub versions : HasVersions now answer
+  pub justified : Justified before.profile path ask now.walk.view.seen now.reading.seen answer
+  pub name : IsNameJudged now.walk.view.seen path ask answer now.judged
+  pub published : IsByPublished (policy_after now.reading.seen before.profile) answer
+  pub refused : CountsRefusals before now answer
