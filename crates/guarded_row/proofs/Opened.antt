@@ -1,4 +1,4 @@
--- What the tries of a session tell together.
+-- What holds after all tries of a session.
 use Rattle.std.proofs.Common.{◌≡◌, ◌⊎◌, ◌+◌, ◌++◌, ℕ, List, zero, suc, inl, inr, rules, arith, ap, sym, subst, append_assoc, ◌∙◌}
 use mathlib.Core.List.{IsPrefix}
 use Rattle.names.specs.declared.permissions.Perms.{Perms}

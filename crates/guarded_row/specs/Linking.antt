@@ -1,5 +1,5 @@
--- What is said of links by a guarded row: what the definition answers of the tree that the keeper of this row kept when its lock was
--- had, all of whose changes the session has seen then, and of the policy that the session has seen.
+-- What contracts say about links by a guarded row: what the definition answers for the tree that the keeper of this row kept when its
+-- lock was taken, all of whose changes the session has seen then, and for the policy that the session has seen.
 use Rattle.std.specs.Prelude.{◌≡◌, ℕ, List, []}
 use Rattle.atomic_table.specs.Seated.{TableId}
 use Rattle.dentry_cache.specs.Models.{Held}

@@ -17,8 +17,8 @@ IsBusy (NoProfile policy) = ⊥
 IsBusy (Busy began ended) = Unit {0}
 IsBusy NoEntry = ⊥
 
--- At most so many tries lead from one state to another: one whose answer is returned, which isn't busy unless no more are left; or a
--- busy one, and then the others.
+-- At most this many tries lead from one state to another: one whose answer is returned, which isn't busy unless no more are left; or
+-- a busy one, and then the others.
 unfoldable pub IsTriedUpTo : {S : Type 0} → (S → S → Answer → Type 0) → ℕ → S → S → Answer → Type 0
 IsTriedUpTo Tries zero before now answer = ⊥
 IsTriedUpTo {S} Tries (suc left) before now answer =

@@ -1,4 +1,4 @@
--- What comes of publishing one more change of the policy.
+-- The outcome of publishing one more change of the policy.
 use Rattle.std.specs.Prelude.{◌≡◌, ◌⊎◌, ◌+◌, ◌-◌, ◌^◌, ◌<◌, ◌≤◌, ℕ, [], ◌∷◌, ◌++◌, length}
 use Rattle.mediation.specs.Deeds.{Deed}
 use Rattle.names.specs.declared.errors.Errno.{Errno}
