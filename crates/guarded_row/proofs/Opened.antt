@@ -1,5 +1,6 @@
 -- What holds after all tries of a session.
-use Rattle.std.proofs.Common.{◌≡◌, ◌⊎◌, ◌+◌, ◌++◌, ℕ, List, zero, suc, inl, inr, rules, arith, ap, sym, subst, append_assoc, ◌∙◌}
+use Rattle.std.proofs.Common.{◌≡◌, ◌⊎◌, ◌+◌, ◌++◌, ℕ, List, zero, suc, inl, inr}
+use Rattle.std.proofs.Common.{rules, arith, ap, sym, subst, append_assoc, ◌∙◌}
 use mathlib.Core.List.{IsPrefix}
 use Rattle.names.specs.declared.permissions.Perms.{Perms}
 use Rattle.justification.specs.declared.answer.Answer.{Answer}
@@ -8,8 +9,8 @@ use Rattle.justification.specs.Justified.{Justified}
 use Rattle.mediation.specs.Deeds.{policy_after}
 use Rattle.path_session.specs.Sitting.{Sitting, IsByPublished, CountsRefusals}
 use Rattle.guarded_row.specs.Opening.{IsNotBusy, HasAsked, HasLooked}
-use Rattle.guarded_row.specs.Tries.{IsBusy, IsTriedUpTo, IsTryOfSession}
-use Rattle.guarded_row.specs.inner.Tries.{HasOpened, CountsTries}
+use Rattle.guarded_row.specs.Tries.{IsBusy, IsTriedUpTo}
+use Rattle.guarded_row.specs.inner.Tries.{IsTryOfSession, HasOpened, CountsTries}
 
 prefix_of_more : {A : Type 0} (xs ys zs : List A) → IsPrefix xs ys → IsPrefix ys zs → IsPrefix xs zs
 prefix_of_more xs ys zs p q = (p.0 ++ q.0, sym (append_assoc xs p.0 q.0) ∙ ap (λ front. front ++ q.0) p.1 ∙ q.1)
@@ -48,11 +49,11 @@ refused a b c (NoProfile policy) e h = h ∙ e
 refused a b c (Busy began ended) e h = h ∙ e
 refused a b c NoEntry e h = h ∙ ap (λ n. n + 1) e
 
-more : (left : ℕ) (a b c : Sitting) (path : List ℕ) (ask : Perms) (busy x : Answer) → IsTryOfSession a b path ask busy → IsBusy busy →
-    HasOpened left b c path ask x → HasOpened (suc left) a c path ask x
-more left a b c path ask (Judged verdict node tree policy) x t is rest = absurd is
-more left a b c path ask (Failed errno tree) x t is rest = absurd is
-more left a b c path ask (NoProfile policy) x t is rest = absurd is
+more : (left : ℕ) (a b c : Sitting) (path : List ℕ) (ask : Perms) (busy x : Answer) → IsTryOfSession a b path ask busy →
+    IsBusy busy → HasOpened left b c path ask x → HasOpened (suc left) a c path ask x
+more left a b c path ask (Judged verdict node tree policy) x t is rest = absurd (is tt)
+more left a b c path ask (Failed errno tree) x t is rest = absurd (is tt)
+more left a b c path ask (NoProfile policy) x t is rest = absurd (is tt)
 more left a b c path ask (Busy began ended) x t is rest = record {
   same = (rest.same.0 ∙ t.same.0, rest.same.1 ∙ t.same.1, rest.same.2 ∙ t.same.2);
   meetings = rest.meetings ∙ t.meetings;
@@ -66,7 +67,7 @@ more left a b c path ask (Busy began ended) x t is rest = record {
   published = subst (λ p. IsByPublished (policy_after c.reading.seen p) x) t.same.2 rest.published;
   refused = refused a b c x t.refused rest.refused;
 }
-more left a b c path ask NoEntry x t is rest = absurd is
+more left a b c path ask NoEntry x t is rest = absurd (is tt)
 
 pub opened : (most : ℕ) (a c : Sitting) (path : List ℕ) (ask : Perms) (x : Answer) →
     IsTriedUpTo (λ before now answer. IsTryOfSession before now path ask answer) most a c x → HasOpened most a c path ask x

@@ -2,7 +2,8 @@
 ghost use Rattle.std.specs.Prelude.{ℕ, List, ◌<◌, ◌≤◌};
 ghost use Rattle.names.specs.declared.permissions.Perms.{Perms};
 ghost use Rattle.justification.specs.declared.answer.Answer.{Answer};
-ghost use Rattle.guarded_row.specs.Tries.{IsTriedUpTo, IsTryOfSession};
+ghost use Rattle.guarded_row.specs.Tries.{IsTriedUpTo};
+ghost use Rattle.guarded_row.specs.inner.Tries.{IsTryOfSession};
 
 use names::Perms;
 use path_session::{Answer, Session};

@@ -15,8 +15,8 @@ use std::rt::Clock;
 use std::sync::Wait;
 use std::thread::Threads;
 
-/// Opens files OPENS times in each thread, by the profile of this text: the same file, and 64 and 65 by turns. Prints whether each
-/// open was allowed. The word is `OPENS`; with none files are opened a few times, and nothing is timed.
+/// Opens files OPENS times in each thread, by the profile of this text: the same file, and 64, 65 and 500 by turns. Prints whether
+/// each open was allowed. The word is `OPENS`; with none files are opened a few times, and nothing is timed.
 ///
 /// What is timed has a line of its own: which files are opened, how many directories down they are, how many threads open them, by
 /// which sessions, how many opens that were, how many nanoseconds they took, and whether all of them were allowed.

@@ -18,7 +18,7 @@ pub(crate) struct Mix {
 const KEPT: u16 = 64;
 
 /// The same file; as many by turns as a session keeps verdicts; one more, where the verdict that was used least recently is always
-/// the next one to be looked up; and 500, of which none is found again.
+/// the next one to be looked up; and 500, of which hardly any is found again.
 pub(crate) const MIXES: [Mix; 4] = [
     Mix {
         name: "one",
