@@ -1,5 +1,6 @@
 pub mod Seats
 pub mod Told
 pub mod Models
+pub mod Walks
 pub mod Lending
 pub mod inner

@@ -1,5 +1,5 @@
--- What contracts see of a keeper, a walker and an attempt, and the outcomes of a keeper's calls.
-use Rattle.std.specs.Prelude.{◌≡◌, ◌⊎◌, ℕ, ◌*◌, List, [], ◌∷◌, ◌++◌, length, drop, Some, Ok, Err, IsOk, ◌+◌, take}
+-- What contracts see of a keeper, and the outcomes of its calls. Opens concurrently with it cite none of this.
+use Rattle.std.specs.Prelude.{◌≡◌, ◌⊎◌, ℕ, List, [], ◌∷◌, ◌++◌, drop, Some, Ok, Err, IsOk, ◌+◌, take}
 use Rattle.atomic_table.specs.Seated.{TableId}
 use Rattle.names.specs.declared.errors.Errno.{Errno}
 use Rattle.names.specs.declared.errors.Errno.TheVariants.{ENOMEM}
@@ -10,7 +10,6 @@ use Rattle.path_lookup.specs.World.{World}
 use Rattle.tree_row.specs.Worlds.{SeesBy}
 use Rattle.row_rule.specs.declared.cell.Cell.{Cell}
 use Rattle.row_rule.specs.declared.view.KeeperView.{KeeperView}
-use Rattle.row_rule.specs.declared.view.WalkerView.{WalkerView}
 use Rattle.row_rule.specs.Row.{write}
 use Rattle.row_plan.specs.Changes.{EncodesChanges, IsPlan}
 
@@ -21,21 +20,6 @@ pub record Held : Type 0 where
   pub count : ℕ
   pub history : List Change
   pub cells : List ℕ
-
--- a walker or an attempt, and what it knows
-pub record Walk : Type 0 where
-  pub table : TableId
-  pub capacity : ℕ
-  pub view : WalkerView
-
--- what no reading of cells changes
-abbrev pub unread : Walk → Walk
-unread a =
-    record {
-      table = a.table;
-      capacity = a.capacity;
-      view = record { seen = a.view.seen; count_reads = a.view.count_reads; noted = a.view.noted; last = a.view.last; reads = [] };
-    }
 
 -- the history is one change longer, the count two higher, and only the cells of a plan of the change are set, none of which
 -- had that value before
@@ -86,7 +70,3 @@ pub record SeesHistory (h : Held) : Type 0 where
   pub made : tree_after h.capacity h.history ≡ Ok world.tree
   pub seen : SeesBy h.capacity (λ row. row ≡ h.cells) world
   pub only : (w : World) → SeesBy h.capacity (λ row. row ≡ h.cells) w → SameEntries world.tree w.tree
-
--- a walker that has just met the keeper of this history
-abbrev pub met_at : List Change → WalkerView
-met_at history = record { seen = history; count_reads = 0; noted = 2 * length history; last = 2 * length history; reads = [] }

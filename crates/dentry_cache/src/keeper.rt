@@ -3,7 +3,8 @@ ghost use Rattle.std.specs.Prelude.{◌≡◌, ◌≤◌, [], length, IfOk, OnOk
 ghost use mathlib.Core.List.{IsPrefix};
 ghost use Rattle.tree_row.specs.OpeningRow.{opening_row};
 ghost use Rattle.row_rule.specs.Steps.{newcomer};
-ghost use Rattle.dentry_cache.specs.Models.{Makes, IsStopped, Accepts, Refuses, Hinders, met_at};
+ghost use Rattle.dentry_cache.specs.Models.{Makes, IsStopped, Accepts, Refuses, Hinders};
+ghost use Rattle.dentry_cache.specs.Walks.{met_at};
 ghost use Rattle.dentry_cache.specs.inner.Knowing.{IsPlanned};
 
 use crate::kept_row::KeptRow;

@@ -5,7 +5,8 @@ ghost use Rattle.directory_tree.specs.declared.change.Change.{Change};
 ghost use Rattle.tree_row.specs.Rows.{row_length};
 ghost use Rattle.tree_row.specs.OpeningRow.{opening_row};
 ghost use Rattle.row_rule.specs.Steps.{newcomer};
-ghost use Rattle.dentry_cache.specs.Models.{Makes, IsStopped, Refuses, SeesHistory, met_at};
+ghost use Rattle.dentry_cache.specs.Models.{Makes, IsStopped, Refuses, SeesHistory};
+ghost use Rattle.dentry_cache.specs.Walks.{met_at};
 ghost use Rattle.dentry_cache.specs.inner.Knowing.{Countable, IsPlanned};
 
 use crate::changing::{begin, perform};

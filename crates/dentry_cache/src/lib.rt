@@ -2,8 +2,8 @@
 //! lock. The first word is the count: two for each change that was made, plus one while a change is open. The cells of the row
 //! follow.
 //!
-//! The definitions to believe are those in `specs/Models.antt`, `specs/Told.antt` and `specs/Seats.antt`, and those of the crates
-//! below; the others are of private contracts and proofs.
+//! The definitions to believe are those in `specs/` itself, and those of the crates below; the ones in `specs/inner/` are of private
+//! contracts and proofs. Opens concurrently with the keeper cite `specs/Walks.antt` alone.
 #![tactic(auto)]
 
 mod changing;

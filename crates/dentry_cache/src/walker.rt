@@ -25,7 +25,7 @@ pub struct Walker {
 
 impl Model for Walker {
     ghost use Rattle.std.specs.Arc.{arc_value};
-    ghost use Rattle.dentry_cache.specs.Models.{Walk};
+    ghost use Rattle.dentry_cache.specs.Walks.{Walk};
     ghost use Rattle.dentry_cache.specs.inner.Knowing.{walk, WalkerKnows};
 
     ghost Value = { Walk };
@@ -51,7 +51,7 @@ impl Model for Attempt {
     ghost use Rattle.std.specs.Prelude.{◌≡◌};
     ghost use Rattle.std.specs.Arc.{arc_value};
     ghost use Rattle.tree_row.specs.Finding.{IsIndexOf};
-    ghost use Rattle.dentry_cache.specs.Models.{Walk};
+    ghost use Rattle.dentry_cache.specs.Walks.{Walk};
     ghost use Rattle.dentry_cache.specs.Seats.{walker_of};
     ghost use Rattle.dentry_cache.specs.inner.Knowing.{walk, WalkerKnows};
 
@@ -168,7 +168,7 @@ impl Attempt {
 impl Cells for Attempt {
     ghost use Rattle.std.specs.Prelude.{ℕ, List};
     ghost use Rattle.row_rule.specs.Row.{Agrees};
-    ghost use Rattle.dentry_cache.specs.Models.{Walk, unread};
+    ghost use Rattle.dentry_cache.specs.Walks.{Walk, unread};
 
     ghost Kept = { Walk };
 

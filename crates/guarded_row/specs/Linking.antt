@@ -6,7 +6,8 @@ use Rattle.dentry_cache.specs.Models.{Held}
 use Rattle.mediation.specs.declared.answer.LinkAnswer.{LinkAnswer}
 use Rattle.mediation.specs.Answers.{link_answered, name_linked}
 use Rattle.mediation.specs.History.{link_answer}
-use Rattle.path_session.specs.Sitting.{Sitting, IsNoLink}
+use Rattle.path_session.specs.Sitting.{Sitting}
+use Rattle.path_session.specs.AtHand.{IsNoLink}
 use Rattle.path_session.specs.Standing.{history_of}
 use Rattle.path_session.specs.declared.unanswered.Unanswered.{Unanswered}
 

@@ -1,6 +1,7 @@
 //! Hard links.
 ghost use Rattle.std.specs.Prelude.{◌≡◌, ◌≢◌, IfOk, IfErr, OnOk};
-ghost use Rattle.path_session.specs.Sitting.{IsSameSession, HasSeenMore, IsLetIn};
+ghost use Rattle.path_session.specs.Sitting.{IsSameSession, HasSeenMore};
+ghost use Rattle.path_session.specs.AtHand.{IsLetIn};
 ghost use Rattle.guarded_row.specs.Linking.{IsAnswerOf, IsNoAnswerOf};
 
 use crate::guarded::GuardedRow;

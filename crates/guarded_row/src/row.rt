@@ -6,7 +6,8 @@ ghost use Rattle.justification.specs.Justified.{Justified};
 ghost use Rattle.mediation.specs.Deeds.{policy_after};
 ghost use Rattle.row_rule.specs.Steps.{newcomer};
 ghost use Rattle.path_session.specs.Sitting.{IsSameSession, HasSeenMore, HasReadPolicy, HasVersions, IsNameJudged};
-ghost use Rattle.path_session.specs.Sitting.{IsByPublished, CountsRefusals, IsLetIn};
+ghost use Rattle.path_session.specs.Sitting.{IsByPublished, CountsRefusals};
+ghost use Rattle.path_session.specs.AtHand.{IsLetIn};
 ghost use Rattle.guarded_row.specs.Opening.{IsNotBusy};
 ghost use Rattle.guarded_row.specs.Linking.{IsAnswerOf, IsNoAnswerOf};
 

@@ -1,9 +1,7 @@
 -- What a published profile says about names.
 use Rattle.std.specs.Prelude.{ℕ, List, unwrap_or}
 use Rattle.verdicts.specs.Hits.{no_hits}
-use Rattle.names.specs.Permissions.{set_of, only}
 use Rattle.names.specs.declared.permissions.Perms.{Perms}
-use Rattle.rule_judge.specs.Linking.{is_allowed}
 use Rattle.rule_globs.specs.PlainVerdict.{verdict}
 use Rattle.rule_profile.specs.Profile.{RuleValue}
 use Rattle.verdicts.specs.declared.verdict.Verdict.{Verdict}
@@ -20,7 +18,3 @@ pub data Judge : Type 0 where
 abbrev pub verdict_by : Judge → List ℕ → Perms → Verdict
 verdict_by (by_rules rules) name ask = verdict rules name ask
 verdict_by (by_table t) name ask = told (unwrap_or (record_after t name) no_hits) ask
-
--- the permissions that a name is allowed, each asked for alone
-abbrev pub allowed_by : Judge → List ℕ → Perms
-allowed_by judge name = set_of (λ p. is_allowed (verdict_by judge name (only p)))

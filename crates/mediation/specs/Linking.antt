@@ -2,7 +2,8 @@
 use Rattle.std.specs.Prelude.{ℕ, ◌+◌, List, length, Option, Some, None, Result, Ok, Err}
 use Rattle.names.specs.declared.errors.Errno.{Errno}
 use Rattle.names.specs.declared.permissions.Permission.TheVariants as permission
-use Rattle.names.specs.Permissions.{only}
+use Rattle.names.specs.declared.permissions.Perms.{Perms}
+use Rattle.names.specs.Permissions.{set_of, only}
 use Rattle.directory_tree.specs.declared.change.Change.TheVariants.{Link}
 use Rattle.directory_tree.specs.declared.node.Last.TheVariants.{Stay}
 use Rattle.directory_tree.specs.Tree.{Tree}
@@ -13,8 +14,8 @@ use Rattle.directory_tree.specs.Plain.{Plain, tree_of, outcome}
 use Rattle.directory_tree.specs.Spots.{node_at}
 use Rattle.rule_judge.specs.declared.linking.LinkVerdict.{LinkVerdict}
 use Rattle.rule_judge.specs.declared.linking.LinkVerdict.TheVariants.{Refused, Wider, Fine}
-use Rattle.rule_judge.specs.Linking.{link_verdict}
-use Rattle.mediation.specs.Judge.{Judge, verdict_by, allowed_by}
+use Rattle.rule_judge.specs.Linking.{is_allowed, link_verdict}
+use Rattle.mediation.specs.Judge.{Judge, verdict_by}
 use Rattle.mediation.specs.Opening.{path_of}
 
 -- a link that is judged: the name of its new entry, the node of its file and the verdict
@@ -26,6 +27,10 @@ pub record JudgedLink : Type 0 where
 -- the name of the entry that a path leads to, a last link not followed
 abbrev pub name_at : Tree → List ℕ → Result (List ℕ) Errno
 name_at t path = and_then (walk t Stay path) (judged_name t)
+
+-- the permissions that a name is allowed, each asked for alone
+abbrev pub allowed_by : Judge → List ℕ → Perms
+allowed_by judge name = set_of (λ p. is_allowed (verdict_by judge name (only p)))
 
 -- a profile's verdict on a link, by its names
 abbrev pub verdict_of_names : Judge → List ℕ → List ℕ → LinkVerdict

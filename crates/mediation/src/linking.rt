@@ -1,8 +1,8 @@
 //! A judged link, over any look at a tree.
 ghost use Rattle.std.specs.Prelude.{◌≡◌, ◌≤◌, IfOk, IfErr, Ok};
-ghost use Rattle.mediation.specs.Judge.{verdict_by, allowed_by};
+ghost use Rattle.mediation.specs.Judge.{verdict_by};
+ghost use Rattle.mediation.specs.Linking.{allowed_by, judged_by_name};
 ghost use Rattle.mediation.specs.Judging.{link_of};
-ghost use Rattle.mediation.specs.Linking.{judged_by_name};
 ghost use Rattle.mediation.specs.Profiles.{judge_of};
 ghost use Rattle.names.specs.Permissions.{only};
 ghost use Rattle.names.specs.declared.permissions.Permission.TheVariants as permission;

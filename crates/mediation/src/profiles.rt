@@ -1,7 +1,8 @@
 //! What published profiles say about names. No memory is taken.
 ghost use Rattle.std.specs.Prelude.{◌≡◌, Some};
 ghost use Rattle.verdicts.specs.Records.{IsTold};
-ghost use Rattle.mediation.specs.Judge.{verdict_by, allowed_by};
+ghost use Rattle.mediation.specs.Judge.{verdict_by};
+ghost use Rattle.mediation.specs.Linking.{allowed_by};
 ghost use Rattle.mediation.specs.Profiles.{judge_of};
 ghost use Rattle.mediation.specs.inner.Telling.{Tells};
 ghost use Rattle.names.specs.Permissions.{only};

@@ -7,7 +7,7 @@ use Rattle.directory_tree.specs.Tree.{Tree}
 use Rattle.directory_tree.specs.Apply.{tree_after}
 use Rattle.tree_row.specs.Worlds.{SeesBy}
 use Rattle.row_rule.specs.Row.{Agrees}
-use Rattle.dentry_cache.specs.Models.{Walk}
+use Rattle.dentry_cache.specs.Walks.{Walk}
 use Rattle.dentry_cache.specs.Told.{SeesAfter}
 use Rattle.justification.specs.Versions.{IsTreeAt}
 use Rattle.directory_tree.proofs.Rooms.{roomy_after}

@@ -1,3 +1,4 @@
 pub mod Sitting
+pub mod AtHand
 pub mod Standing
 pub mod inner

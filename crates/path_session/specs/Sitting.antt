@@ -1,24 +1,20 @@
--- What contracts see of a session, and what they say about its calls.
+-- What contracts see of a session, and what an open concurrently with keeper and publisher says. To believe the contract of
+-- `Session::try_open` read this file and `justification`'s Justified, and what they import: `tools/definitions --read path_session`
+-- prints these files in reading order. What calls with the keeper at hand say is in AtHand.
 use Rattle.std.specs.Prelude.{◌≡◌, ◌≢◌, ◌⊎◌, ◌+◌, ◌%◌, ◌^◌, ℕ, List, [], length, Option, None, IsSome, Ok}
 use mathlib.Core.List.{IsPrefix}
 use Rattle.names.specs.declared.permissions.Perms.{Perms}
 use Rattle.directory_tree.specs.declared.change.Change.{Change}
 use Rattle.directory_tree.specs.Tree.{Tree}
-use Rattle.dentry_cache.specs.Models.{Walk, Held}
-use Rattle.row_rule.specs.Steps.{newcomer}
-use Rattle.mediation.specs.declared.answer.LinkAnswer.{LinkAnswer}
-use Rattle.mediation.specs.declared.answer.LinkAnswer.TheVariants as link
+use Rattle.dentry_cache.specs.Walks.{Walk}
 use Rattle.mediation.specs.Judge.{Judge}
-use Rattle.mediation.specs.Linking.{LinkAnswered, IsMade}
-use Rattle.mediation.specs.Opening.{Answered, judged, failed, no_profile, Reached, reached}
+use Rattle.mediation.specs.Opening.{Reached, reached}
 use Rattle.profile_registry.specs.Views.{Reading, IsUnanswered}
 use Rattle.row_rule.specs.declared.view.WalkerView.{WalkerView}
 use Rattle.justification.specs.declared.answer.Answer.{Answer}
 use Rattle.justification.specs.declared.answer.Answer.TheVariants.{Judged, Failed, NoProfile, Busy}
 use Rattle.justification.specs.declared.answer.Answer.TheVariants as answer
 use Rattle.justification.specs.Versions.{IsTreeAt}
-use Rattle.path_session.specs.declared.unanswered.Unanswered.{Unanswered}
-use Rattle.path_session.specs.declared.unanswered.Unanswered.TheVariants.{NoEntry, NoMemory}
 
 -- its walker, its reader of the policy, the profile that it opens by, the name that it judged last, and how often it met its
 -- keeper and answered by a verdict that it had kept, modulo 2^64
@@ -29,15 +25,6 @@ pub record Sitting : Type 0 where
   pub judged : List ℕ
   pub meetings : ℕ
   pub kept_answers : ℕ
-
--- the view of a walker that is lent to a call, which no caller sees
-abbrev pub no_walk : Walk
-no_walk =
-    record {
-      table = record { words = 0; slots = 0; views_name = 0; atom = 0; block = 0; offset = 0; slot_names = [] };
-      capacity = 0;
-      view = newcomer;
-    }
 
 -- it walks over the same row, and opens by the same profile
 abbrev pub IsSameSession : Sitting → Sitting → Type 0
@@ -73,14 +60,6 @@ abbrev pub CountsKept : WalkerView → WalkerView → ℕ → ℕ → Type 0
 CountsKept before now kept kept_now =
     ((now.count_reads ≡ before.count_reads + 1) × (kept_now ≡ counted kept))
     ⊎ ((now.count_reads ≢ before.count_reads + 1) × (kept_now ≡ kept))
-
--- with the keeper at hand, only a verdict may have been kept
-abbrev pub MayCountKept : ℕ → ℕ → Answer → Type 0
-MayCountKept kept kept_now (Judged verdict node tree policy) = (kept_now ≡ kept) ⊎ (kept_now ≡ counted kept)
-MayCountKept kept kept_now (Failed errno tree) = kept_now ≡ kept
-MayCountKept kept kept_now (NoProfile policy) = kept_now ≡ kept
-MayCountKept kept kept_now (Busy began ended) = kept_now ≡ kept
-MayCountKept kept kept_now answer.NoEntry = kept_now ≡ kept
 
 -- the versions are those of all changes that it has seen
 abbrev pub HasVersions : Sitting → Answer → Type 0
@@ -123,34 +102,3 @@ CountsRefusals before now (Failed errno tree) = now.reading.refused ≡ before.r
 CountsRefusals before now (NoProfile policy) = now.reading.refused ≡ before.reading.refused
 CountsRefusals before now (Busy began ended) = now.reading.refused ≡ before.reading.refused
 CountsRefusals before now answer.NoEntry = now.reading.refused ≡ before.reading.refused + 1
-
--- the answer to an open while nothing changes, with the name that was judged; it is never busy
-abbrev pub IsAnswer : Answered → List ℕ → Answer → Type 0
-IsAnswer answered name (Judged verdict node tree policy) = answered ≡ judged (record { name = name; node = node; verdict = verdict })
-    tree policy
-IsAnswer answered name (Failed errno tree) = answered ≡ failed errno tree
-IsAnswer answered name (NoProfile policy) = answered ≡ no_profile policy
-IsAnswer answered name (Busy began ended) = ⊥
-IsAnswer answered name answer.NoEntry = Unit {0}
-
--- the reader was let in once more, and answered
-abbrev pub IsLetIn : Sitting → Sitting → Type 0
-IsLetIn before now = (now.reading.entries ≡ before.reading.entries + 1) × (now.reading.refused ≡ before.reading.refused)
-
--- Why a link isn't answered: the reader wasn't, which is counted; or it was, and memory was refused for a link that would be made.
-abbrev pub IsNoLink : Sitting → Sitting → LinkAnswered → Unanswered → Type 0
-IsNoLink before now answered NoEntry = IsUnanswered before.reading now.reading now.profile
-    × (now.reading.refused ≡ before.reading.refused + 1)
-IsNoLink before now answered NoMemory = IsLetIn before now × IsMade answered
-
--- the same where the publisher is at hand: no share of the profile was given, or memory was refused for a link that would be made
-abbrev pub IsNoLinkOf : LinkAnswered → Unanswered → Type 0
-IsNoLinkOf answered NoEntry = Unit {0}
-IsNoLinkOf answered NoMemory = IsMade answered
-
--- if no link was made, the keeper is as it was, with its count and its cells
-abbrev pub IsUntouchedUnlessMade : LinkAnswer → Held → Held → Type 0
-IsUntouchedUnlessMade (link.Linked node tree policy) before now = now.table ≡ before.table
-IsUntouchedUnlessMade (link.NotAllowed verdict node tree policy) before now = now ≡ before
-IsUntouchedUnlessMade (link.Failed errno tree) before now = now ≡ before
-IsUntouchedUnlessMade (link.NoProfile policy) before now = now ≡ before

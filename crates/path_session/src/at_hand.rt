@@ -1,10 +1,11 @@
 //! Opens and hard links when both the keeper and the publisher are at hand.
 ghost use Rattle.std.specs.Prelude.{◌≡◌, ◌≢◌, ◌⊎◌, [], IfOk, IfErr, IsOk, OnOk, OnErr};
 ghost use mathlib.Core.List.{IsPrefix};
-ghost use Rattle.dentry_cache.specs.Models.{met_at};
+ghost use Rattle.dentry_cache.specs.Walks.{met_at};
 ghost use Rattle.mediation.specs.Answers.{answered, name_opened, link_answered, name_linked};
 ghost use Rattle.mediation.specs.History.{open_answer, link_answer, after_link};
-ghost use Rattle.path_session.specs.Sitting.{IsSameSession, IsNoLinkOf, IsUntouchedUnlessMade, counted};
+ghost use Rattle.path_session.specs.Sitting.{IsSameSession, counted};
+ghost use Rattle.path_session.specs.AtHand.{IsNoLinkOf, IsUntouchedUnlessMade};
 ghost use Rattle.path_session.specs.Standing.{history_of};
 
 use crate::linking::link_by;

@@ -1,14 +1,15 @@
 //! Opens when the keeper is at hand.
 ghost use Rattle.std.specs.Prelude.{◌≡◌, ◌≢◌, ◌⊎◌, ◌≤◌, [], IfOk, IfErr, IsOk, Err, length};
 ghost use mathlib.Core.List.{IsPrefix};
-ghost use Rattle.dentry_cache.specs.Models.{met_at};
+ghost use Rattle.dentry_cache.specs.Walks.{met_at};
 ghost use Rattle.directory_tree.specs.Plain.{tree_of};
 ghost use Rattle.mediation.specs.History.{open_answer};
 ghost use Rattle.mediation.specs.Opening.{reached};
 ghost use Rattle.justification.specs.Justified.{Justified};
 ghost use Rattle.justification.specs.Versions.{IsTreeAt};
 ghost use Rattle.path_session.specs.Sitting.{IsSameSession, HasReadPolicy, HasVersions, IsNameJudged, IsByPublished, CountsRefusals};
-ghost use Rattle.path_session.specs.Sitting.{IsAnswer, MayCountKept, counted};
+ghost use Rattle.path_session.specs.Sitting.{counted};
+ghost use Rattle.path_session.specs.AtHand.{IsAnswer, MayCountKept};
 ghost use Rattle.mediation.specs.Deeds.{policy_after};
 ghost use Rattle.path_session.specs.Standing.{plain_of, history_of};
 ghost use Rattle.path_session.specs.inner.Knowing.{IsCurrent, asked_by, kept_of};

@@ -2,7 +2,7 @@
 ghost use Rattle.std.specs.Prelude.{◌≡◌, ◌+◌, ◌≤◌, ◌≢◌, [], IfOk, OnOk, OnErr, Ok, None, length};
 ghost use Rattle.std.specs.Option.{option_map, option_copied};
 ghost use mathlib.Core.List.{IsPrefix};
-ghost use Rattle.dentry_cache.specs.Models.{met_at};
+ghost use Rattle.dentry_cache.specs.Walks.{met_at};
 ghost use Rattle.directory_tree.specs.Tree.{Tree};
 ghost use Rattle.justification.specs.Versions.{IsTreeAt};
 ghost use Rattle.mediation.specs.Deeds.{policy_after};
@@ -45,7 +45,7 @@ pub(crate) struct Knowledge {
 impl Model for Knowledge {
     ghost use Rattle.std.specs.Prelude.{IsSome};
     ghost use Rattle.std.specs.Option.{unwrap_or};
-    ghost use Rattle.path_session.specs.Sitting.{no_walk};
+    ghost use Rattle.path_session.specs.inner.Knowing.{no_walk};
     ghost use Rattle.path_session.specs.inner.Knowing.{Knowing};
     ghost use Rattle.path_session.specs.inner.Right.{AreRight};
     ghost use Rattle.path_session.specs.inner.Sharing.{IsShareOf, IsInStep};

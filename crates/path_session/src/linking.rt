@@ -12,7 +12,8 @@ ghost use Rattle.mediation.specs.Linking.{judged_by_name, link_judged, answer_by
 ghost use Rattle.mediation.specs.Linking.{link_answered as answer_by};
 ghost use Rattle.mediation.specs.Profiles.{judge_of};
 ghost use Rattle.path_session.specs.inner.Settling.{settled};
-ghost use Rattle.path_session.specs.Sitting.{IsSameSession, IsLetIn, IsNoLink, IsUntouchedUnlessMade};
+ghost use Rattle.path_session.specs.Sitting.{IsSameSession};
+ghost use Rattle.path_session.specs.AtHand.{IsLetIn, IsNoLink, IsUntouchedUnlessMade};
 ghost use Rattle.path_session.specs.Standing.{plain_of, history_of};
 
 use crate::session::Session;

@@ -13,7 +13,8 @@ use Rattle.row_rule.specs.declared.view.View.{View}
 use Rattle.row_rule.specs.Row.{write, count_of}
 use Rattle.row_plan.specs.Changes.{EncodesChanges, IsPlan}
 use Rattle.dentry_cache.specs.Seats.{keeper_of, walker_of, IsKeeping, IsWalking}
-use Rattle.dentry_cache.specs.Models.{Held, Stopped, Walk}
+use Rattle.dentry_cache.specs.Models.{Held, Stopped}
+use Rattle.dentry_cache.specs.Walks.{Walk}
 
 abbrev pub RowSeat : Type 0
 RowSeat = Seat (Unit {0}) View

@@ -8,9 +8,10 @@ use Rattle.matcher.specs.declared.profiles.AnyProfile.{AnyProfile}
 use Rattle.mediation.specs.declared.opening.Judged as code
 use Rattle.mediation.specs.Deeds.{policy_after}
 use Rattle.mediation.specs.PolicyChanges.{judge_shared}
-use Rattle.dentry_cache.specs.Models.{Walk}
+use Rattle.dentry_cache.specs.Walks.{Walk}
 use Rattle.profile_registry.specs.Views.{Reading}
 use Rattle.row_rule.specs.declared.count.Busy.{Busy}
+use Rattle.row_rule.specs.Steps.{newcomer}
 use Rattle.justification.specs.declared.answer.Answer.{Answer}
 use Rattle.justification.specs.declared.answer.Answer.TheVariants as answer
 use Rattle.verdict_cache.specs.Questions.{Asked, Kept}
@@ -49,3 +50,12 @@ answer_of policy (Err busy) = answer.Busy busy.began busy.ended
 abbrev pub name_of : List ℕ → Result Opened Busy → List ℕ
 name_of room (Ok opened) = elim opened.file [ Ok file ↦ take file.name_length room | Err errno ↦ [] ]
 name_of room (Err busy) = []
+
+-- the view of a walker that is lent to a call, which no caller sees
+abbrev pub no_walk : Walk
+no_walk =
+    record {
+      table = record { words = 0; slots = 0; views_name = 0; atom = 0; block = 0; offset = 0; slot_names = [] };
+      capacity = 0;
+      view = newcomer;
+    }

@@ -1,7 +1,7 @@
 use Rattle.std.proofs.Common.{◌<◌, ℕ, sym, ap, ◌∙◌, subst, arith}
 use Rattle.row_index.proofs.Sizes.{index_most}
 use Rattle.tree_row.specs.Rows.{row_length}
-use Rattle.dentry_cache.specs.Models.{Walk}
+use Rattle.dentry_cache.specs.Walks.{Walk}
 use Rattle.dentry_cache.proofs.walker.Attempt.read.Goals as goal
 
 pub read_cell-requires-clause-place : goal.read_cell-requires-clause-place

@@ -6,7 +6,7 @@ use Rattle.mediation.specs.Judge.{verdict_by}
 use Rattle.mediation.specs.Judging.{reached_of}
 use Rattle.mediation.specs.PolicyChanges.{judge_shared}
 use Rattle.verdict_cache.specs.Questions.{Kept}
-use Rattle.path_session.specs.Sitting.{no_walk}
+use Rattle.path_session.specs.inner.Knowing.{no_walk}
 use Rattle.path_session.specs.inner.Right.{IsRightFor}
 use Rattle.path_session.proofs.KeptRight.{one_more, judged_right}
 use Rattle.path_session.proofs.knowledge.Knowledge.judge.Goals as goal

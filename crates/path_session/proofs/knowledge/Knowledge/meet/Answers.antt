@@ -2,10 +2,10 @@ use Rattle.std.proofs.Common.{refl, sym, ap, ◌∙◌, subst, rules}
 use Rattle.std.specs.Prelude.{List, Option}
 use Rattle.std.specs.Option.{unwrap_or}
 use mathlib.Core.List.{IsPrefix}
-use Rattle.dentry_cache.specs.Models.{Walk}
+use Rattle.dentry_cache.specs.Walks.{Walk}
 use Rattle.directory_tree.specs.declared.change.Change.{Change}
 use Rattle.profile_registry.proofs.Prefixes.{prefix_self}
-use Rattle.path_session.specs.Sitting.{no_walk}
+use Rattle.path_session.specs.inner.Knowing.{no_walk}
 use Rattle.path_session.proofs.KeptRight.{all_later}
 use Rattle.path_session.proofs.knowledge.Knowledge.meet.Goals as goal
 

@@ -2,14 +2,13 @@ use Rattle.std.proofs.Common.{◌≡◌, ℕ, List, refl, sym, ap, ◌∙◌, su
 use Rattle.std.specs.Prelude.{Option, IfOk}
 use Rattle.std.specs.Option.{unwrap_or}
 use mathlib.Core.List.{IsPrefix}
-use Rattle.dentry_cache.specs.Models.{Walk}
+use Rattle.dentry_cache.specs.Walks.{Walk}
 use Rattle.directory_tree.specs.declared.change.Change.{Change}
 use Rattle.profile_registry.proofs.Prefixes.{prefix_self}
-use Rattle.path_session.specs.Sitting.{no_walk}
+use Rattle.path_session.specs.inner.Knowing.{no_walk, asked_by}
 use Rattle.row_rule.specs.declared.view.WalkerView.{WalkerView}
 use Rattle.verdict_cache.specs.Questions.{Kept}
 use Rattle.path_session.specs.inner.Attempts.{HasTried}
-use Rattle.path_session.specs.inner.Knowing.{asked_by}
 use Rattle.path_session.specs.inner.Right.{IsRightFor}
 use Rattle.path_session.proofs.KeptRight.{all_later, found_right, tried_on}
 use Rattle.path_session.proofs.knowledge.Knowledge.try_walk.Goals as goal
