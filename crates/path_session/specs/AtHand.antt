@@ -1,6 +1,6 @@
 -- What a session's calls say where the keeper is at hand, or keeper and publisher are. Opens concurrently with them cite none of
 -- this.
-use Rattle.std.specs.Prelude.{◌≡◌, ◌⊎◌, ◌+◌, ℕ, List, []}
+use Rattle.std.specs.Prelude.{◌≡◌, ◌⊎◌, ◌+◌, ℕ, List}
 use Rattle.dentry_cache.specs.Models.{Held}
 use Rattle.mediation.specs.declared.answer.LinkAnswer.{LinkAnswer}
 use Rattle.mediation.specs.declared.answer.LinkAnswer.TheVariants as link
