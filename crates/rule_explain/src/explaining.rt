@@ -1,13 +1,15 @@
 //! What is said about a name, and why.
-ghost use Rattle.std.specs.Prelude.{◌≡◌, ◌≤◌, ◌++◌, IfOk, codes, decimal, length, map, string_bytes};
-ghost use Rattle.rule_explain.specs.Explanations.{explanation, reason_line, reason_text, rule_told};
+ghost use Rattle.std.specs.Prelude.{◌≡◌, ◌≤◌, ◌++◌, ◌∷◌, IfOk, codes, decimal, length, map, string_bytes};
+ghost use Rattle.names.specs.Permissions.{letter};
+ghost use Rattle.rule_explain.specs.Explanations.{explanation, reason_text, rule_told};
 ghost use Rattle.rule_explain.specs.inner.Numbers.{TellsRuleOf};
 ghost use Rattle.rule_profile.specs.Profile.{rule_value, profile_value};
 ghost use Rattle.rule_profile.specs.RuleSpans.{profile_spans, rule_span};
 ghost use Rattle.verdicts.specs.VerdictText.{verdict_text};
 
+use crate::hits::firsts_of;
 use crate::place::place_at;
-use crate::reason::{Reason, reason_of};
+use crate::reason::Reason;
 use names::{NoMemory, Permission, Perms};
 use rule_judge::judge_slow;
 use rule_profile::{Profile, Rule};
@@ -30,9 +32,11 @@ pub fn explain(
         ≡ explanation text.now (profile_value profile.now).rules (profile_spans profile.now) name.now ask) }
 {
     let mut lines = verdict_line(alloc, judge_slow(profile, name, ask))?;
+    let firsts = firsts_of(profile, name, ask);
     for permission in Permission::ALL {
         if ask.contains(permission) {
-            put_line(&mut lines, alloc, text, profile, name, permission)?;
+            let reason = firsts.reason(permission);
+            put_line(&mut lines, alloc, text, profile, permission, reason)?;
         }
     }
     Ok(lines)
@@ -47,27 +51,23 @@ fn verdict_line(alloc: Global, verdict: Verdict) -> Result<Vec<u8>, NoMemory>
     }
 }
 
-/// Adds the line of a permission.
+/// Adds the line of a permission, for this reason.
 fn put_line(
     lines: &mut Vec<u8>,
     alloc: Global,
     text: &[u8],
     profile: &Profile,
-    name: &[u8],
     permission: Permission,
+    reason: Reason,
 ) -> Result<(), NoMemory>
+    requires { TellsRuleOf reason (length (profile_value profile.now).rules) }
     ensures { IfOk result (λ _. lines.new.items ≡ lines.old.items
-        ++ reason_line text.now (profile_value profile.now).rules (profile_spans profile.now) name.now permission) }
+        ++ letter permission ∷ (codes ": "
+        ++ (reason_text text.now (profile_value profile.now).rules (profile_spans profile.now) reason ++ codes "\n"))) }
 {
     put(lines, &[permission.letter()])?;
     put(lines, b": ")?;
-    put_reason(
-        lines,
-        alloc,
-        text,
-        profile,
-        reason_of(profile, name, permission),
-    )?;
+    put_reason(lines, alloc, text, profile, reason)?;
     put(lines, b"\n")
 }
 

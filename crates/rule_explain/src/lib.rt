@@ -5,6 +5,7 @@
 #![tactic(auto)]
 
 mod explaining;
+mod hits;
 mod laws;
 mod place;
 mod reason;
