@@ -7,7 +7,7 @@ use Rattle.justification.specs.declared.answer.Answer.{Answer}
 use Rattle.justification.specs.declared.answer.Answer.TheVariants.{Judged, Failed, NoProfile, Busy, NoEntry}
 use Rattle.justification.specs.Justified.{Justified}
 use Rattle.mediation.specs.Deeds.{policy_after}
-use Rattle.path_session.specs.Sitting.{Sitting, IsByPublished, CountsRefusals}
+use Rattle.path_session.specs.Sitting.{Sitting, HasReadPolicy, IsByPublished, CountsRefusals}
 use Rattle.guarded_row.specs.Opening.{IsNotBusy, HasAsked, HasLooked}
 use Rattle.guarded_row.specs.Tries.{IsBusy, IsTriedUpTo}
 use Rattle.guarded_row.specs.inner.Tries.{IsTryOfSession, HasOpened, CountsTries}
@@ -15,16 +15,24 @@ use Rattle.guarded_row.specs.inner.Tries.{IsTryOfSession, HasOpened, CountsTries
 prefix_of_more : {A : Type 0} (xs ys zs : List A) → IsPrefix xs ys → IsPrefix ys zs → IsPrefix xs zs
 prefix_of_more xs ys zs p q = (p.0 ++ q.0, sym (append_assoc xs p.0 q.0) ∙ ap (λ front. front ++ q.0) p.1 ∙ q.1)
 
+asked_once : (a c : Sitting) (x : Answer) → HasReadPolicy a c x → HasAsked a c x
+asked_once a c (Judged verdict node tree policy) e = omega (arith, e)
+asked_once a c (Failed errno tree) e = omega (arith, e)
+asked_once a c (NoProfile policy) e = omega (arith, e)
+asked_once a c (Busy began ended) e = omega (arith, e)
+asked_once a c NoEntry (inl (seen, e)) = omega (arith, e)
+asked_once a c NoEntry (inr (e, there)) = omega (arith, e)
+
 one : (left : ℕ) (a c : Sitting) (path : List ℕ) (ask : Perms) (x : Answer) → IsTryOfSession a c path ask x →
     (IsNotBusy x) ⊎ (left ≡ 0) → HasOpened (suc left) a c path ask x
-one left a c path ask x t end = search rules
+one left a c path ask x t end = search (rules, asked_once)
 
 asked : (left : ℕ) (a b c : Sitting) (x : Answer) → b.reading.entries ≡ a.reading.entries + 1 → HasAsked b c x → HasAsked a c x
 asked left a b c (Judged verdict node tree policy) e h = omega (arith, e, h)
 asked left a b c (Failed errno tree) e h = omega (arith, e, h)
 asked left a b c (NoProfile policy) e h = omega (arith, e, h)
 asked left a b c (Busy began ended) e h = omega (arith, e, h)
-asked left a b c NoEntry e h = h
+asked left a b c NoEntry e h = omega (arith, e, h)
 
 counts : (left : ℕ) (a b c : Sitting) (x : Answer) → b.reading.entries ≡ a.reading.entries + 1 → CountsTries left b c x →
     CountsTries (suc left) a c x

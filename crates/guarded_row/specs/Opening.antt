@@ -12,13 +12,13 @@ IsNotBusy (NoProfile policy) = Unit {0}
 IsNotBusy (Busy began ended) = ⊥
 IsNotBusy NoEntry = Unit {0}
 
--- unless there was no entry, the policy was read
+-- unless there was no entry, the policy was read; and in no case fewer entries are counted
 abbrev pub HasAsked : Sitting → Sitting → Answer → Type 0
 HasAsked before now (Judged verdict node tree policy) = before.reading.entries < now.reading.entries
 HasAsked before now (Failed errno tree) = before.reading.entries < now.reading.entries
 HasAsked before now (NoProfile policy) = before.reading.entries < now.reading.entries
 HasAsked before now (Busy began ended) = before.reading.entries < now.reading.entries
-HasAsked before now NoEntry = Unit {0}
+HasAsked before now NoEntry = before.reading.entries ≤ now.reading.entries
 
 -- where the tree was asked, the count was read, or the keeper met
 abbrev pub HasLooked : Sitting → Sitting → Answer → Type 0
