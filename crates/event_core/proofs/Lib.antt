@@ -4,6 +4,7 @@ pub mod Calls
 pub mod Rightly
 pub mod Deeds
 pub mod Once
+pub mod Memory
 pub mod Told
 pub mod OneCall
 pub mod Examples

@@ -1,8 +1,10 @@
 -- What may be asked of a machine besides its steps.
-use Rattle.std.specs.Prelude.{◌≡◌, ◌⊎◌, ℕ, zero, suc, List, [], ◌∷◌, ◌++◌, length, Option, Some, None, Result, Ok, Err}
+use Rattle.std.specs.Prelude.{◌≡◌, ◌≢◌, ◌⊎◌, ℕ, zero, suc, ◌<◌, ◌^◌, List, [], ◌∷◌, ◌++◌, length, Option, Some, None, IsSome}
+use Rattle.std.specs.Prelude.{Result, Ok, Err, IsOk}
 use Rattle.names.specs.declared.errors.Errno.{Errno}
 use Rattle.directory_tree.specs.declared.change.Change.{Change}
 use Rattle.directory_tree.specs.Apply.{tree_after}
+use Rattle.mediation.specs.Deeds.{policy_after}
 use Rattle.justification.specs.declared.answer.Answer.{Answer}
 use Rattle.row_rule.specs.Row.{left_of}
 use Rattle.row_rule.specs.declared.view.WalkerView.{WalkerView}
@@ -30,6 +32,21 @@ HasTurn m (open_change change) = ⊥
 HasTurn m set_cell = ⊥
 HasTurn m close_change = ⊥
 HasTurn m (publish deeds) = ⊥
+
+-- Memory may be refused for these events, each where the machine has reached it: a call has copies of its profile's name and of its
+-- path; a session takes a share of its profile, which is published; a walk keeps the word that it reads; the keeper plans a change
+-- that the definition accepts; and the policy has what is published. No other event takes memory.
+abbrev pub TakesMemory : Machine → Event → Type 0
+TakesMemory m (begin s call) = HasTurn m (begin s call)
+TakesMemory m (read_policy s) = (call : Call) × ((m.sessions s).stage ≡ begun call) × IsSome (policy_after m.deeds call.profile)
+TakesMemory m (read_cell s) = HasTurn m (read_cell s)
+TakesMemory m (open_change change) = (m.keeper.pending ≡ None) × IsOk (tree_after m.capacity (m.keeper.history ++ change ∷ []))
+TakesMemory m (publish deeds) = (deeds ≢ []) × (length (m.deeds ++ deeds) < 2 ^ 60)
+TakesMemory m (read_count s) = ⊥
+TakesMemory m (check_count s) = ⊥
+TakesMemory m (answer s) = ⊥
+TakesMemory m set_cell = ⊥
+TakesMemory m close_change = ⊥
 
 -- this many readings of a cell
 abbrev pub cell_reads : ℕ → ℕ → List Event

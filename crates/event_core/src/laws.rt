@@ -5,11 +5,14 @@ ghost use Rattle.justification.specs.declared.answer.Answer.{Answer};
 ghost use Rattle.row_rule.specs.Row.{target_of};
 ghost use Rattle.row_plan.specs.Changes.{EncodesChanges};
 ghost use Rattle.event_core.specs.Machine.{Call, Event, Machine};
-ghost use Rattle.event_core.specs.Machine.Event.{begin, answer};
+ghost use Rattle.event_core.specs.Machine.Event.{begin, read_policy, read_cell, answer, open_change, publish};
 ghost use Rattle.event_core.specs.Takes.{Answers, Takes};
 ghost use Rattle.event_core.specs.Runs.{Runs, Legal};
 ghost use Rattle.event_core.specs.Rule.{KeepsRule};
 ghost use Rattle.event_core.specs.Right.{IsRight, IsToldIn};
+ghost use Rattle.event_core.specs.Lawful.{IsLawful, TakesMemory};
+ghost use Rattle.directory_tree.specs.declared.change.Change.{Change};
+ghost use Rattle.mediation.specs.Deeds.{Deed};
 ghost use Rattle.names.specs.declared.errors.Errno.TheVariants.{EINVAL};
 ghost use Rattle.verdicts.specs.declared.verdict.Verdict.TheVariants.{NoRule};
 ghost use Rattle.justification.specs.declared.answer.Answer.TheVariants.{Judged, Failed, NoProfile, Busy};
@@ -96,4 +99,14 @@ pub fn calls_are_answered()
     ensures failed { (capacity : ℕ) → (m : Machine) × Legal capacity (whole_call nothing) ((1, Failed EINVAL 0) ∷ []) m }
     ensures busy { (capacity : ℕ) → 1 ≤ capacity → (m : Machine) × Legal capacity busy_call ((1, Busy 1 1) ∷ []) m }
     ensures overtaken { (capacity : ℕ) → 1 ≤ capacity → (m : Machine) × Legal capacity overtaken_call ((1, Busy 0 1) ∷ []) m }
+{}
+
+/// Where memory may be refused, the event is legal: a call that may begin, a session that reads its policy, and a publication.
+/// A cell that may be read takes memory, and so does a change that may be opened.
+pub fn legal_events_take_memory()
+    ensures begin { (m : Machine) (s : ℕ) (call : Call) → TakesMemory m (begin s call) → IsLawful m (begin s call) }
+    ensures policy { (m : Machine) (s : ℕ) → TakesMemory m (read_policy s) → IsLawful m (read_policy s) }
+    ensures publication { (m : Machine) (deeds : List Deed) → TakesMemory m (publish deeds) → IsLawful m (publish deeds) }
+    ensures cell { (m : Machine) (s : ℕ) → IsLawful m (read_cell s) → TakesMemory m (read_cell s) }
+    ensures change { (m : Machine) (change : Change) → IsLawful m (open_change change) → TakesMemory m (open_change change) }
 {}

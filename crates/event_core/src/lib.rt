@@ -11,8 +11,8 @@ mod taking;
 
 pub use event::{Event, StepFault};
 pub use laws::{
-    answers_are_right, answers_are_the_only_ones, calls_are_answered, listed_answers_are_right,
-    one_call_at_a_time, runs_do_what_events_say, runs_keep_rule, steps_go_on_runs, steps_keep_rule,
-    versions_never_fall,
+    answers_are_right, answers_are_the_only_ones, calls_are_answered, legal_events_take_memory,
+    listed_answers_are_right, one_call_at_a_time, runs_do_what_events_say, runs_keep_rule,
+    steps_go_on_runs, steps_keep_rule, versions_never_fall,
 };
 pub use taking::EventMachine;

@@ -1,7 +1,7 @@
 -- Events of a list that pass one after the other.
 use Rattle.std.proofs.Common.{◌≡◌, ℕ, ◌+◌, ◌<◌, List, [], ◌∷◌, ◌++◌, length, get_or, take, drop, Option, Some, sym, refl, ap, ◌∙◌, subst}
 use Rattle.std.proofs.Common.{append_assoc, append-nil, add-one, drop-cons, inl, inr}
-use Rattle.std.specs.Prelude.{◌⊎◌, map, Result, Ok, Err, OnErr}
+use Rattle.std.specs.Prelude.{map, Result, Ok, Err, OnErr}
 use Rattle.std.proofs.lemmas.List.{take-append-drop, map-append, map_more}
 use Rattle.justification.specs.declared.answer.Answer.{Answer}
 use Rattle.event_core.specs.Machine.{Event, Machine}
@@ -12,7 +12,7 @@ use Rattle.event_core.specs.Runs.{told_by, Runs, Legal}
 use Rattle.event_core.specs.Right.{IsRight}
 use Rattle.event_core.specs.declared.event.Event as code
 use Rattle.event_core.specs.Coded.{event_of}
-use Rattle.interleaving_core.specs.Running.{Passes, IsRun, IsCutShort}
+use Rattle.interleaving_core.specs.Running.{Passes, StopsAt, IsRun, IsCutShort}
 use Rattle.interleaving_core.specs.inner.Passing.{PassesBy}
 use Rattle.interleaving_core.proofs.Giving.{given_at}
 
@@ -77,29 +77,6 @@ passes_on from events taken answers more m new event passes by = elim by [
   )
 ]
 
--- Memory was refused at an event, before or after it was taken.
-pub cut_short : (from : Machine) (events passed left taken : List Event) (answers : Told) (m new : Machine) (event : Event) →
-    events ≡ passed ++ event ∷ left → Passes from passed taken answers m
-    → (new ≡ m) ⊎ ((told : Option Answer) × Takes m event told new) → IsCutShort from events new
-cut_short from events passed left taken answers m new event parts passes by = elim by [
-  | inl same ↦ record {
-    passed = passed;
-    left = event ∷ left;
-    parts = parts;
-    taken = taken;
-    answers = answers;
-    passes = subst (λ (z : Machine). Passes from passed taken answers z) (sym same) passes;
-  }
-  | inr (told, takes) ↦ record {
-    passed = passed ++ event ∷ [];
-    left = left;
-    parts = parts ∙ sym (append_assoc passed (event ∷ []) left);
-    taken = taken ++ event ∷ [];
-    answers = answers ++ told_by event told;
-    passes = taken_more from passed taken answers m event told new passes takes;
-  }
-]
-
 drop_at : (events : List code.Event) (index : ℕ) (event : code.Event) → index < length events → drop index events
     ≡ get_or events index event ∷ drop (index + 1) events
 drop_at events index event within = rw (add-one index) (drop-cons events index event within)
@@ -124,14 +101,23 @@ passes_more from events index item taken answers more m new within is passes by 
     subst (λ (es : List Event). (all : List Event) × Passes from es all more new) (sym reached)
     (passes_on from (map event_of (take index events)) taken answers more m new (event_of item) passes by)
 
+-- memory was refused at the current event of a loop
 pub short_at : (from : Machine) (events : List code.Event) (index : ℕ) (item : code.Event) (taken : List Event) (answers : Told)
     (m new : Machine) → index < length events → item ≡ get_or events index item
     → Passes from (map event_of (take index events)) taken answers m →
-    (new ≡ m) ⊎ ((told : Option Answer) × Takes m (event_of item) told new) → IsCutShort from (map event_of events) new
-short_at from events index item taken answers m new within is passes by =
-    cut_short from (map event_of events) (map event_of (take index events)) (map event_of (drop (index + 1) events)) taken answers m new
-    (event_of item) (coded_parts events index item within ∙ ap (λ (e : code.Event). map event_of (take index events)
-    ++ event_of e ∷ map event_of (drop (index + 1) events)) (sym is)) passes by
+    StopsAt m (event_of item) new → IsCutShort from (map event_of events) new
+short_at from events index item taken answers m new within is passes stops = record {
+  passed = map event_of (take index events);
+  event = event_of item;
+  left = map event_of (drop (index + 1) events);
+  parts = coded_parts events index item within ∙ ap (λ (e : code.Event). map event_of (take index events)
+      ++ event_of e ∷ map event_of (drop (index + 1) events)) (sym is);
+  taken = taken;
+  answers = answers;
+  between = m;
+  passes = passes;
+  stops = stops;
+}
 
 pub on_err_of : {A B : Type 0} {P : Type 0} (r : Result A B) → P → OnErr r P
 on_err_of (Ok done) p = tt

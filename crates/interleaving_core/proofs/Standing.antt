@@ -9,7 +9,7 @@ use Rattle.event_core.specs.declared.event.StepFault.TheVariants.{NotNow, NoMemo
 use Rattle.event_core.specs.Machine.{Event, Session, Machine}
 use Rattle.event_core.specs.Takes.{Takes}
 use Rattle.event_core.specs.Runs.{Runs}
-use Rattle.event_core.specs.Lawful.{IsLawful, HasTurn, cell_reads}
+use Rattle.event_core.specs.Lawful.{IsLawful, HasTurn, TakesMemory, cell_reads}
 use Rattle.event_core.specs.Rule.{KeepsRule}
 use Rattle.session_table.specs.Table.{session_in}
 use Rattle.interleaving_core.specs.Parts.{Parts, machine_of}
@@ -70,18 +70,35 @@ keeper_steps keep k l d t event stands room takes = record {
 pub stepped : {A : Type 0} (before was : Parts) (event : Event) (new : Machine) → was ≡ before
     → (result : Result A StepFault) → OnOk result (Takes (machine_of was) event None new) → OnErr result (new ≡ machine_of was)
     → IfErr result (λ fault. fault ≡ NotNow → ¬ (IsLawful (machine_of was) event)) →
-    IfErr result (λ fault. fault ≡ NotNow → ¬ (HasTurn (machine_of was) event))
+    IfErr result (λ fault. fault ≡ NotNow → ¬ (HasTurn (machine_of was) event)) →
+    IfErr result (λ fault. fault ≡ NoMemory → TakesMemory (machine_of was) event)
     → IsStep (machine_of before) event (silent_of result) new
-stepped before was event new seen (Ok done) takes same unlawful no_turn =
-    subst (λ (p : Parts). IsStep (machine_of p) event (Ok None) new) seen record { ok = takes; same = tt; not_now = tt; turn = tt }
-stepped before was event new seen (Err fault) takes same unlawful no_turn =
+stepped before was event new seen (Ok done) takes same unlawful no_turn memory =
+    subst (λ (p : Parts). IsStep (machine_of p) event (Ok None) new) seen record {
+      ok = takes;
+      same = tt;
+      not_now = tt;
+      turn = tt;
+      memory = tt;
+    }
+stepped before was event new seen (Err fault) takes same unlawful no_turn memory =
     subst (λ (p : Parts). IsStep (machine_of p) event (Err fault) new) seen record {
       ok = tt;
       same = same;
       not_now =
           unlawful;
       turn = no_turn;
+      memory = memory;
     }
+
+not_both : (fault : StepFault) → fault ≡ NotNow → fault ≡ NoMemory → ⊥
+not_both fault now memory = absurd (cc (now, memory))
+
+-- a fault that is always `NotNow` is never `NoMemory`
+pub never_memory : {A : Type 0} (P : Type 0) (result : Result A StepFault) → IfErr result (λ fault. fault ≡ NotNow) →
+    IfErr result (λ fault. fault ≡ NoMemory → P)
+never_memory P (Ok done) now = tt
+never_memory P (Err fault) now = λ memory. absurd (not_both fault now memory)
 
 pub told : (before was : Parts) (event : Event) (answer : Answer) (new : Machine) → was ≡ before → Takes (machine_of was) event
     (Some answer) new → IsStep (machine_of before) event (Ok (Some answer)) new
@@ -92,23 +109,31 @@ told before was event answer new seen takes =
           tt;
       not_now = tt;
       turn = tt;
+      memory = tt;
     }
 
 pub done : (before was : Parts) (event : Event) (new : Machine) → was ≡ before → Takes (machine_of was) event None new →
     IsStep (machine_of before) event (Ok None) new
 done before was event new seen takes =
-    subst (λ (p : Parts). IsStep (machine_of p) event (Ok None) new) seen record { ok = takes; same = tt; not_now = tt; turn = tt }
+    subst (λ (p : Parts). IsStep (machine_of p) event (Ok None) new) seen record {
+      ok = takes;
+      same = tt;
+      not_now = tt;
+      turn = tt;
+      memory = tt;
+    }
 
 pub refused : (before was : Parts) (event : Event) (fault : StepFault) (new : Machine) → was ≡ before → new ≡ machine_of was
-    → (fault ≡ NotNow → ¬ (IsLawful (machine_of was) event)) → (fault ≡ NotNow → ¬ (HasTurn (machine_of was) event)) →
-    IsStep (machine_of before) event (Err fault) new
-refused before was event fault new seen same unlawful no_turn =
+    → (fault ≡ NotNow → ¬ (IsLawful (machine_of was) event)) → (fault ≡ NotNow → ¬ (HasTurn (machine_of was) event))
+    → fault ≡ NotNow → IsStep (machine_of before) event (Err fault) new
+refused before was event fault new seen same unlawful no_turn now =
     subst (λ (p : Parts). IsStep (machine_of p) event (Err fault) new) seen record {
       ok = tt;
       same = same;
       not_now =
           unlawful;
       turn = no_turn;
+      memory = λ memory. absurd (not_both fault now memory);
     }
 
 -- and the sessions are consistent with the others, whether one took a step or not

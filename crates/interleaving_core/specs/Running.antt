@@ -4,7 +4,7 @@ use Rattle.justification.specs.declared.answer.Answer.{Answer}
 use Rattle.event_core.specs.Machine.{Event, Machine}
 use Rattle.event_core.specs.Machine.Event.{answer}
 use Rattle.event_core.specs.Takes.{Takes}
-use Rattle.event_core.specs.Lawful.{IsLawful}
+use Rattle.event_core.specs.Lawful.{IsLawful, TakesMemory}
 use Rattle.event_core.specs.Runs.{told_by, Runs, Legal}
 use Rattle.event_core.specs.Right.{IsRight}
 
@@ -40,11 +40,18 @@ pub record IsRun (old : Machine) (events : List Event) (answers : List (ℕ × A
       → (before after : List (ℕ × Answer)) (s : ℕ) (told : Answer) → answers ≡ before ++ (s, told) ∷ after
       → (given : IsGiven old taken before s told) × IsRight capacity (ago ++ given.earlier) given.machine s told
 
--- Only a prefix of the events passed.
+-- Memory was refused at an event: it takes memory, and wasn't taken; or it was taken, and there is no room for its answer in the list.
+abbrev pub StopsAt : Machine → Event → Machine → Type 0
+StopsAt old event new = ((new ≡ old) × TakesMemory old event) ⊎ ((told : Answer) × Takes old event (Some told) new)
+
+-- The events before one of them passed, and memory was refused at that one.
 pub record IsCutShort (old : Machine) (events : List Event) (new : Machine) : Type 0 where
   pub passed : List Event
+  pub event : Event
   pub left : List Event
-  pub parts : events ≡ passed ++ left
+  pub parts : events ≡ passed ++ event ∷ left
   pub taken : List Event
   pub answers : List (ℕ × Answer)
-  pub passes : Passes old passed taken answers new
+  pub between : Machine
+  pub passes : Passes old passed taken answers between
+  pub stops : StopsAt between event new

@@ -1,5 +1,5 @@
 //! Lists of events.
-ghost use Rattle.std.specs.Prelude.{◌≡◌, ◌++◌, IfOk, OnOk, OnErr, map};
+ghost use Rattle.std.specs.Prelude.{◌≡◌, ◌++◌, IfOk, OnOk, OnErr, IsSome, map};
 ghost use Rattle.event_core.specs.Coded.{event_of};
 ghost use Rattle.event_core.specs.Runs.{told_by};
 ghost use Rattle.interleaving_core.specs.Parts.{machine_of};
@@ -17,7 +17,8 @@ use names::NoMemory;
 /// justified by the changes of the tree and of the policy made until then, at versions that were current at events of its own
 /// call (`IsGiven`, `IsRight`).
 ///
-/// If memory is refused, the machine is in the state after the events that were taken until then.
+/// If memory is refused, for an event that takes memory or for an answer in the list, the machine is in the state after the events
+/// that were taken until then.
 pub fn run(core: &mut Core, events: &[Event<'_>]) -> Result<Vec<(u32, Answer)>, NoMemory>
     ensures ok { IfOk result (λ answers. IsRun (machine_of core.old) (map event_of events.now) answers.items (machine_of core.new)) }
     ensures err { OnErr result (IsCutShort (machine_of core.old) (map event_of events.now) (machine_of core.new)) }
@@ -46,13 +47,14 @@ fn pass(
     }
 }
 
-/// Notes an answer with its session.
+/// Notes an answer with its session. Takes no memory if there is none.
 fn note(
     event: &Event<'_>,
     told: Option<Answer>,
     answers: &mut Vec<(u32, Answer)>,
 ) -> Result<(), NoMemory>
-    ensures { OnOk result (answers.new.items ≡ answers.old.items ++ told_by (event_of event.now) told) }
+    ensures ok { OnOk result (answers.new.items ≡ answers.old.items ++ told_by (event_of event.now) told) }
+    ensures err { OnErr result (IsSome told) }
 {
     let Some(told) = told else {
         return Ok(());

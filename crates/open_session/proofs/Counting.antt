@@ -1,6 +1,6 @@
 -- What the words of a walk decide, as what it does next, and how many it read.
 use Rattle.std.proofs.Common.{◌≡◌, ℕ, ◌+◌, ◌%◌, ◌<◌, ◌≤◌, true, List, length, None, IfOk, IfErr, OnErr, refl, arith}
-use Rattle.std.specs.Prelude.{Result, Ok, Err}
+use Rattle.std.specs.Prelude.{Result, Ok, Err, IsSome}
 use Rattle.names.specs.Paths.{path_fault}
 use Rattle.mediation.specs.Opening.{reached, can_be_asked}
 use Rattle.row_rule.specs.declared.cell.Cell.{Cell}
@@ -48,3 +48,9 @@ pub counts_err : (capacity n further : ℕ) (old reads : List Cell) (end : Resul
 counts_err capacity n further old reads (Ok decided) Reads same here lacks = tt
 counts_err capacity n further old reads (Err (lack.Wants place)) Reads same here lacks = tt
 counts_err capacity n further old reads (Err (lack.NoMemory place)) Reads same here lacks = (refl, (n, omega (arith, lacks.1), here))
+
+-- memory is refused for the place that is read next
+pub counts_memory : (n : ℕ) (end : Result Outcome Lack) → OnErr (counted_by n end) (IsSome (next_of (next_after end)))
+counts_memory n (Ok decided) = tt
+counts_memory n (Err (lack.Wants place)) = tt
+counts_memory n (Err (lack.NoMemory place)) = refl

@@ -1,7 +1,7 @@
 -- Readings of cells by one walk, from what the words decide.
 use Rattle.std.proofs.Common.{◌≡◌, ℕ, suc, ◌+◌, ◌-◌, ◌%◌, ◌<◌, ◌≤◌, true, List, ◌∷◌, ◌++◌, length, get_or, Some, None, IfOk, IfErr, OnErr}
 use Rattle.std.proofs.Common.{refl, sym, ◌∙◌, subst, ap, arith, length-append}
-use Rattle.std.specs.Prelude.{Result, Err, slice_get}
+use Rattle.std.specs.Prelude.{Result, Err, IsSome, slice_get}
 use Rattle.std.proofs.lemmas.Option.{slice_get-get_or}
 use Rattle.names.specs.Paths.{path_fault}
 use Rattle.mediation.specs.Opening.{reached, can_be_asked}
@@ -25,7 +25,7 @@ use Rattle.open_session.specs.inner.Standing.{IsRightNext, IsWalk, ReadsSome, Wa
 use Rattle.open_session.specs.inner.Ends.{next_after, counted_by}
 use Rattle.open_session.proofs.Chains.{reads_on, with_reads, standing}
 use Rattle.open_session.proofs.Choices.{may_do}
-use Rattle.open_session.proofs.Counting.{right_next, counts_ok, counts_all, counts_err}
+use Rattle.open_session.proofs.Counting.{right_next, counts_ok, counts_all, counts_err, counts_memory}
 
 -- What the words that a walk has read decide, beginning with the old ones.
 pub record Comes (capacity : ℕ) (cells room : List ℕ) (w : Walk) (old : List Cell) (most : ℕ) (end : Result Outcome Lack) : Type 0 where
@@ -121,6 +121,8 @@ reads_some capacity cells room room' old new place word further n more end count
       err = subst (λ (r : Result ℕ StepFault). IfErr r
           (λ fault. (fault ≡ NoMemory) × ((m : ℕ) × (m < further + 1) × WalkReads capacity cells m old new))) (sym count_is)
           (counts_err capacity n further known new.words.1 end (λ m. WalkReads capacity cells m old new) same here_n comes.lacks);
+      memory = subst (λ (r : Result ℕ StepFault). OnErr r (IsSome (next_of new.next))) (sym count_is)
+          (subst (λ (m : Next). OnErr (counted_by n end) (IsSome (next_of m))) (sym comes.next_is) (counts_memory n end));
     }
 
 -- the readings of a walk that read the word that it wanted, and then more
@@ -159,17 +161,23 @@ reads_after capacity cells room room' old place word further n words words' path
 
 -- where memory is refused for the first word, nothing was read
 pub reads_none : (capacity : ℕ) (cells room : List ℕ) (further : ℕ) (old : Walk) (words : ℕ × List Cell) → IsWalk capacity room old →
-    words ≡ old.words
+    words ≡ old.words → (place : ℕ) → old.next ≡ next.Read place
     → ReadsSome capacity cells (further + 1) room old
     record {
       walk = record { policed = old.policed; noted = old.noted; seen = old.seen; words = words; next = old.next };
       count = Err NoMemory;
     }
-reads_none capacity cells room further old words stands same =
+reads_none capacity cells room further old words stands same place chosen =
     subst (λ (k : ℕ × List Cell). ReadsSome capacity cells (further + 1) room old
     record {
       walk = record { policed = old.policed; noted = old.noted; seen = old.seen; words = k; next = old.next };
       count =
           Err NoMemory;
     }) (sym same)
-    record { stands = stands; ok = tt; all = tt; err = (refl, (0, omega arith, λ name. refl)) }
+    record {
+      stands = stands;
+      ok = tt;
+      all = tt;
+      err = (refl, (0, omega arith, λ name. refl));
+      memory = subst (λ (n : Next). IsSome (next_of n)) (sym chosen) refl;
+    }

@@ -1,5 +1,6 @@
 -- Whose turn it is: how far a call has come, by the step that it takes next.
-use Rattle.std.specs.Prelude.{◌≡◌, ◌⊎◌, ℕ, Some, None}
+use Rattle.std.specs.Prelude.{◌≡◌, ◌⊎◌, ℕ, List, Some, None, IsSome}
+use Rattle.mediation.specs.Deeds.{Deed, policy_after}
 use Rattle.row_rule.specs.declared.view.WalkerView.{WalkerView}
 use Rattle.event_core.specs.Machine.{Call, Policed, Stage}
 use Rattle.event_core.specs.Machine.Stage.{resting, begun, unpublished, policed, walking, checked}
@@ -11,6 +12,10 @@ IsResting stage = stage ≡ resting
 -- it reads the policy next
 abbrev pub IsBegun : Stage → Type 0
 IsBegun stage = (call : Call) × (stage ≡ begun call)
+
+-- and its profile is published, so that it takes a share of it
+abbrev pub SharesProfile : List Deed → Stage → Type 0
+SharesProfile deeds stage = (call : Call) × (stage ≡ begun call) × IsSome (policy_after deeds call.profile)
 
 -- it reads the count next
 abbrev pub IsPoliced : Stage → Type 0

@@ -1,5 +1,5 @@
 //! A call's first steps.
-ghost use Rattle.std.specs.Prelude.{◌≡◌, ℕ, List, IfOk, IfErr, length};
+ghost use Rattle.std.specs.Prelude.{◌≡◌, ℕ, List, IfOk, IfErr, OnErr, IsSome, length};
 ghost use Rattle.event_core.specs.Takes.{after_policy};
 ghost use Rattle.mediation.specs.Deeds.{policy_after};
 ghost use Rattle.open_session.specs.inner.Standing.{call_of, stage_of, IsStanding};
@@ -27,12 +27,13 @@ impl Call {
         })
     }
 
-    /// The stage of the call after it has read the policy, or the call as it was if memory is refused.
+    /// The stage of the call after it has read the policy, or the call as it was if memory is refused for a share of its profile.
     pub(crate) fn after_policy(self, policy: &Policy) -> Result<Stage, Call>
         ensures ok { IfOk result (λ stage. stage_of stage ≡ after_policy (call_of self) (length policy.now)
             (policy_after policy.now self.profile.items)) }
         ensures stands { IfOk result (λ stage. (capacity : ℕ) (room : List ℕ) → IsStanding capacity room stage) }
         ensures err { IfErr result (λ call. call ≡ self) }
+        ensures memory { OnErr result (IsSome (policy_after policy.now self.profile.items)) }
     {
         let policy_version = policy.version();
         match policy.share(&self.profile) {

@@ -4,7 +4,7 @@ ghost use Rattle.tree_row.specs.Rows.{row_length};
 ghost use Rattle.event_core.specs.Machine.{new_session};
 ghost use Rattle.open_session.specs.Steps.{Begins, ReadsPolicy, ReadsCount, ReadsCell, CellReads, ChecksCount, Answers, MayStep, MayTell};
 ghost use Rattle.open_session.specs.Seen.{SeesTree};
-ghost use Rattle.open_session.specs.Turns.{IsResting, IsBegun, IsPoliced, IsReading, IsWalked, IsAnswerable};
+ghost use Rattle.open_session.specs.Turns.{IsResting, IsBegun, SharesProfile, IsPoliced, IsReading, IsWalked, IsAnswerable};
 
 use crate::call::{Call, Policed};
 use crate::session::Session;
@@ -63,6 +63,7 @@ impl Session {
         ensures not_now { IfErr result (λ fault. fault ≡ StepFault.NotNow →
             ¬ (MayStep (Begins (record { profile = profile.now; path = path.now; ask = ask })) self.old.1)) }
         ensures turn { IfErr result (λ fault. fault ≡ StepFault.NotNow → ¬ (IsResting self.old.1.stage)) }
+        ensures memory { IfErr result (λ fault. fault ≡ StepFault.NoMemory → IsResting self.old.1.stage) }
     {
         let Stage::Resting = self.stage else {
             return Err(StepFault::NotNow);
@@ -76,13 +77,15 @@ impl Session {
         }
     }
 
-    /// Reads the policy: its version, and what it says about the profile's name.
+    /// Reads the policy: its version, and what it says about the profile's name. Memory is refused only for a share of a profile
+    /// that is published.
     pub fn read_policy(&mut self, policy: &Policy) -> Result<(), StepFault>
         ensures capacity { self.new.0 ≡ self.old.0 }
         ensures ok { OnOk result (ReadsPolicy policy.now self.old.1 self.new.1) }
         ensures err { OnErr result (self.new ≡ self.old) }
         ensures not_now { IfErr result (λ fault. fault ≡ StepFault.NotNow → ¬ (MayStep (ReadsPolicy policy.now) self.old.1)) }
         ensures turn { IfErr result (λ fault. fault ≡ StepFault.NotNow → ¬ (IsBegun self.old.1.stage)) }
+        ensures memory { IfErr result (λ fault. fault ≡ StepFault.NoMemory → SharesProfile policy.now self.old.1.stage) }
     {
         match mem::replace(&mut self.stage, Stage::Resting) {
             Stage::Begun(call) => match call.after_policy(policy) {
@@ -102,7 +105,7 @@ impl Session {
         }
     }
 
-    /// Reads the count, and chooses what to read next: the word at a place, or the count again.
+    /// Reads the count, and chooses what to read next: the word at a place, or the count again. Takes no memory.
     pub fn read_count(
         &mut self,
         alloc: Global,
@@ -115,6 +118,7 @@ impl Session {
         ensures err { OnErr result (self.new ≡ self.old) }
         ensures not_now { IfErr result (λ fault. fault ≡ StepFault.NotNow → ¬ (MayStep (ReadsCount self.old.0 keeper.now.1) self.old.1)) }
         ensures turn { IfErr result (λ fault. fault ≡ StepFault.NotNow → ¬ (IsPoliced self.old.1.stage)) }
+        ensures memory { IfErr result (λ fault. fault ≡ StepFault.NotNow) }
     {
         match mem::replace(&mut self.stage, Stage::Resting) {
             Stage::Policed(policed) => {
@@ -139,6 +143,7 @@ impl Session {
         ensures not_now { IfErr result (λ fault. fault ≡ StepFault.NotNow →
             ¬ (MayStep (ReadsCell self.old.0 keeper.now.1.cells) self.old.1)) }
         ensures turn { IfErr result (λ fault. fault ≡ StepFault.NotNow → ¬ (IsReading self.old.1.stage)) }
+        ensures memory { IfErr result (λ fault. fault ≡ StepFault.NoMemory → IsReading self.old.1.stage) }
     {
         match self.read_cells(keeper, 1, scratch) {
             Ok(0) => Err(StepFault::NotNow),
@@ -148,7 +153,7 @@ impl Session {
     }
 
     /// Reads as many cells as its walk needs, at most `most`, in one walk over the words that it knows and those cells. Returns
-    /// the number of cells read. If memory is refused for a cell, the cells before it were read.
+    /// the number of cells read. If memory is refused for a cell, which the walk reads next, the cells before it were read.
     pub fn read_cells(
         &mut self,
         keeper: &Keeper,
@@ -163,6 +168,7 @@ impl Session {
         ensures turn { IfOk result (λ count. count < most → ¬ (IsReading self.new.1.stage)) }
         ensures err { IfErr result (λ fault. (fault ≡ StepFault.NoMemory)
             × ((count : ℕ) × (count < most) × CellReads self.old.0 keeper.now.1.cells count self.old.1 self.new.1)) }
+        ensures memory { OnErr result (IsReading self.new.1.stage) }
     {
         match mem::replace(&mut self.stage, Stage::Resting) {
             Stage::Walking(walk) => {
@@ -182,7 +188,7 @@ impl Session {
         }
     }
 
-    /// Reads the count again, once the walk needs no cell.
+    /// Reads the count again, once the walk needs no cell. Takes no memory.
     pub fn check_count(&mut self, keeper: &Keeper) -> Result<(), StepFault>
         requires { SeesTree self.old.0 keeper.now.1 self.old.1.stage }
         ensures capacity { self.new.0 ≡ self.old.0 }
@@ -190,6 +196,7 @@ impl Session {
         ensures err { OnErr result (self.new ≡ self.old) }
         ensures not_now { IfErr result (λ fault. fault ≡ StepFault.NotNow → ¬ (MayStep (ChecksCount keeper.now.1) self.old.1)) }
         ensures turn { IfErr result (λ fault. fault ≡ StepFault.NotNow → ¬ (IsWalked self.old.1.stage)) }
+        ensures memory { IfErr result (λ fault. fault ≡ StepFault.NotNow) }
     {
         match mem::replace(&mut self.stage, Stage::Resting) {
             Stage::Walking(walk) => match walk.next_place() {

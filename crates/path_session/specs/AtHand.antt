@@ -4,9 +4,10 @@ use Rattle.std.specs.Prelude.{◌≡◌, ◌⊎◌, ◌+◌, ℕ, List}
 use Rattle.dentry_cache.specs.Models.{Held}
 use Rattle.mediation.specs.declared.answer.LinkAnswer.{LinkAnswer}
 use Rattle.mediation.specs.declared.answer.LinkAnswer.TheVariants as link
+use Rattle.mediation.specs.Deeds.{Deed}
 use Rattle.mediation.specs.Linking.{LinkAnswered, IsMade}
 use Rattle.mediation.specs.Opening.{Answered, judged, failed, no_profile}
-use Rattle.profile_registry.specs.Views.{IsUnanswered}
+use Rattle.profile_registry.specs.Views.{IsUnanswered, IsUnansweredWith}
 use Rattle.justification.specs.declared.answer.Answer.{Answer}
 use Rattle.justification.specs.declared.answer.Answer.TheVariants.{Judged, Failed, NoProfile, Busy}
 use Rattle.justification.specs.declared.answer.Answer.TheVariants as answer
@@ -41,10 +42,15 @@ IsNoLink before now answered NoEntry = IsUnanswered before.reading now.reading n
     × (now.reading.refused ≡ before.reading.refused + 1)
 IsNoLink before now answered NoMemory = IsLetIn before now × IsMade answered
 
--- the same where the publisher is at hand: no share of the profile was given, or memory was refused for a link that would be made
-abbrev pub IsNoLinkOf : LinkAnswered → Unanswered → Type 0
-IsNoLinkOf answered NoEntry = Unit {0}
-IsNoLinkOf answered NoMemory = IsMade answered
+-- The same where the publisher is at hand: the reader learned what is published, was let in once, and answered; and why a link isn't
+-- answered.
+abbrev pub IsLetInWith : List Deed → Sitting → Sitting → Type 0
+IsLetInWith published before now =
+    (now.reading.learned ≡ published) × (now.reading.entries ≡ 1) × (now.reading.refused ≡ before.reading.refused)
+
+abbrev pub IsNoLinkWith : List Deed → Sitting → Sitting → LinkAnswered → Unanswered → Type 0
+IsNoLinkWith published before now answered NoEntry = IsUnansweredWith published before.reading now.reading now.profile
+IsNoLinkWith published before now answered NoMemory = IsLetInWith published before now × IsMade answered
 
 -- if no link was made, the keeper is as it was, with its count and its cells
 abbrev pub IsUntouchedUnlessMade : LinkAnswer → Held → Held → Type 0

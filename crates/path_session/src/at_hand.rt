@@ -5,7 +5,8 @@ ghost use Rattle.dentry_cache.specs.Walks.{met_at};
 ghost use Rattle.mediation.specs.Answers.{answered, name_opened, link_answered, name_linked};
 ghost use Rattle.mediation.specs.History.{open_answer, link_answer, after_link};
 ghost use Rattle.path_session.specs.Sitting.{IsSameSession, counted};
-ghost use Rattle.path_session.specs.AtHand.{IsNoLinkOf, IsUntouchedUnlessMade};
+ghost use Rattle.path_session.specs.AtHand.{IsLetInWith, IsNoLinkWith, IsUntouchedUnlessMade};
+ghost use Rattle.profile_registry.specs.Views.{IsUnansweredWith};
 ghost use Rattle.path_session.specs.Standing.{history_of};
 
 use crate::linking::link_by;
@@ -18,7 +19,8 @@ use profile_registry::{NoEntry, Publisher};
 
 impl Session {
     /// Opens a file as [`open_with`](Session::open_with) does, using all that the publisher has published. The session's reader
-    /// is one of this publisher: what it learned last begins what is published.
+    /// is one of this publisher: what it learned last begins what is published. There is no entry only where the reader isn't
+    /// answered, which is counted: then the session is as it was, but for what it learned of tree and policy.
     pub fn open_with_both(
         &mut self,
         keeper: &mut Keeper,
@@ -39,7 +41,9 @@ impl Session {
             ≡ name_opened (open_answer (history_of keeper.old publisher.old.published) self.old.profile path.now ask)) }
         ensures kept { (self.new.kept_answers ≡ self.old.kept_answers)
             ⊎ (IsOk result × (self.new.kept_answers ≡ counted self.old.kept_answers)) }
-        ensures err { OnErr result (self.new.judged ≡ []) }
+        ensures ok { OnOk result (IsLetInWith publisher.old.published self.old self.new) }
+        ensures err { OnErr result ((self.new.judged ≡ [])
+            × IsUnansweredWith publisher.old.published self.old.reading self.new.reading self.old.profile) }
     {
         self.name_length = 0;
         self.meet(keeper);
@@ -74,7 +78,8 @@ impl Session {
     }
 
     /// Makes a hard link as [`link_with`](Session::link_with) does, using all that the publisher has published. The session's
-    /// reader is one of this publisher, as in [`open_with_both`](Session::open_with_both).
+    /// reader is one of this publisher, as in [`open_with_both`](Session::open_with_both). There is no entry only where the reader
+    /// isn't answered, which is counted, and memory is refused only for a link that would be made.
     pub fn link_with_both(
         &mut self,
         keeper: &mut Keeper,
@@ -88,6 +93,7 @@ impl Session {
         ensures kept { IfOk result (λ answer. IsUntouchedUnlessMade answer keeper.old keeper.new) }
         ensures policy_seen { OnOk result (self.new.reading.seen ≡ publisher.old.published) }
         ensures learned { IsPrefix self.new.reading.learned publisher.old.published }
+        ensures let_in { OnOk result (IsLetInWith publisher.old.published self.old self.new) }
         ensures ok { IfOk result (λ answer. link_answered self.new.judged answer
             ≡ link_answer (history_of keeper.old publisher.old.published) self.old.profile old.now new.now) }
         ensures name { OnOk result (self.new.judged
@@ -96,7 +102,8 @@ impl Session {
             ≡ after_link (history_of keeper.old publisher.old.published) old.now new.now
             (link_answer (history_of keeper.old publisher.old.published) self.old.profile old.now new.now)) }
         ensures err { IfErr result (λ why. (keeper.new ≡ keeper.old) × (self.new.judged ≡ [])
-            × IsNoLinkOf (link_answer (history_of keeper.old publisher.old.published) self.old.profile old.now new.now) why) }
+            × IsNoLinkWith publisher.old.published self.old self.new
+            (link_answer (history_of keeper.old publisher.old.published) self.old.profile old.now new.now) why) }
     {
         self.name_length = 0;
         let Ok(policy_version) = self.known.read_published(publisher) else {

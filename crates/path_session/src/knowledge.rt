@@ -9,7 +9,7 @@ ghost use Rattle.mediation.specs.Deeds.{policy_after};
 ghost use Rattle.mediation.specs.Judging.{reached_of};
 ghost use Rattle.mediation.specs.Opening.{reached};
 ghost use Rattle.mediation.specs.PolicyChanges.{judge_shared};
-ghost use Rattle.profile_registry.specs.Views.{IsUnanswered};
+ghost use Rattle.profile_registry.specs.Views.{IsUnanswered, IsUnansweredWith};
 ghost use Rattle.path_session.specs.inner.Knowing.{IsCurrent, asked_by, kept_of};
 ghost use Rattle.path_session.specs.inner.Right.{IsRightFor};
 
@@ -149,6 +149,9 @@ impl Knowledge {
         ensures profile { OnOk result (option_map judge_shared self.new.published
             ≡ policy_after publisher.old.published self.old.profile) }
         ensures version { IfOk result (λ version. version ≡ length publisher.old.published) }
+        ensures let_in { OnOk result ((self.new.reading.learned ≡ publisher.old.published) × (self.new.reading.entries ≡ 1)
+            × (self.new.reading.refused ≡ self.old.reading.refused)) }
+        ensures err { OnErr result (IsUnansweredWith publisher.old.published self.old.reading self.new.reading self.old.profile) }
     {
         let learned = self.learned_version.take();
         self.verdicts.keep_if(learned.is_some());

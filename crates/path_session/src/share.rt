@@ -4,7 +4,7 @@ ghost use Rattle.std.specs.Option.{option_map};
 ghost use mathlib.Core.List.{IsPrefix};
 ghost use Rattle.mediation.specs.Deeds.{policy_after};
 ghost use Rattle.mediation.specs.PolicyChanges.{judge_shared};
-ghost use Rattle.profile_registry.specs.Views.{IsUnanswered};
+ghost use Rattle.profile_registry.specs.Views.{IsUnanswered, IsUnansweredWith};
 ghost use Rattle.path_session.specs.inner.Sharing.{IsShareOf};
 
 use matcher::AnyProfile;
@@ -71,6 +71,8 @@ impl Share {
         ensures seen { OnOk result (reader.new.seen ≡ publisher.old.published) }
         ensures profile { OnOk result (option_map judge_shared self.new.profile ≡ policy_after publisher.old.published name.now) }
         ensures version { IfOk result (λ version. version ≡ length publisher.old.published) }
+        ensures ok { OnOk result ((reader.new.entries ≡ 1) × (reader.new.refused ≡ reader.old.refused)) }
+        ensures err { OnErr result (IsUnansweredWith publisher.old.published reader.old reader.new name.now) }
     {
         // What the publisher reports replaces what the reader has seen, so earlier versions are unknown from then on.
         self.version = None;

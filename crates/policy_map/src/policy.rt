@@ -1,5 +1,5 @@
 //! The published profiles.
-ghost use Rattle.std.specs.Prelude.{◌≡◌, ◌+◌, ◌<◌, ◌^◌, ◌++◌, [], IfOk, OnErr, length, map};
+ghost use Rattle.std.specs.Prelude.{◌≡◌, ◌+◌, ◌<◌, ◌^◌, ◌++◌, [], IfOk, OnErr, IsSome, length, map};
 ghost use Rattle.std.specs.Option.{option_map};
 ghost use Rattle.mediation.specs.Deeds.{policy_after};
 ghost use Rattle.mediation.specs.PolicyChanges.{deed_of, judge_shared};
@@ -66,9 +66,11 @@ impl Policy {
         }
     }
 
-    /// A share of the profile under a name, if one is published. It stays as it is, whatever is published later.
+    /// A share of the profile under a name, if one is published. It stays as it is, whatever is published later. It is refused
+    /// only where a profile is published, of which no share can be made.
     pub fn share(&self, name: &[u8]) -> Result<Option<Arc<AnyProfile>>, NoMemory>
-        ensures { IfOk result (λ profile. option_map judge_shared profile ≡ policy_after self.now name.now) }
+        ensures ok { IfOk result (λ profile. option_map judge_shared profile ≡ policy_after self.now name.now) }
+        ensures err { OnErr result (IsSome (policy_after self.now name.now)) }
     {
         match self.profiles.get(name) {
             Some(profile) => match Arc::try_clone(profile) {

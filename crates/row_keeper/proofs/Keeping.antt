@@ -3,7 +3,7 @@ use Rattle.std.proofs.Common.{◌≡◌, ◌≢◌, ℕ, suc, ◌+◌, ◌<◌, 
 use Rattle.std.proofs.Common.{sym, refl, ap, ◌∙◌, subst, arith, get_or, length-drop, drop-cons}
 use Rattle.std.proofs.lemmas.List.{drop_all}
 use Rattle.std.proofs.lemmas.Bool.{lt-ltb, ltb-true}
-use Rattle.std.specs.Prelude.{Vec, Ok, Err, slice_set, nat_lt, if◌then◌else◌}
+use Rattle.std.specs.Prelude.{Vec, Ok, Err, IsOk, slice_set, nat_lt, if◌then◌else◌}
 use Rattle.std.specs.List.{All}
 use Rattle.std.specs.Option.{is_some}
 use Rattle.std.specs.declared.alloc.Global.{Global}
@@ -13,7 +13,7 @@ use Rattle.names.specs.declared.errors.Errno.TheVariants.{ENOMEM, EOVERFLOW}
 use Rattle.directory_tree.specs.declared.change.Change.{Change}
 use Rattle.directory_tree.specs.declared.change.Change.TheVariants as change
 use Rattle.directory_tree.specs.Tree.{Tree, root_alone}
-use Rattle.directory_tree.specs.Apply.{apply, apply_counted, has_room, max_changes, tree_after}
+use Rattle.directory_tree.specs.Apply.{Changed, apply, apply_counted, has_room, max_changes, tree_after}
 use Rattle.directory_tree.proofs.Basics.{ok_inj, err_is_ok, none_is_some, true_is_false}
 use Rattle.directory_tree.proofs.Changes.{tree_after_well}
 use Rattle.path_lookup.specs.World.{World}
@@ -31,9 +31,10 @@ use Rattle.row_plan.specs.Plan.{Plannable, Plans, Refuses, next_after}
 use Rattle.row_plan.proofs.Numbering.{numbered}
 use Rattle.row_keeper.specs.declared.history.History.{History}
 use Rattle.row_keeper.specs.declared.open_change.OpenChange.{OpenChange}
-use Rattle.row_keeper.specs.Keeping.{MayPlan, IsOpened, IsSet, IsClosed, MayClose, IsTested}
+use Rattle.row_keeper.specs.Keeping.{MayPlan, IsOpened, Accepts, IsSet, IsClosed, MayClose, IsTested}
 use Rattle.row_keeper.specs.inner.Kept.{last_from, last_of, pending_of, view_with, IsKept}
 use Rattle.row_keeper.specs.inner.Planned.{IsPlanned}
+use Rattle.row_keeper.proofs.Reasons.{never_memory}
 
 -- the last of some changes with one appended
 last_from_more : (first : Change) (changes : List Change) (change : Change) → last_from first (changes ++ change ∷ []) ≡ change
@@ -138,6 +139,16 @@ module _ (capacity : ℕ) (cells : List ℕ) (next version : ℕ) (history : Lis
         | inr is ↦ counted capacity history k.tree k.made change few ∙ is
       ]
 
+  rest_accepts : version ≢ max_changes
+      → ((row : List ℕ) (w : World) → row ≡ cells → EncodesWorld capacity row w → Refuses capacity w change ENOMEM)
+      → IsOk (tree_after capacity (history ++ change ∷ []))
+  rest_accepts not_last refuses =
+      let few : length history < max_changes = omega (arith, k.few, k.version_is, not_last) in
+      elim (refuses cells world refl stands) [
+        | inl (memory, good) ↦ subst (λ (c : Changed). IsOk c) (sym (counted capacity history k.tree k.made change few)) good
+        | inr is ↦ absurd (never_memory k.tree (has_room capacity k.tree) change is)
+      ]
+
   rest_full : version ≡ max_changes → tree_after capacity (history ++ change ∷ []) ≡ Err EOVERFLOW
   rest_full last = too_many capacity history k.tree k.made change (sym k.version_is ∙ last)
 
@@ -196,6 +207,13 @@ module _ (capacity : ℕ) (cells : List ℕ) (next version : ℕ) (history : Lis
     refused change errno not_last other refuses =
         subst (λ (v : ℕ × KeeperView). IsPlanned v.0 v.1 change (Err errno)) is_rest
         (refl, rest_refused capacity cells next version history set kept_rest change errno not_last other refuses)
+
+    pub accepts : (change : Change) → version ≢ max_changes
+        → ((row : List ℕ) (w : World) → row ≡ cells → EncodesWorld capacity row w → Refuses capacity w change ENOMEM)
+        → Accepts value.0 value.1 change
+    accepts change not_last refuses =
+        subst (λ (v : ℕ × KeeperView). Accepts v.0 v.1 change) is_rest
+        (refl, rest_accepts capacity cells next version history set kept_rest change not_last refuses)
 
   module _ (change : Change) (plan : Vec Cell Global) (may : MayPlan value.0 value.1 change plan.items) (target : History)
       (target_is : target.events ≡ history ++ change ∷ []) where

@@ -1,5 +1,5 @@
 -- The steps of a keeper, in terms of its view: the cases of the machine's legal steps (`Moves`) that are the keeper's.
-use Rattle.std.specs.Prelude.{◌≡◌, ℕ, List, [], ◌∷◌, ◌++◌, length, Some, None, Result, Ok, Err}
+use Rattle.std.specs.Prelude.{◌≡◌, ℕ, List, [], ◌∷◌, ◌++◌, length, Some, None, Result, Ok, Err, IsOk}
 use Rattle.names.specs.declared.errors.Errno.{Errno}
 use Rattle.directory_tree.specs.declared.change.Change.{Change}
 use Rattle.directory_tree.specs.Apply.{tree_after}
@@ -22,6 +22,10 @@ IsOpened capacity old change new = (plan : List Cell) × MayPlan capacity old ch
 
 abbrev pub MayOpen : ℕ → KeeperView → Change → Type 0
 MayOpen capacity old change = (new : KeeperView) × IsOpened capacity old change new
+
+-- at rest, and the definition accepts the change
+abbrev pub Accepts : ℕ → KeeperView → Change → Type 0
+Accepts capacity old change = (old.pending ≡ None) × IsOk (tree_after capacity (old.history ++ change ∷ []))
 
 -- the next cell of the open change was set
 abbrev pub IsSet : KeeperView → KeeperView → Type 0

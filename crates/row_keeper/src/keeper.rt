@@ -4,7 +4,7 @@ ghost use Rattle.std.specs.Option.{option_map};
 ghost use Rattle.row_rule.specs.Row.{count_of};
 ghost use Rattle.row_rule.specs.Steps.{at_rest};
 ghost use Rattle.tree_row.specs.OpeningRow.{opening_row};
-ghost use Rattle.row_keeper.specs.Keeping.{IsOpened, MayOpen, IsSet, MaySet, IsClosed, MayClose, IsTested};
+ghost use Rattle.row_keeper.specs.Keeping.{IsOpened, MayOpen, Accepts, IsSet, MaySet, IsClosed, MayClose, IsTested};
 ghost use Rattle.row_keeper.specs.inner.Planned.{IsPlanned};
 
 use crate::history::History;
@@ -71,12 +71,13 @@ impl Keeper {
         })
     }
 
-    /// Opens a change: plans its cells, of which none is set yet.
+    /// Opens a change: plans its cells, of which none is set yet. Memory is refused only for a change that is accepted.
     pub fn open(&mut self, change: &Change<'_>) -> Result<(), StepFault>
         ensures capacity { self.new.0 ≡ self.old.0 }
         ensures ok { OnOk result (IsOpened self.old.0 self.old.1 change.now self.new.1) }
         ensures same { OnErr result (self.new ≡ self.old) }
         ensures not_now { IfErr result (λ fault. fault ≡ StepFault.NotNow → ¬ (MayOpen self.old.0 self.old.1 change.now)) }
+        ensures memory { IfErr result (λ fault. fault ≡ StepFault.NoMemory → Accepts self.old.0 self.old.1 change.now) }
     {
         let Ok(plan) = self.planned(change)? else {
             return Err(StepFault::NotNow);
@@ -128,11 +129,13 @@ impl Keeper {
     }
 
     /// Returns how many cells a change has to set once it is opened, or the error number that refuses it, which may be the one
-    /// for too many changes. `NotNow` while another change is open. Changes nothing.
+    /// for too many changes. `NotNow` while another change is open, and `NoMemory` only for a change that is accepted. Changes
+    /// nothing.
     pub fn test(&mut self, change: &Change<'_>) -> Result<Result<usize, Errno>, StepFault>
         ensures same { self.new ≡ self.old }
         ensures ok { IfOk result (IsTested self.old.0 self.old.1 change.now) }
         ensures not_now { IfErr result (λ fault. fault ≡ StepFault.NotNow → self.old.1.pending ≢ None) }
+        ensures memory { IfErr result (λ fault. fault ≡ StepFault.NoMemory → Accepts self.old.0 self.old.1 change.now) }
     {
         change_has_one_plan();
         match self.planned(change)? {
@@ -192,6 +195,7 @@ impl Keeper {
         ensures same { self.new ≡ self.old }
         ensures ok { IfOk result (IsPlanned self.old.0 self.old.1 change.now) }
         ensures not_now { IfErr result (λ fault. fault ≡ StepFault.NotNow → self.old.1.pending ≢ None) }
+        ensures memory { IfErr result (λ fault. fault ≡ StepFault.NoMemory → Accepts self.old.0 self.old.1 change.now) }
     {
         if self.opened.is_some() {
             return Err(StepFault::NotNow);

@@ -4,7 +4,7 @@ ghost use Rattle.tree_row.specs.Rows.{row_length};
 ghost use Rattle.event_core.specs.Machine.{new_session};
 ghost use Rattle.open_session.specs.Steps.{Begins, ReadsPolicy, ReadsCount, ReadsCell, CellReads, ChecksCount, Answers, MayStep, MayTell};
 ghost use Rattle.open_session.specs.Seen.{SeesTree};
-ghost use Rattle.open_session.specs.Turns.{IsResting, IsBegun, IsPoliced, IsReading, IsWalked, IsAnswerable};
+ghost use Rattle.open_session.specs.Turns.{IsResting, IsBegun, SharesProfile, IsPoliced, IsReading, IsWalked, IsAnswerable};
 ghost use Rattle.session_table.specs.Table.{session_in, StepsIn};
 
 use crate::sessions::Sessions;
@@ -30,6 +30,7 @@ impl Sessions {
         ensures not_now { IfErr result (λ fault. fault ≡ StepFault.NotNow →
             ¬ (MayStep (Begins (record { profile = profile.now; path = path.now; ask = ask })) (session_in self.old number))) }
         ensures turn { IfErr result (λ fault. fault ≡ StepFault.NotNow → ¬ (IsResting (session_in self.old number).stage)) }
+        ensures memory { IfErr result (λ fault. fault ≡ StepFault.NoMemory → IsResting (session_in self.old number).stage) }
     {
         match self.by_number.get_mut(&number) {
             Some(session) => session.begin(self.alloc, profile, path, ask),
@@ -64,7 +65,8 @@ impl Sessions {
         }
     }
 
-    /// The session reads the policy: its version, and what it says about the profile's name.
+    /// The session reads the policy: its version, and what it says about the profile's name. Memory is refused only for a share
+    /// of a profile that is published.
     pub fn read_policy(&mut self, number: u32, policy: &Policy) -> Result<(), StepFault>
         ensures capacity { self.new.0 ≡ self.old.0 }
         ensures ok { OnOk result (StepsIn (ReadsPolicy policy.now) number (session_in self.old) (session_in self.new)) }
@@ -72,6 +74,8 @@ impl Sessions {
         ensures not_now { IfErr result (λ fault. fault ≡ StepFault.NotNow →
             ¬ (MayStep (ReadsPolicy policy.now) (session_in self.old number))) }
         ensures turn { IfErr result (λ fault. fault ≡ StepFault.NotNow → ¬ (IsBegun (session_in self.old number).stage)) }
+        ensures memory { IfErr result (λ fault. fault ≡ StepFault.NoMemory →
+            SharesProfile policy.now (session_in self.old number).stage) }
     {
         match self.by_number.get_mut(&number) {
             Some(session) => session.read_policy(policy),
@@ -79,7 +83,7 @@ impl Sessions {
         }
     }
 
-    /// The session reads the count, and chooses what it does next: it reads the word at a place, or the count.
+    /// The session reads the count, and chooses what it does next: it reads the word at a place, or the count. Takes no memory.
     pub fn read_count(
         &mut self,
         number: u32,
@@ -93,6 +97,7 @@ impl Sessions {
         ensures not_now { IfErr result (λ fault. fault ≡ StepFault.NotNow →
             ¬ (MayStep (ReadsCount self.old.0 keeper.now.1) (session_in self.old number))) }
         ensures turn { IfErr result (λ fault. fault ≡ StepFault.NotNow → ¬ (IsPoliced (session_in self.old number).stage)) }
+        ensures memory { IfErr result (λ fault. fault ≡ StepFault.NotNow) }
     {
         match self.by_number.get_mut(&number) {
             Some(session) => session.read_count(self.alloc, keeper, scratch),
@@ -115,6 +120,7 @@ impl Sessions {
         ensures not_now { IfErr result (λ fault. fault ≡ StepFault.NotNow →
             ¬ (MayStep (ReadsCell self.old.0 keeper.now.1.cells) (session_in self.old number))) }
         ensures turn { IfErr result (λ fault. fault ≡ StepFault.NotNow → ¬ (IsReading (session_in self.old number).stage)) }
+        ensures memory { IfErr result (λ fault. fault ≡ StepFault.NoMemory → IsReading (session_in self.old number).stage) }
     {
         match self.by_number.get_mut(&number) {
             Some(session) => session.read_cell(keeper, scratch),
@@ -122,8 +128,8 @@ impl Sessions {
         }
     }
 
-    /// The session reads as many cells as its walk needs, at most `most`. Returns how many there were. If memory runs out, those
-    /// before that were read.
+    /// The session reads as many cells as its walk needs, at most `most`. Returns how many there were. If memory runs out for a
+    /// cell, which it reads next, those before that were read.
     pub fn read_cells(
         &mut self,
         number: u32,
@@ -142,6 +148,7 @@ impl Sessions {
         ensures err { IfErr result (λ fault. (fault ≡ StepFault.NoMemory)
             × ((count : ℕ) × (count < most) × StepsIn (CellReads self.old.0 keeper.now.1.cells count) number (session_in self.old)
             (session_in self.new))) }
+        ensures memory { OnErr result (IsReading (session_in self.new number).stage) }
     {
         match self.by_number.get_mut(&number) {
             Some(session) => session.read_cells(keeper, most, scratch),
@@ -149,7 +156,7 @@ impl Sessions {
         }
     }
 
-    /// The session reads the count again, once it needs no cell.
+    /// The session reads the count again, once it needs no cell. Takes no memory.
     pub fn check_count(&mut self, number: u32, keeper: &Keeper) -> Result<(), StepFault>
         requires { SeesTree self.old.0 keeper.now.1 (session_in self.old number).stage }
         ensures capacity { self.new.0 ≡ self.old.0 }
@@ -158,6 +165,7 @@ impl Sessions {
         ensures not_now { IfErr result (λ fault. fault ≡ StepFault.NotNow →
             ¬ (MayStep (ChecksCount keeper.now.1) (session_in self.old number))) }
         ensures turn { IfErr result (λ fault. fault ≡ StepFault.NotNow → ¬ (IsWalked (session_in self.old number).stage)) }
+        ensures memory { IfErr result (λ fault. fault ≡ StepFault.NotNow) }
     {
         match self.by_number.get_mut(&number) {
             Some(session) => session.check_count(keeper),

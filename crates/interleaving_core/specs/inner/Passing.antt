@@ -1,5 +1,6 @@
 -- The outcome of one event of a list.
 use Rattle.std.specs.Prelude.{◌≡◌, ◌⊎◌, ℕ, List, ◌++◌, Option, Result, OnOk, OnErr}
+use Rattle.interleaving_core.specs.Running.{StopsAt}
 use Rattle.justification.specs.declared.answer.Answer.{Answer}
 use Rattle.event_core.specs.Machine.{Event, Machine}
 use Rattle.event_core.specs.Takes.{Takes}
@@ -12,8 +13,8 @@ PassesBy old event answers new more =
     ((told : Option Answer) × Takes old event told new × (more ≡ answers ++ told_by event told))
     ⊎ (¬ (IsLawful old event) × (new ≡ old) × (more ≡ answers))
 
--- If memory is refused, nothing changed, or it was taken.
+-- If memory is refused, it is the event at which a list of them stops.
 pub record IsPass {A B : Type 0} (old : Machine) (event : Event) (answers : List (ℕ × Answer)) (result : Result A B) (new : Machine)
     (more : List (ℕ × Answer)) : Type 0 where
   pub ok : OnOk result (PassesBy old event answers new more)
-  pub err : OnErr result ((new ≡ old) ⊎ ((told : Option Answer) × Takes old event told new))
+  pub err : OnErr result (StopsAt old event new)

@@ -1,5 +1,5 @@
 -- How a session's data represent its stage, and what is known of them.
-use Rattle.std.specs.Prelude.{◌≡◌, ℕ, ◌%◌, ◌<◌, ◌≤◌, List, Option, Some, None, Ok, Err, IfOk, IfErr, take}
+use Rattle.std.specs.Prelude.{◌≡◌, ℕ, ◌%◌, ◌<◌, ◌≤◌, List, Option, Some, None, Ok, Err, IfOk, IfErr, OnErr, IsSome, take}
 use Rattle.mediation.specs.PolicyChanges.{judge_shared}
 use Rattle.mediation.specs.Judging.{reached_of}
 use Rattle.row_rule.specs.declared.view.WalkerView.{WalkerView}
@@ -90,12 +90,13 @@ WalkReads capacity cells count old new =
       stage = walking_of new;
     }
 
--- At most `most` cells were read, and fewer only if none is needed or memory was refused.
+-- At most `most` cells were read, and fewer only if none is needed or memory was refused for the next one.
 pub record ReadsSome (capacity : ℕ) (cells : List ℕ) (most : ℕ) (room : List ℕ) (old : Walk) (new : Readings) : Type 0 where
   pub stands : IsWalk capacity room new.walk
   pub ok : IfOk new.count (λ count. (count ≤ most) × WalkReads capacity cells count old new.walk)
   pub all : IfOk new.count (λ count. count < most → next_of new.walk.next ≡ None)
   pub err : IfErr new.count (λ fault. (fault ≡ NoMemory) × ((count : ℕ) × (count < most) × WalkReads capacity cells count old new.walk))
+  pub memory : OnErr new.count (IsSome (next_of new.walk.next))
 
 -- the answer, with the name at the front of the room
 abbrev pub IsTold : ℕ → List ℕ → Checked → Told → Type 0

@@ -38,5 +38,5 @@ returns c =
       | in-Err w ↦ rw w.result-is
           (refused c.args.self.now parts (answer c.args.session) w.in-Err.fault (Made i.keeper i.policy new) c.self.view_is
           (ap (with_all m) w.in-Err.ensures.err.1) (λ _. no_answer m c.args.session i.sessions.0 c.self.invariant.one_capacity
-          w.in-Err.ensures.not_now) (λ _. w.in-Err.ensures.turn))
+          w.in-Err.ensures.not_now) (λ _. w.in-Err.ensures.turn) w.in-Err.ensures.err.0)
     ]

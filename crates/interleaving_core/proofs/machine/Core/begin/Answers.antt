@@ -30,4 +30,4 @@ returns c =
     c.self.view_is c.begin.result (on_ok_weaker c.begin.result (begins m c.args.session (session_in new) call) c.begin.ensures.ok)
     (on_err_weaker c.begin.result (ap (with_all m)) c.begin.ensures.err)
     (turned_away m (begin c.args.session call) _ c.begin.result (no_begin m c.args.session call) c.begin.ensures.not_now)
-    c.begin.ensures.turn)
+    c.begin.ensures.turn c.begin.ensures.memory)

@@ -5,7 +5,7 @@ use Rattle.session_table.specs.Table.{session_in}
 use Rattle.interleaving_core.specs.inner.Standing.{parts_in}
 use Rattle.interleaving_core.proofs.Lawful.{no_check_count}
 use Rattle.interleaving_core.proofs.Steps.{with_all, checks_count}
-use Rattle.interleaving_core.proofs.Standing.{Made, stepped, sessions_stand, turned_away}
+use Rattle.interleaving_core.proofs.Standing.{Made, stepped, sessions_stand, turned_away, never_memory}
 use Rattle.open_session.specs.Seen.{SeesTree}
 use Rattle.interleaving_core.proofs.machine.Core.check_count.Goals as goal
 
@@ -36,4 +36,4 @@ returns c =
     c.check_count.ensures.ok)
     (on_err_weaker c.check_count.result (ap (with_all m)) c.check_count.ensures.err)
     (turned_away m (check_count c.args.session) _ c.check_count.result (no_check_count m c.args.session) c.check_count.ensures.not_now)
-    c.check_count.ensures.turn)
+    c.check_count.ensures.turn (never_memory _ c.check_count.result c.check_count.ensures.memory))

@@ -1,4 +1,4 @@
-use Rattle.std.proofs.Common.{ap}
+use Rattle.std.proofs.Common.{ap, refl}
 use Rattle.std.proofs.lemmas.Result.{on_ok_weaker}
 use Rattle.event_core.specs.Machine.Event.{close_change}
 use Rattle.interleaving_core.specs.inner.Standing.{parts_in}
@@ -29,5 +29,5 @@ returns c =
           (closes_change m new c.close.ensures.capacity w.in-Ok.ensures.ok))
       | in-Err w ↦ rw w.result-is
           (refused c.args.self.now parts close_change NotNow (Made new i.policy i.sessions) c.self.view_is
-          (ap (with_row m) w.in-Err.ensures.same) (λ _. no_close m w.in-Err.ensures.not_now) (λ _ turn. turn))
+          (ap (with_row m) w.in-Err.ensures.same) (λ _. no_close m w.in-Err.ensures.not_now) (λ _ turn. turn) refl)
     ]

@@ -28,4 +28,4 @@ returns c =
     c.self.view_is c.open.result (on_ok_weaker c.open.result (opens_change m new change c.open.ensures.capacity) c.open.ensures.ok)
     (on_err_weaker c.open.result (ap (with_row m)) c.open.ensures.same)
     (turned_away m (open_change change) _ c.open.result (no_open m change) c.open.ensures.not_now)
-    (never_a_turn c.open.result))
+    (never_a_turn c.open.result) c.open.ensures.memory)

@@ -41,4 +41,4 @@ returns c =
     (on_err_weaker c.read_cell-read.result (ap (with_all m)) c.read_cell-read.ensures.err)
     (turned_away m (read_cell c.args.session) _ c.read_cell-read.result
     (no_read_cell m c.args.session i.sessions.0 c.self.invariant.one_capacity) c.read_cell-read.ensures.not_now)
-    c.read_cell-read.ensures.turn)
+    c.read_cell-read.ensures.turn c.read_cell-read.ensures.memory)

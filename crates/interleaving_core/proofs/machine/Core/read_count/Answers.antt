@@ -5,7 +5,7 @@ use Rattle.session_table.specs.Table.{session_in}
 use Rattle.interleaving_core.specs.inner.Standing.{parts_in}
 use Rattle.interleaving_core.proofs.Lawful.{no_read_count}
 use Rattle.interleaving_core.proofs.Steps.{with_all, reads_count}
-use Rattle.interleaving_core.proofs.Standing.{Made, stepped, sessions_stand, turned_away}
+use Rattle.interleaving_core.proofs.Standing.{Made, stepped, sessions_stand, turned_away, never_memory}
 use Rattle.interleaving_core.proofs.machine.Core.read_count.Goals as goal
 
 pub invariant_of-self : goal.invariant_of-self
@@ -31,4 +31,4 @@ returns c =
     (on_err_weaker c.read_count-read.result (ap (with_all m)) c.read_count-read.ensures.err)
     (turned_away m (read_count c.args.session) _ c.read_count-read.result
     (no_read_count m c.args.session i.sessions.0 c.self.invariant.one_capacity) c.read_count-read.ensures.not_now)
-    c.read_count-read.ensures.turn)
+    c.read_count-read.ensures.turn (never_memory _ c.read_count-read.result c.read_count-read.ensures.memory))

@@ -28,4 +28,4 @@ returns c =
     c.read_policy.ensures.ok)
     (on_err_weaker c.read_policy.result (ap (with_all m)) c.read_policy.ensures.err)
     (turned_away m (read_policy c.args.session) _ c.read_policy.result (no_read_policy m c.args.session) c.read_policy.ensures.not_now)
-    c.read_policy.ensures.turn)
+    c.read_policy.ensures.turn c.read_policy.ensures.memory)

@@ -1,4 +1,4 @@
-use Rattle.std.proofs.Common.{ap}
+use Rattle.std.proofs.Common.{ap, refl}
 use Rattle.std.proofs.lemmas.Result.{on_ok_weaker}
 use Rattle.event_core.specs.Machine.Event.{set_cell}
 use Rattle.interleaving_core.specs.inner.Standing.{parts_in}
@@ -28,5 +28,5 @@ returns c =
           (sets_cell m new c.set.ensures.capacity w.in-Ok.ensures.ok))
       | in-Err w ↦ rw w.result-is
           (refused c.args.self.now parts set_cell NotNow (Made new i.policy i.sessions) c.self.view_is
-          (ap (with_row m) w.in-Err.ensures.same) (λ _. no_set m w.in-Err.ensures.not_now) (λ _ turn. turn))
+          (ap (with_row m) w.in-Err.ensures.same) (λ _. no_set m w.in-Err.ensures.not_now) (λ _ turn. turn) refl)
     ]

@@ -83,3 +83,6 @@ returns-clause-err c =
     (λ fault. (fault ≡ NoMemory) × ((count : ℕ) × (count < c.args.most) × Runs (machine_of p) (cell_reads c.args.session count) []
     (Made i.keeper i.policy c.read_cells.new.self)))) c.self.view_is
     (fell_short (goal.at.returns-clause-err c).After-read_cells)
+
+pub returns-clause-memory : goal.returns-clause-memory
+returns-clause-memory c = c.read_cells.ensures.memory

@@ -2,7 +2,7 @@ use Rattle.std.proofs.Common.{ℕ, ◌≡◌, ◌∙◌, List, take, sym, ap, su
 use Rattle.event_core.specs.Machine.{Session}
 use Rattle.open_session.specs.declared.stage.Stage.{Stage}
 use Rattle.open_session.specs.inner.Standing.{IsWalk, stage_of}
-use Rattle.open_session.proofs.Refusals.{no_cell, no_reading}
+use Rattle.open_session.proofs.Refusals.{no_cell, no_reading, reading_where}
 use Rattle.open_session.proofs.Stands.{if_ok_map, if_err_map, walk_stands, carried}
 use Rattle.open_session.proofs.session.Session.read_cells.Goals as goal
 
@@ -50,3 +50,7 @@ returns-in-Walking-clause-err c =
             (e.1.2 name),
       ),
     ))
+
+pub returns-in-Walking-clause-memory : goal.returns-in-Walking-clause-memory
+returns-in-Walking-clause-memory c =
+    reading_where c.read_cells-walk.result.count _ _ _ c.read_cells-walk.ensures.memory

@@ -19,4 +19,4 @@ returns c =
 pub returns-in_default : goal.returns-in_default
 returns-in_default c =
     reads_none c.args.row.now.0 c.args.row.now.1 c.args.room.now c.args.further c.args.self c.read.new.self c.requires.stands
-    c.in_default.ensures.refused
+    c.in_default.ensures.refused c.args.place c.requires.chosen

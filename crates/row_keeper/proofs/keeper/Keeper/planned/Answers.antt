@@ -1,5 +1,5 @@
 use Rattle.std.proofs.Common.{◌∙◌, sym}
-use Rattle.row_keeper.proofs.Keeping.{is_none, plannable, full, planned, refused}
+use Rattle.row_keeper.proofs.Keeping.{is_none, plannable, full, planned, refused, accepts}
 use Rattle.row_keeper.proofs.keeper.Keeper.planned.Goals as goal
 use Rattle.row_keeper.proofs.keeper.Keeper.planned.Goals.{in-Ok, in-Err+in-ENOMEM, in-Err+in_default}
 
@@ -29,4 +29,16 @@ returns-clause-ok c =
           (refused i.look.cells.0 i.look.cells.1 i.next i.version i.history.events i.opened i.set c.args.self.now c.self.invariant
           c.self.view_is none c.args.change.now w.in-Err.errno c.if-self-eq-MOST_CHANGES.false
           w.in_default.not-ENOMEM w.in-Err.ensures.err)
+    ]
+
+pub returns-clause-memory : goal.returns-clause-memory
+returns-clause-memory c =
+    let i = c.self.inside in
+    let none = is_none i.opened (sym c.is_some.ensures ∙ c.if-is_some.false) in
+    elim c.match-plan.branch [
+      | in-Ok w ↦ rw w.result-is tt
+      | in-Err+in-ENOMEM w ↦ rw w.result-is
+          (λ _. accepts i.look.cells.0 i.look.cells.1 i.next i.version i.history.events i.opened i.set c.args.self.now c.self.invariant
+          c.self.view_is none c.args.change.now c.if-self-eq-MOST_CHANGES.false (rw w.in-ENOMEM.is at w.in-Err.ensures.err))
+      | in-Err+in_default w ↦ rw w.result-is tt
     ]

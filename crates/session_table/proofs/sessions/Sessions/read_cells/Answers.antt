@@ -4,7 +4,7 @@ use Rattle.tree_row.specs.Rows.{row_length}
 use Rattle.open_session.specs.Steps.{ReadsCell, CellReads, MayStep}
 use Rattle.open_session.specs.Turns.{IsReading}
 use Rattle.session_table.proofs.Lifting.{found_capacity, stays, share_stays, none_steps, still_new, no_cell_yet, no_reading_yet, if_ok_map}
-use Rattle.session_table.proofs.Lifting.{if_err_map, of_written, written_shares, written_steps}
+use Rattle.session_table.proofs.Lifting.{if_err_map, on_err_map, of_written, written_shares, written_steps}
 use Rattle.session_table.proofs.sessions.Sessions.read_cells.Goals as goal
 use Rattle.session_table.proofs.sessions.Sessions.read_cells.Goals.{in-Some, in-None}
 
@@ -93,5 +93,16 @@ returns-clause-err c =
                   (λ k. CellReads k c.args.keeper.now.1.cells e.1.0) e.1.2,
             ),
           )))
+      | in-None w ↦ rw w.result-is tt
+    ]
+
+pub returns-clause-memory : goal.returns-clause-memory
+returns-clause-memory c =
+    let i = c.self.inside in
+    elim c.match-get_mut.branch [
+      | in-Some w ↦ rw (w.result-is, w.self-inside-is) (on_err_map w.read_cells.result w.read_cells.ensures.memory
+          (of_written c.args.self.now i.capacity c.args.number i.by_number c.self.view_is c.self.invariant.1
+          w.in-Some.session.now w.in-Some.ensures.value w.read_cells.new.self (c.get_mut.follows.lender w.read_cells.new.self)
+          (c.get_mut.follows.holds w.read_cells.new.self) (λ k s. IsReading s.stage)))
       | in-None w ↦ rw w.result-is tt
     ]
