@@ -1,30 +1,73 @@
-//! One change of the policy at a time.
-ghost use Rattle.std.specs.Prelude.{◌≡◌, [], ◌∷◌, ◌++◌, IfOk, OnErr, length};
-ghost use Rattle.mediation.specs.History.{MayChangePolicy};
+//! Changes of the policy, with what a refused publication left staged.
+ghost use Rattle.std.specs.Prelude.{◌≡◌, ◌-◌, ◌^◌, ◌<◌, false, [], IfOk, IfErr, OnErr};
+ghost use Rattle.glob_automaton.specs.Automata.{most_sets};
+ghost use Rattle.glob_automaton.specs.Sets.{AreMoreThan};
+ghost use Rattle.matcher.specs.Making.{IsMakeFault};
+ghost use Rattle.mediation.specs.Deeds.{published_rules, removed};
 ghost use Rattle.mediation.specs.PolicyChanges.{deed_of};
+ghost use Rattle.profile_registry.specs.Views.{changes_of};
+ghost use Rattle.rule_profile.specs.Profile.{profile_value};
+ghost use Rattle.session_bench.specs.Benching.{HasPublished, IsKeptBack, IsSameBut};
 
-use matcher::PolicyChange;
+use crate::bench::SessionBench;
+use matcher::{CompiledProfile, MakeFault, PolicyChange};
 use names::NoMemory;
+use policy_map::replacement;
 use profile_registry::Publisher;
+use rule_profile::Profile;
 use std::sync::Wait;
 
-/// Publishes one change, and returns the policy's new version.
-///
-/// If memory runs out after a change was staged, it stays staged. Then no other change is taken any more, since both would be
-/// published at once: each fails as out of memory.
-pub(crate) fn publish_one<R: Wait>(
+impl<R: Wait> SessionBench<'_, R> {
+    /// Whether a publication was refused after its change was staged, and none was made since.
+    pub fn has_staged(&self) -> bool
+        ensures none { result ≡ false → self.now.publisher.staged ≡ [] }
+        ensures some { self.now.publisher.staged ≡ [] → result ≡ false }
+    {
+        self.publisher.changes() != self.publisher.version()
+    }
+
+    /// Publishes a profile under its name together with what is staged, all at once, and returns the policy's new version. If
+    /// memory is refused, nothing is published, and this change may be staged, too, for the next publication.
+    pub fn publish_with_staged(&mut self, profile: Profile) -> Result<u64, MakeFault>
+        requires { changes_of self.old.publisher < 2 ^ 60 - 1 }
+        ensures same { IsSameBut self.old self.new }
+        ensures ok { IfOk result (λ version.
+            HasPublished self.old.publisher self.new.publisher (published_rules (profile_value profile)) version
+            × ¬ (AreMoreThan most_sets (profile_value profile).rules)) }
+        ensures err { IfErr result (λ fault. IsKeptBack self.old.publisher self.new.publisher (published_rules (profile_value profile))
+            × IsMakeFault (profile_value profile).rules fault) }
+    {
+        let compiled = CompiledProfile::make(self.alloc, profile)?;
+        let change = replacement(self.alloc, compiled)?;
+        Ok(publish_one(self.rt, &mut self.publisher, change)?)
+    }
+
+    /// Removes the profile of a name together with what is staged, as [`publish_with_staged`](SessionBench::publish_with_staged)
+    /// publishes one.
+    pub fn remove_with_staged(&mut self, name: &[u8]) -> Result<u64, NoMemory>
+        requires { changes_of self.old.publisher < 2 ^ 60 - 1 }
+        ensures same { IsSameBut self.old self.new }
+        ensures ok { IfOk result (HasPublished self.old.publisher self.new.publisher (removed name.now)) }
+        ensures err { OnErr result (IsKeptBack self.old.publisher self.new.publisher (removed name.now)) }
+    {
+        let Ok(name) = Vec::from_slice(self.alloc, name) else {
+            return Err(NoMemory);
+        };
+        publish_one(self.rt, &mut self.publisher, PolicyChange::Remove(name))
+    }
+}
+
+/// Publishes one change together with those that are staged, and returns the policy's new version. If memory runs out, nothing is
+/// published; if that is after the change was staged, it stays staged.
+fn publish_one<R: Wait>(
     rt: &R,
     publisher: &mut Publisher,
     change: PolicyChange,
 ) -> Result<u64, NoMemory>
-    requires { MayChangePolicy publisher.old.published }
-    ensures ok { IfOk result (λ version. (publisher.new.published ≡ publisher.old.published ++ deed_of change ∷ [])
-        × (version ≡ length publisher.new.published)) }
-    ensures err { OnErr result (publisher.new.published ≡ publisher.old.published) }
+    requires { changes_of publisher.old < 2 ^ 60 - 1 }
+    ensures ok { IfOk result (HasPublished publisher.old publisher.new (deed_of change)) }
+    ensures err { OnErr result (IsKeptBack publisher.old publisher.new (deed_of change)) }
 {
-    if publisher.changes() != publisher.version() {
-        return Err(NoMemory);
-    }
     match change {
         PolicyChange::Replace(name, profile) => publisher.replace(&name, profile)?,
         PolicyChange::Remove(name) => publisher.remove(&name)?,

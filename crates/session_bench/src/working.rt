@@ -1,24 +1,27 @@
 //! What is done on a bench.
-ghost use Rattle.std.specs.Prelude.{◌≡◌, IfOk, IfErr, OnErr, OnOk, [], if◌then◌else◌};
+ghost use Rattle.std.specs.Prelude.{◌≡◌, ◌≢◌, IfOk, IfErr, OnErr, OnOk, [], if◌then◌else◌};
+ghost use mathlib.Core.List.{IsPrefix};
 ghost use Rattle.directory_tree.specs.Plain.{Accepted, Refused};
+ghost use Rattle.mediation.specs.Answers.{answered, name_opened, link_answered, name_linked};
+ghost use Rattle.mediation.specs.History.{open_answer, link_answer, after_link};
 ghost use Rattle.path_session.specs.Standing.{plain_of, history_of};
+ghost use Rattle.session_bench.specs.Benching.{IsNotOpened, IsNotLinked};
 
 use crate::bench::SessionBench;
-use crate::publishing::publish_one;
 use dentry_cache::Keeper;
 use directory_tree::Change;
-use matcher::{CompiledProfile, MakeFault, PolicyChange};
+use matcher::MakeFault;
 use mediation::{Answer, Bench, LinkAnswer};
 use names::{Errno, NoMemory, Perms};
 use path_session::Session;
-use policy_map::replacement;
+use profile_registry::Publisher;
 use rule_profile::Profile;
 use std::sync::Wait;
 
 /// Opens by the profile of this name from now on, if another one is selected.
 fn select(session: &mut Session, profile: &[u8]) -> Result<(), NoMemory>
     ensures ok { OnOk result (session.new ≡ record session.old { profile = profile.now }) }
-    ensures err { OnErr result (session.new ≡ session.old) }
+    ensures err { OnErr result ((session.new ≡ session.old) × (session.old.profile ≢ profile.now)) }
 {
     if session.profile() == profile {
         return Ok(());
@@ -37,6 +40,64 @@ fn apply(keeper: &mut Keeper, change: &Change<'_>) -> Result<u64, Errno>
     keeper.apply(change)
 }
 
+/// Opens by the profile of this name. Memory is refused for a copy of the name, or as there is no entry into the policy.
+fn open_by(
+    session: &mut Session,
+    keeper: &mut Keeper,
+    publisher: &mut Publisher,
+    profile: &[u8],
+    path: &[u8],
+    ask: Perms,
+) -> Result<Answer, NoMemory>
+    requires row { session.old.walk.table ≡ keeper.old.table }
+    requires policy { IsPrefix session.old.reading.learned publisher.old.published }
+    ensures same { (session.new.walk.table ≡ session.old.walk.table) × (keeper.new ≡ keeper.old) × (publisher.new ≡ publisher.old) }
+    ensures learned { IsPrefix session.new.reading.learned publisher.old.published }
+    ensures ok { IfOk result (λ answer. answered session.new.judged answer
+        ≡ open_answer (history_of keeper.old publisher.old.published) profile.now path.now ask) }
+    ensures name { OnOk result (session.new.judged
+        ≡ name_opened (open_answer (history_of keeper.old publisher.old.published) profile.now path.now ask)) }
+    ensures err { OnErr result (IsNotOpened publisher.old.published session.old session.new profile.now) }
+{
+    select(session, profile)?;
+    match session.open_with_both(keeper, publisher, path, ask) {
+        Ok(answer) => Ok(answer),
+        // No share of the profile was given, or no place was free for a `Told`.
+        Err(_) => Err(NoMemory),
+    }
+}
+
+/// Makes a hard link by the profile of this name. Memory is refused as for an open, or for a link that would be made.
+fn link_by(
+    session: &mut Session,
+    keeper: &mut Keeper,
+    publisher: &mut Publisher,
+    profile: &[u8],
+    old: &[u8],
+    new: &[u8],
+) -> Result<LinkAnswer, NoMemory>
+    requires { IsPrefix session.old.reading.learned publisher.old.published }
+    ensures same { (session.new.walk.table ≡ session.old.walk.table) × (keeper.new.table ≡ keeper.old.table)
+        × (publisher.new ≡ publisher.old) }
+    ensures learned { IsPrefix session.new.reading.learned publisher.old.published }
+    ensures ok { IfOk result (λ answer. link_answered session.new.judged answer
+        ≡ link_answer (history_of keeper.old publisher.old.published) profile.now old.now new.now) }
+    ensures name { OnOk result (session.new.judged
+        ≡ name_linked (link_answer (history_of keeper.old publisher.old.published) profile.now old.now new.now)) }
+    ensures history { OnOk result (history_of keeper.new publisher.old.published
+        ≡ after_link (history_of keeper.old publisher.old.published) old.now new.now
+        (link_answer (history_of keeper.old publisher.old.published) profile.now old.now new.now)) }
+    ensures err { OnErr result ((keeper.new ≡ keeper.old) × IsNotLinked publisher.old.published session.old session.new profile.now
+        (link_answer (history_of keeper.old publisher.old.published) profile.now old.now new.now)) }
+{
+    select(session, profile)?;
+    match session.link_with_both(keeper, publisher, old, new) {
+        Ok(answer) => Ok(answer),
+        // As in `open_by`, or memory ran out for a link that would be made.
+        Err(_) => Err(NoMemory),
+    }
+}
+
 impl<R: Wait> Bench for SessionBench<'_, R> {
     ghost history = { λ b. history_of b.keeper b.publisher.published };
 
@@ -48,34 +109,30 @@ impl<R: Wait> Bench for SessionBench<'_, R> {
 
     fn open(&mut self, profile: &[u8], path: &[u8], ask: Perms) -> Result<Answer, NoMemory> {
         self.has_answered = false;
-        select(&mut self.session, profile)?;
-        let answer = self
-            .session
-            .open_with_both(&mut self.keeper, &mut self.publisher, path, ask);
-        match answer {
-            Ok(answer) => {
-                self.has_answered = true;
-                Ok(answer)
-            }
-            // No share of the profile was given, or no place was free for a `Told`.
-            Err(_) => Err(NoMemory),
-        }
+        let answer = open_by(
+            &mut self.session,
+            &mut self.keeper,
+            &mut self.publisher,
+            profile,
+            path,
+            ask,
+        )?;
+        self.has_answered = true;
+        Ok(answer)
     }
 
     fn link(&mut self, profile: &[u8], old: &[u8], new: &[u8]) -> Result<LinkAnswer, NoMemory> {
         self.has_answered = false;
-        select(&mut self.session, profile)?;
-        let answer = self
-            .session
-            .link_with_both(&mut self.keeper, &mut self.publisher, old, new);
-        match answer {
-            Ok(answer) => {
-                self.has_answered = true;
-                Ok(answer)
-            }
-            // As in `open`, or memory ran out for a link that would be made.
-            Err(_) => Err(NoMemory),
-        }
+        let answer = link_by(
+            &mut self.session,
+            &mut self.keeper,
+            &mut self.publisher,
+            profile,
+            old,
+            new,
+        )?;
+        self.has_answered = true;
+        Ok(answer)
     }
 
     fn name(&self) -> &[u8] {
@@ -87,15 +144,17 @@ impl<R: Wait> Bench for SessionBench<'_, R> {
     }
 
     fn publish(&mut self, profile: Profile) -> Result<u64, MakeFault> {
-        let compiled = CompiledProfile::make(self.alloc, profile)?;
-        let change = replacement(self.alloc, compiled)?;
-        Ok(publish_one(self.rt, &mut self.publisher, change)?)
+        // A bench publishes one change at a time.
+        if self.has_staged() {
+            return Err(MakeFault::NoMemory);
+        }
+        self.publish_with_staged(profile)
     }
 
     fn remove(&mut self, name: &[u8]) -> Result<u64, NoMemory> {
-        let Ok(name) = Vec::from_slice(self.alloc, name) else {
+        if self.has_staged() {
             return Err(NoMemory);
-        };
-        publish_one(self.rt, &mut self.publisher, PolicyChange::Remove(name))
+        }
+        self.remove_with_staged(name)
     }
 }
