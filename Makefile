@@ -18,12 +18,16 @@
 # make install    installs the program, the static library for C with its header, the manual page and completion for bash
 #                 below PREFIX, by default /usr/local, with DESTDIR put before it; builds what isn't built
 # make uninstall  removes what make install with the same PREFIX and DESTDIR installed
+# make fuzz       puts drawn and mutated texts, images and scripts to ./aa-trace and to a second implementation of the rules, in
+#                 Python: N=100000 of them, drawn from SEED=1; each that gets two answers is made smaller and kept
 # make edits      tries the wrong bodies that the gate leaves out: the prover must refuse each
 # make reproduce  prints the checksums of ./aa-trace and of libcoqetwal.a, which are the same wherever they are built
 # make help       shows this
 
 PREFIX ?= /usr/local
 DESTDIR ?=
+N ?= 100000
+SEED ?= 1
 export PREFIX DESTDIR
 RT := $(shell command -v rt 2>/dev/null)
 SOURCES := crates.txt HANDLES $(shell find crates -path '*/out' -prune -o -type f \( -name '*.rt' -o -name '*.antt' \) -print)
@@ -32,7 +36,7 @@ LIBRARY := crates/coqetwal/out/libcoqetwal.a
 LIBRARY_CRATES := coqetwal $(shell sed -n 's/^coqetwal staticlib: *//p' crates.txt)
 LIBRARY_SOURCES := crates.txt HANDLES $(filter $(addprefix crates/,$(addsuffix /%,$(LIBRARY_CRATES))),$(SOURCES))
 
-.PHONY: all run test tour bench calls embed refusals storm serve drawn edits reproduce install uninstall help need-rt
+.PHONY: all run test tour bench calls embed refusals storm serve drawn fuzz edits reproduce install uninstall help need-rt
 # Each recipe takes all processors, and two that prove the same crates would disturb each other.
 .NOTPARALLEL:
 
@@ -98,6 +102,9 @@ serve: need-rt
 drawn: need-rt
 	tools/drawn-changes
 	tools/drawn-scripts
+
+fuzz: aa-trace
+	python3 tools/fuzz --cases $(N) --seed $(SEED)
 
 edits: need-rt
 	tools/more-edits --anew

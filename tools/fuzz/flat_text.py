@@ -1,0 +1,437 @@
+"""Flattened texts: cut into profiles, rules, statements and variables (docs/RULES.md, "The flattened text")."""
+import dataclasses
+import re
+
+STATEMENTS = frozenset(b"""abi capability network mount remount umount pivot_root signal ptrace dbus unix set change_profile userns
+mqueue io_uring""".split())
+OPEN_FLAGS = frozenset(b"complain unconfined default_allow prompt".split())
+FLAGS = OPEN_FLAGS | frozenset(b"""enforce kill audit attach_disconnected mediate_deleted chroot_relative namespace_relative chroot_attach
+chroot_no_attach no_attach_disconnected delegate_deleted""".split())
+WHITE = re.compile(rb"[ \t\r\n]*")
+IN_LINE = re.compile(rb"[ \t\r]*")
+BLANK = re.compile(rb"[ \t\r\n]+|#[^\n]*")
+INCLUDE = re.compile(rb'#include[ \t<"]')
+KEYWORD = re.compile(rb"[A-Za-z][A-Za-z0-9_]*")
+ASSIGNMENT = re.compile(rb"@\{([A-Za-z][A-Za-z0-9_]*)\}[ \t\r\n]*(\+?=)")
+STATEMENT_ENDS = re.compile(rb",(?:[ \t\r\n#}]|\Z)")
+BARE_WORD = re.compile(rb'(?:\\[^\0]|(?![ \t\r\n"\\\0]|,(?:[ \t\r\n",!]|\Z)).)+', re.DOTALL)
+# No quote directly after a backslash ends it.
+IN_QUOTES = re.compile(rb'"((?:\\"|\\(?!")|[^"\\\n\0])*)')
+PERMISSIONS = re.compile(rb"(?:[rRwWaAlLkKmM]|[pPcC]?[iIuU]?[xX])+")
+# The case of p, c and u says whether the environment is kept; that of i and x says nothing.
+MODE_CASES = bytes.maketrans(b"IX", b"ix")
+MODE = re.compile(rb"[rRwWaAlLkKmM]|[pPcC]?[iIuU]?[xX]")
+
+
+class ImportFault(Exception):
+    """A fault's number, its place (None for 11), and what is shown of it: a word, or the names of all profiles."""
+
+    def __init__(self, number, at=None, shown=None):
+        super().__init__(number, at, shown)
+        self.number, self.at, self.shown = number, at, shown
+
+
+@dataclasses.dataclass
+class Part:
+    """A span of the text with a word of the account."""
+    what: bytes
+    start: int
+    end: int
+    text: bytes = b""
+
+
+@dataclasses.dataclass
+class FlatRule:
+    """A file rule. `parts` are its words in order, but for what its permissions and its path may be reported as."""
+    start: int
+    end: int = 0
+    is_deny: bool = False
+    deny: int = 0
+    subject: bytes = b""
+    parts: list = dataclasses.field(default_factory=list)
+    path: Part = None
+    permissions: Part = None
+    is_pair: bool = False
+
+
+@dataclasses.dataclass
+class Block:
+    """A profile, a hat or a child profile, or (as `body` of the text) all of it."""
+    what: bytes
+    start: int
+    name: bytes = b""
+    parent: object = None
+    heads: list = dataclasses.field(default_factory=list)
+    rules: list = dataclasses.field(default_factory=list)
+    statements: list = dataclasses.field(default_factory=list)
+    blocks: list = dataclasses.field(default_factory=list)
+    end: int = 0
+
+
+class FlatReader:
+    def __init__(self, text, variables, needs):
+        """`needs` tests that a path's variables can be put in."""
+        self.text, self.at = text, 0
+        self.variables, self.needs = variables, needs
+        self.all = Block(b"", 0)
+        self.profiles = []
+
+    # Words.
+
+    def peek(self, length=1):
+        return self.text[self.at:self.at + length]
+
+    def syntax(self, at=None):
+        return ImportFault(1, self.at if at is None else at)
+
+    def blank(self):
+        start = self.at
+        while not INCLUDE.match(self.text, self.at):
+            found = BLANK.match(self.text, self.at)
+            if found is None:
+                return self.at > start
+            self.at = found.end()
+        raise ImportFault(2, self.at)
+
+    def gap(self):
+        if not self.blank():
+            raise self.syntax()
+
+    def keyword(self):
+        """The word here, which isn't taken."""
+        found = KEYWORD.match(self.text, self.at)
+        return found.group() if found else b""
+
+    def first_keyword(self):
+        """The word with which an item or a rule begins."""
+        word = self.keyword()
+        if word == b"include":
+            raise ImportFault(2, self.at)
+        return word
+
+    def white(self, which):
+        self.at = which.match(self.text, self.at).end()
+
+    def take(self, word, what=None):
+        part = Part(what or word, self.at, self.at + len(word), word)
+        self.at = part.end
+        return part
+
+    def word(self):
+        """A word, quoted or bare."""
+        start = self.at
+        quoted = IN_QUOTES.match(self.text, start)
+        if quoted:
+            self.at = quoted.end()
+            self.expect(b'"')
+            return Part(b"", start, self.at, quoted.group(1))
+        found = BARE_WORD.match(self.text, start)
+        self.at = found.end() if found else start
+        if not found or self.peek() in (b"\\", b"\0"):
+            raise self.syntax(self.at + (self.peek() == b"\\"))
+        return Part(b"", start, self.at, found.group())
+
+    def is_absolute(self):
+        start = self.at + (self.peek() == b'"')
+        return self.text[start:start + 1] == b"/" or self.text[start:start + 2] == b"@{"
+
+    def path(self):
+        if not self.is_absolute():
+            raise self.syntax(self.at + (self.peek() == b'"'))
+        part = self.word()
+        part.what = b"path"
+        return part
+
+    # Outside of profiles.
+
+    def read(self):
+        self.blank()
+        while self.at < len(self.text):
+            self.item()
+            self.blank()
+        if not self.profiles:
+            raise self.syntax()
+        return self.all
+
+    def item(self):
+        keyword, assignment = self.first_keyword(), ASSIGNMENT.match(self.text, self.at)
+        if assignment and self.profiles:
+            raise self.syntax()
+        if assignment:
+            self.assign(assignment)
+        elif keyword == b"abi":
+            self.all.statements.append(self.statement(self.at, [], keyword))
+        elif self.peek() == b"$":
+            self.boolean()
+        elif keyword == b"profile" or self.is_absolute():
+            self.block(self.all, b"profile")
+        elif keyword:
+            raise ImportFault(3, self.at, keyword)
+        else:
+            raise self.syntax()
+
+    def boolean(self):
+        start = self.at
+        self.expect(b"$")
+        is_braced = self.peek() == b"{"
+        self.at += is_braced
+        self.letters()
+        if is_braced:
+            self.expect(b"}")
+        self.white(IN_LINE)
+        self.expect(b"=")
+        self.white(IN_LINE)
+        self.letters()
+        self.all.statements.append(Part(b"boolean", start, self.at))
+
+    def letters(self):
+        if not self.keyword():
+            raise self.syntax()
+        self.take(self.keyword())
+
+    def assign(self, assignment):
+        start, name = self.at, assignment.group(1)
+        self.at, values = assignment.end(), []
+        while not self.assignment_ends():
+            values.append(self.word().text)
+        if not values:
+            raise self.syntax()
+        is_new = assignment.group(2) == b"="
+        if name == b"profile_name" or is_new == (name in self.variables):
+            raise ImportFault(7, start)
+        self.variables.setdefault(name, []).extend(values)
+
+    def assignment_ends(self):
+        self.at = re.compile(rb"(?:[ \t\r]|\\\n)*").match(self.text, self.at).end()
+        return self.peek() in (b"", b"\n")
+
+    # Profiles.
+
+    def block(self, parent, what):
+        block = Block(what, self.at, parent=parent)
+        if self.peek() == b"^":
+            self.at += 1
+        elif self.keyword() in (b"profile", b"hat"):
+            self.take(self.keyword())
+            self.blank()
+        first = self.at + (self.peek() == b'"')
+        name = self.name()
+        block.name = name if parent is self.all else parent.name + b"//" + name
+        self.head(block)
+        if len(block.name) > 255 or not is_expressible(block.name):
+            raise ImportFault(8, first)
+        self.profiles.append(block)
+        parent.blocks.append(block)
+        self.body(block)
+        block.end = self.at
+
+    def name(self):
+        colon = self.at + (self.peek() == b'"')
+        if self.text[colon:colon + 1] == b":":
+            raise ImportFault(3, colon, b":")
+        if self.peek() in (b"{", b"}", b",", b"("):
+            raise self.syntax()
+        name = self.word().text
+        if not name:
+            raise self.syntax(colon)
+        return name
+
+    def head(self, block):
+        """What is between a name and the brace, and the brace."""
+        self.blank()
+        if self.is_absolute() or self.text[self.at:self.at + 2] == b'":' or self.peek() == b":":
+            self.name()
+            self.blank()
+        while self.peek() != b"{":
+            if len(block.heads) == 2:
+                raise self.syntax()
+            block.heads.append(self.head_part())
+            self.blank()
+        self.at += 1
+
+    def head_part(self):
+        """Flags or extended attributes, up to the first closing parenthesis outside of quotes."""
+        start, keyword = self.at, self.keyword()
+        if keyword in (b"flags", b"xattrs"):
+            self.take(keyword)
+            self.white(WHITE)
+            self.expect(b"=")
+            self.white(WHITE)
+        self.expect(b"(")
+        first = self.at
+        while self.peek() != b")":
+            if self.peek() in (b"", b"\0"):
+                raise self.syntax()
+            if self.peek() == b'"':
+                self.word()
+            else:
+                self.at += 1
+        flags = re.split(rb"[ \t\r\n,(]+", self.text[first:self.at])
+        unknown = [flag for flag in flags if flag and flag not in FLAGS]
+        self.at += 1
+        if keyword != b"xattrs" and unknown:
+            raise ImportFault(3, start, unknown[0])
+        return Part(keyword or b"flags", start, self.at, self.text[first:self.at])
+
+    def expect(self, byte):
+        if self.peek() != byte:
+            raise self.syntax()
+        self.at += 1
+
+    def body(self, block):
+        self.blank()
+        while self.peek() != b"}":
+            self.element(block)
+            self.blank()
+        self.at += 1
+
+    def element(self, block):
+        keyword = self.first_keyword()
+        if keyword in (b"hat", b"profile") or self.peek() == b"^":
+            self.block(block, b"child" if keyword == b"profile" else b"hat")
+            return
+        rule = FlatRule(self.at)
+        self.qualifiers(rule)
+        keyword = self.first_keyword()
+        if keyword in STATEMENTS:
+            block.statements.append(self.statement(rule.start, rule.parts, keyword))
+            return
+        self.file_rule(rule, keyword)
+        if rule.path is not None:
+            self.needs(rule.path, block)
+        block.rules.append(rule)
+
+    def qualifiers(self, rule):
+        for words in ((b"audit",), (b"allow", b"deny"), (b"owner", b"other")):
+            keyword = self.keyword()
+            if keyword not in words:
+                continue
+            part = self.take(keyword)
+            if keyword == b"deny":
+                rule.is_deny, rule.deny = True, part.start
+            rule.subject = keyword if keyword in (b"owner", b"other") else b""
+            rule.parts += [part] if keyword not in (b"allow", b"deny") else []
+            self.blank()
+
+    def statement(self, start, qualifiers, keyword):
+        self.take(keyword)
+        depths = {b"(": 0, b"{": 0}
+        while any(depths.values()) or not STATEMENT_ENDS.match(self.text, self.at):
+            byte = self.peek()
+            opening = {b")": b"(", b"}": b"{"}.get(byte)
+            if byte in (b"", b"\0") or opening and depths[opening] == 0:
+                raise self.syntax()
+            if byte in depths:
+                depths[byte] += 1
+            elif opening:
+                depths[opening] -= 1
+            self.skip()
+        self.at += 1
+        words = [part.what for part in qualifiers] + [keyword]
+        return Part(b"+".join(words), start, self.at, keyword)
+
+    def skip(self):
+        """Skips a quoted word, an escaped byte, a comment after white, or a byte of a statement."""
+        if self.peek() == b'"':
+            self.word()
+        elif self.peek() == b"#" and self.text[self.at - 1:self.at] in (b" ", b"\t", b"\r", b"\n"):
+            self.blank()
+        else:
+            self.at += 2 if self.peek() == b"\\" else 1
+
+    def file_rule(self, rule, keyword):
+        if keyword == b"link":
+            rule.parts.append(self.take(keyword))
+            self.link(rule)
+        else:
+            self.usual_rule(rule, keyword)
+        self.blank()
+        if self.peek() != b",":
+            raise self.syntax()
+        self.at += 1
+        rule.end = self.at
+
+    def link(self, rule):
+        rule.is_pair = True
+        self.blank()
+        self.optional(rule, b"subset")
+        rule.path = self.path()
+        rule.parts.append(rule.path)
+        self.blank()
+        if self.peek(2) != b"->":
+            raise self.syntax()
+        self.at += 2
+        self.blank()
+        self.word()
+
+    def optional(self, rule, *words):
+        if self.keyword() in words:
+            rule.parts.append(self.take(self.keyword()))
+            self.blank()
+
+    def usual_rule(self, rule, keyword):
+        if keyword == b"file":
+            rule.parts.append(self.take(keyword))
+            self.blank()
+            if self.peek() == b",":
+                if rule.is_deny:
+                    raise ImportFault(4, rule.deny)
+                return
+        self.optional(rule, b"safe", b"unsafe")
+        if self.peek() in (b"{", b"$"):
+            raise ImportFault(3, self.at, self.peek())
+        is_first = self.keyword() != b""
+        if is_first:
+            self.permissions_first(rule)
+        else:
+            rule.path = self.path()
+            if not self.blank() and self.text[self.at - 1:self.at] != b'"':
+                raise self.syntax()
+            self.permissions(rule)
+        rule.parts.append(rule.path)
+        self.arrow(rule, is_first)
+        rule.parts.sort(key=lambda part: part.start)
+
+    def permissions_first(self, rule):
+        word = self.keyword()
+        if not PERMISSIONS.fullmatch(word):
+            raise ImportFault(3, self.at, word)
+        self.permissions(rule)
+        self.gap()
+        self.optional(rule, b"subset")
+        rule.path = self.path()
+
+    def permissions(self, rule):
+        word = self.keyword()
+        if not word:
+            raise self.syntax()
+        if not PERMISSIONS.fullmatch(word):
+            raise ImportFault(4, self.at)
+        letters = word.lower()
+        modes = MODE.findall(word)
+        execs = {mode[:1].translate(MODE_CASES) + mode[1:].lower() for mode in modes if mode[-1:] in b"xX"}
+        is_append = any(mode in b"aA" for mode in modes) and b"w" in letters
+        if is_append or len(execs) > 1 or any((mode == b"x") != rule.is_deny for mode in execs):
+            raise ImportFault(4, self.at)
+        rule.permissions = self.take(word, b"permissions")
+        rule.parts.append(rule.permissions)
+
+    def arrow(self, rule, is_first):
+        before = self.at
+        self.blank()
+        if self.peek(2) != b"->":
+            self.at = before
+            return
+        rule.is_pair = is_first and b"l" in rule.permissions.text.lower()
+        if rule.is_pair and b"x" in rule.permissions.text.lower():
+            raise ImportFault(4, rule.permissions.start)
+        start = self.at
+        self.at += 2
+        self.blank()
+        self.word()
+        rule.parts.append(Part(b"link" if rule.is_pair else b"target", start, self.at))
+
+
+def is_expressible(name):
+    """Whether canonical text can have this profile name, which is read back from between quotes, both as a profile text and here."""
+    return re.fullmatch(rb'(?!:)(?:\\[^\n\0]|[^\\"\n\0])+', name) is not None and not name.endswith(b"\\")

@@ -1,0 +1,365 @@
+"""Imports: what becomes of a flattened text, and the account (docs/RULES.md, "Imports")."""
+import dataclasses
+import re
+
+from flat_text import MODE, OPEN_FLAGS, FlatReader, ImportFault, Part
+from texts import MOST_RULES, Byte, Cursor, Fault, Group, Profile, Rule, Run, canonical_item, canonical_text, in_order, read_path
+
+LONGEST_TEXT = 16384
+MOST_TEXTS = 1024
+MOST_LEADS = 16
+SLASH = Byte(ord("/"))
+LONGEST_SHOWN = 72
+PIECE = re.compile(rb"\\.|@\{([A-Za-z][A-Za-z0-9_]*)\}|.", re.DOTALL)
+CLASS_OR_BYTE = re.compile(rb"\\.|\[((?:\\.|[^\]\\])+)\]|.", re.DOTALL)
+PLAIN_MEMBERS = re.compile(rb"(?!\\\^)\^?(?:\\?-(?!-))?(?:(?:\\[^-]|[^-\\])(?:-(?:\\[^-]|[^-\\]))?)*", re.DOTALL)
+STARS_BEFORE_ESCAPED_SLASH = re.compile(rb"(?<!\\)(?:\\\\)*\*\\/")
+ADDED_FIRST = (b'"/proc/*/attr/apparmor/" r', b'"/sys/module/apparmor/parameters/enabled" r')
+ADDED_LAST = {b"change_profile": b'"/proc/*/attr/{,apparmor/}{current,exec}" w', b"hat": b'"/proc/[0-9]*/attr/{,apparmor/}current" w'}
+OTHER = {"owners": "others", "others": "owners"}
+
+
+@dataclasses.dataclass(frozen=True)
+class Options:
+    profile: bytes = None
+    is_keep: bool = True
+    defines: tuple = ()
+    is_strict: bool = False
+
+    @property
+    def subject(self):
+        return "owners" if self.is_keep else "others"
+
+    @classmethod
+    def read(cls, words):
+        """The options of a command line, or None if it's wrong."""
+        options, words = cls(), list(words)
+        given = set()
+        while words and words != ["--"]:
+            word, equals, value = words.pop(0).partition("=")
+            if word in given or word not in ("--profile", "--owner", "--define", "--strict") or bool(equals) and word == "--strict":
+                return None
+            given |= {word} - {"--define"}
+            if word != "--strict" and not equals:
+                if not words or words[0].startswith("-") and words[0] != "-":
+                    return None
+                value = words.pop(0)
+            options = options.with_option(word, value.encode())
+            if options is None:
+                return None
+        return options
+
+    def with_option(self, word, value):
+        if word == "--profile":
+            return dataclasses.replace(self, profile=value)
+        if word == "--strict":
+            return dataclasses.replace(self, is_strict=True)
+        if word == "--owner":
+            return dataclasses.replace(self, is_keep=value == b"keep") if value in (b"keep", b"drop") else None
+        found = re.fullmatch(rb"([A-Za-z][A-Za-z0-9_]*)=((?:\\.|[^\\])*)", value, re.DOTALL)
+        if found is None or found.group(1) == b"profile_name":
+            return None
+        return dataclasses.replace(self, defines=self.defines + (found.groups(),))
+
+
+class Variables:
+    def __init__(self, defines):
+        self.values, self.known = {}, {}
+        for name, value in defines:
+            self.values.setdefault(name, []).append(value)
+
+    def texts(self, name, path, profile, within=()):
+        """The list of texts that a variable stands for, for this path of this profile."""
+        values = [profile] if name == b"profile_name" else self.values.get(name)
+        if name in within:
+            raise ImportFault(6, path.start, name)
+        if values is None:
+            raise ImportFault(5, path.start, name)
+        if (name, profile) not in self.known:
+            texts = []
+            for value in values:
+                texts += self.choices(value, path, profile, (*within, name))
+                test_size(texts, path)
+            self.known[name, profile] = texts
+        return self.known[name, profile]
+
+    def choices(self, value, path, profile, within):
+        """A value with the variables in it replaced, one text for each choice."""
+        texts = [b""]
+        for piece in PIECE.finditer(value):
+            ends = self.texts(piece.group(1), path, profile, within) if piece.group(1) else [piece.group()]
+            texts = [text + end for text in texts for end in ends]
+            test_size(texts, path)
+        return texts
+
+    def substituted(self, path, profile):
+        """A path with its variables replaced."""
+        text, done = path.text, []
+        for piece in PIECE.finditer(text):
+            if not piece.group(1):
+                done.append(piece.group())
+                continue
+            texts = self.texts(piece.group(1), path, profile)
+            if len(texts) > 1:
+                texts = [one.lstrip(b"/") if text[:piece.start()].endswith(b"/") else one for one in texts]
+                texts = [one.rstrip(b"/") if text[piece.end():].startswith(b"/") else one for one in texts]
+            done.append(texts[0] if len(texts) == 1 else b"{" + b",".join(texts) + b"}")
+        whole = b"".join(done)
+        test_size([whole], path)
+        return whole
+
+
+def test_size(texts, path):
+    if len(texts) > MOST_TEXTS or sum(map(len, texts)) > LONGEST_TEXT:
+        raise ImportFault(10, path.start)
+
+
+# Paths.
+
+def one_slash(text):
+    """Each run of slashes as one, but two at the start stay two."""
+    single = re.sub(rb"/+", b"/", text)
+    return b"/" + single if re.match(rb"//(?!/)", text) else single
+
+
+def read_paths(text):
+    """The paths, as items, that match what this text of a path matches; None if AppArmor and profile texts may read it differently."""
+    items = read_plainly(text if text.startswith(b"/") else b"/" + text)
+    if items is None or not text.startswith((b"/", b"{")):
+        return None
+    paths = [items] if text.startswith(b"/") else leads(items[1].alternatives, items[2:])
+    return paths if paths and all(map(stays, paths)) else None
+
+
+def stays(path):
+    """Whether a path is the same when its canonical text, in quotes, is imported again."""
+    text = b"".join(map(canonical_item, path))
+    return read_plainly(one_slash(text)) == path and not text.endswith(b"\\")
+
+
+def leads(alternatives, rest):
+    """The paths that begin with a slash and match what the group of these alternatives, and then the rest, matches; or None."""
+    if all(one[:1] == (SLASH,) and not has_run(one[1:2]) for one in alternatives):
+        return [(SLASH, Group(tuple(one[1:] for one in alternatives)), *rest)]
+    is_changed = any(has_run(one[-1:] + rest[:1]) or one[-1:] + rest[:1] == (SLASH, SLASH) for one in alternatives)
+    return None if is_changed or len(alternatives) > MOST_LEADS else [one + rest for one in alternatives]
+
+
+def has_run(items):
+    return any(isinstance(item, Run) for item in items)
+
+
+def read_plainly(text):
+    """The items of a path, or None."""
+    items = read_items(text)
+    is_odd = items is None or STARS_BEFORE_ESCAPED_SLASH.search(text) or not all(map(is_alike, items)) or has_odd_class(text)
+    return None if is_odd else items
+
+
+def read_items(text):
+    cursor = Cursor(b'"' + text + b'"')
+    try:
+        items = read_path(cursor)
+    except Fault:
+        return None
+    return items if cursor.at == len(cursor.text) else None
+
+
+def is_alike(item):
+    if isinstance(item, Group):
+        return len(item.alternatives) > 1 and all(is_alike(inner) for one in item.alternatives for inner in one)
+    return True
+
+
+def has_odd_class(text):
+    """Whether there is a class that AppArmor may read differently, or a bracket outside of classes."""
+    found = CLASS_OR_BYTE.finditer(text)
+    return any(one.group() == b"]" or one.group(1) is not None and is_odd_class(one.group(1)) for one in found)
+
+
+def is_odd_class(members):
+    """Whether a class has a star, a question mark, or a hyphen that is neither first nor the mark of a range."""
+    return re.search(rb"[*?]", members) is not None or PLAIN_MEMBERS.fullmatch(members) is None
+
+
+# What becomes of the text.
+
+class Import:
+    def __init__(self, text, options):
+        self.text, self.options = text, options
+        self.variables = Variables(options.defines)
+        reader = FlatReader(text, self.variables.values, lambda path, block: self.variables.substituted(path, block.name))
+        self.all = reader.read()
+        names = [block.name for block in reader.profiles]
+        wanted = [block for block in reader.profiles if options.profile in (None, block.name)]
+        if len(wanted) != 1:
+            raise ImportFault(11, None, names)
+        self.chosen = wanted[0]
+        self.rules, self.lines = [], []
+
+    def line(self, part, effect, what=None):
+        self.lines.append((part.start, part.end, what or part.what, effect))
+
+    def effect(self, subjects, is_wider):
+        """What is said of a change for these subjects."""
+        word = "wider" if is_wider else "narrower"
+        if self.options.subject in subjects:
+            return word
+        return f"{word} for {OTHER[self.options.subject]}" if subjects else "exact"
+
+    def add(self, rule, at):
+        if len(self.rules) == MOST_RULES:
+            raise ImportFault(9, at)
+        self.rules.append(rule)
+
+    def make(self):
+        for statement in self.all.statements:
+            self.line(statement, "exact")
+        for block in self.all.blocks:
+            self.outer(block)
+        for rule in self.chosen.rules:
+            self.rule(rule)
+        self.head()
+        self.additions()
+        self.lines.sort()
+        changed = [start for start, _, _, effect in self.lines if effect in ("wider", "narrower")]
+        if self.options.is_strict and changed:
+            raise ImportFault(12, changed[0])
+        return canonical_text(Profile(self.chosen.name, tuple(self.rules))), self.account()
+
+    def outer(self, block):
+        """A profile, which is the chosen one, has it, or is left out."""
+        line = []
+        above = self.chosen
+        while above is not self.all:
+            line.append(above)
+            above = above.parent
+        if block not in line:
+            self.line(Part(b"profile", block.start, block.end), "exact")
+        elif block is not self.chosen:
+            self.line(Part(b"parent", block.start, self.chosen.start), "exact")
+            self.line(Part(b"parent", self.chosen.end, block.end), "exact")
+
+    def head(self):
+        for part in self.chosen.heads:
+            is_open = part.what == b"flags" and OPEN_FLAGS & set(re.findall(rb"\w+", part.text))
+            self.line(part, "narrower" if is_open else "exact")
+
+    def additions(self):
+        """The rules that AppArmor adds for change_profile and for hats, which say nothing to others than owners."""
+        found = []
+        effect = self.effect({OTHER[self.options.subject]}, self.options.is_keep)
+        if self.chosen.what == b"hat":
+            found.append((b"hat", self.chosen.start))
+            length = 1 if self.text[self.chosen.start] == ord("^") else len(b"hat")
+            self.line(Part(b"implied", self.chosen.start, self.chosen.start + length), effect)
+        for statement in self.chosen.statements:
+            is_change = statement.text == b"change_profile"
+            self.line(statement, effect if is_change else "exact")
+            found += [(b"change_profile", statement.start)] if is_change else []
+        for block in self.chosen.blocks:
+            self.line(block, effect)
+            found.append((b"hat", block.start))
+        if found and self.options.is_keep:
+            self.add_rules(dict(reversed(found)), min(at for _, at in found))
+
+    def add_rules(self, found, at):
+        written = [*ADDED_FIRST, *(last for what, last in ADDED_LAST.items() if what in found)]
+        for one in written:
+            path, _, letters = one.rpartition(b" ")
+            self.add(Rule(False, read_path(Cursor(path)), letters), at)
+
+    # Rules.
+
+    def rule(self, rule):
+        own = {b"owner": {"owners"}, b"other": {"others"}}.get(rule.subject, {"owners", "others"})
+        letters, words = self.letters(rule)
+        is_here = self.options.subject in own
+        paths = self.paths(rule) if letters and is_here else []
+        parts = rule.parts
+        if not letters or not is_here or paths is None:
+            whole = Part(b"+".join(self.words(parts, words, rule, paths is None)), rule.start, rule.end)
+            loses = own if letters or rule.is_pair else set()
+            self.line(whole, self.effect(loses, rule.is_deny))
+            return
+        for path in paths:
+            self.add(Rule(rule.is_deny, path, letters), rule.start)
+        for part in parts:
+            self.part(part, rule, words, own)
+
+    def letters(self, rule):
+        """The permissions that stay, and what those of the text are reported as."""
+        if rule.permissions is None:
+            return (b"" if rule.is_pair else b"rwlkm"), []
+        written = MODE.findall(rule.permissions.text)
+        letters = {mode.lower() for mode in written if len(mode) == 1} - {b"a", b"x", b"l" if rule.is_pair else b""}
+        execs = [mode for mode in written if mode[-1:] in b"xX"]
+        if any(b"i" in mode.lower() for mode in execs):
+            letters.add(b"m")
+        words = [b"exec"] if execs else []
+        words += [b"append"] if any(mode in b"aA" for mode in written) else []
+        words += [b"capitals"] if any(mode in b"RWALKM" for mode in written) else []
+        return in_order(b"".join(letters)), words
+
+    def words(self, parts, words, rule, is_pattern):
+        """The words of a rule that goes."""
+        of_path = [b"slashes"] * self.has_slashes(rule) + [b"pattern"] * is_pattern
+        found = []
+        for part in parts:
+            found += words if part is rule.permissions else of_path if part is rule.path else [part.what]
+        return found
+
+    @staticmethod
+    def has_slashes(rule):
+        return rule.path is not None and one_slash(rule.path.text) != rule.path.text
+
+    def part(self, part, rule, words, own):
+        if part is rule.permissions:
+            if words:
+                self.line(part, "exact", b"+".join(words))
+        elif part is rule.path:
+            if self.has_slashes(rule):
+                self.line(part, "exact", b"slashes")
+        elif part.what in (b"owner", b"other"):
+            self.line(part, self.effect({OTHER[self.options.subject]}, not rule.is_deny))
+        elif part.what == b"link":
+            self.line(part, self.effect(own, rule.is_deny))
+        else:
+            self.line(part, "exact")
+
+    def paths(self, rule):
+        """The paths of a rule that stays, or None."""
+        if rule.path is None:
+            return [read_items(b"/{**,}")]
+        return read_paths(one_slash(self.variables.substituted(rule.path, self.chosen.name)))
+
+    # The account.
+
+    def account(self):
+        lines = [b"%s: %s: %s: %s\n" % (place(self.text, start), what, effect.encode(), shown(self.text[start:end]))
+                 for start, end, what, effect in self.lines]
+        return b"".join(lines)
+
+
+def place(text, at):
+    return b"%d:%d" % (text.count(b"\n", 0, at) + 1, at - text.rfind(b"\n", 0, at))
+
+
+def shown(text):
+    text = re.sub(rb"[\0-\x1f\x7f]", b"?", re.sub(rb"[ \t\r\n]+", b" ", text.strip(b" \t\r\n")))
+    return text if len(text) <= LONGEST_SHOWN else text[:70] + b".."
+
+
+def import_text(text, options):
+    """The canonical text and the account; raises the fault."""
+    return Import(text, options).make()
+
+
+def refusal(text, fault):
+    """What is written about a fault."""
+    message = b"refused: import %d" % fault.number
+    if fault.at is not None:
+        message += b" at " + place(text, fault.at)
+    if fault.number == 11:
+        return b"\n".join([message] + [re.sub(rb"[\0-\x1f\x7f]", b"?", name) for name in fault.shown]) + b"\n"
+    return message + (b" (" + shown(fault.shown) + b")" if fault.shown else b"") + b"\n"
