@@ -2,7 +2,7 @@
 use Rattle.std.proofs.Common.{◌≡◌, ℕ, false, List, [], Contains, Option, Some, None, length, take}
 use Rattle.std.proofs.Common.{refl, ap, sym, ◌∙◌, subst, inl, inr, arith}
 use Rattle.std.proofs.Math.Seq.{take-length}
-use Rattle.std.specs.Prelude.{Result, Ok, Err, IfOk, OnOk, OnErr, is_some}
+use Rattle.std.specs.Prelude.{Result, Ok, Err, IfOk, is_some}
 use mathlib.Core.Logic.{◌⊎◌}
 use mathlib.Core.List.{IsPrefix}
 use Rattle.directory_tree.specs.declared.change.Change.{Change}
@@ -15,16 +15,15 @@ use Rattle.justification.proofs.Later.{justified_stays, tree_stays}
 use Rattle.justification.specs.Versions.{IsTreeAt}
 use Rattle.profile_registry.proofs.Prefixes.{prefix_self}
 use Rattle.profile_registry.specs.Views.{Reading}
-use Rattle.names.specs.declared.errors.NoMemory.{NoMemory}
 use Rattle.names.specs.declared.permissions.Perms.{Perms}
 use Rattle.verdicts.specs.declared.verdict.Verdict.{Verdict}
-use Rattle.verdict_cache.specs.Questions.{Asked, Kept, Verdicts, with_first, with_kept}
+use Rattle.verdict_cache.specs.Questions.{Asked, Kept}
 use Rattle.row_rule.specs.declared.count.Busy.{Busy}
 use Rattle.row_rule.specs.declared.view.WalkerView.{WalkerView}
 use Rattle.path_session.specs.declared.quick.Tried.{Tried}
 use Rattle.path_session.specs.declared.quick.Tried.TheVariants.{Found, Walked}
 use Rattle.path_session.specs.inner.Attempts.{HasTried}
-use Rattle.path_session.specs.inner.Knowing.{kept_of}
+use Rattle.kept_verdicts.specs.Keeping.{kept_of}
 use Rattle.path_session.specs.inner.Right.{IsRightFor, AreRight}
 use Rattle.path_session.specs.inner.Sharing.{IsInStep}
 
@@ -110,18 +109,3 @@ tried_on before now Holds Known path ask room (Ok (Found version file)) known (o
     (once, known version (kept_of room file) holds, fits)
 tried_on before now Holds Known path ask room (Ok (Walked walked)) known tried = tried
 tried_on before now Holds Known path ask room (Err busy) known tried = tt
-
--- each entry after a look or a keep, also if it was refused, was there before, or is what was kept
-pub before_look : {T : Type 0} (X : Type 0) (q : Asked) (old new : Verdicts) (r : Result T NoMemory)
-    → ((q : Asked) (c : Verdicts) (e : Asked × Kept) → Contains (with_first q c).entries e → Contains c.entries e)
-    → OnOk r (new ≡ with_first q old) → OnErr r ((new ≡ old) × X) → (e : Asked × Kept) → Contains new.entries e → Contains old.entries e
-before_look X q old new (Ok x) stay used err e there = stay q old e (subst (λ (c : Verdicts). Contains c.entries e) used there)
-before_look X q old new (Err x) stay used err e there = subst (λ (c : Verdicts). Contains c.entries e) err.0 there
-
-pub before_keep : {T : Type 0} (q : Asked) (k : Kept) (old new : Verdicts) (r : Result T NoMemory)
-    → ((q : Asked) (k : Kept) (c : Verdicts) (e : Asked × Kept) → Contains (with_kept q k c).entries e
-    → Contains c.entries e ⊎ (e ≡ (q, k)))
-    → OnOk r (new ≡ with_kept q k old) → OnErr r (new ≡ old) → (e : Asked × Kept) → Contains new.entries e
-    → Contains old.entries e ⊎ (e ≡ (q, k))
-before_keep q k old new (Ok x) stay kept err e there = stay q k old e (subst (λ (c : Verdicts). Contains c.entries e) kept there)
-before_keep q k old new (Err x) stay kept err e there = inl (subst (λ (c : Verdicts). Contains c.entries e) err there)

@@ -1,6 +1,7 @@
 -- What contracts see of a session, and what an open concurrently with keeper and publisher says. To believe the contract of
--- `Session::try_open` read this file and `justification`'s Justified, and what they import: `tools/definitions --read path_session`
--- prints these files in reading order. What calls with the keeper at hand say is in AtHand.
+-- `Session::try_open` read this file and `justification`'s Justified, and what they import:
+-- `tools/definitions --cited path_session Session::try_open` prints these files in reading order. What
+-- calls with the keeper at hand say is in AtHand.
 use Rattle.std.specs.Prelude.{◌≡◌, ◌≢◌, ◌⊎◌, ◌+◌, ◌%◌, ◌^◌, ℕ, List, [], length, Option, None, IsSome, Ok}
 use mathlib.Core.List.{IsPrefix}
 use Rattle.names.specs.declared.permissions.Perms.{Perms}

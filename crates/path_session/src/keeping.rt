@@ -12,7 +12,8 @@ ghost use Rattle.path_session.specs.Sitting.{counted};
 ghost use Rattle.path_session.specs.AtHand.{IsAnswer, MayCountKept};
 ghost use Rattle.mediation.specs.Deeds.{policy_after};
 ghost use Rattle.path_session.specs.Standing.{plain_of, history_of};
-ghost use Rattle.path_session.specs.inner.Knowing.{IsCurrent, asked_by, kept_of};
+ghost use Rattle.path_session.specs.inner.Knowing.{IsCurrent, asked_by};
+ghost use Rattle.kept_verdicts.specs.Keeping.{kept_of};
 ghost use Rattle.path_session.specs.inner.Right.{IsRightFor};
 ghost use Rattle.path_session.specs.inner.Walks.{end_of};
 

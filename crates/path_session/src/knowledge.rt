@@ -10,12 +10,13 @@ ghost use Rattle.mediation.specs.Judging.{reached_of};
 ghost use Rattle.mediation.specs.Opening.{reached};
 ghost use Rattle.mediation.specs.PolicyChanges.{judge_shared};
 ghost use Rattle.profile_registry.specs.Views.{IsUnanswered, IsUnansweredWith};
-ghost use Rattle.path_session.specs.inner.Knowing.{IsCurrent, asked_by, kept_of};
+ghost use Rattle.path_session.specs.inner.Knowing.{IsCurrent, asked_by};
+ghost use Rattle.kept_verdicts.specs.Keeping.{kept_of};
 ghost use Rattle.path_session.specs.inner.Right.{IsRightFor};
 
-use crate::kept::KeptVerdicts;
 use crate::share::Share;
 use dentry_cache::{Keeper, Walker};
+use kept_verdicts::KeptVerdicts;
 use matcher::AnyProfile;
 use mediation::{Judged, Reached, judge_name};
 use names::Perms;

@@ -11,10 +11,8 @@
 
 mod at_hand;
 mod keeping;
-mod kept;
 mod knowledge;
 mod linking;
-mod misses;
 mod quick;
 mod session;
 mod share;

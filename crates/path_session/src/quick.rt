@@ -14,11 +14,11 @@ ghost use Rattle.path_session.specs.inner.Knowing.{IsCurrent, asked_by, answer_o
 ghost use Rattle.path_session.specs.inner.Right.{IsRightFor};
 ghost use Rattle.path_session.specs.inner.Walks.{HasWalked, WasDisturbed};
 
-use crate::kept::KeptVerdicts;
 use crate::knowledge::Knowledge;
 use crate::session::Session;
 use dentry_cache::{Attempt, Busy, Walker};
 use justification::Answer;
+use kept_verdicts::KeptVerdicts;
 use mediation::{Judged, Reached, reach_file};
 use names::{Errno, Perms};
 use path_lookup::{NAME_ROOM, Scratch, WalkFault};

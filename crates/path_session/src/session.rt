@@ -1,9 +1,9 @@
 //! A session, and what it keeps from call to call.
 ghost use Rattle.std.specs.Prelude.{◌≡◌, ◌≤◌, [], IfOk, OnOk, OnErr, IfErr};
 
-use crate::kept::KeptVerdicts;
 use crate::knowledge::Knowledge;
 use dentry_cache::Walker;
+use kept_verdicts::KeptVerdicts;
 use names::NoMemory;
 use path_lookup::{NAME_ROOM, Scratch};
 use profile_registry::PolicyReader;

@@ -5,7 +5,7 @@ use Rattle.row_rule.specs.declared.view.WalkerView.{WalkerView}
 use Rattle.verdict_cache.specs.Questions.{Kept}
 use Rattle.path_session.specs.declared.quick.Tried.{Tried}
 use Rattle.path_session.specs.declared.quick.Tried.TheVariants.{Found, Walked}
-use Rattle.path_session.specs.inner.Knowing.{kept_of}
+use Rattle.kept_verdicts.specs.Keeping.{kept_of}
 use Rattle.path_session.specs.inner.Walks.{HasWalked}
 
 -- it read the count once, and no cell

@@ -5,7 +5,6 @@ use Rattle.std.specs.declared.alloc.Global.{Global}
 use Rattle.std.specs.declared.sync.Arc.{Arc}
 use Rattle.names.specs.declared.permissions.Perms.{Perms}
 use Rattle.matcher.specs.declared.profiles.AnyProfile.{AnyProfile}
-use Rattle.mediation.specs.declared.opening.Judged as code
 use Rattle.mediation.specs.Deeds.{policy_after}
 use Rattle.mediation.specs.PolicyChanges.{judge_shared}
 use Rattle.dentry_cache.specs.Walks.{Walk}
@@ -14,7 +13,7 @@ use Rattle.row_rule.specs.declared.count.Busy.{Busy}
 use Rattle.row_rule.specs.Steps.{newcomer}
 use Rattle.justification.specs.declared.answer.Answer.{Answer}
 use Rattle.justification.specs.declared.answer.Answer.TheVariants as answer
-use Rattle.verdict_cache.specs.Questions.{Asked, Kept}
+use Rattle.verdict_cache.specs.Questions.{Asked}
 use Rattle.path_session.specs.declared.quick.Opened.{Opened}
 
 -- its walker, its reader of the policy, the profile that it opens by, what it read last under that name, and how often it answered
@@ -34,10 +33,6 @@ IsCurrent known policy =
 
 abbrev pub asked_by : Knowing → List ℕ → Perms → ℕ → ℕ → Asked
 asked_by known path ask tree policy = record { path = path; profile = known.profile; ask = ask; tree = tree; policy = policy }
-
--- a file that was judged, with its name at the front of the room
-abbrev pub kept_of : List ℕ → code.Judged → Kept
-kept_of room file = record { verdict = file.verdict; node = file.node; name = take file.name_length room }
 
 -- the answer to an open that ended so, by the policy of this version, and the name that it judged
 abbrev pub answer_of : ℕ → Result Opened Busy → Answer

@@ -1,8 +1,8 @@
 //! The verdicts that a session keeps.
-ghost use Rattle.std.specs.Prelude.{◌≡◌, ◌⊎◌, ◌≤◌, false, [], IfOk, IfSome, Contains, length};
+ghost use Rattle.std.specs.Prelude.{◌≡◌, ◌⊎◌, ◌≤◌, true, false, [], IfOk, IfSome, Contains};
 ghost use Rattle.verdict_cache.specs.Questions.{Asked, Kept};
 ghost use Rattle.verdict_cache.specs.Asking.{asked_of};
-ghost use Rattle.path_session.specs.inner.Knowing.{kept_of};
+ghost use Rattle.kept_verdicts.specs.Keeping.{kept_of};
 
 use crate::misses::Misses;
 use mediation::Judged;
@@ -18,7 +18,7 @@ pub(crate) const KEPT_VERDICTS: usize = 64;
 
 /// The verdicts that were kept or found last, if the session keeps any. Contracts see them as a list, each under what was asked.
 #[derive(Drop)]
-pub(crate) struct KeptVerdicts {
+pub struct KeptVerdicts {
     cache: Option<VerdictCache>,
     misses: Misses,
     // Whether the last question was passed over: its verdict isn't kept then.
@@ -37,7 +37,7 @@ impl Model for KeptVerdicts {
 
 impl KeptVerdicts {
     /// No verdicts, now and later.
-    pub(crate) fn none() -> KeptVerdicts
+    pub fn none() -> KeptVerdicts
         ensures { result ≡ [] }
     {
         KeptVerdicts {
@@ -48,7 +48,7 @@ impl KeptVerdicts {
     }
 
     /// No verdicts yet.
-    pub(crate) fn new(alloc: Global) -> Result<KeptVerdicts, NoMemory>
+    pub fn new(alloc: Global) -> Result<KeptVerdicts, NoMemory>
         ensures { IfOk result (λ kept. kept ≡ []) }
     {
         let Some(capacity) = NonZeroUsize::new(KEPT_VERDICTS) else {
@@ -62,9 +62,10 @@ impl KeptVerdicts {
     }
 
     /// Keeps all of them if `still` says so, and otherwise none.
-    pub(crate) fn keep_if(&mut self, still: bool)
-        ensures entries { (e : Asked × Kept) → Contains self.new e → Contains self.old e }
+    pub fn keep_if(&mut self, still: bool)
+        ensures all { still ≡ true → self.new ≡ self.old }
         ensures none { still ≡ false → self.new ≡ [] }
+        ensures entries { (e : Asked × Kept) → Contains self.new e → Contains self.old e }
     {
         if still {
             return;
@@ -76,11 +77,7 @@ impl KeptVerdicts {
 
     /// The verdict that is kept under a question; its name goes to the front of `room`. If memory is refused, or the question is
     /// passed over, none is found.
-    pub(crate) fn look(
-        &mut self,
-        question: Question<'_>,
-        room: &mut [u8; NAME_ROOM],
-    ) -> Option<Judged>
+    pub fn look(&mut self, question: Question<'_>, room: &mut [u8; NAME_ROOM]) -> Option<Judged>
         ensures entries { (e : Asked × Kept) → Contains self.new e → Contains self.old e }
         ensures found { IfSome result (λ file. Contains self.old (asked_of question.entry, kept_of room.new file)) }
         ensures fits { IfSome result (λ file. file.name_length ≤ 4095) }
@@ -107,7 +104,7 @@ impl KeptVerdicts {
 
     /// Keeps a verdict under the question that was looked up last. If memory is refused, or that question was passed over, it isn't
     /// kept.
-    pub(crate) fn keep(&mut self, question: Question<'_>, file: &Judged, room: &[u8; NAME_ROOM])
+    pub fn keep(&mut self, question: Question<'_>, file: &Judged, room: &[u8; NAME_ROOM])
         requires { file.now.name_length ≤ 4095 }
         ensures { (e : Asked × Kept) → Contains self.new e →
             Contains self.old e ⊎ (e ≡ (asked_of question.entry, kept_of room.now file.now)) }

@@ -1,8 +1,8 @@
 use Rattle.std.proofs.Common.{◌≡◌, List, Contains, subst, rules}
 use Rattle.verdict_cache.specs.Asking.{asked_of}
 use Rattle.verdict_cache.specs.Questions.{Asked, Kept}
-use Rattle.path_session.proofs.KeptRight.{before_look}
-use Rattle.path_session.proofs.kept.KeptVerdicts.look.Goals as goal
+use Rattle.kept_verdicts.proofs.Entries.{before_look}
+use Rattle.kept_verdicts.proofs.kept.KeptVerdicts.look.Goals as goal
 
 pub returns-in_default-look-clause-entries : goal.returns-in_default-look-clause-entries
 returns-in_default-look-clause-entries c e there =

@@ -2,9 +2,9 @@ use Rattle.std.proofs.Common.{◌≡◌, List, Contains, subst, rules}
 use mathlib.Core.Logic.{◌⊎◌}
 use Rattle.verdict_cache.specs.Asking.{asked_of}
 use Rattle.verdict_cache.specs.Questions.{Asked, Kept}
-use Rattle.path_session.specs.inner.Knowing.{kept_of}
-use Rattle.path_session.proofs.KeptRight.{before_keep}
-use Rattle.path_session.proofs.kept.KeptVerdicts.keep.Goals as goal
+use Rattle.kept_verdicts.specs.Keeping.{kept_of}
+use Rattle.kept_verdicts.proofs.Entries.{before_keep}
+use Rattle.kept_verdicts.proofs.kept.KeptVerdicts.keep.Goals as goal
 
 pub returns : goal.returns
 returns c e there =
