@@ -13,8 +13,9 @@ use Rattle.flat_text.specs.Parts.{PartValue}
 use Rattle.flat_text.specs.Readings.{Reading, taken, taken_to}
 use Rattle.flat_text.specs.WordParts.{blank_part, word_part}
 use Rattle.flat_text.proofs.GoingWords.{front_taken}
-use Rattle.flat_canonical.specs.CanonicalItems.{part_of, ends_with_backslash, in_quotes}
-use Rattle.flat_canonical.proofs.QuotedWords.{are_hidden, word_ends}
+use Rattle.rule_profile.specs.Readable.{are_name_bytes}
+use Rattle.flat_canonical.specs.CanonicalItems.{part_of, in_quotes}
+use Rattle.flat_canonical.proofs.QuotedWords.{word_ends}
 
 abbrev pub reading : List PartValue → List ℕ → Reading
 reading read rest = record { parts = read; rest = rest }
@@ -60,11 +61,10 @@ reads_blank read w white rest h e = rw (white_ends (w ∷ white) rest h e, takes
 
 -- ---- words in quotes
 
-pub reads_quoted : (kind : PartKind) (read : List PartValue) (bytes rest : List ℕ) → are_hidden false bytes ≡ true →
-    ends_with_backslash bytes ≡ false
+pub reads_quoted : (kind : PartKind) (read : List PartValue) (bytes rest : List ℕ) → are_name_bytes false bytes ≡ true
     → word_part kind (reading read (34 ∷ (bytes ++ 34 ∷ rest))) ≡ Ok (reading (read ++ (part_of kind (in_quotes bytes) ∷ [])) rest)
-reads_quoted kind read bytes rest h e = rw (
-  word_ends bytes rest h e,
+reads_quoted kind read bytes rest h = rw (
+  word_ends bytes rest h,
   sym (append_assoc bytes (34 ∷ []) rest),
   takes_to kind read 34
       (bytes ++ 34 ∷ []) rest,

@@ -1,10 +1,8 @@
--- The items of the canonical text of a profile, read as a flattened text (apparmor.d(5), "Format"), and which profiles have
--- these: flattened texts end a word in quotes at the first quote that has no backslash directly before it.
-use Rattle.std.specs.Prelude.{◌≡◌, ℕ, List, [], ◌∷◌, ◌++◌, codes, None, Bool, false, ◌==◌}
+-- The items of the canonical text of a profile, read as a flattened text (apparmor.d(5), "Format").
+use Rattle.std.specs.Prelude.{ℕ, List, [], ◌∷◌, ◌++◌, codes, None, false}
 use Rattle.std.specs.List.{flat_map}
 use Rattle.names.specs.declared.permissions.Perms.{Perms}
 use Rattle.names.specs.Permissions.{letters}
-use Rattle.rule_globs.specs.Each.{Each}
 use Rattle.rule_globs.specs.Tokens.{Token}
 use Rattle.verdicts.specs.declared.kind.RuleKind.{RuleKind}
 use Rattle.verdicts.specs.declared.kind.RuleKind.TheVariants.{Allow, Deny}
@@ -62,21 +60,6 @@ inner_items (r ∷ rules) = blank_item (codes "\n  ") ∷ rule_item r ∷ inner_
 
 abbrev pub canonical_items : ProfileValue → List ItemValue
 canonical_items p = head_item p.name ∷ inner_items p.rules
-
--- ---- words in quotes
-
--- Whether what follows these bytes is directly after a backslash (92), given whether these bytes are.
-abbrev pub behind_backslash : Bool → List ℕ → Bool
-behind_backslash before [] = before
-behind_backslash before (b ∷ bytes) = behind_backslash (b == 92) bytes
-
-abbrev pub ends_with_backslash : List ℕ → Bool
-ends_with_backslash bytes = behind_backslash false bytes
-
--- Neither the name nor the text of a path ends with a backslash. (A backslash comes directly before each quote within.)
-pub record CanBeQuoted (p : ProfileValue) : Type 0 where
-  pub name : ends_with_backslash p.name ≡ false
-  pub paths : Each (λ (r : RuleValue). ends_with_backslash (path_text r.items) ≡ false) p.rules
 
 -- ---- letters
 

@@ -1,2 +1,3 @@
+pub mod Priorities
 pub mod RuleWords
 pub mod RuleParts

@@ -36,6 +36,7 @@ if_so b w = if b then w ∷ [] else []
 -- what is reported about a part of this kind
 abbrev pub part_whats : Marks → PartKind → List What
 part_whats m kinds.Audit = whats.Audit ∷ []
+part_whats m kinds.Priority = whats.Priority ∷ []
 part_whats m kinds.Owner = whats.Owner ∷ []
 part_whats m kinds.Other = whats.Other ∷ []
 part_whats m kinds.File = whats.File ∷ []

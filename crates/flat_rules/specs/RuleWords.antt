@@ -10,6 +10,8 @@ use Rattle.verdicts.specs.declared.kind.RuleKind.{RuleKind}
 use Rattle.verdicts.specs.declared.kind.RuleKind.TheVariants.{Allow, Deny}
 use Rattle.flat_words.specs.declared.letters.Letters.{Letters}
 use Rattle.flat_words.specs.Letters.{no_letters, letters_of}
+use Rattle.flat_rules.specs.Priorities.{priority_of_text}
+use Rattle.subject_rules.specs.SubjectRules.{Priority, no_priority}
 use Rattle.flat_text.specs.declared.part.PartKind.{PartKind}
 use Rattle.flat_text.specs.declared.part.PartKind.TheVariants as kinds
 use Rattle.flat_text.specs.Parts.{PartValue}
@@ -42,6 +44,10 @@ abbrev pub is_other : PartKind → Bool
 is_other kinds.Other = true
 is_other _ = false
 
+abbrev pub is_priority : PartKind → Bool
+is_priority kinds.Priority = true
+is_priority _ = false
+
 abbrev pub is_link : PartKind → Bool
 is_link kinds.Link = true
 is_link _ = false
@@ -65,6 +71,10 @@ kind_of parts = if has_part is_deny parts then Deny else Allow
 
 abbrev pub applies_to_of : List PartValue → AppliesTo
 applies_to_of parts = if has_part is_owner parts then Owners else if has_part is_other parts then Others else Everybody
+
+-- 0 unless the rule says one
+abbrev pub priority_of : List PartValue → Priority
+priority_of parts = elim (first_bytes is_priority parts) [ None ↦ no_priority | Some bytes ↦ priority_of_text bytes ]
 
 -- the path's text; the word file by itself has none
 abbrev pub path_of : List PartValue → Option (List ℕ)

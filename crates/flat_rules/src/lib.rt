@@ -4,6 +4,7 @@
 #![tactic(auto)]
 
 mod marks;
+mod priority;
 mod words;
 
 pub use marks::{Marks, part_effect, rule_whats};

@@ -73,6 +73,7 @@ impl Marks {
     {
         match kind {
             PartKind::Audit => push_if(whats, true, What::Audit),
+            PartKind::Priority => push_if(whats, true, What::Priority),
             PartKind::Owner => push_if(whats, true, What::Owner),
             PartKind::Other => push_if(whats, true, What::Other),
             PartKind::File => push_if(whats, true, What::File),

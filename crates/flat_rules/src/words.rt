@@ -3,8 +3,10 @@ ghost use Rattle.std.specs.Prelude.{◌≡◌, option_map, true, false};
 ghost use Rattle.names.specs.Permissions.{set_of};
 ghost use Rattle.flat_rules.specs.RuleWords.{content, is_deny, is_owner, is_other, is_link, is_path, is_permissions, is_arrow_part};
 ghost use Rattle.flat_rules.specs.RuleWords.{past_blank, target_text, first_bytes, has_part, permissions_lead, letters_in, perms_of_rule};
-ghost use Rattle.flat_rules.specs.RuleWords.{kind_of, applies_to_of, path_of, may_bind_link, target_of};
+ghost use Rattle.flat_rules.specs.RuleWords.{is_priority, kind_of, applies_to_of, path_of, may_bind_link, priority_of, target_of};
+ghost use Rattle.subject_rules.specs.Restating.{has_priority};
 
+use crate::priority::is_zero;
 use flat_text::{Part, PartKind};
 use flat_words::{Letters, letters_of};
 use names::{Permission, Perms};
@@ -34,6 +36,8 @@ pub struct RuleWords<'t> {
     pub path: Option<&'t [u8]>,
     /// What link is bound to.
     pub target: Option<&'t [u8]>,
+    /// Whether its priority isn't 0.
+    pub has_priority: bool,
 }
 
 fn denies(parts: &[Part<'_>]) -> bool
@@ -151,6 +155,26 @@ fn permissions_lead(parts: &[Part<'_>]) -> bool
     false
 }
 
+/// The priority, as it is written.
+fn priority_word<'t>(parts: &[Part<'t>]) -> Option<&'t [u8]>
+    ensures { option_map (λ bytes. bytes.now) result ≡ first_bytes is_priority parts.now }
+{
+    let part = parts
+        .iter()
+        .find(|part| matches!(part.kind(), PartKind::Priority))?;
+    Some(part.bytes())
+}
+
+/// Whether the rule's priority isn't 0.
+fn has_priority(parts: &[Part<'_>]) -> bool
+    ensures { result ≡ has_priority (priority_of parts.now) }
+{
+    match priority_word(parts) {
+        Some(bytes) => !is_zero(bytes),
+        None => false,
+    }
+}
+
 fn kind_of(parts: &[Part<'_>]) -> RuleKind
     ensures { result ≡ kind_of parts.now }
 {
@@ -231,7 +255,8 @@ fn target_of<'t>(parts: &[Part<'t>], perms: Perms) -> Option<&'t [u8]>
 
 impl<'t> RuleWords<'t> {
     ghost use Rattle.std.specs.Prelude.{◌≡◌, option_map};
-    ghost use Rattle.flat_rules.specs.RuleWords.{kind_of, applies_to_of, perms_of_rule, letters_in, path_of, target_of};
+    ghost use Rattle.flat_rules.specs.RuleWords.{kind_of, applies_to_of, perms_of_rule, letters_in, path_of, priority_of, target_of};
+    ghost use Rattle.subject_rules.specs.Restating.{has_priority};
 
     /// What the rule of these parts says.
     pub fn of(parts: &[Part<'t>]) -> RuleWords<'t>
@@ -241,6 +266,7 @@ impl<'t> RuleWords<'t> {
         ensures letters { result.letters ≡ letters_in parts.now }
         ensures path { option_map (λ text. text.now) result.path ≡ path_of parts.now }
         ensures target { option_map (λ text. text.now) result.target ≡ target_of parts.now }
+        ensures has_priority { result.has_priority ≡ has_priority (priority_of parts.now) }
     {
         let letters = letters_in(parts);
         let perms = perms_of(parts, letters);
@@ -251,6 +277,7 @@ impl<'t> RuleWords<'t> {
             letters,
             path: path_word(parts).map(content),
             target: target_of(parts, perms),
+            has_priority: has_priority(parts),
         }
     }
 }

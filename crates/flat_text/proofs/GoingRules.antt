@@ -16,14 +16,16 @@ use Rattle.flat_words.specs.Steps.{Stop, include, permissions, left_out, ◌>>=�
 use Rattle.flat_text.specs.Readings.{Reading, taken, taken_to}
 use Rattle.flat_words.specs.Words.{is_path, blank_at, word_end}
 use Rattle.flat_text.specs.WordParts.{blank_part, gap_part, word_part, path_part, literal_part}
+use Rattle.flat_words.specs.Priorities.{past_priority}
 use Rattle.flat_words.specs.Statements.{is_statement}
 use Rattle.flat_text.specs.Statements.{statement_part, boolean_part}
 use Rattle.flat_text.specs.Headers.{named_head, profile_head, hat_head, caret_head}
 use Rattle.flat_words.specs.Assignments.{is_assignment}
 use Rattle.flat_text.specs.Assignments.{assignment_part}
-use Rattle.flat_text.specs.Rules.{optional_word, optional_choice, permissions_word, permissions_part, target_part, comma_part, rule_end}
+use Rattle.flat_text.specs.Rules.{priority_part, optional_word, optional_choice, permissions_word, permissions_part, target_part}
+use Rattle.flat_text.specs.Rules.{comma_part, rule_end}
 use Rattle.flat_text.specs.Rules.{path_first, links_and_runs, permissions_first, begins_path_word, is_left_out_byte, body_part}
-use Rattle.flat_text.specs.Rules.{guarded_body, file_rule, link_rule, of_kind, unqualified_item, rule_item, word_left_out}
+use Rattle.flat_text.specs.Rules.{is_all_rule, guarded_body, file_rule, link_rule, of_kind, unqualified_item, rule_item, word_left_out}
 use Rattle.flat_text.specs.Texts.{inner_item, outer_item, item_at}
 use Rattle.flat_words.proofs.Steps.{bind_ok, chosen, ok_is, not_ok}
 use Rattle.flat_text.proofs.Going.{Goes, going_stays, going_on, going_taken, going_shortens}
@@ -51,6 +53,17 @@ choice_goes kind other_kind h g name other_name s t e =
       | inl k ↦ going_on s (taken kind (length name) s) t (going_taken kind (length name) s (λ b. absurd (h b)))
           (blank_goes (taken kind (length name) s) t k.1)
       | inr k ↦ optional_goes other_kind g other_name s t k.1
+    ]
+
+priority_goes : (s t : Reading) → priority_part s ≡ Ok t → Goes s t
+priority_goes s t e =
+    elim (chosen (is_word (codes "priority") s.rest) _ _ _ e) [
+      | inl h ↦
+          let p = bind_ok (past_priority s.rest) _ t h.1 in
+          going_on s (taken_to parts.Priority p.0 s) t
+          (going_taken parts.Priority (length s.rest - length p.0) s (λ b. absurd cc))
+          (blank_goes (taken_to parts.Priority p.0 s) t p.2)
+      | inr h ↦ subst (λ u. Goes s u) (ok_is s t h.1) (going_stays s)
     ]
 
 target_goes : (s t : Reading) → target_part s ≡ Ok t → Goes s t
@@ -130,10 +143,13 @@ unfolding body_part
 body_shortens denies s t e =
     elim (chosen (begins begins_path_word s.rest) _ _ _ e) [
       | inl h ↦ path_first_shortens denies s t h.1
-      | inr h ↦ elim (chosen (not (length (word s.rest) == 0)) _ _ _ h.1) [
-        | inl g ↦ permissions_first_shortens denies s t g.1
-        | inr g ↦ elim (chosen (begins is_left_out_byte s.rest) _ _ _ g.1)
-            [ inl k ↦ absurd (not_ok _ t k.1) | inr k ↦ absurd (not_ok _ t k.1) ]
+      | inr h ↦ elim (chosen (is_all_rule s.rest) _ _ _ h.1) [
+        | inl all ↦ absurd (not_ok _ t all.1)
+        | inr other ↦ elim (chosen (not (length (word s.rest) == 0)) _ _ _ other.1) [
+          | inl g ↦ permissions_first_shortens denies s t g.1
+          | inr g ↦ elim (chosen (begins is_left_out_byte s.rest) _ _ _ g.1)
+              [ inl k ↦ absurd (not_ok _ t k.1) | inr k ↦ absurd (not_ok _ t k.1) ]
+        ]
       ]
     ]
 
@@ -213,15 +229,17 @@ unqualified_shortens denies start s i e =
 rule_shortens : (s : Reading) (i : Item) → rule_item s ≡ Ok i → Shortens s i.1
 unfolding rule_item
 rule_shortens s i e =
-    let a = bind_ok (optional_word parts.Audit (codes "audit") s) _ i e in
+    let p = bind_ok (priority_part s) _ i e in
+    let a = bind_ok (optional_word parts.Audit (codes "audit") p.0) _ i p.2 in
     let b = bind_ok (optional_choice parts.Allow (codes "allow") parts.Deny (codes "deny") a.0) _ i a.2 in
     let c = bind_ok (optional_choice parts.Owner (codes "owner") parts.Other (codes "other") b.0) _ i b.2 in
-    on_shorter s a.0 i.1 (optional_goes parts.Audit (λ b. absurd cc) (codes "audit") s a.0 a.1)
+    on_shorter s p.0 i.1 (priority_goes s p.0 p.1)
+    (on_shorter p.0 a.0 i.1 (optional_goes parts.Audit (λ b. absurd cc) (codes "audit") p.0 a.0 a.1)
     (on_shorter a.0 b.0 i.1 (choice_goes parts.Allow parts.Deny (λ b. absurd cc) (λ b. absurd cc) (codes "allow")
     (codes "deny") a.0 b.0 b.1)
     (on_shorter b.0 c.0 i.1 (choice_goes parts.Owner parts.Other (λ b. absurd cc) (λ b. absurd cc) (codes "owner")
     (codes "other") b.0 c.0 c.1)
-    (unqualified_shortens (is_word (codes "deny") a.0.rest) (length a.0.rest) c.0 i c.2)))
+    (unqualified_shortens (is_word (codes "deny") a.0.rest) (length a.0.rest) c.0 i c.2))))
 
 inner_shortens : (s : Reading) (i : Item) → 0 < length s.rest → inner_item s ≡ Ok i → Shortens s i.1
 unfolding inner_item

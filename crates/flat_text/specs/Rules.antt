@@ -17,6 +17,7 @@ use Rattle.flat_words.specs.Steps.{Stop, include, left_out, permissions, ◌>>=�
 use Rattle.flat_text.specs.Readings.{Reading, taken, taken_to}
 use Rattle.flat_words.specs.Words.{blank_at, word_end}
 use Rattle.flat_text.specs.WordParts.{blank_part, gap_part, path_part, literal_part}
+use Rattle.flat_words.specs.Priorities.{past_priority}
 use Rattle.flat_words.specs.Statements.{is_statement}
 use Rattle.flat_text.specs.Statements.{statement_part}
 
@@ -30,6 +31,11 @@ optional_word kind name s = if is_word name s.rest then blank_part (taken kind (
 abbrev pub optional_choice : PartKind → List ℕ → PartKind → List ℕ → Reading → Result Reading Stop
 optional_choice kind name other_kind other_name s =
     if is_word name s.rest then blank_part (taken kind (length name) s) else optional_word other_kind other_name s
+
+-- a priority and the blank after it, if one is here (apparmor.d(5) of AppArmor 4.1, "Rule Priority")
+abbrev pub priority_part : Reading → Result Reading Stop
+priority_part s =
+    if is_word (codes "priority") s.rest then (past_priority s.rest >>= λ rest. blank_part (taken_to parts.Priority rest s)) else Ok s
 
 -- the word here is not supported
 abbrev pub word_left_out : {A : Type 0} → List ℕ → Result A Stop
@@ -100,9 +106,19 @@ begins_path_word b = b == 47 || b == 64 || is_quote b
 abbrev pub is_left_out_byte : ℕ → Bool
 is_left_out_byte b = is_open_brace b || b == 36
 
+-- a comma is here
+abbrev pub comes_comma : Result (List ℕ) Stop → Bool
+comes_comma (Ok rest) = begins is_comma rest
+comes_comma (Err stop) = false
+
+-- the word all by itself, a rule of AppArmor 4 that isn't supported
+abbrev pub is_all_rule : List ℕ → Bool
+is_all_rule bytes = is_word (codes "all") bytes && comes_comma (blank_at false (drop 3 bytes))
+
 unfoldable pub body_part : Bool → Reading → Result Reading Stop
 body_part denies s =
     if begins begins_path_word s.rest then path_first denies s
+    else if is_all_rule s.rest then word_left_out s.rest
     else if not (length (word s.rest) == 0) then permissions_first denies s
     else if begins is_left_out_byte s.rest then fault_here (left_out (take 1 s.rest)) s.rest
     else syntax_here s.rest
@@ -142,10 +158,11 @@ unqualified_item denies from_deny s =
     else if is_word (codes "file") s.rest then file_rule denies from_deny s
     else guarded_body denies s)
 
--- audit, then allow or deny, then owner or other, and what follows them
+-- a priority, audit, then allow or deny, then owner or other, and what follows them
 unfoldable pub rule_item : Reading → Result (ItemKind × Reading) Stop
 rule_item s = do
-  audited ← optional_word parts.Audit (codes "audit") s
+  ranked ← priority_part s
+  audited ← optional_word parts.Audit (codes "audit") ranked
   told ← optional_choice parts.Allow (codes "allow") parts.Deny (codes "deny") audited
   from ← optional_choice parts.Owner (codes "owner") parts.Other (codes "other") told
   unqualified_item (is_word (codes "deny") audited.rest) (length audited.rest) from

@@ -36,6 +36,8 @@ pub enum PartKind {
     Open,
     /// `}`
     Close,
+    /// `priority=` and a number.
+    Priority,
     /// The word `audit`.
     Audit,
     /// The word `allow`.

@@ -1,18 +1,19 @@
 //! File rules, and what else begins with a rule's qualifiers.
-ghost use Rattle.std.specs.Prelude.{◌≡◌, length};
+ghost use Rattle.std.specs.Prelude.{◌≡◌, false, length};
 ghost use Rattle.rule_reader.specs.TextBytes.{begins, is_arrow};
 ghost use Rattle.rule_reader.specs.ReadWords.{word};
 ghost use Rattle.flat_words.specs.Steps.{left_out};
 ghost use Rattle.flat_words.specs.Stops.{stop_value};
-ghost use Rattle.flat_text.specs.Rules.{permissions_word, begins_path_word};
+ghost use Rattle.flat_text.specs.Rules.{comes_comma, is_all_rule, permissions_word, begins_path_word};
+ghost use Rattle.flat_words.specs.Words.{blank_at};
 ghost use Rattle.flat_words.specs.Gives.{Reads};
 ghost use Rattle.flat_text.specs.Rules.{links_and_runs};
 
 use crate::part::{ItemKind, PartKind};
 use crate::reader::{Reader, failure_here};
 use flat_words::{
-    Failure, Letters, Stop, StopKind, after_blank, after_word, fault_here, is_statement, is_word,
-    letter_word, letters_of,
+    Failure, Letters, Stop, StopKind, after_blank, after_priority, after_word, fault_here,
+    is_statement, is_word, letter_word, letters_of,
 };
 use names::Permission;
 
@@ -28,6 +29,23 @@ fn is_arrow(bytes: &[u8]) -> bool
     ensures { result ≡ is_arrow bytes.now }
 {
     bytes.starts_with(b"->")
+}
+
+/// Whether blanks and then a comma are here.
+fn comes_comma(bytes: &[u8]) -> bool
+    ensures { result ≡ comes_comma (blank_at false bytes.now) }
+{
+    match after_blank(bytes) {
+        Ok(rest) => rest.starts_with(b","),
+        Err(_) => false,
+    }
+}
+
+/// Whether a rule `all` is here: the word by itself, which isn't supported.
+fn is_all_rule(bytes: &[u8]) -> bool
+    ensures { result ≡ is_all_rule bytes.now }
+{
+    is_word(b"all", bytes) && comes_comma(bytes.get(3..).unwrap_or_default())
 }
 
 /// The permissions here, of a rule that denies or not. Letters that are no permissions are the fault `unknown`.
@@ -58,10 +76,22 @@ fn links_and_runs(letters: Letters) -> bool
 
 impl<'t> Reader<'t> {
     ghost use Rattle.std.specs.Prelude.{◌≡◌, length, Ok, codes};
-    ghost use Rattle.flat_text.specs.Rules.{optional_word, optional_choice, permissions_part, target_part, comma_part, rule_end};
+    ghost use Rattle.flat_text.specs.Rules.{priority_part, optional_word, optional_choice, permissions_part, target_part};
+    ghost use Rattle.flat_text.specs.Rules.{comma_part, rule_end};
     ghost use Rattle.flat_text.specs.Rules.{path_first, permissions_first, body_part, guarded_body, file_rule, link_rule};
     ghost use Rattle.flat_text.specs.Rules.{unqualified_item, rule_item};
     ghost use Rattle.flat_words.specs.Gives.{Gives};
+
+    /// A priority and the blank after it, if one is here.
+    fn priority(&mut self) -> Result<(), Failure<'t>>
+        ensures { Gives (λ _. self.new) result (priority_part self.old) }
+    {
+        if !is_word(b"priority", self.rest()) {
+            return Ok(());
+        }
+        self.take_to(PartKind::Priority, after_priority(self.rest())?)?;
+        self.blank()
+    }
 
     /// This word and the blank after it, if it is here.
     fn optional_word(&mut self, kind: PartKind, name: &[u8]) -> Result<(), Failure<'t>>
@@ -192,6 +222,7 @@ impl<'t> Reader<'t> {
         let rest = self.rest();
         match rest {
             [b'/' | b'@' | b'"', ..] => self.path_first(denies),
+            _ if is_all_rule(rest) => Err(Failure::At(word_left_out(rest))),
             _ if !letter_word(rest).is_empty() => self.permissions_first(denies),
             [b'{' | b'$', ..] => Err(failure_here(StopKind::LeftOut(&rest[..1]), rest)),
             _ => Err(failure_here(StopKind::Syntax, rest)),
@@ -270,6 +301,7 @@ impl<'t> Reader<'t> {
     pub(crate) fn rule_item(&mut self) -> Result<ItemKind, Failure<'t>>
         ensures { Gives (λ kind. (kind, self.new)) result (rule_item self.old) }
     {
+        self.priority()?;
         self.optional_word(PartKind::Audit, b"audit")?;
         let denies = is_word(b"deny", self.rest());
         let from_deny = self.rest().len();

@@ -62,14 +62,14 @@ bare_shorter escaped (b ∷ bytes) rest e =
       ]
     ]
 
-pub quoted_shorter : (behind : Bool) (bytes rest : List ℕ) → quoted_at behind bytes ≡ Ok rest → length rest < length bytes
-quoted_shorter behind [] rest e = absurd (not_ok _ rest e)
-quoted_shorter behind (b ∷ bytes) rest e =
+pub quoted_shorter : (escaped : Bool) (bytes rest : List ℕ) → quoted_at escaped bytes ≡ Ok rest → length rest < length bytes
+quoted_shorter escaped [] rest e = absurd (not_ok _ rest e)
+quoted_shorter escaped (b ∷ bytes) rest e =
     elim (chosen (b == 0 || b == 10) _ _ _ e) [
       | inl h ↦ absurd (not_ok _ rest h.1)
-      | inr h ↦ elim (chosen (is_quote b && not behind) _ _ _ h.1) [
+      | inr h ↦ elim (chosen (is_quote b && not escaped) _ _ _ h.1) [
         | inl g ↦ let l = ap length (ok_is bytes rest g.1) in omega (arith, l)
-        | inr g ↦ let l = quoted_shorter (b == 92) bytes rest g.1 in omega (arith, l)
+        | inr g ↦ let l = quoted_shorter (not escaped && b == 92) bytes rest g.1 in omega (arith, l)
       ]
     ]
 

@@ -1,6 +1,7 @@
 -- The contents of the head of a profile besides its names: extended attributes and flags (apparmor.d(5), "Format").
 use Rattle.std.specs.Prelude.{ℕ, List, [], ◌∷◌, codes, Result, Ok, Option, Some, None, Bool, true, false, not, ◌&&◌, ◌||◌, ◌==◌}
-use Rattle.std.specs.Prelude.{if◌then◌else◌, find}
+use Rattle.std.specs.Prelude.{if◌then◌else◌, find, nat_eq}
+use Rattle.std.specs.List.{list_any, starts_with}
 use Rattle.rule_reader.specs.TextBytes.{is_white, is_quote, is_comma}
 use Rattle.rule_reader.specs.ReadWords.{leading, after}
 use Rattle.flat_words.specs.Steps.{Stop, ◌>>=◌, syntax_here}
@@ -8,14 +9,14 @@ use Rattle.flat_words.specs.Statements.{is_one_of, past_byte}
 
 -- ---- conditions: xattrs=( .. ), flags=( .. ), and flags without the word
 
--- after an opening parenthesis, within quotes or not, and directly after a backslash or not: what is left after the closing one
--- (41)
+-- after an opening parenthesis, within quotes or not, and directly after a backslash that takes the next byte or not: what is left
+-- after the closing one (41)
 abbrev pub parentheses_at : Bool → Bool → List ℕ → Result (List ℕ) Stop
-parentheses_at quoted behind_backslash [] = syntax_here []
-parentheses_at quoted behind_backslash (b ∷ bytes) =
+parentheses_at quoted escaped [] = syntax_here []
+parentheses_at quoted escaped (b ∷ bytes) =
     if b == 0 || (quoted && b == 10) then syntax_here (b ∷ bytes)
     else if b == 41 && not quoted then Ok bytes
-    else parentheses_at (if is_quote b && not behind_backslash then not quoted else quoted) (b == 92) bytes
+    else parentheses_at (if is_quote b && not escaped then not quoted else quoted) (not escaped && b == 92) bytes
 
 abbrev pub past_parentheses : List ℕ → Result (List ℕ) Stop
 past_parentheses bytes = past_byte 40 bytes >>= λ inside. parentheses_at false false inside
@@ -28,7 +29,8 @@ past_condition bytes = past_byte 61 (after is_white bytes) >>= λ rest. past_par
 abbrev pub parts_flags : ℕ → Bool
 parts_flags b = is_white b || is_comma b || b == 40 || b == 41
 
--- Flags that allow what no rule allows, and flags that don't.
+-- Flags that allow what no rule allows; and flags that don't, some of them with a value: the signal of kill, the number of the error
+-- that a refusal gives, and where paths begin that lead to no root (apparmor.d(5) of AppArmor 4.1, "Profile Flags").
 abbrev pub allowing_flags : List (List ℕ)
 allowing_flags = codes "complain" ∷ codes "unconfined" ∷ codes "default_allow" ∷ codes "prompt" ∷ []
 
@@ -36,10 +38,17 @@ abbrev pub other_flags : List (List ℕ)
 other_flags =
     codes "enforce" ∷ codes "kill" ∷ codes "audit" ∷ codes "attach_disconnected" ∷ codes "no_attach_disconnected"
     ∷ codes "mediate_deleted" ∷ codes "delegate_deleted" ∷ codes "chroot_relative" ∷ codes "namespace_relative"
-    ∷ codes "chroot_attach" ∷ codes "chroot_no_attach" ∷ []
+    ∷ codes "chroot_attach" ∷ codes "chroot_no_attach" ∷ codes "debug" ∷ codes "interruptible" ∷ []
+
+abbrev pub valued_flags : List (List ℕ)
+valued_flags = codes "kill.signal=" ∷ codes "error=" ∷ codes "attach_disconnected.path=" ∷ []
+
+-- the word begins with one of these
+abbrev pub begins_with_one_of : List (List ℕ) → List ℕ → Bool
+begins_with_one_of fronts w = list_any (λ front. starts_with nat_eq w front) fronts
 
 abbrev pub is_flag : List ℕ → Bool
-is_flag w = is_one_of allowing_flags w || is_one_of other_flags w
+is_flag w = is_one_of allowing_flags w || is_one_of other_flags w || begins_with_one_of valued_flags w
 
 -- a byte of a flag
 abbrev pub is_flag_byte : ℕ → Bool

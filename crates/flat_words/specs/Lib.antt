@@ -6,5 +6,6 @@ pub mod Words
 pub mod Letters
 pub mod Statements
 pub mod Conditions
+pub mod Priorities
 pub mod Assignments
 pub mod inner

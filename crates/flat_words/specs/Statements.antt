@@ -55,7 +55,7 @@ plain_step unclosed b bytes =
     else Ok (Some (still unclosed Plain))
 
 -- One byte, in any context. After whitespace # opens a comment, which extends to the next LF; a backslash (92) belongs with the
--- byte after it; and quotes extend to the next one that no backslash precedes, on one line.
+-- byte after it; and quotes extend to the next one that none takes, on one line.
 abbrev pub statement_step : Unclosed → ℕ → List ℕ → Result (Option Unclosed) Stop
 statement_step unclosed b bytes = elim unclosed.within [
   | Plain ↦ plain_step unclosed b bytes
@@ -70,7 +70,7 @@ statement_step unclosed b bytes = elim unclosed.within [
       else Ok (Some (still unclosed (if is_quote b then Plain else if b == 92 then QuotedBackslash else Quotes)))
   | QuotedBackslash ↦
       if b == 0 || b == 10 then syntax_here (b ∷ bytes)
-      else Ok (Some (still unclosed (if b == 92 then QuotedBackslash else Quotes)))
+      else Ok (Some (still unclosed Quotes))
 ]
 
 -- what is left after a statement of which this much is open

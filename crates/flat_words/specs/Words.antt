@@ -31,13 +31,14 @@ bare_at escaped (b ∷ bytes) =
     else if not escaped && (is_white b || is_quote b || (is_comma b && comma_ends bytes)) then Ok (b ∷ bytes)
     else bare_at (not escaped && b == 92) bytes
 
--- The rest of a word in quotes, directly after a backslash or not: up to the next quote that no backslash precedes.
+-- The rest of a word in quotes, directly after a backslash that takes the next byte or not: up to the next quote that no
+-- backslash takes. A backslash that is taken itself takes none.
 abbrev pub quoted_at : Bool → List ℕ → Result (List ℕ) Stop
-quoted_at behind_backslash [] = syntax_here []
-quoted_at behind_backslash (b ∷ bytes) =
+quoted_at escaped [] = syntax_here []
+quoted_at escaped (b ∷ bytes) =
     if b == 0 || b == 10 then syntax_here (b ∷ bytes)
-    else if is_quote b && not behind_backslash then Ok bytes
-    else quoted_at (b == 92) bytes
+    else if is_quote b && not escaped then Ok bytes
+    else quoted_at (not escaped && b == 92) bytes
 
 -- a word, in quotes or of at least one byte
 unfoldable pub word_end : List ℕ → Result (List ℕ) Stop

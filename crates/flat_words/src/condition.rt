@@ -1,8 +1,9 @@
 //! Extended attributes and flags in the head of a profile.
-ghost use Rattle.std.specs.Prelude.{◌≡◌, ◌==◌, length, find, false, not, option_map};
+ghost use Rattle.std.specs.Prelude.{◌≡◌, ◌==◌, length, find, false, map, not, option_map};
 ghost use Rattle.rule_reader.specs.TextBytes.{is_white};
 ghost use Rattle.rule_reader.specs.ReadWords.{leading, after};
 ghost use Rattle.flat_words.specs.Conditions.{parentheses_at, past_parentheses, past_condition, parts_flags, is_flag, is_flag_byte};
+ghost use Rattle.flat_words.specs.Conditions.{begins_with_one_of};
 ghost use Rattle.flat_words.specs.Conditions.{allowing_flags, unknown_flag};
 ghost use Rattle.flat_words.specs.Statements.{is_one_of};
 ghost use Rattle.flat_words.specs.Gives.{Reads};
@@ -17,16 +18,16 @@ fn after_inside(bytes: &[u8]) -> Result<&[u8], Stop<'_>>
 {
     let mut rest = bytes;
     let mut quoted = false;
-    let mut behind_backslash = false;
+    let mut escaped = false;
     while let [byte, more @ ..] = rest {
         match byte {
             0 => break,
             b'\n' if quoted => break,
             b')' if !quoted => return Ok(more),
-            b'"' if !behind_backslash => quoted = !quoted,
+            b'"' if !escaped => quoted = !quoted,
             _ => {}
         }
-        behind_backslash = *byte == b'\\';
+        escaped = !escaped && *byte == b'\\';
         rest = more;
     }
     Err(fault_here(StopKind::Syntax, rest))
@@ -71,7 +72,7 @@ fn parts_flags(byte: u8) -> bool
 const ALLOWING_FLAGS: [&str; 4] = ["complain", "unconfined", "default_allow", "prompt"];
 
 /// The flags that don't.
-const OTHER_FLAGS: [&str; 11] = [
+const OTHER_FLAGS: [&str; 13] = [
     "enforce",
     "kill",
     "audit",
@@ -83,7 +84,24 @@ const OTHER_FLAGS: [&str; 11] = [
     "namespace_relative",
     "chroot_attach",
     "chroot_no_attach",
+    "debug",
+    "interruptible",
 ];
+
+/// What flags with a value begin with that don't either.
+const VALUED_FLAGS: [&str; 3] = ["kill.signal=", "error=", "attach_disconnected.path="];
+
+/// Whether the word begins with one of these.
+fn begins_with_one_of(fronts: &[&str], word: &[u8]) -> bool
+    ensures { result ≡ begins_with_one_of (map (λ front. front.now) fronts.now) word.now }
+{
+    for front in fronts {
+        if word.starts_with(front.as_bytes()) {
+            return true;
+        }
+    }
+    false
+}
 
 /// Whether the flag allows what no rule allows.
 pub fn is_allowing_flag(word: &[u8]) -> bool
@@ -96,7 +114,9 @@ pub fn is_allowing_flag(word: &[u8]) -> bool
 fn is_flag(word: &[u8]) -> bool
     ensures { result ≡ is_flag word.now }
 {
-    is_allowing_flag(word) || is_one_of(&OTHER_FLAGS, word)
+    is_allowing_flag(word)
+        || is_one_of(&OTHER_FLAGS, word)
+        || begins_with_one_of(&VALUED_FLAGS, word)
 }
 
 /// Returns the bytes from the first opening parenthesis on.

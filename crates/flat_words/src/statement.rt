@@ -151,7 +151,7 @@ fn statement_step<'t>(
         Within::Backslash if byte != 0 => Within::Plain,
         Within::Quotes if byte == b'"' => Within::Plain,
         Within::Quotes | Within::QuotedBackslash if byte != 0 && byte != b'\n' => {
-            if byte == b'\\' {
+            if byte == b'\\' && matches!(unclosed.within, Within::Quotes) {
                 Within::QuotedBackslash
             } else {
                 Within::Quotes

@@ -74,12 +74,12 @@ fn after_quoted(bytes: &[u8]) -> Result<&[u8], Stop<'_>>
     ensures { Reads (λ x. x.now) result (quoted_at false bytes.now) }
 {
     let mut rest = bytes;
-    let mut behind_backslash = false;
+    let mut escaped = false;
     while let [byte, more @ ..] = rest {
         match byte {
             0 | b'\n' => break,
-            b'"' if !behind_backslash => return Ok(more),
-            _ => behind_backslash = *byte == b'\\',
+            b'"' if !escaped => return Ok(more),
+            _ => escaped = !escaped && *byte == b'\\',
         }
         rest = more;
     }

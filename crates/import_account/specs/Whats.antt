@@ -6,6 +6,7 @@ use Rattle.import_account.specs.declared.what.What.TheVariants as whats
 
 abbrev pub what_word : What → List ℕ
 what_word whats.Audit = codes "audit"
+what_word whats.Priority = codes "priority"
 what_word whats.Owner = codes "owner"
 what_word whats.Other = codes "other"
 what_word whats.File = codes "file"

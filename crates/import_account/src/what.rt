@@ -7,6 +7,8 @@ ghost use Rattle.import_account.specs.Whats.{what_word};
 #[derive(Clone, Copy, Debug, PartialEq, Eq)]
 pub enum What {
     Audit,
+    /// A number that says which of several rules counts.
+    Priority,
     Owner,
     Other,
     File,
@@ -88,6 +90,7 @@ impl What {
     {
         match self {
             What::Audit => b"audit",
+            What::Priority => b"priority",
             What::Owner => b"owner",
             What::Other => b"other",
             What::File => b"file",

@@ -1,5 +1,5 @@
 -- How the items of a canonical text are cut: into spans of which none is reported.
-use Rattle.std.proofs.Common.{◌≡◌, ℕ, ◌+◌, ◌-◌, ◌==◌, Bool, true, false, ◌&&◌, List, [], ◌∷◌, ◌++◌, map, length, Option, None, refl, sym}
+use Rattle.std.proofs.Common.{◌≡◌, ℕ, ◌-◌, ◌==◌, Bool, true, false, ◌&&◌, List, [], ◌∷◌, ◌++◌, map, length, Option, None, refl, sym}
 use Rattle.std.proofs.Common.{ap, ◌∙◌, subst, if◌then◌else◌}
 use Rattle.std.specs.Prelude.{codes}
 use Rattle.std.proofs.lemmas.Bool.{and_right}
@@ -104,44 +104,26 @@ blank_behind chosen reading bytes s g = blank_put Outer chosen 0 reading bytes s
 abbrev pub first_choice : Subject → Choice
 first_choice chosen = record { subject = chosen; profile = 0; outermost = 0 }
 
--- a span can be put before or after the profile is opened
-commutes : (kind : SpanKind) (count : ℕ) (s : CutState) → put kind (pass count (opened (enter Chosen s)))
-    ≡ opened (enter Chosen (put kind (pass count s)))
-commutes kind count s = at (s.from == s.at + count)
-  where
-    at : (b : Bool)
-        → (if b then pass count (opened (enter Chosen s)) else record (pass count (opened (enter Chosen s))) {
-          from = s.at + count;
-          spans =
-              s.spans ++ (record { start = s.from; end = s.at + count; kind = kind } ∷ []);
-        })
-        ≡ opened (enter Chosen (if b then pass count s else record (pass count s) {
-          from = s.at + count;
-          spans =
-              s.spans ++ (record { start = s.from; end = s.at + count; kind = kind } ∷ []);
-        }))
-    at true = refl
-    at false = refl
+-- the parts of a head, one after another
+abbrev put_head : List PartValue → CutState → CutState
+put_head [] s = s
+put_head (p ∷ parts) s = put_head parts (put (head_kind s.choice.subject p.kind p.bytes) (pass (length p.bytes) s))
 
 head_put : (chosen : Subject) (parts : List PartValue) (s : CutState) →
-    Each (λ (p : PartValue). IsUntold (head_kind chosen p.kind p.bytes)) parts
-    → IsCut chosen Chosen 1 (opened (enter Chosen s)) →
-    IsCut chosen Chosen 1 (chosen_head (record { kind = items.Profile; parts = parts }) s)
-unfolding chosen_head
+    Each (λ (p : PartValue). IsUntold (head_kind chosen p.kind p.bytes)) parts → IsCut chosen Chosen 1 s →
+    IsCut chosen Chosen 1 (put_head parts s)
 head_put chosen [] s fine g = g
 head_put chosen (p ∷ parts) s fine g =
     let kind = head_kind s.choice.subject p.kind p.bytes in
     let count = length p.bytes in
     let here : IsUntold kind = subst (λ (x : Subject). IsUntold (head_kind x p.kind p.bytes)) (sym g.subject) fine.0 in
-    rw (commutes kind count s)
-    (head_put chosen parts (put kind (pass count s)) fine.1
-    (subst (IsCut chosen Chosen 1) (commutes kind count s) (part_put chosen Chosen 1 kind count (opened (enter Chosen s)) here g)))
+    head_put chosen parts (put kind (pass count s)) fine.1 (part_put chosen Chosen 1 kind count s here g)
 
 head_cut : (chosen : Subject) (reading : RuleReading) (name : List ℕ) →
     IsCut chosen Chosen 1 (cut_item reading (head_item name) (at_start (first_choice chosen)))
-unfolding plain_item outer_item outer_head
+unfolding plain_item outer_item outer_head chosen_head
 head_cut chosen reading name =
-    head_put chosen (head_item name).parts (at_start (first_choice chosen)) (tt, (tt, (tt, (tt, (tt, tt)))))
+    head_put chosen (head_item name).parts (opened (enter Chosen (at_start (first_choice chosen)))) (tt, (tt, (tt, (tt, (tt, tt)))))
     (record { subject = refl; phase = refl; depth = refl; change = refl; hat = refl; untold = tt })
 
 -- ---- a rule, which stays as it is

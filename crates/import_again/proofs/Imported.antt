@@ -26,7 +26,8 @@ use Rattle.import_scope.specs.Scopes.{Head, ScopeState, behind_all, can_be_said}
 use Rattle.import_scope.proofs.Extending.{AreNamed}
 use Rattle.profile_variables.specs.Variables.{Variable}
 use Rattle.subject_rules.specs.declared.subject.Subject.{Subject}
-use Rattle.subject_rules.specs.Restating.{has_some, is_restated, restated_perms, restated_paths, shape_of, with_path}
+use Rattle.subject_rules.specs.Restating.{can_be_said as can_be_restated, has_some, is_restated, restated_perms, restated_paths, shape_of}
+use Rattle.subject_rules.specs.Restating.{with_path}
 use Rattle.subject_rules.specs.SubjectRules.{SubjectRule, read, unread}
 use Rattle.subject_rules.specs.Subjects.{applies_to}
 use Rattle.profile_import.specs.declared.options.ImportOptions.{ImportOptions}
@@ -82,7 +83,7 @@ if_restated chosen r h = at (is_restated chosen (shape_of r.rule)) refl
         → Each (λ (v : PlacedValue). IsImported v.value) (map (λ value. record { place = r.place; value = value })
         (if b then map (with_path r.rule) (restated_paths r.rule.path) else []))
     at true e =
-        let some = (and_parts (applies_to r.rule.applies_to chosen && (shape_of r.rule).is_read)
+        let some = (and_parts (applies_to r.rule.applies_to chosen && can_be_restated (shape_of r.rule))
         (has_some (restated_perms r.rule.perms (shape_of r.rule).has_target)) e).1 in
         with_each r.place r.rule (restated_paths r.rule.path) some h
     at false e = tt

@@ -13,7 +13,7 @@ use Rattle.rule_globs.specs.Rules.{RuleValue, ProfileValue}
 use Rattle.rule_profile.specs.Limits.{max_rules}
 use Rattle.rule_profile.specs.Readable.{is_name, is_path, is_rule, is_profile}
 use Rattle.rule_writer.specs.Canonical.{canonical}
-use Rattle.flat_canonical.specs.CanonicalItems.{path_text, canonical_items, ends_with_backslash, CanBeQuoted}
+use Rattle.flat_canonical.specs.CanonicalItems.{canonical_items}
 use Rattle.flat_canonical.proofs.ItemsRead.{reads_canonical}
 use Rattle.import_cut.specs.declared.span.Span.{Span}
 use Rattle.import_cut.specs.declared.span.SpanKind.{SpanKind}
@@ -26,9 +26,7 @@ use Rattle.profile_import.specs.Imports.{ImportValue, Imports, only_one, chosen_
 use Rattle.profile_import.specs.Imports.{chosen_outcome, items_outcome}
 use Rattle.profile_import.specs.Restated.{PlacedValue, cut_for, all_rules, restated_rules}
 use Rattle.import_again.specs.Untold.{IsUntold}
-use Rattle.import_again.proofs.Names.{no_backslash}
 use Rattle.import_again.proofs.Imported.{IsImported, IsImportedProfile, made, where_changed, where_counted, where_chosen}
-use Rattle.import_again.proofs.RuleItems.{can_be_quoted}
 use Rattle.import_again.proofs.Cuts.{first_choice, whole_cut, whole_rules}
 use Rattle.import_again.proofs.ScopesAgain.{head_of, outside, faultless, all_behind}
 
@@ -46,14 +44,6 @@ readable p h =
     (and_from (is_name p.name) (nat_le (length p.rules) max_rules) (and_parts (is_name p.name) _ h.name).0
     (le-leb (length p.rules) max_rules h.few))
     (rules_readable p.rules h.rules)
-
-rules_quotable : (rules : List RuleValue) → Each IsImported rules →
-    Each (λ (r : RuleValue). ends_with_backslash (path_text r.items) ≡ false) rules
-rules_quotable [] h = tt
-rules_quotable (r ∷ rules) h = (can_be_quoted r h.0, rules_quotable rules h.1)
-
-quotable : (p : ProfileValue) → IsImportedProfile p → CanBeQuoted p
-quotable p h = record { name = no_backslash p.name (and_parts (is_name p.name) _ h.name).1; paths = rules_quotable p.rules h.rules }
 
 -- ---- the spans
 
@@ -127,7 +117,7 @@ module _ (p : ProfileValue) (h : IsImportedProfile p) (again : ImportOptions) wh
         items = all;
         end = None;
         fault = None;
-        read = reads_canonical p (readable p h) (quotable p h);
-        first = subst (λ (d : List Define). FirstFault (at_start d) all None) (sym none) (faultless p h.name h.rules);
+        read = reads_canonical p (readable p h);
+        first = subst (λ (d : List Define). FirstFault (at_start d) all None) (sym none) (faultless p h.name h.rules h.few);
         is = sym outcome;
       }

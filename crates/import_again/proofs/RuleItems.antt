@@ -13,9 +13,9 @@ use Rattle.verdicts.specs.declared.kind.RuleKind.TheVariants.{Allow, Deny}
 use Rattle.flat_words.specs.declared.letters.Letters.{Letters}
 use Rattle.flat_words.specs.Letters.{no_letters}
 use Rattle.flat_rules.specs.RuleParts.{has_long_slashes, marks_of}
-use Rattle.flat_rules.specs.RuleWords.{content, kind_of, applies_to_of, perms_of_rule, path_of, target_of, letters_in}
+use Rattle.flat_rules.specs.RuleWords.{content, kind_of, applies_to_of, perms_of_rule, path_of, target_of, letters_in, priority_of}
 use Rattle.flat_rules.specs.declared.marks.Marks.{Marks}
-use Rattle.flat_canonical.specs.CanonicalItems.{in_quotes, path_text, rule_item, ends_with_backslash, plain_letters}
+use Rattle.flat_canonical.specs.CanonicalItems.{in_quotes, path_text, rule_item, plain_letters}
 use Rattle.flat_canonical.proofs.LettersRead.{letters_read}
 use Rattle.import_cut.specs.declared.reading.RuleReading.{RuleReading}
 use Rattle.import_paths.specs.Groups.{groups_choose}
@@ -29,12 +29,12 @@ use Rattle.profile_variables.specs.Variables.{Variable, most_bytes}
 use Rattle.subject_rules.specs.declared.shape.RuleShape.{RuleShape}
 use Rattle.subject_rules.specs.declared.subject.AppliesTo.TheVariants.{Everybody}
 use Rattle.subject_rules.specs.declared.subject.Subject.{Subject}
-use Rattle.subject_rules.specs.SubjectRules.{SubjectRule, read}
+use Rattle.subject_rules.specs.SubjectRules.{SubjectRule, read, no_priority}
 use Rattle.profile_import.specs.Expanded.{expanded}
 use Rattle.profile_import.specs.FileRules.{every_file, path_as, rule_text, subject_rule, reading_of, item_reading}
 use Rattle.profile_import.proofs.ExpandedTexts.{is_expanded}
 use Rattle.import_again.proofs.Imported.{IsImported}
-use Rattle.import_again.proofs.Names.{unless, no_backslash}
+use Rattle.import_again.proofs.Names.{unless}
 use Rattle.import_again.proofs.PlainTexts.{is_itself}
 
 -- ---- words in quotes
@@ -63,9 +63,6 @@ settles r h =
     let rest = and_parts (not (ends_with nat_eq text (codes "\\"))) _ way.1 in
     record { one = q.0; plain = unless (opens_variable text) alike.1; ends = rest.0; short = leb-true (length text) most_bytes rest.1 }
 
-pub can_be_quoted : (r : RuleValue) → IsImported r → ends_with_backslash (path_text r.items) ≡ false
-can_be_quoted r h = no_backslash (path_text r.items) (settles r h).ends
-
 pub own_text : (variables : List Variable) (r : RuleValue) → IsImported r →
     IsSubstituted variables (content (in_quotes (path_text r.items))) (path_text r.items)
 own_text variables r h =
@@ -77,7 +74,14 @@ own_text variables r h =
 
 -- the rule as one for everybody
 abbrev pub plain_rule : RuleValue → SubjectRule
-plain_rule r = record { kind = r.kind; applies_to = Everybody; perms = r.perms; target = None; path = read (r.items ∷ []) }
+plain_rule r = record {
+  kind = r.kind;
+  applies_to = Everybody;
+  perms = r.perms;
+  target = None;
+  path = read (r.items ∷ []);
+  priority = no_priority;
+}
 
 letters_are : (r : RuleValue) (kind : RuleKind) → letters_in (rule_item (record r { kind = kind })).parts ≡ plain_letters r.perms
 letters_are r Allow = ap (λ o. elim o [ None ↦ no_letters | Some l ↦ l ]) (letters_read r.perms)
@@ -98,6 +102,10 @@ for_all r Deny = refl
 no_target : (r : RuleValue) (kind : RuleKind) → target_of (rule_item (record r { kind = kind })).parts ≡ None
 no_target r Allow = refl
 no_target r Deny = refl
+
+says_no_priority : (r : RuleValue) (kind : RuleKind) → priority_of (rule_item (record r { kind = kind })).parts ≡ no_priority
+says_no_priority r Allow = refl
+says_no_priority r Deny = refl
 
 path_there : (r : RuleValue) (kind : RuleKind) → path_of (rule_item (record r { kind = kind })).parts
     ≡ Some (content (in_quotes (path_text r.items)))
@@ -122,6 +130,7 @@ says_itself variables r h =
       target =
           no_target r r.kind i;
       path = path i;
+      priority = says_no_priority r r.kind i;
     }
 
 -- ---- how it is reported
@@ -131,7 +140,7 @@ abbrev pub plain_marks : RuleValue → Marks
 plain_marks r = record { letters = plain_letters r.perms; slashes = false; pattern = false; link = false; binds = false }
 
 abbrev pub plain_shape : RuleValue → RuleShape
-plain_shape r = record { kind = r.kind; applies_to = Everybody; perms = r.perms; has_target = false; is_read = true }
+plain_shape r = record { kind = r.kind; applies_to = Everybody; perms = r.perms; has_target = false; is_read = true; has_priority = false }
 
 abbrev pub plain_reading : RuleValue → RuleReading
 plain_reading r = record { shape = plain_shape r; marks = plain_marks r }

@@ -14,6 +14,7 @@ use Rattle.flat_text.specs.declared.part.ItemKind.TheVariants as items
 use Rattle.flat_text.specs.Laws.{IsPart, IsItem}
 use Rattle.flat_text.specs.Parts.{PartValue, ItemValue, bytes_of_parts}
 use Rattle.flat_rules.specs.RuleParts.{part_whats, part_effect, rule_whats}
+use Rattle.flat_rules.specs.RuleWords.{has_part}
 use Rattle.import_account.specs.declared.what.What.{What}
 use Rattle.import_account.specs.declared.what.What.TheVariants as whats
 use Rattle.subject_rules.specs.declared.subject.Subject.{Subject}
@@ -34,7 +35,7 @@ use Rattle.import_cut.specs.PartSpans.{changes_profile}
 use Rattle.import_cut.specs.CutStates.{CutState, pass, put, enter, opened, closed, with_hat, with_change, passed, put_item, put_parts}
 use Rattle.import_cut.specs.Cutting.{run_kind, behind_run, start_run, marked, chosen_head, outer_head, run_head, child_head, run_close}
 use Rattle.import_cut.specs.Cutting.{chosen_close, statement_item, chosen_rule, outer_item, run_item, chosen_item, plain_item, is_rule}
-use Rattle.import_cut.specs.Cutting.{is_chosen, is_chosen_rule, cut_item}
+use Rattle.import_cut.specs.Cutting.{is_chosen, is_hat, is_chosen_rule, cut_item}
 use Rattle.import_cut.specs.Spans.{Covers, IsRight}
 use Rattle.import_cut.proofs.SpanLists.{one_more, covers_more, each_more, right_more, right_last}
 
@@ -176,17 +177,20 @@ module _ (B : Type 0) (Q : List Span → Type 0) (grow : (spans : List Span) (sp
 
   -- ---- heads
 
-  marks_stay : (before : List ℕ) (kind : ItemKind) (s : CutState) → s.from ≡ s.at → Is before s → Is before (marked kind s)
-      × ((marked kind s).from ≡ (marked kind s).at)
-  marks_stay before items.Hat s e f = (f, e)
-  marks_stay before _ s e f = (f, e)
+  marks_stay : (before : List ℕ) (parts : List PartValue) (s : CutState) → s.from ≡ s.at → Is before s → Is before (marked parts s)
+      × ((marked parts s).from ≡ (marked parts s).at)
+  marks_stay before parts s e f = at (has_part is_hat parts)
+    where
+      at : (b : Bool) → Is before (cond b (with_hat s) s) × ((cond b (with_hat s) s).from ≡ (cond b (with_hat s) s).at)
+      at true = (f, e)
+      at false = (f, e)
 
   chosen_heads : (before : List ℕ) (item : ItemValue) (s : CutState) → (B → IsItem item) → s.from ≡ s.at → Is before s
       → Good (before ++ bytes_of_parts item.parts) (chosen_head item s)
   unfolding chosen_head
   chosen_heads before item s whole e f =
-      let stay = marks_stay before item.kind s e f in
-      let t = opened (enter Chosen (marked item.kind s)) in
+      let stay = marks_stay before item.parts s e f in
+      let t = opened (enter Chosen (marked item.parts s)) in
       (putting_parts before OfHead item.parts t (λ b. (whole b).parts) stay.1 stay.0, λ _. parts_settle OfHead item.parts t stay.1)
 
   outer_heads : (before : List ℕ) (item : ItemValue) (s : CutState) → (B → IsItem item) → s.from ≡ s.at → Is before s

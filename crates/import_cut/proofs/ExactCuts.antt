@@ -1,18 +1,26 @@
--- What holds of the changes that are reported for all spans of a text holds of the change of each rule of the chosen profile.
-use Rattle.std.proofs.Common.{◌≡◌, Bool, cond, List, [], ◌∷◌, ◌++◌, refl, ap, subst}
+-- A rule of the chosen profile that isn't exact is reported so within its bytes; and what holds of the changes that are reported for
+-- all spans of a text holds of the change of each such rule.
+use Rattle.std.proofs.Common.{◌≡◌, ◌≢◌, ◌⊎◌, inl, inr, ℕ, ◌+◌, Bool, cond, List, [], ◌∷◌, ◌++◌, length, refl}
+use Rattle.std.proofs.Common.{sym, ap, subst, ⊎_elim, arith}
+use Rattle.std.specs.List.{Contains}
+use Rattle.std.proofs.lemmas.List.Elements.{Contains-append_cases, Contains-push_cases}
+use Rattle.rule_globs.specs.Each.{Each}
 use Rattle.flat_text.specs.Parts.{ItemValue, bytes_of_parts, bytes_of_items}
 use Rattle.subject_rules.specs.declared.effect.Change.{Change}
 use Rattle.subject_rules.specs.declared.effect.Change.TheVariants.{Exact}
-use Rattle.subject_rules.specs.Changes.{change}
+use Rattle.subject_rules.specs.declared.effect.Effect.{Effect}
+use Rattle.subject_rules.specs.declared.shape.RuleShape.{RuleShape}
+use Rattle.subject_rules.specs.declared.subject.Subject.{Subject}
+use Rattle.subject_rules.specs.Changes.{change, effect}
+use Rattle.subject_rules.specs.Subjects.{other_subject}
 use Rattle.import_cut.specs.declared.reading.Choice.{Choice}
 use Rattle.import_cut.specs.declared.reading.RuleReading.{RuleReading}
 use Rattle.import_cut.specs.declared.span.Span.{Span}
 use Rattle.import_cut.specs.CutStates.{CutState, at_start}
 use Rattle.import_cut.specs.Cutting.{chosen_rule, plain_item, cut_item, cut_items, cut_of, finished}
-use Rattle.import_cut.specs.ReadRules.{change_told, IsReadRule}
-use Rattle.import_cut.proofs.SpanLists.{each_before}
+use Rattle.import_cut.specs.ReadRules.{told_of, IsReadRule, IsWithin}
 use Rattle.import_cut.proofs.CutSteps.{Good, settled_there, items_go}
-use Rattle.import_cut.proofs.ToldRules.{Tells, rule_told}
+use Rattle.import_cut.proofs.ToldRules.{Reported, report_grows, rule_reported}
 use Rattle.import_cut.proofs.WholeCuts.{start_is_good, all_go, end_is_fine}
 
 items_then : (reading : ItemValue → RuleReading) (items others : List ItemValue) (s : CutState)
@@ -20,16 +28,39 @@ items_then : (reading : ItemValue → RuleReading) (items others : List ItemValu
 items_then reading [] others s = refl
 items_then reading (item ∷ items) others s = items_then reading items others (cut_item (reading item) item s)
 
-module _ (R : Change → Type 0) (exact : R Exact) (reading : ItemValue → RuleReading) (choice : Choice) (before after : List ItemValue)
-    (item : ItemValue) (read : IsReadRule reading choice before item) where
-  abbrev Goal : Type 0
-  Goal = R (change choice.subject choice.subject (reading item).shape)
+none_in_nothing : {A : Type 0} (x : A) → Contains [] x → ⊥
+none_in_nothing x here = absurd (omega (arith, here.1))
 
+first_or_other : {A : Type 0} (x : A) (xs : List A) (y : A) → Contains (x ∷ xs) y → (x ≡ y) ⊎ Contains xs y
+first_or_other x xs y here = ⊎_elim
+    (λ h. ⊎_elim (λ none. absurd (none_in_nothing y none)) (λ e. inl e) (Contains-push_cases [] x y h))
+    (λ h. inr h)
+    (Contains-append_cases (x ∷ []) xs y here)
+
+-- what holds of all elements of a list
+each_at : {A : Type 0} (P : A → Type 0) (xs : List A) (x : A) → Each P xs → Contains xs x → P x
+each_at P [] x h here = absurd (none_in_nothing x here)
+each_at P (y ∷ xs) x h here = elim (first_or_other y xs x here) [
+  | inl same ↦ subst P same h.0
+  | inr later ↦ each_at P xs x h.1 later
+]
+
+module _ (on : Effect → Change) (subject : Subject) (reading : ItemValue → RuleReading) (choice : Choice)
+    (reads_off : (shape : RuleShape) → on (effect choice.subject shape) ≡ change choice.subject subject shape)
+    (before after : List ItemValue) (item : ItemValue) (read : IsReadRule reading choice before item) where
+  abbrev Goal : Change
+  Goal = change choice.subject subject (reading item).shape
+
+  abbrev place : ℕ
+  place = length (bytes_of_items before)
+
+  -- the rule is exact, or its change is reported within its bytes
   abbrev Q : List Span → Type 0
-  Q spans = Tells R spans → Goal
+  Q spans = (Goal ≡ Exact) ⊎ Reported on place (place + length (bytes_of_parts item.parts)) Goal spans
 
   grow : (spans : List Span) (span : Span) → Q spans → Q (spans ++ (span ∷ []))
-  grow spans span q h = q (each_before (λ (x : Span). R (change_told x.kind)) spans span h).0
+  grow spans span (inl exact) = inl exact
+  grow spans span (inr r) = inr (report_grows on place (place + length (bytes_of_parts item.parts)) Goal spans span r)
 
   abbrev there : CutState
   there = cut_items reading before (at_start choice)
@@ -42,25 +73,55 @@ module _ (R : Change → Type 0) (exact : R Exact) (reading : ItemValue → Rule
   good_there = all_go ⊥ (λ _. Unit {0}) (λ _ _ _. tt) choice reading before [] (at_start choice) (λ none. absurd none)
       (start_is_good ⊥ (λ _. Unit {0}) (λ _ _ _. tt) choice tt)
 
-  told_here : Q behind.spans
-  told_here h =
-      let same : behind ≡ chosen_rule (reading item) item there =
-      ap (λ (b : Bool). cond b (chosen_rule (reading item) item there) (plain_item there.phase item there)) read.chosen in
+  reported_here : Q behind.spans
+  reported_here =
+      let same : chosen_rule (reading item) item there ≡ behind =
+      sym (ap (λ (b : Bool). cond b (chosen_rule (reading item) item there) (plain_item there.phase item there)) read.chosen) in
       let settled = settled_there item there read.chosen good_there.1 in
-      let told = rule_told R (reading item) item there exact read.written read.reads settled
-      (subst (λ (t : CutState). Tells R t.spans) same h) in
-      subst (λ (c : Choice). R (change c.subject c.subject (reading item).shape)) good_there.0.choice told
+      let subject_is : there.choice.subject ≡ choice.subject = ap (λ (c : Choice). c.subject) good_there.0.choice in
+      let told = rule_reported on choice.subject subject reads_off (reading item) item there subject_is read.written read.reads settled in
+      subst (λ (t : CutState). Q t.spans) same
+      (subst (λ (n : ℕ). (Goal ≡ Exact) ⊎ Reported on n (n + length (bytes_of_parts item.parts)) Goal
+      (chosen_rule (reading item) item there).spans) good_there.0.at told)
 
   good_behind : Good ⊥ Q grow choice (([] ++ bytes_of_items before) ++ bytes_of_parts item.parts) behind
   good_behind =
       let next = items_go ⊥ (λ _. Unit {0}) (λ _ _ _. tt) choice ([] ++ bytes_of_items before) (reading item) item there
       (λ none. absurd none) good_there in
       let f = next.0 in
-      (record { choice = f.choice; at = f.at; covers = f.covers; fits = f.fits; right = f.right; more = told_here }, next.1)
+      (record { choice = f.choice; at = f.at; covers = f.covers; fits = f.fits; right = f.right; more = reported_here }, next.1)
 
-  pub told_of_all : Tells R (cut_of reading choice (before ++ (item ∷ after))).spans → Goal
-  told_of_all h =
+  pub reported_in_all : Q (cut_of reading choice (before ++ (item ∷ after))).spans
+  reported_in_all =
       let front = ([] ++ bytes_of_items before) ++ bytes_of_parts item.parts in
       let rest = all_go ⊥ Q grow choice reading after front behind (λ none. absurd none) good_behind in
       let end = end_is_fine ⊥ Q grow choice (front ++ bytes_of_items after) (cut_items reading after behind) rest in
-      end.0.more (subst (λ (t : CutState). Tells R (finished t).spans) (items_then reading before (item ∷ after) (at_start choice)) h)
+      subst (λ (t : CutState). Q (finished t).spans) (sym (items_then reading before (item ∷ after) (at_start choice))) end.0.more
+
+  pub reported_there : Goal ≢ Exact → (span : Span) × Contains (cut_of reading choice (before ++ (item ∷ after))).spans span
+      × IsWithin before item span × (told_of on span.kind ≡ Goal)
+  reported_there isnt = at reported_in_all
+    where
+      at : Q (cut_of reading choice (before ++ (item ∷ after))).spans →
+          (span : Span) × Contains (cut_of reading choice (before ++ (item ∷ after))).spans span
+          × IsWithin before item span × (told_of on span.kind ≡ Goal)
+      at (inl exact) = absurd (isnt exact)
+      at (inr r) = (r.0, r.1, (r.2, r.3), r.4)
+
+  -- so what holds of all changes that are reported holds of the rule's
+  pub told_of_all : (R : Change → Type 0) → R Exact →
+      Each (λ (span : Span). R (told_of on span.kind)) (cut_of reading choice (before ++ (item ∷ after))).spans → R Goal
+  told_of_all R exact_too h = at reported_in_all
+    where
+      at : Q (cut_of reading choice (before ++ (item ∷ after))).spans → R Goal
+      at (inl exact) = subst R (sym exact) exact_too
+      at (inr r) = subst R r.4 (each_at (λ (span : Span). R (told_of on span.kind))
+          (cut_of reading choice (before ++ (item ∷ after))).spans r.0 h r.1)
+
+-- ---- what is reported for either subject
+
+pub for_chosen : (chosen : Subject) (shape : RuleShape) → (effect chosen shape).on_chosen ≡ change chosen chosen shape
+for_chosen chosen shape = refl
+
+pub for_other : (chosen : Subject) (shape : RuleShape) → (effect chosen shape).on_other ≡ change chosen (other_subject chosen) shape
+for_other chosen shape = refl

@@ -1,5 +1,6 @@
 mod SpanLists
-mod CutSteps
-mod WholeCuts
-mod ToldRules
+pub mod CutSteps
+pub mod WholeCuts
+pub mod ToldRules
 mod ExactCuts
+pub mod ByBraces

@@ -2,8 +2,11 @@
 use Rattle.std.specs.Prelude.{ℕ, ◌==◌, List, [], ◌∷◌, ◌&&◌, Bool, true, false, if◌then◌else◌}
 use Rattle.flat_text.specs.declared.part.ItemKind.{ItemKind}
 use Rattle.flat_text.specs.declared.part.ItemKind.TheVariants as items
-use Rattle.flat_text.specs.Parts.{ItemValue}
+use Rattle.flat_text.specs.declared.part.PartKind.{PartKind}
+use Rattle.flat_text.specs.declared.part.PartKind.TheVariants as kinds
+use Rattle.flat_text.specs.Parts.{PartValue, ItemValue}
 use Rattle.flat_rules.specs.RuleParts.{rule_whats, no_effect}
+use Rattle.flat_rules.specs.RuleWords.{has_part}
 use Rattle.import_account.specs.declared.what.What.{What}
 use Rattle.import_account.specs.declared.what.What.TheVariants as whats
 use Rattle.subject_rules.specs.declared.effect.Effect.{Effect}
@@ -42,14 +45,17 @@ behind_run floor = if floor == 0 then Outer else Chosen
 
 -- ---- heads
 
--- a head begins here, which is marked if it is a hat's
-abbrev pub marked : ItemKind → CutState → CutState
-marked items.Hat s = with_hat s
-marked _ s = s
+abbrev pub is_hat : PartKind → Bool
+is_hat kinds.Hat = true
+is_hat _ = false
+
+-- a head of these parts begins here, which is marked if it is a hat's
+abbrev pub marked : List PartValue → CutState → CutState
+marked parts s = if has_part is_hat parts then with_hat s else s
 
 -- the chosen profile's
 unfoldable pub chosen_head : ItemValue → CutState → CutState
-chosen_head item s = put_parts OfHead item.parts (opened (enter Chosen (marked item.kind s)))
+chosen_head item s = put_parts OfHead item.parts (opened (enter Chosen (marked item.parts s)))
 
 -- one outside of profiles
 unfoldable pub outer_head : ItemValue → CutState → CutState

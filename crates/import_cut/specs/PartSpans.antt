@@ -32,7 +32,7 @@ told all effect = Told (record { whats = all; effect = effect })
 -- To a profile with hats, or with a rule change_profile, apparmor_parser adds rules by which owners may write some files in
 -- /proc. They are restated like those of the text.
 abbrev pub added_rule : RuleShape
-added_rule = record { kind = Allow; applies_to = Owners; perms = only Write; has_target = false; is_read = true }
+added_rule = record { kind = Allow; applies_to = Owners; perms = only Write; has_target = false; is_read = true; has_priority = false }
 
 -- what restating them changes
 abbrev pub added_effect : Subject → Effect
@@ -46,6 +46,7 @@ what_of_statement bytes = elim (statement_what (word bytes)) [ None ↦ whats.Bo
 
 abbrev pub statement_part_whats : PartKind → List ℕ → List What
 statement_part_whats kinds.Audit bytes = whats.Audit ∷ []
+statement_part_whats kinds.Priority bytes = whats.Priority ∷ []
 statement_part_whats kinds.Owner bytes = whats.Owner ∷ []
 statement_part_whats kinds.Other bytes = whats.Other ∷ []
 statement_part_whats kinds.Statement bytes = what_of_statement bytes ∷ []

@@ -1,26 +1,43 @@
 -- Rules of the chosen profile, and what is reported of the spans that their text is cut into.
-use Rattle.std.specs.Prelude.{◌≡◌, List, is_some, true}
+use Rattle.std.specs.Prelude.{◌≡◌, ◌≤◌, ◌+◌, List, length, is_some, true}
 use Rattle.flat_text.specs.Laws.{IsItem}
-use Rattle.flat_text.specs.Parts.{PartValue, ItemValue}
+use Rattle.flat_text.specs.Parts.{PartValue, ItemValue, bytes_of_items, bytes_of_parts}
 use Rattle.flat_rules.specs.RuleParts.{marks_of}
-use Rattle.flat_rules.specs.RuleWords.{perms_of_rule, target_of}
+use Rattle.flat_rules.specs.RuleWords.{applies_to_of, perms_of_rule, target_of}
 use Rattle.subject_rules.specs.declared.effect.Change.{Change}
 use Rattle.subject_rules.specs.declared.effect.Change.TheVariants.{Exact}
+use Rattle.subject_rules.specs.declared.effect.Effect.{Effect}
 use Rattle.import_cut.specs.declared.reading.Choice.{Choice}
 use Rattle.import_cut.specs.declared.reading.RuleReading.{RuleReading}
+use Rattle.import_cut.specs.declared.span.Span.{Span}
 use Rattle.import_cut.specs.declared.span.SpanKind.{SpanKind}
 use Rattle.import_cut.specs.declared.span.SpanKind.TheVariants.{Kept, Blank, Told}
 use Rattle.import_cut.specs.CutStates.{at_start}
 use Rattle.import_cut.specs.Cutting.{is_chosen_rule, cut_items}
 
+-- what is reported of a span, of the two changes of an effect this one
+abbrev pub told_of : (Effect → Change) → SpanKind → Change
+told_of on Kept = Exact
+told_of on Blank = Exact
+told_of on (Told t) = on t.effect
+
 -- the change that is reported for the chosen subject
 abbrev pub change_told : SpanKind → Change
-change_told Kept = Exact
-change_told Blank = Exact
-change_told (Told t) = t.effect.on_chosen
+change_told kind = told_of (λ effect. effect.on_chosen) kind
+
+-- and that for the other one
+abbrev pub change_told_to_other : SpanKind → Change
+change_told_to_other kind = told_of (λ effect. effect.on_other) kind
+
+-- the span is within the bytes of this item, which follows those
+abbrev pub IsWithin : List ItemValue → ItemValue → Span → Type 0
+IsWithin before item span =
+    (length (bytes_of_items before) ≤ span.start)
+    × (span.end ≤ length (bytes_of_items before) + length (bytes_of_parts item.parts))
 
 -- it is a reading of a rule of these parts
 pub record IsReadingOf (parts : List PartValue) (reading : RuleReading) : Type 0 where
+  pub applies_to : reading.shape.applies_to ≡ applies_to_of parts
   pub perms : reading.shape.perms ≡ perms_of_rule parts
   pub target : reading.shape.has_target ≡ is_some (target_of parts)
   pub marks : reading.marks ≡ marks_of reading.marks.pattern parts

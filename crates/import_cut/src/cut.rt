@@ -10,8 +10,8 @@ ghost use Rattle.import_cut.specs.declared.reading.RuleReading.{RuleReading};
 use crate::reading::{Choice, RuleReading};
 use crate::span::{Span, SpanKind, Told};
 use crate::telling::{
-    PartTelling, added_effect, changes_profile, no_effect, statement_effect, statement_whats,
-    told_by,
+    PartTelling, added_effect, changes_profile, is_hat_head, no_effect, statement_effect,
+    statement_whats, told_by,
 };
 use flat_rules::rule_whats;
 use flat_text::{Item, ItemKind, Part};
@@ -271,7 +271,7 @@ impl Cut {
     fn chosen_head(&mut self, item: &Item<'_>) -> Result<(), NoMemory>
         ensures { IfOk result (λ _. self.new ≡ chosen_head item.now self.old) }
     {
-        if matches!(item.kind(), ItemKind::Hat) {
+        if is_hat_head(item.parts()) {
             self.mark_hat();
         }
         self.enter(Phase::Chosen);

@@ -1,13 +1,17 @@
 //! Laws of the spans of a text. The functions do nothing: each stands for its contract.
-ghost use Rattle.std.specs.Prelude.{◌≡◌, ◌≢◌, ◌++◌, ◌∷◌, List, length};
+ghost use Rattle.std.specs.Prelude.{◌≡◌, ◌≢◌, ◌++◌, ◌∷◌, List, length, Contains};
 ghost use Rattle.rule_globs.specs.Each.{Each};
 ghost use Rattle.flat_text.specs.Laws.{IsItem};
 ghost use Rattle.flat_text.specs.Parts.{ItemValue, bytes_of_items};
 ghost use Rattle.subject_rules.specs.Changes.{change};
 ghost use Rattle.import_cut.specs.declared.reading.Choice.{Choice};
 ghost use Rattle.import_cut.specs.declared.reading.RuleReading.{RuleReading};
-ghost use Rattle.import_cut.specs.Cutting.{cut_of};
-ghost use Rattle.import_cut.specs.ReadRules.{change_told, IsReadRule};
+ghost use Rattle.import_cut.specs.CutStates.{at_start};
+ghost use Rattle.import_cut.specs.Cutting.{cut_items, cut_of, is_chosen_rule};
+ghost use Rattle.import_cut.specs.Nesting.{is_rule_of};
+ghost use Rattle.import_cut.specs.declared.span.Span.{Span};
+ghost use Rattle.subject_rules.specs.Subjects.{other_subject};
+ghost use Rattle.import_cut.specs.ReadRules.{change_told, change_told_to_other, IsReadRule, IsWithin};
 ghost use Rattle.import_cut.specs.Spans.{Covers, IsRight};
 ghost use Rattle.subject_rules.specs.declared.effect.Change.TheVariants.{Exact, Wider, Narrower};
 
@@ -22,6 +26,41 @@ pub fn spans_cover_the_text()
 pub fn blank_spans_are_blank()
     ensures { (reading : ItemValue → RuleReading) (choice : Choice) (items : List ItemValue) → Each IsItem items →
         Each (IsRight (bytes_of_items items)) (cut_of reading choice items).spans }
+{}
+
+/// A rule that isn't exact for a subject is reported so within its own bytes: some span there has its change for that subject.
+pub fn changes_are_reported_in_place()
+    ensures chosen { (reading : ItemValue → RuleReading) (choice : Choice) (before after : List ItemValue) (item : ItemValue) →
+        IsReadRule reading choice before item → change choice.subject choice.subject (reading item).shape ≢ Exact →
+        (span : Span) × Contains (cut_of reading choice (before ++ (item ∷ after))).spans span × IsWithin before item span
+        × (change_told span.kind ≡ change choice.subject choice.subject (reading item).shape) }
+    ensures other { (reading : ItemValue → RuleReading) (choice : Choice) (before after : List ItemValue) (item : ItemValue) →
+        IsReadRule reading choice before item → change choice.subject (other_subject choice.subject) (reading item).shape ≢ Exact →
+        (span : Span) × Contains (cut_of reading choice (before ++ (item ∷ after))).spans span × IsWithin before item span
+        × (change_told_to_other span.kind ≡ change choice.subject (other_subject choice.subject) (reading item).shape) }
+{}
+
+/// The rules of the chosen profile are those that the braces say are directly in it, however they are read.
+pub fn chosen_rules_are_by_braces()
+    ensures { (reading : ItemValue → RuleReading) (choice : Choice) (before : List ItemValue) (item : ItemValue) →
+        is_chosen_rule item (cut_items reading before (at_start choice)) ≡ is_rule_of choice.profile before item }
+{}
+
+/// Where all spans of a text are reported as exact for the other subject, each rule of the chosen profile is exact for it, and so on
+/// as for the chosen subject.
+pub fn exact_spans_mean_exact_rules_for_the_other()
+    ensures exact { (reading : ItemValue → RuleReading) (choice : Choice) (before after : List ItemValue) (item : ItemValue) →
+        IsReadRule reading choice before item →
+        Each (λ span. change_told_to_other span.kind ≡ Exact) (cut_of reading choice (before ++ (item ∷ after))).spans →
+        change choice.subject (other_subject choice.subject) (reading item).shape ≡ Exact }
+    ensures not_wider { (reading : ItemValue → RuleReading) (choice : Choice) (before after : List ItemValue) (item : ItemValue) →
+        IsReadRule reading choice before item →
+        Each (λ span. change_told_to_other span.kind ≢ Wider) (cut_of reading choice (before ++ (item ∷ after))).spans →
+        change choice.subject (other_subject choice.subject) (reading item).shape ≢ Wider }
+    ensures not_narrower { (reading : ItemValue → RuleReading) (choice : Choice) (before after : List ItemValue) (item : ItemValue) →
+        IsReadRule reading choice before item →
+        Each (λ span. change_told_to_other span.kind ≢ Narrower) (cut_of reading choice (before ++ (item ∷ after))).spans →
+        change choice.subject (other_subject choice.subject) (reading item).shape ≢ Narrower }
 {}
 
 /// Where all spans of a text are reported as exact for the chosen subject, each rule of the chosen profile is exact for it; where

@@ -12,7 +12,10 @@ mod span;
 mod telling;
 
 pub use cut::{Cut, CutText};
-pub use laws::{blank_spans_are_blank, exact_spans_mean_exact_rules, spans_cover_the_text};
+pub use laws::{
+    blank_spans_are_blank, changes_are_reported_in_place, chosen_rules_are_by_braces,
+    exact_spans_mean_exact_rules, exact_spans_mean_exact_rules_for_the_other, spans_cover_the_text,
+};
 pub use mode::{mode_of_flags, mode_of_head};
 pub use reading::{Choice, RuleReading};
 pub use span::{Span, SpanKind, Told};

@@ -2,7 +2,9 @@
 ghost use Rattle.std.specs.Prelude.{◌≡◌, ◌++◌, ◌∷◌, [], IfOk};
 ghost use Rattle.import_cut.specs.PartSpans.{told, added_effect, what_of_statement, statement_part_whats, statement_whats};
 ghost use Rattle.import_cut.specs.PartSpans.{changes_profile, statement_effect, plain_kind, head_kind, rule_kind, part_kind};
+ghost use Rattle.import_cut.specs.Cutting.{is_hat};
 ghost use Rattle.flat_rules.specs.RuleParts.{no_effect};
+ghost use Rattle.flat_rules.specs.RuleWords.{has_part};
 
 use crate::mode::mode_of_flags;
 use crate::reading::RuleReading;
@@ -38,8 +40,18 @@ pub fn added_effect(chosen: Subject) -> Effect
         perms: Perms::NONE.with(Permission::Write),
         has_target: false,
         is_read: true,
+        has_priority: false,
     };
     Effect::of(chosen, added)
+}
+
+/// Whether a head of these parts is a hat's.
+pub(crate) fn is_hat_head(parts: &[Part<'_>]) -> bool
+    ensures { result ≡ has_part is_hat parts.now }
+{
+    parts
+        .iter()
+        .any(|part| matches!(part.kind(), PartKind::Hat))
 }
 
 /// The effect of changing nothing.
@@ -84,6 +96,7 @@ fn put_statement_part(part: &Part<'_>, whats: &mut Vec<What>) -> Result<(), NoMe
     ensures { IfOk result (λ _. whats.new.items ≡ whats.old.items ++ statement_part_whats part.now.kind part.now.bytes) }
 {
     match part.kind() {
+        PartKind::Priority => add(whats, What::Priority),
         PartKind::Audit => add(whats, What::Audit),
         PartKind::Owner => add(whats, What::Owner),
         PartKind::Other => add(whats, What::Other),

@@ -1,10 +1,11 @@
 -- What holds of each rule that AppArmor adds.
-use Rattle.std.proofs.Common.{ℕ, List, [], ◌∷◌, ◌++◌, Option, Some, None, codes, cond}
+use Rattle.std.proofs.Common.{◌≡◌, ℕ, true, refl, List, [], ◌∷◌, ◌++◌, Option, Some, None, codes, cond}
 use Rattle.std.specs.Prelude.{nat_le}
 use Rattle.names.specs.declared.permissions.Permission.TheVariants.{Read, Write}
 use Rattle.names.specs.declared.permissions.Perms.{Perms}
 use Rattle.names.specs.Permissions.{only}
 use Rattle.rule_globs.specs.Each.{Each}
+use Rattle.subject_rules.specs.Restating.{has_some}
 use Rattle.profile_import.specs.AddedRules.{added_at, added_rules, change_of_hat, change_of_profile, queries}
 use Rattle.profile_import.specs.FileRules.{PlacedRule}
 
@@ -12,18 +13,19 @@ pub each_of_both : {A : Type 0} (P : A → Type 0) (xs ys : List A) → Each P x
 each_of_both P [] ys h g = g
 each_of_both P (x ∷ xs) ys h g = (h.0, each_of_both P xs ys h.1 g)
 
-module _ (P : PlacedRule → Type 0) (each : (place : ℕ) (perms : Perms) (path : List ℕ) → P (added_at place perms path)) where
+module _ (P : PlacedRule → Type 0)
+    (each : (place : ℕ) (perms : Perms) (path : List ℕ) → has_some perms ≡ true → P (added_at place perms path)) where
   of_queries : (place : ℕ) → Each P (queries place)
   of_queries place = (
-    each place (only Read) (codes "/proc/*/attr/apparmor/"),
-    (each place (only Read) (codes "/sys/module/apparmor/parameters/enabled"), tt),
+    each place (only Read) (codes "/proc/*/attr/apparmor/") refl,
+    (each place (only Read) (codes "/sys/module/apparmor/parameters/enabled") refl, tt),
   )
 
   of_change : (place : ℕ) → P (change_of_profile place)
-  of_change place = each place (only Write) (codes "/proc/*/attr/{,apparmor/}{current,exec}")
+  of_change place = each place (only Write) (codes "/proc/*/attr/{,apparmor/}{current,exec}") refl
 
   of_hat : (place : ℕ) → P (change_of_hat place)
-  of_hat place = each place (only Write) (codes "/proc/[0-9]*/attr/{,apparmor/}current")
+  of_hat place = each place (only Write) (codes "/proc/[0-9]*/attr/{,apparmor/}current") refl
 
   pub of_each_added : (change hat : Option ℕ) → Each P (added_rules change hat)
   of_each_added None None = tt

@@ -1,6 +1,5 @@
--- What holds of the changes that are reported for all spans holds of the change of each rule of the chosen profile, and of each
--- that AppArmor adds.
-use Rattle.std.proofs.Common.{◌≡◌, ℕ, Bool, true, false, cond, List, [], ◌∷◌, ◌++◌, Option, refl, sym, subst, append_assoc}
+-- What holds of the changes that are reported for all spans holds of the change of each rule of the text in the chosen profile.
+use Rattle.std.proofs.Common.{◌≡◌, Bool, true, false, cond, List, [], ◌∷◌, ◌++◌, refl, sym, subst, append_assoc}
 use Rattle.std.specs.List.{All}
 use Rattle.std.proofs.lemmas.List.Elements.{All-cons, All-nil}
 use Rattle.rule_globs.specs.Each.{Each}
@@ -8,8 +7,7 @@ use Rattle.flat_text.specs.Laws.{IsItem}
 use Rattle.flat_text.specs.Parts.{ItemValue}
 use Rattle.profile_variables.specs.Variables.{Variable}
 use Rattle.subject_rules.specs.declared.effect.Change.{Change}
-use Rattle.subject_rules.specs.declared.effect.Change.TheVariants.{Exact}
-use Rattle.subject_rules.specs.declared.shape.RuleShape.{RuleShape}
+use Rattle.subject_rules.specs.declared.effect.Effect.{Effect}
 use Rattle.subject_rules.specs.declared.subject.Subject.{Subject}
 use Rattle.subject_rules.specs.Changes.{change}
 use Rattle.subject_rules.specs.Restating.{shape_of}
@@ -19,11 +17,10 @@ use Rattle.import_cut.specs.declared.reading.RuleReading.{RuleReading}
 use Rattle.import_cut.specs.CutStates.{CutState, at_start}
 use Rattle.import_cut.specs.Cutting.{cut_item, cut_items, cut_of, is_chosen_rule}
 use Rattle.import_cut.specs.ReadRules.{IsReadRule}
-use Rattle.profile_import.specs.AddedRules.{added_at, added_rules}
 use Rattle.profile_import.specs.FileRules.{PlacedRule, item_reading, rules_at, rules_in, subject_rule}
 use Rattle.profile_import.proofs.ToldShapes.{told_change}
 use Rattle.import_laws.specs.Imported.{plain_rules}
-use Rattle.import_laws.proofs.EachAdded.{each_of_both, of_each_added}
+use Rattle.import_laws.proofs.EachAdded.{each_of_both}
 use Rattle.import_laws.proofs.SpansBefore.{Tells}
 
 one_then : (reading : ItemValue → RuleReading) (before : List ItemValue) (item : ItemValue) (s : CutState)
@@ -35,33 +32,27 @@ pub all_plain : (P : SubjectRule → Type 0) (rules : List PlacedRule) → Each 
 all_plain P [] h = All-nil P
 all_plain P (r ∷ rules) h = All-cons P r.rule (plain_rules rules) h.0 (all_plain P rules h.1)
 
-module _ (R : Change → Type 0) (exact : R Exact) (variables : List Variable) (choice : Choice) where
-  abbrev chosen : Subject
-  chosen = choice.subject
-
+-- by the change that is read off an effect, for a subject
+module _ (on : Effect → Change) (subject : Subject) (R : Change → Type 0) (variables : List Variable) (choice : Choice) where
   abbrev reading : ItemValue → RuleReading
   reading item = item_reading variables choice.subject item
 
   abbrev IsTold : PlacedRule → Type 0
-  IsTold r = R (change choice.subject choice.subject (shape_of r.rule))
+  IsTold r = R (change choice.subject subject (shape_of r.rule))
 
   -- the law of the rules of a text
   abbrev pub RulesAreTold : Type 0
   RulesAreTold = (before after : List ItemValue) (item : ItemValue) → IsReadRule reading choice before item
-      → Tells R (cut_of reading choice (before ++ (item ∷ after))).spans → R (change choice.subject choice.subject (reading item).shape)
+      → Tells on R (cut_of reading choice (before ++ (item ∷ after))).spans → R (change choice.subject subject (reading item).shape)
 
-  -- the law of rules whose path was read, without a target
-  abbrev pub PlainIsExact : Type 0
-  PlainIsExact = (shape : RuleShape) → shape.is_read ≡ true → shape.has_target ≡ false → change choice.subject choice.subject shape ≡ Exact
-
-  module _ (law : RulesAreTold) (plain : PlainIsExact) where
-    rules_told : (before items : List ItemValue) → Each IsItem items → Tells R (cut_of reading choice (before ++ items)).spans
+  module _ (law : RulesAreTold) where
+    rules_told : (before items : List ItemValue) → Each IsItem items → Tells on R (cut_of reading choice (before ++ items)).spans
         → Each IsTold (rules_in variables choice.subject items (cut_items reading before (at_start choice)))
     rules_told before [] whole h = tt
     rules_told before (item ∷ items) whole h =
         let s = cut_items reading before (at_start choice) in
         let later = rules_told (before ++ (item ∷ [])) items whole.1
-        (subst (λ (x : List ItemValue). Tells R (cut_of reading choice x).spans) (sym (append_assoc before (item ∷ []) items)) h) in
+        (subst (λ (x : List ItemValue). Tells on R (cut_of reading choice x).spans) (sym (append_assoc before (item ∷ []) items)) h) in
         each_of_both IsTold (rules_at variables item s) (rules_in variables choice.subject items (cut_item (reading item) item s))
         (here (is_chosen_rule item s) refl)
         (subst (λ (t : CutState). Each IsTold (rules_in variables choice.subject items t))
@@ -74,22 +65,22 @@ module _ (R : Change → Type 0) (exact : R Exact) (variables : List Variable) (
                   subject_rule variables item.parts;
             } ∷ []) [])
         here true e = (
-          subst R (told_change choice.subject choice.subject (shape_of (subject_rule variables item.parts)))
+          subst R (told_change choice.subject subject (shape_of (subject_rule variables item.parts)))
               (law before items item
-              (record { written = whole.0; chosen = e; reads = record { perms = refl; target = refl; marks = refl } }) h),
+              (record {
+                written = whole.0;
+                chosen = e;
+                reads = record { applies_to = refl; perms = refl; target = refl; marks = refl };
+              }) h),
           tt,
         )
         here false e = tt
 
-    added_told : (change_at hat_at : Option ℕ) → Each IsTold (added_rules change_at hat_at)
-    added_told = of_each_added IsTold
-        (λ place perms path. subst R (sym (plain (shape_of (added_at place perms path).rule) refl refl)) exact)
-
-    pub all_told : (items : List ItemValue) (change_at hat_at : Option ℕ) → Each IsItem items → Tells R (cut_of reading choice items).spans
-        → All (λ rule. R (change choice.subject choice.subject (shape_of rule)))
-        (plain_rules (rules_in variables choice.subject items (at_start choice) ++ added_rules change_at hat_at))
-    all_told items change_at hat_at whole h =
-        all_plain (λ (rule : SubjectRule). R (change choice.subject choice.subject (shape_of rule)))
-        (rules_in variables choice.subject items (at_start choice) ++ added_rules change_at hat_at)
-        (each_of_both IsTold (rules_in variables choice.subject items (at_start choice)) (added_rules change_at hat_at)
-        (rules_told [] items whole h) (added_told change_at hat_at))
+    -- what is told of the rules of a text, and of those that are added to it, holds of all
+    pub all_told : (items : List ItemValue) (added : List PlacedRule) → Each IsItem items → Tells on R (cut_of reading choice items).spans
+        → Each IsTold added → All (λ rule. R (change choice.subject subject (shape_of rule)))
+        (plain_rules (rules_in variables choice.subject items (at_start choice) ++ added))
+    all_told items added whole h added_told =
+        all_plain (λ (rule : SubjectRule). R (change choice.subject subject (shape_of rule)))
+        (rules_in variables choice.subject items (at_start choice) ++ added)
+        (each_of_both IsTold (rules_in variables choice.subject items (at_start choice)) added (rules_told [] items whole h) added_told)

@@ -1,3 +1,6 @@
+mod AddedTold
+mod AllTold
+mod ByBraces
 mod EachAdded
 mod ExactRules
 mod Opened

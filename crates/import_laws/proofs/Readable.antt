@@ -10,14 +10,14 @@ use Rattle.rule_globs.specs.Tokens.{Token}
 use Rattle.rule_profile.specs.Readable.{is_name, is_path, is_rule}
 use Rattle.flat_text.specs.Parts.{ItemValue}
 use Rattle.subject_rules.specs.declared.subject.Subject.{Subject}
-use Rattle.subject_rules.specs.Restating.{has_some, is_restated, is_read, restated, restated_all, restated_paths, restated_perms, shape_of}
-use Rattle.subject_rules.specs.Restating.{with_path}
+use Rattle.subject_rules.specs.Restating.{has_some, is_restated, restated, restated_all, restated_paths, restated_perms, shape_of}
+use Rattle.subject_rules.specs.Restating.{can_be_said as can_be_restated, with_path}
 use Rattle.subject_rules.specs.SubjectRules.{SubjectPath, SubjectRule, read, unread}
 use Rattle.subject_rules.specs.Subjects.{applies_to}
 use Rattle.import_cut.specs.CutStates.{CutState}
 use Rattle.import_cut.specs.Cutting.{cut_item, is_chosen_rule}
 use Rattle.import_paths.specs.ImportedPaths.{imported_paths}
-use Rattle.import_scope.specs.FirstFaults.{FirstFault, none_left, at_head, at_path, later}
+use Rattle.import_scope.specs.FirstFaults.{Counted, nothing_counted, FirstFaultFrom, FirstFault, none_left, at_head, at_path, later}
 use Rattle.import_scope.specs.Scopes.{Fault, Head, ScopeState, behind, behind_all, can_be_said}
 use Rattle.import_scope.specs.inner.Outlines.{head_stop}
 use Rattle.import_scope.proofs.Extending.{AreNamed, last_is_behind, named_last}
@@ -29,13 +29,14 @@ use Rattle.import_laws.proofs.EachAdded.{each_of_both, of_each_added}
 
 -- ---- the name
 
-no_stop : (s : ScopeState) (items : List ItemValue) (end : Option Fault) → FirstFault s items end → end ≡ None → head_stop s items ≡ None
-no_stop s items end (none_left t) is = refl
-no_stop s items end (at_head t item others fault e) is = absurd cc
-no_stop s items end (at_path t item others q fault e f) is = absurd cc
-no_stop s items end (later t item others last e a r) is =
+no_stop : (s : ScopeState) (c : Counted) (items : List ItemValue) (end : Option Fault) → FirstFaultFrom s c items end → end ≡ None →
+    head_stop s items ≡ None
+no_stop s c items end (none_left t k) is = refl
+no_stop s c items end (at_head t k item others fault e) is = absurd cc
+no_stop s c items end (at_path t k item others q fault e f) is = absurd cc
+no_stop s c items end (later t k next item others last e a r) is =
     ap (λ (o : Option Fault). elim o [ None ↦ head_stop (behind t item) others | Some fault ↦ Some fault ]) e
-    ∙ no_stop (behind t item) others last r is
+    ∙ no_stop (behind t item) next others last r is
 
 one_named : (heads : List Head) (n : ℕ) (head : Head) → AreNamed heads → slice_get heads n ≡ Some head → IsTrue (can_be_said head.name)
 one_named [] n head named e = absurd cc
@@ -48,7 +49,7 @@ one_named (x ∷ heads) (suc n) head named e = one_named heads n head named.1 e
 pub names_are_said : (s : ScopeState) (items : List ItemValue) (n : ℕ) (head : Head) → AreNamed s.profiles → FirstFault s items None
     → slice_get (behind_all s items).profiles n ≡ Some head → is_name head.name ≡ true
 names_are_said s items n head named first found =
-    let last = last_is_behind s items (no_stop s items None first refl) in
+    let last = last_is_behind s items (no_stop s nothing_counted items None first refl) in
     let all = subst (λ (t : ScopeState). AreNamed t.profiles) last (named_last s items named) in
     (and_parts (is_name head.name) (not (ends_with nat_eq head.name (codes "\\")))
     (one_named (behind_all s items).profiles n head all found)).0
@@ -97,7 +98,7 @@ module _ (readable : (text : List ℕ) → list_all is_path (imported_paths text
       → AreGood (rules_in variables chosen items s ++ added_rules change hat)
   all_good variables chosen items s change hat =
       each_of_both (λ r. IsGood r.rule.path) (rules_in variables chosen items s) (added_rules change hat)
-      (rules_good variables chosen items s) (of_each_added (λ r. IsGood r.rule.path) (λ place perms path. readable path) change hat)
+      (rules_good variables chosen items s) (of_each_added (λ r. IsGood r.rule.path) (λ place perms path some. readable path) change hat)
 
 paths_pass : (rule : SubjectRule) (paths : List (List Token)) → has_some (restated_perms rule.perms (shape_of rule).has_target) ≡ true →
     list_all is_path paths ≡ true
@@ -119,7 +120,7 @@ restated_pass chosen rule good = at (is_restated chosen (shape_of rule)) refl
     at : (b : Bool) → is_restated chosen (shape_of rule) ≡ b →
         list_all is_rule (cond b (map (with_path rule) (restated_paths rule.path)) []) ≡ true
     at true e =
-        let some = (and_parts (applies_to rule.applies_to chosen && is_read rule.path)
+        let some = (and_parts (applies_to rule.applies_to chosen && can_be_restated (shape_of rule))
         (has_some (restated_perms rule.perms (shape_of rule).has_target)) e).1 in
         paths_pass rule (restated_paths rule.path) some (good_paths rule.path good)
     at false e = refl

@@ -6,9 +6,11 @@ use Rattle.flat_text.specs.declared.part.ItemKind.{ItemKind}
 use Rattle.flat_text.specs.declared.part.ItemKind.TheVariants as items
 use Rattle.flat_text.specs.Parts.{PartValue, ItemValue}
 use Rattle.flat_rules.specs.RuleParts.{rule_whats}
+use Rattle.flat_rules.specs.RuleWords.{has_part}
 use Rattle.import_account.specs.declared.what.What.{What}
 use Rattle.import_account.specs.declared.what.What.TheVariants as whats
 use Rattle.subject_rules.specs.declared.effect.Change.{Change}
+use Rattle.subject_rules.specs.declared.effect.Effect.{Effect}
 use Rattle.subject_rules.specs.declared.subject.Subject.{Subject}
 use Rattle.subject_rules.specs.Changes.{effect}
 use Rattle.subject_rules.specs.Restating.{is_restated}
@@ -23,8 +25,8 @@ use Rattle.import_cut.specs.PartSpans.{told, plain_kind, head_kind, rule_kind, s
 use Rattle.import_cut.specs.CutStates.{CutState, pass, put, enter, opened, closed, with_hat, with_change, passed, put_item}
 use Rattle.import_cut.specs.Cutting.{run_kind, behind_run, start_run, marked, chosen_head, outer_head, run_head, child_head, run_close}
 use Rattle.import_cut.specs.Cutting.{chosen_close, statement_item, chosen_rule, outer_item, run_item, chosen_item, plain_item}
-use Rattle.import_cut.specs.Cutting.{is_chosen_rule, cut_item, cut_items, rest_kind, finished}
-use Rattle.import_cut.specs.ReadRules.{change_told}
+use Rattle.import_cut.specs.Cutting.{is_chosen_rule, is_hat, cut_item, cut_items, rest_kind, finished}
+use Rattle.import_cut.specs.ReadRules.{told_of}
 
 -- parts that each are a span, of the kind that this says
 abbrev pub put_each : (Subject → PartValue → SpanKind) → List PartValue → CutState → CutState
@@ -37,7 +39,7 @@ plain_part chosen p = plain_kind p.kind
 abbrev pub head_part : Subject → PartValue → SpanKind
 head_part chosen p = head_kind chosen p.kind p.bytes
 
-abbrev rule_part : RuleReading → Subject → PartValue → SpanKind
+abbrev pub rule_part : RuleReading → Subject → PartValue → SpanKind
 rule_part reading chosen p = rule_kind chosen reading p.kind
 
 -- with a span of the bytes that are in none
@@ -56,22 +58,22 @@ each_before : {A : Type 0} (P : A → Type 0) (xs : List A) (x : A) → Each P (
 each_before P [] x h = (tt, h.0)
 each_before P (y ∷ xs) x h = let g = each_before P xs x h.1 in ((h.0, g.0), g.1)
 
-module _ (R : Change → Type 0) where
+module _ (on : Effect → Change) (R : Change → Type 0) where
   -- R holds of each change that is reported for these spans
   abbrev pub Tells : List Span → Type 0
-  Tells spans = Each (λ (span : Span). R (change_told span.kind)) spans
+  Tells spans = Each (λ (span : Span). R (told_of on span.kind)) spans
 
-  last_told : (kind : SpanKind) (s : CutState) → Tells (one_more kind s).spans → Tells s.spans × R (change_told kind)
-  last_told kind s h = each_before (λ (span : Span). R (change_told span.kind)) s.spans
+  last_told : (kind : SpanKind) (s : CutState) → Tells (one_more kind s).spans → Tells s.spans × R (told_of on kind)
+  last_told kind s h = each_before (λ (span : Span). R (told_of on span.kind)) s.spans
       (record { start = s.from; end = s.at; kind = kind }) h
 
   pub before_put : (kind : SpanKind) (s : CutState) → Tells (put kind s).spans → Tells s.spans
   before_put kind s = put_cases (λ t. Tells t.spans → Tells s.spans) kind s (λ h. h) (λ h. (last_told kind s h).0)
 
-  pub put_is_told : (kind : SpanKind) (s : CutState) → (s.from ≡ s.at → ⊥) → Tells (put kind s).spans → R (change_told kind)
+  pub put_is_told : (kind : SpanKind) (s : CutState) → (s.from ≡ s.at → ⊥) → Tells (put kind s).spans → R (told_of on kind)
   put_is_told kind s some h = at (s.from == s.at) refl h
     where
-      at : (b : Bool) → (s.from == s.at) ≡ b → Tells (cond b s (one_more kind s)).spans → R (change_told kind)
+      at : (b : Bool) → (s.from == s.at) ≡ b → Tells (cond b s (one_more kind s)).spans → R (told_of on kind)
       at true e h = absurd (some (eqb-true s.from s.at e))
       at false e h = (last_told kind s h).1
 
@@ -89,14 +91,17 @@ module _ (R : Change → Type 0) where
   unfolding start_run
   before_run _ item s h = h
 
-  before_marked : (kind : ItemKind) (s : CutState) → Tells (marked kind s).spans → Tells s.spans
-  before_marked items.Hat s h = h
-  before_marked _ s h = h
+  before_marked : (parts : List PartValue) (s : CutState) → Tells (marked parts s).spans → Tells s.spans
+  before_marked parts s h = at (has_part is_hat parts) h
+    where
+      at : (b : Bool) → Tells (cond b (with_hat s) s).spans → Tells s.spans
+      at true h = h
+      at false h = h
 
-  before_chosen_head : (item : ItemValue) (s : CutState) → Tells (chosen_head item s).spans → Tells s.spans
+  pub before_chosen_head : (item : ItemValue) (s : CutState) → Tells (chosen_head item s).spans → Tells s.spans
   unfolding chosen_head
   before_chosen_head item s h =
-      before_marked item.kind s (before_parts head_part item.parts (opened (enter Chosen (marked item.kind s))) h)
+      before_marked item.parts s (before_parts head_part item.parts (opened (enter Chosen (marked item.parts s))) h)
 
   before_outer_head : (item : ItemValue) (s : CutState) → Tells (outer_head item s).spans → Tells s.spans
   unfolding outer_head

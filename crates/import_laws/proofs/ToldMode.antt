@@ -16,7 +16,8 @@ use Rattle.subject_rules.specs.declared.effect.Change.TheVariants.{Exact}
 use Rattle.subject_rules.specs.declared.mode.Mode.{Mode}
 use Rattle.subject_rules.specs.declared.mode.Mode.TheVariants.{Enforcing, Permissive, Unconfined}
 use Rattle.subject_rules.specs.declared.subject.Subject.{Subject}
-use Rattle.subject_rules.specs.Changes.{mode_change}
+use Rattle.subject_rules.specs.declared.effect.Effect.{Effect}
+use Rattle.subject_rules.specs.Changes.{mode_change, mode_effect}
 use Rattle.import_cut.specs.declared.cut.Phase.{Phase}
 use Rattle.import_cut.specs.declared.cut.Phase.TheVariants.{Outer, Skipping, Chosen}
 use Rattle.import_cut.specs.declared.cut.Run.{Run}
@@ -24,29 +25,37 @@ use Rattle.import_cut.specs.declared.reading.Choice.{Choice}
 use Rattle.import_cut.specs.declared.reading.RuleReading.{RuleReading}
 use Rattle.import_cut.specs.declared.span.SpanKind.{SpanKind}
 use Rattle.import_cut.specs.declared.span.SpanKind.TheVariants.{Kept}
-use Rattle.import_cut.specs.Modes.{more_permissive, part_mode, mode_with_parts, mode_of_head}
+use Rattle.import_cut.specs.Modes.{more_permissive, part_mode, mode_with_parts, mode_of_flags, mode_of_head}
 use Rattle.import_cut.specs.PartSpans.{told, head_kind, statement_whats, statement_effect, changes_profile}
-use Rattle.import_cut.specs.CutStates.{CutState, at_start, pass, put, enter, opened, closed, with_change, passed, put_item}
+use Rattle.import_cut.specs.CutStates.{CutState, at_start, pass, put, enter, opened, closed, with_hat, with_change, passed, put_item}
 use Rattle.import_cut.specs.Cutting.{run_kind, behind_run, start_run, marked, chosen_head, outer_head, run_head, run_close, statement_item}
 use Rattle.import_cut.specs.Cutting.{chosen_rule, outer_item, run_item, plain_item, is_chosen, is_rule, cut_item, cut_items, cut_of}
-use Rattle.import_cut.specs.Cutting.{finished}
-use Rattle.import_cut.specs.ReadRules.{change_told}
+use Rattle.import_cut.specs.Cutting.{finished, is_hat}
+use Rattle.flat_rules.specs.RuleWords.{has_part}
+use Rattle.import_cut.specs.ReadRules.{told_of}
 use Rattle.import_laws.specs.Imported.{mode_from, opens_profile}
 use Rattle.import_laws.proofs.SpansBefore.{Tells, before_end, before_parts, head_part, plain_part, put_cases, put_each, put_is_told}
 
 put_fits : (kind : SpanKind) (s : CutState) → s.from ≤ s.at → (put kind s).from ≤ (put kind s).at
 put_fits kind s fits = put_cases (λ t. t.from ≤ t.at) kind s fits (omega arith)
 
-marked_fits : (kind : ItemKind) (s : CutState) → s.from ≤ s.at → (marked kind s).from ≤ (marked kind s).at
-marked_fits items.Hat s fits = fits
-marked_fits _ s fits = fits
+marked_fits : (parts : List PartValue) (s : CutState) → s.from ≤ s.at → (marked parts s).from ≤ (marked parts s).at
+marked_fits parts s fits = at (has_part is_hat parts)
+  where
+    at : (b : Bool) → (cond b (with_hat s) s).from ≤ (cond b (with_hat s) s).at
+    at true = fits
+    at false = fits
 
 -- ---- flags
 
-module _ (R : Change → Type 0) (exact : R Exact) where
-  part_told : (chosen : Subject) (kind : PartKind) (bytes : List ℕ) → R (change_told (head_kind chosen kind bytes)) →
+-- the change of a mode is read off its effect
+abbrev pub ReadsModes : (Effect → Change) → Type 0
+ReadsModes on = (chosen : Subject) (mode : Mode) → on (mode_effect chosen mode) ≡ mode_change mode
+
+module _ (on : Effect → Change) (reads : ReadsModes on) (R : Change → Type 0) (exact : R Exact) where
+  part_told : (chosen : Subject) (kind : PartKind) (bytes : List ℕ) → R (told_of on (head_kind chosen kind bytes)) →
       R (mode_change (part_mode kind bytes))
-  part_told chosen kinds.Flags bytes h = h
+  part_told chosen kinds.Flags bytes h = subst R (reads chosen (mode_of_flags bytes)) h
   part_told chosen _ bytes h = exact
 
   both_told : (mode other : Mode) → R (mode_change mode) → R (mode_change other) → R (mode_change (more_permissive mode other))
@@ -57,22 +66,23 @@ module _ (R : Change → Type 0) (exact : R Exact) where
   both_told Unconfined other e f = e
 
   parts_told : (parts : List PartValue) (s : CutState) (mode : Mode) → Each IsPart parts → s.from ≤ s.at → R (mode_change mode)
-      → Tells R (put_each head_part parts s).spans → R (mode_change (mode_with_parts mode parts))
+      → Tells on R (put_each head_part parts s).spans → R (mode_change (mode_with_parts mode parts))
   parts_told [] s mode whole fits e h = e
   parts_told (p ∷ parts) s mode whole fits e h =
       let kind = head_part s.choice.subject p in
       let now = pass (length p.bytes) s in
       let some = whole.0.some in
       let more : s.from ≤ s.at + length p.bytes = omega (arith, fits) in
-      let here = put_is_told R kind now (λ same. omega (arith, some, fits, same)) (before_parts R head_part parts (put kind now) h) in
+      let here = put_is_told on R kind now (λ same. omega (arith, some, fits, same))
+      (before_parts on R head_part parts (put kind now) h) in
       parts_told parts (put kind now) (more_permissive mode (part_mode p.kind p.bytes)) whole.1 (put_fits kind now more)
       (both_told mode (part_mode p.kind p.bytes) e (part_told s.choice.subject p.kind p.bytes here)) h
 
-  head_told : (item : ItemValue) (s : CutState) → IsItem item → s.from ≤ s.at → Tells R (chosen_head item s).spans →
+  head_told : (item : ItemValue) (s : CutState) → IsItem item → s.from ≤ s.at → Tells on R (chosen_head item s).spans →
       R (mode_change (mode_of_head item.parts))
   unfolding chosen_head
   head_told item s whole fits h =
-      parts_told item.parts (opened (enter Chosen (marked item.kind s))) Enforcing whole.parts (marked_fits item.kind s fits) exact h
+      parts_told item.parts (opened (enter Chosen (marked item.parts s))) Enforcing whole.parts (marked_fits item.parts s fits) exact h
 
 -- ---- before the chosen profile
 
@@ -96,7 +106,7 @@ not_chosen Chosen depth b h = absurd h
 behind_is_outer : (floor depth : ℕ) → floor ≡ 0 → depth ≡ 0 → IsBefore (behind_run floor) depth
 behind_is_outer floor depth e h = subst (λ (n : ℕ). IsBefore (behind_run n) depth) (sym e) h
 
-module _ (R : Change → Type 0) (exact : R Exact) (c : Choice) where
+module _ (on : Effect → Change) (reads : ReadsModes on) (R : Change → Type 0) (exact : R Exact) (c : Choice) where
   abbrev Is : ℕ → CutState → Type 0
   Is heads s = Before c heads s.choice s.heads s.depth s.at s.from s.phase
 
@@ -122,7 +132,7 @@ module _ (R : Change → Type 0) (exact : R Exact) (c : Choice) where
   abbrev Step : ℕ → ItemValue → Bool → Bool → CutState → Type 0
   Step heads item false is t = Is heads t
   Step heads item true false t = Is (suc heads) t
-  Step heads item true true t = Tells R t.spans → R (mode_change (mode_of_head item.parts))
+  Step heads item true true t = Tells on R t.spans → R (mode_change (mode_of_head item.parts))
 
   run_starts : (heads : ℕ) (begun : What) (item : ItemValue) (s : CutState) → s.depth ≡ 0 → Is heads s →
       Is (suc heads) (start_run begun item s)
@@ -144,7 +154,7 @@ module _ (R : Change → Type 0) (exact : R Exact) (c : Choice) where
       (same_test heads s f) (at (s.heads == s.choice.profile) (cond (s.heads == s.choice.outermost) whats.Parent whats.Profile))
     where
       at : (b : Bool) (begun : What) → Step heads item true b (cond b (chosen_head item s) (start_run begun item s))
-      at true _ = λ h. head_told R exact item s whole f.fits h
+      at true _ = λ h. head_told on reads R exact item s whole f.fits h
       at false begun = run_starts heads begun item s outer f
 
   run_heads : (heads : ℕ) (run : Run) (item : ItemValue) (s : CutState) → IsItem item → s.phase ≡ Skipping run → Is heads s
@@ -157,7 +167,7 @@ module _ (R : Change → Type 0) (exact : R Exact) (c : Choice) where
       (same_test heads s f) (at (s.heads == s.choice.profile) kind)
     where
       at : (b : Bool) (kind : SpanKind) → Step heads item true b (cond b (chosen_head item (put kind s)) (passed item (opened s)))
-      at true kind = λ h. head_told R exact item (put kind s) whole (putting heads kind s f).fits h
+      at true kind = λ h. head_told on reads R exact item (put kind s) whole (putting heads kind s f).fits h
       at false kind =
           let fits = f.fits in
           let count = f.heads_are in
@@ -238,7 +248,7 @@ module _ (R : Change → Type 0) (exact : R Exact) (c : Choice) where
       (sym (not_chosen s.phase s.depth (is_rule item.kind) f.before)) (plain_steps s.phase heads item s whole refl f)
 
   from_here : (reading : ItemValue → RuleReading) (items : List ItemValue) (heads : ℕ) (s : CutState) → Each IsItem items → Is heads s
-      → Tells R (finished (cut_items reading items s)).spans → R (mode_change (mode_from c.profile heads items))
+      → Tells on R (finished (cut_items reading items s)).spans → R (mode_change (mode_from c.profile heads items))
   from_here reading [] heads s whole f h = exact
   from_here reading (item ∷ items) heads s whole f h =
       at (opens_profile item.kind) (heads == c.profile) (item_steps (reading item) heads item s whole.0 f)
@@ -250,9 +260,9 @@ module _ (R : Change → Type 0) (exact : R Exact) (c : Choice) where
           (mode_from c.profile heads items)))
       at false is g others = others heads g
       at true false g others = others (suc heads) g
-      at true true g others = g (before_end R reading items (cut_item (reading item) item s) h)
+      at true true g others = g (before_end on R reading items (cut_item (reading item) item s) h)
 
   pub mode_told : (reading : ItemValue → RuleReading) (items : List ItemValue) → Each IsItem items
-      → Tells R (cut_of reading c items).spans → R (mode_change (mode_from c.profile 0 items))
+      → Tells on R (cut_of reading c items).spans → R (mode_change (mode_from c.profile 0 items))
   mode_told reading items whole h =
       from_here reading items 0 (at_start c) whole (record { choice = refl; heads_are = refl; fits = omega arith; before = refl }) h

@@ -11,6 +11,7 @@ use Rattle.profile_import.specs.declared.options.ImportOptions.{ImportOptions}
 use Rattle.profile_import.specs.FileRules.{PlacedRule}
 use Rattle.profile_import.specs.Imports.{ImportValue, chosen_number, choice_of}
 use Rattle.profile_import.specs.Restated.{all_rules, cut_for}
+use Rattle.profile_variables.specs.Variables.{Variable}
 use Rattle.subject_rules.specs.declared.mode.Mode.{Mode}
 use Rattle.subject_rules.specs.declared.mode.Mode.TheVariants.{Enforcing}
 use Rattle.subject_rules.specs.SubjectRules.{SubjectRule}
@@ -29,6 +30,10 @@ mode_from number heads (item ∷ items) =
 
 abbrev pub plain_rules : List PlacedRule → List SubjectRule
 plain_rules rules = map (λ r. r.rule) rules
+
+-- the variables that are in effect in the chosen profile
+abbrev pub variables_of : ImportOptions → List ItemValue → Head → List Variable
+variables_of options items head = variables_within (behind_all (at_start options.defines.now) items).declared head.name
 
 -- This is the import of the text, and these are the chosen profile's rules, including those that AppArmor adds, and its mode.
 pub record IsImported (options : ImportOptions) (text : List ℕ) (value : ImportValue) (rules : List SubjectRule)

@@ -8,5 +8,8 @@
 mod meaning;
 mod outcomes;
 
-pub use meaning::{exact_imports_say_the_same, imports_are_restated_rules};
+pub use meaning::{
+    exact_imports_say_the_same, exact_imports_say_the_same_to_the_other,
+    imported_rules_are_by_braces, imported_rules_are_reported_in_place, imports_are_restated_rules,
+};
 pub use outcomes::{imports_can_be_read, spans_are_the_text, texts_have_one_import};

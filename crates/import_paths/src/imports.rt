@@ -45,7 +45,7 @@ fn leads_of_text(alloc: Global, text: &[u8]) -> Result<Vec<RulePath>, NoMemory>
 /// [`is_read_alike`](path_leads::is_read_alike), where it has an `@` before a `{`, and where a group has one alternative. None
 /// too where one of them, as it is written, would not be read again as it stands.
 ///
-/// The time grows as the text and the result.
+/// The time grows as the text, up to 16 times it: what follows a group that comes first is copied for each of its alternatives.
 pub fn imported_paths(alloc: Global, text: &[u8]) -> Result<Vec<RulePath>, NoMemory>
     ensures { IfOk result (λ paths. paths.items ≡ imported_paths text.now) }
 {

@@ -32,11 +32,11 @@ extends_both s t u a b = record {
 not_zero : (n : ℕ) → 0 < n → (n == 0) ≡ false
 not_zero n h = grind (arith, nat_tests)
 
-none_begun : (heads : List Head) (rest : Bool) (fault : Fault) → cond (not (length heads == 0) || rest) (Some fault) None ≡ None →
-    0 < length heads → ⊥
-none_begun heads rest fault e h = at (length heads == 0) (not_zero (length heads) h) e
+none_begun : (heads : List Head) (rest : Bool) (fault : Fault) (more : Option Fault) →
+    cond (not (length heads == 0) || rest) (Some fault) more ≡ None → 0 < length heads → ⊥
+none_begun heads rest fault more e h = at (length heads == 0) (not_zero (length heads) h) e
   where
-    at : (b : Bool) → b ≡ false → cond (not b || rest) (Some fault) None ≡ None → ⊥
+    at : (b : Bool) → b ≡ false → cond (not b || rest) (Some fault) more ≡ None → ⊥
     at true is e = absurd cc
     at false is e = absurd cc
 
@@ -46,7 +46,7 @@ extends_changed items.Assignment s parts e = record {
   more = [];
   profiles = sym (append-nil s.profiles);
   declared =
-      λ h. absurd (none_begun s.profiles _ _ e h);
+      λ h. absurd (none_begun s.profiles _ _ _ e h);
 }
 extends_changed items.Profile s parts e = record { more = _; profiles = refl; declared = λ h. refl }
 extends_changed items.Hat s parts e = record { more = _; profiles = refl; declared = λ h. refl }

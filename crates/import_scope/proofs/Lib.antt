@@ -3,3 +3,4 @@ pub mod Opened
 pub mod Extending
 pub mod FaultLaws
 pub mod Passes
+pub mod AskedPaths

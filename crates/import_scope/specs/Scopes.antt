@@ -1,6 +1,6 @@
 -- What a flattened text has declared and opened so far (apparmor.d(5), "Variables" and "Format"), item by item.
 use Rattle.std.specs.Prelude.{ℕ, ◌+◌, ◌==◌, List, [], ◌∷◌, ◌++◌, length, drop, codes, bytes_eq, slice_get, not, ◌||◌, Option, Some, None}
-use Rattle.std.specs.Prelude.{option_and_then, Bool, true, false, if◌then◌else◌, ◌&&◌, nat_eq}
+use Rattle.std.specs.Prelude.{option_and_then, Bool, true, false, if◌then◌else◌, ◌&&◌, nat_eq, nat_le}
 use Rattle.std.specs.List.{list_any, ends_with}
 use Rattle.rule_profile.specs.Readable.{is_name}
 use Rattle.flat_text.specs.declared.part.ItemKind.{ItemKind}
@@ -32,6 +32,8 @@ pub data FaultKind : Type 0 where
   no_name : FaultKind
   -- a rule's path has no text with its variables in place
   in_path : Problem → FaultKind
+  -- there are too many variables, or texts are too long together
+  too_much : FaultKind
 
 -- a fault, and how many bytes of the text come before its place
 pub record Fault : Type 0 where
@@ -80,9 +82,18 @@ is_assigned_wrongly s adding name =
     || (bytes_eq name profile_name
     || (if adding then not (is_declared s.declared name) else is_declared s.declared name))
 
+-- the maximum number of variables, with those that are given beforehand (our choice; AppArmor has no bound)
+abbrev pub most_variables : ℕ
+most_variables = 1024
+
+-- an assignment would declare one variable too many
+abbrev pub is_one_too_many : ScopeState → Bool → Bool
+is_one_too_many s adding = not adding && nat_le most_variables (length s.declared)
+
 abbrev pub assignment_fault : ScopeState → List PartValue → Option Fault
 assignment_fault s parts =
     if is_assigned_wrongly s (is_adding parts) (assigned_name parts) then Some (record { kind = declared_wrongly; place = s.before })
+    else if is_one_too_many s (is_adding parts) then Some (record { kind = too_much; place = s.before })
     else None
 
 -- ---- profiles

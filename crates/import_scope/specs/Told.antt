@@ -5,7 +5,7 @@ use Rattle.import_scope.specs.declared.fault.ScopeFaultKind.{ScopeFaultKind}
 use Rattle.import_scope.specs.declared.fault.ScopeFaultKind.TheVariants as told
 use Rattle.import_scope.specs.declared.fault.ScopeFailure.{ScopeFailure}
 use Rattle.import_scope.specs.declared.fault.ScopeFailure.TheVariants as failures
-use Rattle.import_scope.specs.Scopes.{Fault, FaultKind, declared_wrongly, no_name, in_path}
+use Rattle.import_scope.specs.Scopes.{Fault, FaultKind, declared_wrongly, no_name, in_path, too_much}
 
 abbrev pub fault_kind_value : ScopeFaultKind → FaultKind
 fault_kind_value told.Declared = declared_wrongly
@@ -13,6 +13,7 @@ fault_kind_value told.Name = no_name
 fault_kind_value (told.Undefined name) = in_path (undefined name.items)
 fault_kind_value (told.Cycle name) = in_path (cycle name.items)
 fault_kind_value told.TooLong = in_path too_long
+fault_kind_value told.TooMuch = too_much
 
 abbrev pub fault_value : ScopeFault → Fault
 fault_value fault = record { kind = fault_kind_value fault.kind; place = fault.place }

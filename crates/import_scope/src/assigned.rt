@@ -1,5 +1,5 @@
 //! Variables and the values that they have so far.
-ghost use Rattle.std.specs.Prelude.{◌≡◌, ◌++◌, ◌∷◌, [], false, IfOk, OnOk, map};
+ghost use Rattle.std.specs.Prelude.{◌≡◌, ◌++◌, ◌∷◌, [], false, IfOk, OnOk, length, map};
 ghost use Rattle.profile_variables.specs.inner.Known.{place_of};
 ghost use Rattle.import_scope.specs.Scopes.{is_declared, with_variable, with_values, with_defines};
 
@@ -82,6 +82,13 @@ impl<'t> Assignments<'t> {
             variables: Vec::new(alloc),
             places: BTreeMap::new(alloc),
         }
+    }
+
+    /// How many variables there are.
+    pub(crate) fn len(&self) -> usize
+        ensures { result ≡ length self.now }
+    {
+        self.variables.len()
     }
 
     /// Where the variable with this name is.

@@ -17,6 +17,8 @@ pub enum ScopeFaultKind {
     Cycle(Vec<u8>),
     /// The text of a rule's path, or the list of a variable that it needs, is too long.
     TooLong,
+    /// There are too many variables, or the texts of paths and the lists of variables are too long together.
+    TooMuch,
 }
 
 /// A fault, and how many bytes of the text come before its place.

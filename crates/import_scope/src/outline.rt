@@ -2,7 +2,8 @@
 ghost use Rattle.std.specs.Prelude.{◌≡◌, ◌++◌, [], reverse, IfOk, OnOk, OnErr, option_map, length};
 ghost use Rattle.std.specs.Option.{option_copied};
 ghost use Rattle.flat_text.specs.Parts.{bytes_of_parts};
-ghost use Rattle.import_scope.specs.Scopes.{ScopeState, at_start, innermost, is_assigned_wrongly, assignment_fault, name_fault};
+ghost use Rattle.import_scope.specs.Scopes.{ScopeState, at_start, innermost, is_assigned_wrongly, is_one_too_many, assignment_fault};
+ghost use Rattle.import_scope.specs.Scopes.{name_fault};
 ghost use Rattle.import_scope.specs.Scopes.{can_be_said, assigned, opened, closed, behind, head_fault};
 ghost use Rattle.import_scope.specs.Told.{fault_value};
 ghost use Rattle.import_scope.specs.inner.Outlines.{state_of, asked_of, asked_path, asks, Steps, last_state, head_stop, all_asked};
@@ -17,6 +18,9 @@ use flat_rules::content;
 use flat_text::{Item, ItemKind, Part};
 use profile_parts::is_name;
 use std::alloc::{AllocError, Global};
+
+/// The maximum number of variables, with those that are given beforehand.
+const MOST_VARIABLES: usize = 1024;
 
 /// A path that is to be asked: the number of its profile, the path, and how many bytes of the text come before it.
 #[derive(Clone, Copy)]
@@ -76,6 +80,13 @@ impl<'t> Outline<'t> {
             || self.variables.has(name) != adding
     }
 
+    /// Whether an assignment here would declare one variable too many.
+    fn is_one_too_many(&self, adding: bool) -> bool
+        ensures { result ≡ is_one_too_many (state_of self.now) adding }
+    {
+        !adding && self.variables.len() >= MOST_VARIABLES
+    }
+
     fn assign(&mut self, alloc: Global, parts: &[Part<'t>]) -> Result<(), ScopeFailure>
         ensures steps { Steps result (assignment_fault (state_of self.old) parts.now) (state_of self.old) (state_of self.new)
             (assigned (state_of self.old) parts.now) }
@@ -86,6 +97,12 @@ impl<'t> Outline<'t> {
         if self.is_assigned_wrongly(adding, name) {
             return Err(ScopeFailure::At(ScopeFault {
                 kind: ScopeFaultKind::Declared,
+                place: self.before,
+            }));
+        }
+        if self.is_one_too_many(adding) {
+            return Err(ScopeFailure::At(ScopeFault {
+                kind: ScopeFaultKind::TooMuch,
                 place: self.before,
             }));
         }

@@ -23,8 +23,8 @@ pub struct Scope<'t> {
 
 /// The variables and the profiles of a text that was cut into these items, or its first fault apart from its grammar.
 ///
-/// The time grows with the text, each variable being found among the others by its name, and with the lists that the paths need:
-/// each is made once, except that those that need `profile_name` are made anew in each profile.
+/// The time grows with the text, each variable being found among the others by its name, and with what is counted of the texts of
+/// paths and of the lists of variables, which is limited: the first path of each run in one profile makes all lists that aren't made.
 pub fn scope_of<'t>(
     alloc: Global,
     defines: &[Define<'t>],

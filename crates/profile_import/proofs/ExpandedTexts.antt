@@ -1,43 +1,48 @@
 -- Texts of paths with their variables in place.
-use Rattle.std.proofs.Common.{◌≡◌, ◌⊎◌, ℕ, List, [], refl, inl, inr}
-use Rattle.profile_variables.proofs.PathLaws.{some_text, one_text, text_excludes}
-use Rattle.profile_variables.specs.PathTexts.{IsSubstituted, PathProblem}
+use Rattle.std.proofs.Common.{◌≡◌, ℕ, ◌≤◌, Bool, true, false, cond, List, [], length, Option, Some, None, refl, sym, ap, ◌∙◌}
+use Rattle.std.specs.Prelude.{nat_le}
+use Rattle.std.proofs.lemmas.Bool.{leb-true, le-leb}
+use Rattle.profile_variables.proofs.FewLevels.{few_levels_of_texts}
+use Rattle.profile_variables.proofs.PathLaws.{text_excludes}
+use Rattle.profile_variables.specs.PathTexts.{path_text, IsSubstituted, PathProblem}
 use Rattle.profile_variables.specs.Faults.{Tells}
 use Rattle.profile_variables.specs.Problems.{Problem, undefined, cycle, too_long}
 use Rattle.profile_variables.specs.declared.fault.ExpandFault.{ExpandFault}
 use Rattle.profile_variables.specs.declared.fault.ExpandFault.TheVariants.{Undefined, Cycle, TooLong, NoMemory}
-use Rattle.profile_variables.specs.Variables.{Variable}
-use Rattle.profile_import.specs.Expanded.{expanded}
+use Rattle.profile_variables.specs.Variables.{Variable, list_at, most_bytes}
+use Rattle.profile_import.specs.Expanded.{expanded, short_or_empty}
 
-abbrev Found : List Variable → List ℕ → Type 0
-Found variables path = ((text : List ℕ) × IsSubstituted variables path text) ⊎ ((problem : Problem) × PathProblem variables path problem)
+abbrev at_most_levels : List Variable → List ℕ → Option (List ℕ)
+at_most_levels variables path = path_text (list_at (length variables) variables) path
 
-abbrev chosen : (variables : List Variable) (path : List ℕ) → Found variables path → List ℕ
-chosen variables path found = elim found [
-  | inl text ↦ text.0
-  | inr problem ↦ []
-]
-
-is_chosen : (variables : List Variable) (path text : List ℕ) (found : Found variables path) → IsSubstituted variables path text →
-    text ≡ chosen variables path found
-is_chosen variables path text (inl t) is = one_text variables path text t.0 is t.1
-is_chosen variables path text (inr p) is = absurd (text_excludes variables path text p.0 is p.1)
-
-none_chosen : (variables : List Variable) (path : List ℕ) (problem : Problem) (found : Found variables path) →
-    PathProblem variables path problem → [] ≡ chosen variables path found
-none_chosen variables path problem (inl t) has = absurd (text_excludes variables path t.0 problem t.1 has)
-none_chosen variables path problem (inr p) has = refl
+short_stays : (text : List ℕ) → length text ≤ most_bytes → short_or_empty (Some text) ≡ text
+short_stays text short = at (nat_le (length text) most_bytes) (le-leb (length text) most_bytes short)
+  where
+    at : (b : Bool) → b ≡ true → cond b text [] ≡ text
+    at true e = refl
+    at false e = absurd cc
 
 -- a path that has a text is expanded to it
 pub is_expanded : (variables : List Variable) (path text : List ℕ) → IsSubstituted variables path text → text ≡ expanded variables path
-unfolding expanded
-is_expanded variables path text is = is_chosen variables path text (some_text variables path) is
+is_expanded variables path text is =
+    sym (ap short_or_empty (few_levels_of_texts variables is.levels path text is.is) ∙ short_stays text is.short)
 
 -- one that has a problem is expanded to nothing
 pub none_expanded : (variables : List Variable) (path : List ℕ) (problem : Problem) → PathProblem variables path problem →
     [] ≡ expanded variables path
-unfolding expanded
-none_expanded variables path problem has = none_chosen variables path problem (some_text variables path) has
+none_expanded variables path problem has = of_text (at_most_levels variables path) refl
+  where
+    too_long_is_left_out : (text : List ℕ) → (length text ≤ most_bytes → ⊥) → [] ≡ short_or_empty (Some text)
+    too_long_is_left_out text long = at (nat_le (length text) most_bytes) refl
+      where
+        at : (b : Bool) → nat_le (length text) most_bytes ≡ b → [] ≡ cond b text []
+        at true e = absurd (long (leb-true (length text) most_bytes e))
+        at false e = refl
+
+    of_text : (o : Option (List ℕ)) → at_most_levels variables path ≡ o → [] ≡ short_or_empty o
+    of_text None e = refl
+    of_text (Some text) e = too_long_is_left_out text
+        (λ short. text_excludes variables path text problem (record { levels = length variables; is = e; short = short }) has)
 
 -- one whose fault is reported is expanded to nothing, unless memory ran out
 pub fault_expanded : (variables : List Variable) (path : List ℕ) (fault : ExpandFault) → (fault ≡ NoMemory → ⊥) →

@@ -11,7 +11,7 @@ use Rattle.profile_variables.specs.Variables.{Variable}
 use Rattle.subject_rules.specs.declared.shape.RuleShape.{RuleShape}
 use Rattle.subject_rules.specs.declared.subject.Subject.{Subject}
 use Rattle.subject_rules.specs.Changes.{change, restated_change, left_out_change}
-use Rattle.subject_rules.specs.Restating.{has_some, is_restated, restated_paths, restated_perms, shape_of}
+use Rattle.subject_rules.specs.Restating.{has_priority, has_some, is_restated, restated_paths, restated_perms, shape_of}
 use Rattle.subject_rules.specs.SubjectRules.{SubjectRule, read, unread}
 use Rattle.subject_rules.specs.Subjects.{applies_to}
 use Rattle.profile_import.specs.Expanded.{expanded}
@@ -25,13 +25,14 @@ some_left shape = has_some (restated_perms shape.perms shape.has_target)
 
 -- whether it is restated is unchanged
 pub told_is_restated : (chosen : Subject) (shape : RuleShape) → is_restated chosen (told_shape chosen shape) ≡ is_restated chosen shape
-told_is_restated chosen shape = at (applies_to shape.applies_to chosen) shape.is_read (some_left shape)
+told_is_restated chosen shape = at (applies_to shape.applies_to chosen) shape.is_read (not shape.has_priority) (some_left shape)
   where
-    at : (a r l : Bool) → (a && not (not r && (a && true && l)) && l) ≡ (a && r && l)
-    at true true l = refl
-    at true false true = refl
-    at true false false = refl
-    at false r l = refl
+    at : (a r q l : Bool) → (a && (not (not r && (a && (true && q) && l)) && q) && l) ≡ (a && (r && q) && l)
+    at true true q l = refl
+    at true false true true = refl
+    at true false true false = refl
+    at true false false l = refl
+    at false r q l = refl
 
 -- and so is what it changes for a subject
 pub told_change : (chosen subject : Subject) (shape : RuleShape) → change chosen subject (told_shape chosen shape)
@@ -39,22 +40,26 @@ pub told_change : (chosen subject : Subject) (shape : RuleShape) → change chos
 told_change chosen subject shape =
     ap (λ (b : Bool). cond b (restated_change subject shape) (left_out_change subject shape)) (told_is_restated chosen shape)
 
--- by whether it applies, is read, and has any permission left
-looked_by : (place : ℕ) (shape : RuleShape) (a read l : Bool) (paths : List (List Token))
-    → cond (a && not (not read && (a && true && l)) && l) (map (placed_value place shape) (cond (a && true && l) paths [])) []
-    ≡ cond (a && read && l) (map (placed_value place shape) paths) []
-looked_by place shape true true true paths = refl
-looked_by place shape true true false paths = refl
-looked_by place shape true false true paths = refl
-looked_by place shape true false false paths = refl
-looked_by place shape false _ l paths = refl
+-- by whether it applies, is read, has no priority, and has any permission left
+looked_by : (place : ℕ) (shape : RuleShape) (a read q l : Bool) (paths : List (List Token))
+    → cond (a && (not (not read && (a && (true && q) && l)) && q) && l)
+    (map (placed_value place shape) (cond (a && (true && q) && l) paths [])) []
+    ≡ cond (a && (read && q) && l) (map (placed_value place shape) paths) []
+looked_by place shape true true true true paths = refl
+looked_by place shape true true true false paths = refl
+looked_by place shape true false true true paths = refl
+looked_by place shape true false true false paths = refl
+looked_by place shape true true false l paths = refl
+looked_by place shape true false false l paths = refl
+looked_by place shape false _ q l paths = refl
 
 -- the paths that are looked at are those that it is restated with
 pub looked_at : (chosen : Subject) (r : PlacedRule)
     → restated_values r.place chosen (told_shape chosen (shape_of r.rule)) (paths_looked_at chosen r.rule) ≡ restated_at chosen r
 looked_at chosen r =
     let shape = shape_of r.rule in
-    looked_by r.place shape (applies_to shape.applies_to chosen) shape.is_read (some_left shape) (restated_paths r.rule.path)
+    looked_by r.place shape (applies_to shape.applies_to chosen) shape.is_read (not shape.has_priority) (some_left shape)
+    (restated_paths r.rule.path)
     ∙ sym (restated_by_shape chosen r)
 
 -- ---- a rule as code reads it
@@ -66,11 +71,19 @@ some_kept f (Some x) = refl
 -- if it would be restated with its path read, all of its paths are looked at
 pub when_looked : (chosen : Subject) (rule : SubjectRule) (shape : RuleShape) (is : Bool) (paths : List (List Token))
     → shape.kind ≡ rule.kind → shape.applies_to ≡ rule.applies_to → shape.perms ≡ rule.perms → shape.has_target ≡ is_some rule.target →
-    shape.is_read ≡ true → is ≡ is_restated chosen shape → is ≡ true → paths ≡ restated_paths rule.path →
+    shape.is_read ≡ true → shape.has_priority ≡ has_priority rule.priority → is ≡ is_restated chosen shape → is ≡ true →
+    paths ≡ restated_paths rule.path →
     paths ≡ paths_looked_at chosen rule
-when_looked chosen rule shape is paths kind to perms target whole e stays h =
+when_looked chosen rule shape is paths kind to perms target whole priority e stays h =
     let same : shape ≡ record (shape_of rule) { is_read = true } =
-    λ i. record { kind = kind i; applies_to = to i; perms = perms i; has_target = target i; is_read = whole i } in
+    λ i. record {
+      kind = kind i;
+      applies_to = to i;
+      perms = perms i;
+      has_target = target i;
+      is_read = whole i;
+      has_priority = priority i;
+    } in
     h ∙ ap (λ (b : Bool). cond b (restated_paths rule.path) []) (sym stays ∙ e ∙ ap (is_restated chosen) same)
 
 -- the text of its path, as code makes it

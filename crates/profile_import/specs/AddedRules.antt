@@ -7,11 +7,18 @@ use Rattle.names.specs.Permissions.{only}
 use Rattle.verdicts.specs.declared.kind.RuleKind.TheVariants.{Allow}
 use Rattle.import_paths.specs.ImportedPaths.{imported_paths}
 use Rattle.subject_rules.specs.declared.subject.AppliesTo.TheVariants.{Owners}
-use Rattle.subject_rules.specs.SubjectRules.{SubjectRule, read}
+use Rattle.subject_rules.specs.SubjectRules.{SubjectRule, no_priority, read}
 use Rattle.profile_import.specs.FileRules.{PlacedRule}
 
 abbrev pub added_rule : Perms → List ℕ → SubjectRule
-added_rule perms path = record { kind = Allow; applies_to = Owners; perms = perms; target = None; path = read (imported_paths path) }
+added_rule perms path = record {
+  kind = Allow;
+  applies_to = Owners;
+  perms = perms;
+  target = None;
+  path = read (imported_paths path);
+  priority = no_priority;
+}
 
 abbrev pub added_at : ℕ → Perms → List ℕ → PlacedRule
 added_at place perms path = record { place = place; rule = added_rule perms path }

@@ -1,13 +1,13 @@
--- The text of a path with its variables in place (apparmor.d(5), "Variables"). A path that has none has an empty text here: the
--- text of a profile that contains such a path is refused.
-use Rattle.std.specs.Prelude.{ℕ, List, []}
-use Rattle.std.proofs.Common.{inl, inr}
-use Rattle.profile_variables.proofs.PathLaws.{some_text}
-use Rattle.profile_variables.specs.Variables.{Variable}
+-- The text of a path with its variables in place (apparmor.d(5), "Variables"). A path that has none, or too long a one, has an
+-- empty text here: the text of a profile that contains such a path is refused.
+use Rattle.std.specs.Prelude.{ℕ, List, [], length, nat_le, Option, Some, None, if◌then◌else◌}
+use Rattle.profile_variables.specs.PathTexts.{path_text}
+use Rattle.profile_variables.specs.Variables.{Variable, list_at, most_bytes}
 
--- a path has a text, or else a problem
-unfoldable pub expanded : List Variable → List ℕ → List ℕ
-expanded variables path = elim (some_text variables path) [
-  | inl text ↦ text.0
-  | inr problem ↦ []
-]
+abbrev pub short_or_empty : Option (List ℕ) → List ℕ
+short_or_empty None = []
+short_or_empty (Some text) = if nat_le (length text) most_bytes then text else []
+
+-- No list needs more levels of variables than there are variables.
+abbrev pub expanded : List Variable → List ℕ → List ℕ
+expanded variables path = short_or_empty (path_text (list_at (length variables) variables) path)

@@ -28,6 +28,8 @@ pub data ImportFault : Type 0 where
   which : List (List ℕ) → ImportFault
   -- the first change for the chosen subject, where none is allowed
   not_exact : ℕ → ImportFault
+  -- there are too many variables, or the texts of paths and the lists of variables are too long together
+  too_much : ℕ → ImportFault
 
 -- the fault at which reading a text of `all` bytes stopped
 abbrev pub stop_fault : ℕ → Stop → ImportFault
@@ -49,6 +51,7 @@ scope_fault fault = elim fault.kind [
   | scopes.declared_wrongly ↦ declared fault.place
   | scopes.no_name ↦ bad_name fault.place
   | scopes.in_path problem ↦ problem_fault fault.place problem
+  | scopes.too_much ↦ too_much fault.place
 ]
 
 -- the number by which it is reported
@@ -65,6 +68,7 @@ fault_number (too_many_rules place) = 9
 fault_number (too_long_path place) = 10
 fault_number (which names) = 11
 fault_number (not_exact place) = 12
+fault_number (too_much place) = 13
 
 -- the byte offset of its place in the text
 abbrev pub fault_place : ImportFault → Option ℕ
@@ -80,6 +84,7 @@ fault_place (too_many_rules place) = Some place
 fault_place (too_long_path place) = Some place
 fault_place (which names) = None
 fault_place (not_exact place) = Some place
+fault_place (too_much place) = Some place
 
 -- the word or the name that it is about
 abbrev pub fault_word : ImportFault → Option (List ℕ)

@@ -1,7 +1,7 @@
 -- The file rules of a profile in a flattened text, each with its subject, and how they are reported (apparmor.d(5), "Format").
 use Rattle.std.specs.Prelude.{ℕ, List, [], ◌∷◌, ◌++◌, length, codes, Some, None, Bool, true, not, ◌&&◌, ◌==◌, if◌then◌else◌}
 use Rattle.flat_text.specs.Parts.{PartValue, ItemValue}
-use Rattle.flat_rules.specs.RuleWords.{kind_of, applies_to_of, perms_of_rule, path_of, target_of}
+use Rattle.flat_rules.specs.RuleWords.{kind_of, applies_to_of, perms_of_rule, path_of, priority_of, target_of}
 use Rattle.flat_rules.specs.RuleParts.{marks_of}
 use Rattle.import_cut.specs.declared.reading.RuleReading.{RuleReading}
 use Rattle.import_cut.specs.CutStates.{CutState}
@@ -41,6 +41,7 @@ subject_rule variables parts = record {
   perms = perms_of_rule parts;
   target = target_of parts;
   path = subject_path (rule_text variables parts);
+  priority = priority_of parts;
 }
 
 -- the rule would be restated if its path were read

@@ -3,12 +3,12 @@ use Rattle.std.specs.Prelude.{map, Result, Ok, Err}
 use Rattle.rule_profile.specs.Profile.{profile_value}
 use Rattle.profile_import.specs.declared.fault.ImportFault as told
 use Rattle.profile_import.specs.declared.fault.ImportFault.TheVariants.{Syntax, Include, LeftOut, Permissions, Undefined, Cycle, Declared}
-use Rattle.profile_import.specs.declared.fault.ImportFault.TheVariants.{Name, TooManyRules, TooLong, Which, NotExact}
+use Rattle.profile_import.specs.declared.fault.ImportFault.TheVariants.{Name, TooManyRules, TooLong, Which, NotExact, TooMuch}
 use Rattle.profile_import.specs.declared.fault.ImportFailure.{ImportFailure}
 use Rattle.profile_import.specs.declared.fault.ImportFailure.TheVariants as failures
 use Rattle.profile_import.specs.declared.importing.Imported.{Imported}
 use Rattle.profile_import.specs.Faults.{ImportFault, syntax, include, left_out, permissions, undefined_variable, cyclic_variable, declared}
-use Rattle.profile_import.specs.Faults.{bad_name, too_many_rules, too_long_path, which, not_exact}
+use Rattle.profile_import.specs.Faults.{bad_name, too_many_rules, too_long_path, which, not_exact, too_much}
 use Rattle.profile_import.specs.Imports.{ImportValue, Outcome}
 
 abbrev pub import_fault_value : told.ImportFault → ImportFault
@@ -24,6 +24,7 @@ import_fault_value (TooManyRules place) = too_many_rules place
 import_fault_value (TooLong place) = too_long_path place
 import_fault_value (Which names) = which (map (λ name. name.items) names.items)
 import_fault_value (NotExact place) = not_exact place
+import_fault_value (TooMuch place) = too_much place
 
 abbrev pub import_value : Imported → ImportValue
 import_value imported = record { profile = profile_value imported.profile; spans = imported.spans.items }

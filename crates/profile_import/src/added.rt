@@ -28,6 +28,7 @@ fn push_added(
         perms,
         has_target: false,
         is_read: true,
+        has_priority: false,
     };
     push_restated(rules, place, chosen, shape, imported_paths(alloc, path)?)
 }

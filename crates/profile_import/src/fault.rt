@@ -34,6 +34,8 @@ pub enum ImportFault<'t> {
     Which { names: Vec<Vec<u8>> },
     /// The first part of the text where something changes for the subject, though nothing may.
     NotExact { place: usize },
+    /// The text has more than 1,024 variables, or the texts of its paths and the lists of its variables are more than 16 MB together.
+    TooMuch { place: usize },
 }
 
 /// Why there is no import.
@@ -46,7 +48,7 @@ pub enum ImportFailure<'t> {
 }
 
 impl<'t> ImportFault<'t> {
-    /// Returns the number by which it is reported, 1 to 12.
+    /// Returns the number by which it is reported, 1 to 13.
     pub fn number(&self) -> u8
         ensures { result ≡ fault_number (import_fault_value self.now) }
     {
@@ -63,6 +65,7 @@ impl<'t> ImportFault<'t> {
             ImportFault::TooLong { .. } => 10,
             ImportFault::Which { .. } => 11,
             ImportFault::NotExact { .. } => 12,
+            ImportFault::TooMuch { .. } => 13,
         }
     }
 
@@ -81,7 +84,8 @@ impl<'t> ImportFault<'t> {
             | ImportFault::Name { place }
             | ImportFault::TooManyRules { place }
             | ImportFault::TooLong { place }
-            | ImportFault::NotExact { place } => Some(*place),
+            | ImportFault::NotExact { place }
+            | ImportFault::TooMuch { place } => Some(*place),
             ImportFault::Which { .. } => None,
         }
     }

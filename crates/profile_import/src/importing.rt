@@ -184,6 +184,7 @@ fn scope_fault<'t>(fault: ScopeFault) -> ImportFault<'t>
         ScopeFaultKind::Undefined(name) => ImportFault::Undefined { place, name },
         ScopeFaultKind::Cycle(name) => ImportFault::Cycle { place, name },
         ScopeFaultKind::TooLong => ImportFault::TooLong { place },
+        ScopeFaultKind::TooMuch => ImportFault::TooMuch { place },
     }
 }
 
@@ -214,8 +215,9 @@ fn import_read<'t>(
 /// say, each once it was read completely, or where reading stops; then for the requested profile, for too many rules, and where
 /// something changes that may not.
 ///
-/// The time grows with the text, what is imported, and the lists of the variables in each profile whose rules use them. For a
-/// profile with too many rules, rules are made up to the first that is one too many, with all paths of its origin rule.
+/// The time grows with the text, and with the texts of its paths and the lists of its variables, which are limited together; for
+/// the chosen profile with up to 16 times the texts of its paths. For a profile with too many rules, rules are made up to the first
+/// that is one too many, with all paths of its origin rule.
 pub fn import_profile<'t>(
     alloc: Global,
     options: ImportOptions<'t>,

@@ -42,6 +42,7 @@ pub(crate) fn rule_of<'a>(
         perms: words.perms,
         has_target: words.target.is_some(),
         is_read: true,
+        has_priority: words.has_priority,
     };
     if !as_read.is_restated(chosen) {
         let marks = Marks::of(alloc, parts, false)?;

@@ -13,6 +13,9 @@ pub mod PathSteps
 pub mod PieceLaws
 pub mod ListLaws
 pub mod ProblemLaws
+pub mod FewLevels
 pub mod PathLaws
+pub mod CountLaws
+pub mod CountSteps
 pub mod SlashLaws
 pub mod WholeLaws

@@ -40,7 +40,7 @@ module _ (known : Known) where
       let b = both_steps (λ longer. texts_from known longer ps) (fitting (each_with begun a.0)) texts a.2 in
       (ap is_some a.1, texts_need b.0 ps texts b.2)
 
-  list_needs : (begun values list : List Text) → list_from known begun values ≡ Some list → AreKnown known (names_needed values)
+  pub list_needs : (begun values list : List Text) → list_from known begun values ≡ Some list → AreKnown known (names_needed values)
   list_needs begun [] list e = tt
   list_needs begun (v ∷ vs) list e =
       let a = both_steps (λ texts. option_and_then (λ longer. list_from known longer vs) (fitting (begun ++ texts)))
@@ -52,7 +52,7 @@ module _ (known : Known) where
   of_middle [] after used h = h.0
   of_middle (name ∷ before) after used h = of_middle before after used h.1
 
-some_list : (o : Option (List Text)) → IsSome o → (list : List Text) × (o ≡ Some list)
+pub some_list : (o : Option (List Text)) → IsSome o → (list : List Text) × (o ≡ Some list)
 some_list None h = absurd cc
 some_list (Some list) h = (list, refl)
 
@@ -77,7 +77,7 @@ no_list_undeclared variables (suc n) name list none e =
 -- ---- a problem and a list exclude each other
 
 -- no variable on the way has a list within `n` levels
-abbrev IsBare : List Variable → ℕ → List Text → Type 0
+abbrev pub IsBare : List Variable → ℕ → List Text → Type 0
 IsBare variables n way = (name : Text) → Contains way name → (m : ℕ) → m ≤ n → (list : List Text) →
     list_at m variables name ≡ Some list → ⊥
 
@@ -236,7 +236,7 @@ one_problem variables _ _ _ free (Long way name values valued new listed none) o
 -- ---- a list or a problem
 
 -- the names on the way are declared, and all different
-abbrev OnWay : List Variable → List Text → Type 0
+abbrev pub OnWay : List Variable → List Text → Type 0
 OnWay variables [] = Unit {0}
 OnWay variables (name ∷ way) = IsSome (place_of variables name) × (Contains way name → ⊥) × OnWay variables way
 
@@ -282,7 +282,7 @@ places_within variables (x ∷ way) on q e =
     (λ later. places_within variables way on.2 q later)
     (one_or_other (eqb q (place variables x)) (list_any (eqb q) (map (place variables) way)) e)
 
-short_way : (variables : List Variable) (way : List Text) → OnWay variables way → length way ≤ length variables
+pub short_way : (variables : List Variable) (way : List Text) → OnWay variables way → length way ≤ length variables
 short_way variables way on =
     let h = length-le_from_distinct_below (map (place variables) way) (length variables) (distinct_places variables way on)
     (places_within variables way on) in

@@ -4,5 +4,6 @@ pub mod WholeLists
 pub mod Problems
 pub mod PathTexts
 pub mod Slashes
+pub mod Counts
 pub mod Faults
 pub mod inner

@@ -1,8 +1,9 @@
 //! Laws that show the definitions of `specs/` to be sane. The functions do nothing; each exists for its contract.
-ghost use Rattle.std.specs.Prelude.{◌≡◌, ◌⊎◌, ◌<◌, ℕ, List, [], All, length};
+ghost use Rattle.std.specs.Prelude.{◌≡◌, ◌⊎◌, ◌<◌, ℕ, List, [], All, length, Some};
 ghost use Rattle.std.specs.List.{flat_map};
 ghost use Rattle.profile_variables.specs.Pieces.{Text, pieces, written};
-ghost use Rattle.profile_variables.specs.PathTexts.{IsSubstituted, PathProblem};
+ghost use Rattle.profile_variables.specs.Counts.{CountTogether};
+ghost use Rattle.profile_variables.specs.PathTexts.{path_text, IsSubstituted, PathProblem};
 ghost use Rattle.profile_variables.specs.Problems.{Problem, HasProblem, IsListed};
 ghost use Rattle.profile_variables.specs.Slashes.{one_slash};
 ghost use Rattle.profile_variables.specs.Variables.{Variable, HasList, list_at};
@@ -23,6 +24,21 @@ pub fn one_list_or_one_problem()
         HasProblem variables [] name other → one ≡ other }
     ensures either { (variables : List Variable) (name : Text) (problem : Problem) → IsListed variables name →
         ¬ HasProblem variables [] name problem }
+{}
+
+/// Variables count one number together.
+pub fn one_count()
+    ensures some { (variables some : List Variable) → (n : ℕ) × CountTogether variables some n }
+    ensures one { (variables some : List Variable) (one other : ℕ) → CountTogether variables some one →
+        CountTogether variables some other → one ≡ other }
+{}
+
+/// A variable that has a list has it within as many levels of variables as there are variables, and so has a path its text.
+pub fn lists_need_few_levels()
+    ensures list { (variables : List Variable) (name : Text) (list : List Text) → HasList variables name list →
+        list_at (length variables) variables name ≡ Some list }
+    ensures text { (variables : List Variable) (n : ℕ) (path text : Text) → path_text (list_at n variables) path ≡ Some text →
+        path_text (list_at (length variables) variables) path ≡ Some text }
 {}
 
 /// A path has one text with its variables in place, or it has one problem, and not both.

@@ -6,6 +6,7 @@
 #![tactic(auto)]
 
 mod adding;
+mod counting;
 mod declared;
 mod fault;
 mod laws;
@@ -21,8 +22,8 @@ mod variables;
 
 pub use fault::ExpandFault;
 pub use laws::{
-    limits_are_of_whole_lists, one_list_or_one_problem, one_slash_stays, one_text_or_one_problem,
-    texts_are_their_pieces,
+    limits_are_of_whole_lists, lists_need_few_levels, one_count, one_list_or_one_problem,
+    one_slash_stays, one_text_or_one_problem, texts_are_their_pieces,
 };
 pub use lists::Lists;
 pub use slashes::one_slash;

@@ -1,5 +1,6 @@
 //! Path texts with the variables put in place.
 ghost use Rattle.std.specs.Prelude.{◌≡◌, IfOk, IfErr, OnOk, OnErr};
+ghost use Rattle.profile_variables.specs.Counts.{AtMost, OthersCount};
 ghost use Rattle.profile_variables.specs.Pieces.{used_names};
 ghost use Rattle.profile_variables.specs.Variables.{with_first_value};
 ghost use Rattle.profile_variables.specs.Faults.{Tells};
@@ -7,6 +8,7 @@ ghost use Rattle.profile_variables.specs.PathTexts.{IsSubstituted, PathProblem};
 ghost use Rattle.profile_variables.specs.inner.Known.{known_in};
 ghost use Rattle.profile_variables.specs.inner.Way.{IsSound, AreKnown, KnowsAll};
 
+use crate::counting::count_others;
 use crate::declared::Declared;
 use crate::fault::ExpandFault;
 use crate::making::Made;
@@ -66,6 +68,14 @@ impl<'t> Lists<'t> {
         self.declared.set_first(alloc, value)?;
         self.made.forget_first();
         Ok(())
+    }
+
+    /// Returns what the variables but the first count, each with its list, if that is at most `most`. The lists are made for that.
+    pub fn count_others(&mut self, alloc: Global, most: usize) -> Result<Option<usize>, NoMemory>
+        ensures count { IfOk result (AtMost (OthersCount self.old) most) }
+        ensures variables { self.new ≡ self.old }
+    {
+        count_others(alloc, &self.declared, &mut self.made, most)
     }
 
     /// Returns the text of a path with its variables put in place, or the first of all reasons why there is none: that of the

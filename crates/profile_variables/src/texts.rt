@@ -1,5 +1,6 @@
 //! Lists of texts that are neither too many nor too long.
 ghost use Rattle.std.specs.Prelude.{◌≡◌, ◌<◌, ◌≤◌, ◌+◌, ◌*◌, ◌∷◌, ◌++◌, [], length, map, slice_get, IfOk, OnOk, IfSome, Some, None};
+ghost use Rattle.profile_variables.specs.Counts.{list_count, most_list_count};
 ghost use Rattle.profile_variables.specs.Variables.{most_bytes, fitting, each_with};
 ghost use Rattle.profile_variables.specs.inner.Gives.{Gives};
 
@@ -12,6 +13,9 @@ pub const MOST_TEXTS: usize = 1024;
 
 /// The maximum number of bytes of a variable's texts in all, and of a path's text.
 pub const MOST_BYTES: usize = 16384;
+
+/// What a text of a list counts besides its bytes: some of the memory that it takes.
+pub const TEXT_SHARE: usize = 16;
 
 /// Texts; contracts see them as a list of lists of bytes.
 #[derive(Drop)]
@@ -58,6 +62,14 @@ impl Texts {
         ensures { result ≡ length self.now }
     {
         self.texts.len()
+    }
+
+    /// Returns what these texts count: their bytes, and [`TEXT_SHARE`] for each.
+    pub(crate) fn count(&self) -> usize
+        ensures count { result ≡ list_count self.now }
+        ensures most { result ≤ most_list_count }
+    {
+        self.bytes + TEXT_SHARE * self.texts.len()
     }
 
     /// The text at a place.

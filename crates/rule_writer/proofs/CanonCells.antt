@@ -65,15 +65,15 @@ by_cell P special b in_it not_in =
 -- ---- of a path
 
 abbrev pub path_cell : ℕ → Cell
-path_cell b = cell_among (codes "*?[{},\\\"@") b
+path_cell b = cell_among (codes "*?[{},\\\"@]") b
 
 pub path_cell_valid : (depth : ℕ) (next : Option ℕ) (b : ℕ) → can_stand b ≡ true → IsItem true depth next (cell (path_cell b))
 path_cell_valid depth next b h =
-    by_cell (λ c. IsItem true depth next (cell c)) (codes "*?[{},\\\"@") b
-    (λ e. special_passes is_escapable (codes "*?[{},\\\"@") b refl e)
+    by_cell (λ c. IsItem true depth next (cell c)) (codes "*?[{},\\\"@]") b
+    (λ e. special_passes is_escapable (codes "*?[{},\\\"@]") b refl e)
     (λ e.
     let c = stands b h in
-    let n = none_of (codes "*?[{},\\\"@") b e in
+    let n = none_of (codes "*?[{},\\\"@]") b e in
     rw (c.0, c.1, n.0, n.1.0, n.1.1.0, n.1.1.1.0, n.1.1.1.1.0, n.1.1.1.1.1.0, n.1.1.1.1.1.1.0, n.1.1.1.1.1.1.1.0, n.1.1.1.1.1.1.1.1.0)
     refl)
 
@@ -81,9 +81,10 @@ path_cell_valid depth next b h =
 pub path_cell_no_star : (b : ℕ) (bytes : List ℕ) → (first : ℕ) × (rest : List ℕ) × (print_cell (path_cell b) ++ bytes ≡ first ∷ rest)
     × ((first == 42) ≡ false)
 path_cell_no_star b bytes =
-    by_cell (λ c. (first : ℕ) × (rest : List ℕ) × (print_cell c ++ bytes ≡ first ∷ rest) × ((first == 42) ≡ false)) (codes "*?[{},\\\"@") b
+    by_cell (λ c. (first : ℕ) × (rest : List ℕ) × (print_cell c ++ bytes ≡ first ∷ rest) × ((first == 42) ≡ false))
+    (codes "*?[{},\\\"@]") b
     (λ e. (92, b ∷ bytes, refl, refl))
-    (λ e. (b, bytes, refl, (none_of (codes "*?[{},\\\"@") b e).0))
+    (λ e. (b, bytes, refl, (none_of (codes "*?[{},\\\"@]") b e).0))
 
 -- ---- of a class
 

@@ -28,7 +28,7 @@ canonical_item closing = close_brace
 -- ---- their bytes
 
 item_prints : (t : Token) → print_item (canonical_item t) ≡ token_text t
-item_prints (byte b) = print_cell_among (codes "*?[{},\\\"@") b
+item_prints (byte b) = print_cell_among (codes "*?[{},\\\"@]") b
 item_prints any_byte = refl
 item_prints (bracket negated ranges) = canonical_class_prints negated ranges
 item_prints (stars true strict) = refl
@@ -45,7 +45,7 @@ items_print (t ∷ tokens) = ap (λ (x : List ℕ). x ++ print_items (map canoni
 -- ---- what they stand for
 
 same_slash : (t : Token) → is_plain_slash_item (canonical_item t) ≡ is_plain_slash t
-same_slash (byte b) = ap is_slash (byte_of_cell (codes "*?[{},\\\"@") b)
+same_slash (byte b) = ap is_slash (byte_of_cell (codes "*?[{},\\\"@]") b)
 same_slash any_byte = refl
 same_slash (bracket negated ranges) = refl
 same_slash (stars true strict) = refl
@@ -72,7 +72,7 @@ run_mark after_slash depth behind crosses false h =
 
 item_stands : (after_slash : Bool) (depth : ℕ) (behind : List Token) (t : Token) → readable.is_token after_slash depth behind t ≡ true
     → item_means (after_slash && slash_or_end_behind behind) (canonical_item t) ≡ t
-item_stands after_slash depth behind (byte b) h = ap byte (byte_of_cell (codes "*?[{},\\\"@") b)
+item_stands after_slash depth behind (byte b) h = ap byte (byte_of_cell (codes "*?[{},\\\"@]") b)
 item_stands after_slash depth behind any_byte h = refl
 item_stands after_slash depth behind (bracket negated ranges) h = refl
 item_stands after_slash depth behind (stars true strict) h = ap (stars true) (run_mark after_slash depth behind true strict h).1

@@ -20,7 +20,7 @@ range_text r =
     else escaped_among (codes "\\]^-\"") r.first ++ (codes "-" ++ escaped_among (codes "\\]^-\"") r.last)
 
 abbrev pub token_text : Token → List ℕ
-token_text (byte b) = escaped_among (codes "*?[{},\\\"@") b
+token_text (byte b) = escaped_among (codes "*?[{},\\\"@]") b
 token_text any_byte = codes "?"
 token_text (bracket negated ranges) = (if negated then codes "[^" else codes "[") ++ (flat_map range_text ranges ++ codes "]")
 token_text (stars crosses_slashes strict) = if crosses_slashes then codes "**" else codes "*"

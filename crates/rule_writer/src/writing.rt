@@ -15,7 +15,7 @@ use std::alloc::Global;
 use verdicts::RuleKind;
 
 /// The bytes that have a backslash before them in a path.
-const SPECIAL: &[u8] = b"*?[{},\\\"@";
+const SPECIAL: &[u8] = b"*?[{},\\\"@]";
 
 /// The bytes that have a backslash before them in a class.
 const SPECIAL_IN_CLASS: &[u8] = b"\\]^-\"";

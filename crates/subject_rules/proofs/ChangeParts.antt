@@ -8,7 +8,7 @@ use Rattle.subject_rules.specs.declared.effect.Change.TheVariants.{Exact}
 use Rattle.subject_rules.specs.declared.shape.RuleShape.{RuleShape}
 use Rattle.subject_rules.specs.declared.subject.Subject.{Subject}
 use Rattle.subject_rules.specs.Changes.{change, for_everybody, gained, lost, qualifier_alone}
-use Rattle.subject_rules.specs.Restating.{has_some, loses_link, restated_perms}
+use Rattle.subject_rules.specs.Restating.{can_be_said, has_some, loses_link, restated_perms}
 use Rattle.subject_rules.specs.Subjects.{applies_to}
 use Rattle.subject_rules.proofs.RestatedPerms.{held_before, some_held}
 
@@ -44,6 +44,6 @@ pub told_in_parts : (chosen subject : Subject) (shape : RuleShape) →
     ⊎ ((change chosen subject shape ≡ change chosen subject (qualifier_alone shape))
     ⊎ (change chosen subject shape ≡ change chosen subject (for_everybody shape)))
 told_in_parts chosen subject shape =
-    parts (gained shape.kind) (lost shape.kind) (applies_to shape.applies_to chosen) shape.is_read
+    parts (gained shape.kind) (lost shape.kind) (applies_to shape.applies_to chosen) (can_be_said shape)
     (has_some (restated_perms shape.perms shape.has_target)) (applies_to shape.applies_to subject) (has_some shape.perms)
     (loses_link shape) (some_before shape.perms shape.has_target)

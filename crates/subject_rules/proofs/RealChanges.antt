@@ -10,7 +10,7 @@ use Rattle.rule_globs.specs.Rules.{RuleValue, holds}
 use Rattle.subject_rules.specs.declared.subject.Subject.{Subject}
 use Rattle.subject_rules.specs.Changes.{change, gained, lost}
 use Rattle.subject_rules.specs.Causes.{GainsSome, LosesSome}
-use Rattle.subject_rules.specs.Restating.{has_some, is_read, is_restated, loses_link, restated, restated_perms, shape_of}
+use Rattle.subject_rules.specs.Restating.{can_be_said, has_some, is_restated, loses_link, restated, restated_perms, shape_of}
 use Rattle.subject_rules.specs.SubjectRules.{SubjectRule}
 use Rattle.subject_rules.specs.Subjects.{applies_to}
 use Rattle.subject_rules.proofs.ChangeKinds.{is_lost, lost_is_gained, never_gained}
@@ -48,7 +48,7 @@ module _ (chosen subject : Subject) (rule : SubjectRule) where
 
   rule_gained : is_restated chosen (shape_of rule) ≡ true → applies_to rule.applies_to subject ≡ false → GainsSome chosen subject rule
   rule_gained is not_applies =
-      let parts = and_parts (applies_to rule.applies_to chosen && is_read rule.path)
+      let parts = and_parts (applies_to rule.applies_to chosen && can_be_said (shape_of rule))
       (has_some (restated_perms rule.perms (is_some rule.target))) is in
       let some = one_found (has (restated_perms rule.perms (is_some rule.target))) parts.1 in (
         some.0,

@@ -1,8 +1,9 @@
 -- One rule, and what it is restated as.
-use Rattle.std.proofs.Common.{◌≡◌, ◌≢◌, Bool, true, not, ◌&&◌, ⊎_elim, List, [], ℕ, IsTrue, is_some, map, if◌then◌else◌, refl, sym, ap}
+use Rattle.std.proofs.Common.{◌≡◌, ◌≢◌, Bool, true, false, not, ◌&&◌, ◌==◌, ⊎_elim, List, [], ℕ, IsTrue, is_some, map, if◌then◌else◌}
+use Rattle.std.proofs.Common.{refl, sym, ap}
 use Rattle.std.proofs.Common.{◌∙◌, subst, true≢false}
 use Rattle.std.specs.List.{Contains}
-use Rattle.std.proofs.lemmas.Bool.{and_parts, and_from, cases_Bool}
+use Rattle.std.proofs.lemmas.Bool.{and_parts, and_from, cases_Bool, eqb-true}
 use Rattle.names.specs.declared.permissions.Permission.{Permission}
 use Rattle.rule_globs.specs.Glob.{Takes}
 use Rattle.rule_globs.specs.Rules.{RuleValue, pattern, holds}
@@ -12,7 +13,8 @@ use Rattle.subject_rules.specs.declared.effect.Change.TheVariants.{Exact}
 use Rattle.subject_rules.specs.declared.subject.Subject.{Subject}
 use Rattle.subject_rules.specs.Changes.{change, gained, left_out_change, lost, restated_change}
 use Rattle.subject_rules.specs.Judging.{SaysOf, TakesName}
-use Rattle.subject_rules.specs.Restating.{has_some, is_read, is_restated, loses_link, restated, restated_paths, restated_perms, shape_of}
+use Rattle.subject_rules.specs.Restating.{can_be_said, has_priority, has_some, is_read, is_restated, loses_link, restated}
+use Rattle.subject_rules.specs.Restating.{restated_paths, restated_perms, shape_of}
 use Rattle.subject_rules.specs.Restating.{with_path}
 use Rattle.subject_rules.specs.SubjectRules.{SubjectPath, SubjectRule, Unknown, read, unread}
 use Rattle.subject_rules.specs.Subjects.{applies_to}
@@ -54,6 +56,18 @@ module _ (chosen subject : Subject) (rule : SubjectRule) where
       (λ isnt. absurd (nothing_in value (subst (λ b. Contains (restated_if b) value) isnt here)))
       (cases_Bool (is_restated chosen (shape_of rule)))
 
+  -- a rule that is restated has no priority
+  pub no_priority_left : is_restated chosen (shape_of rule) ≡ true → rule.priority.size ≡ 0
+  no_priority_left is =
+      let first = and_parts (applies_to rule.applies_to chosen && can_be_said (shape_of rule))
+      (has_some (restated_perms rule.perms (is_some rule.target))) is in
+      let said = (and_parts (applies_to rule.applies_to chosen) (can_be_said (shape_of rule)) first.0).1 in
+      zero (rule.priority.size == 0) refl (and_parts (is_read rule.path) (not (has_priority rule.priority)) said).1
+    where
+      zero : (b : Bool) → (rule.priority.size == 0) ≡ b → not (not b) ≡ true → rule.priority.size ≡ 0
+      zero true e h = eqb-true rule.priority.size 0 e
+      zero false e h = absurd cc
+
   pub same_kind : (value : RuleValue) → Contains (restated chosen rule) value → rule.kind ≡ value.kind
   same_kind value here = ap (λ v. v.kind) (made value here).1.2
 
@@ -80,9 +94,10 @@ module _ (chosen subject : Subject) (rule : SubjectRule) where
       × Takes (pattern value) name
   says_no_less unknown p name no_loss says = ⊎_elim
       (λ is.
-      let first = and_parts (applies_to rule.applies_to chosen && is_read rule.path)
+      let first = and_parts (applies_to rule.applies_to chosen && can_be_said (shape_of rule))
       (has_some (restated_perms rule.perms (is_some rule.target))) is in
-      let path = taken_back unknown rule.path name (and_parts (applies_to rule.applies_to chosen) (is_read rule.path) first.0).1 says.2 in
+      let said = (and_parts (applies_to rule.applies_to chosen) (can_be_said (shape_of rule)) first.0).1 in
+      let path = taken_back unknown rule.path name (and_parts (is_read rule.path) (not (has_priority rule.priority)) said).0 says.2 in
       let keeps_link = ⊎_elim
       (λ loses. absurd (no_loss (ap change_if is ∙ ap gain_if says.0 ∙ ap loss_if loses)))
       (λ keeps. keeps)

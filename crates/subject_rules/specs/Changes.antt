@@ -48,7 +48,7 @@ effect chosen shape = record {
   on_other = change chosen (other_subject chosen) shape;
 }
 
--- ---- a change by its causes: a qualifier, and a target or a path that wasn't read
+-- ---- a change by its causes: a qualifier; and a target, a priority or a path that wasn't read
 
 -- as if the qualifier were all that can't be restated
 abbrev pub qualifier_alone : RuleShape → RuleShape
@@ -58,6 +58,7 @@ qualifier_alone shape = record {
   perms = shape.perms;
   has_target = false;
   is_read = true;
+  has_priority = false;
 }
 
 -- as if there were no qualifier
@@ -68,6 +69,7 @@ for_everybody shape = record {
   perms = shape.perms;
   has_target = shape.has_target;
   is_read = shape.is_read;
+  has_priority = shape.has_priority;
 }
 
 -- ---- of a mode

@@ -1,5 +1,5 @@
 -- How a rule is restated for a chosen subject: as rules of a profile, which know no subject and no target.
-use Rattle.std.specs.Prelude.{◌≡◌, Bool, true, false, not, ◌&&◌, List, [], map, None, is_some, if◌then◌else◌}
+use Rattle.std.specs.Prelude.{◌≡◌, Bool, true, false, not, ◌&&◌, ◌==◌, List, [], map, None, is_some, if◌then◌else◌}
 use Rattle.std.specs.List.{flat_map, list_any}
 use Rattle.names.specs.declared.permissions.Permission.TheVariants.{Link}
 use Rattle.names.specs.declared.permissions.Perms.{Perms}
@@ -8,7 +8,7 @@ use Rattle.rule_globs.specs.Rules.{RuleValue}
 use Rattle.rule_globs.specs.Tokens.{Token}
 use Rattle.subject_rules.specs.declared.shape.RuleShape.{RuleShape}
 use Rattle.subject_rules.specs.declared.subject.Subject.{Subject}
-use Rattle.subject_rules.specs.SubjectRules.{SubjectPath, SubjectRule, read, unread}
+use Rattle.subject_rules.specs.SubjectRules.{Priority, SubjectPath, SubjectRule, read, unread}
 use Rattle.subject_rules.specs.Subjects.{applies_to}
 
 -- ---- what of a rule decides how it is restated
@@ -17,6 +17,9 @@ abbrev pub is_read : SubjectPath → Bool
 is_read (read paths) = true
 is_read (unread text) = false
 
+abbrev pub has_priority : Priority → Bool
+has_priority priority = not (priority.size == 0)
+
 abbrev pub shape_of : SubjectRule → RuleShape
 shape_of rule = record {
   kind = rule.kind;
@@ -24,6 +27,7 @@ shape_of rule = record {
   perms = rule.perms;
   has_target = is_some rule.target;
   is_read = is_read rule.path;
+  has_priority = has_priority rule.priority;
 }
 
 abbrev pub has_some : Perms → Bool
@@ -39,14 +43,19 @@ restated_perms perms has_target = if has_target then without_link perms else per
 abbrev pub loses_link : RuleShape → Bool
 loses_link shape = shape.has_target && has shape.perms Link
 
--- the rule applies to the chosen subject, its path was read, and a permission is left
+-- Its path was read, and its priority is 0, since restated rules have none.
+abbrev pub can_be_said : RuleShape → Bool
+can_be_said shape = shape.is_read && not shape.has_priority
+
+-- the rule applies to the chosen subject, can be said, and a permission is left
 abbrev pub is_restated : Subject → RuleShape → Bool
 is_restated chosen shape =
-    applies_to shape.applies_to chosen && shape.is_read && has_some (restated_perms shape.perms shape.has_target)
+    applies_to shape.applies_to chosen && can_be_said shape && has_some (restated_perms shape.perms shape.has_target)
 
--- its path was read, it has no target, and it holds something
+-- its path was read, it has no target and no priority, and it holds something
 pub record IsPlain (rule : SubjectRule) : Type 0 where
   pub path : is_read rule.path ≡ true
+  pub priority : has_priority rule.priority ≡ false
   pub target : rule.target ≡ None
   pub perms : has_some rule.perms ≡ true
 

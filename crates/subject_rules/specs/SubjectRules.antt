@@ -1,5 +1,5 @@
 -- The values of AppArmor's file rules, and what isn't known of them.
-use Rattle.std.specs.Prelude.{ℕ, Bool, List, Option}
+use Rattle.std.specs.Prelude.{ℕ, Bool, false, List, Option}
 use Rattle.names.specs.declared.permissions.Perms.{Perms}
 use Rattle.rule_globs.specs.Tokens.{Token}
 use Rattle.subject_rules.specs.declared.subject.AppliesTo.{AppliesTo}
@@ -10,6 +10,15 @@ pub data SubjectPath : Type 0 where
   read : List (List Token) → SubjectPath
   unread : List ℕ → SubjectPath
 
+-- A priority is a whole number: how far from 0 it is, and whether below (apparmor.d(5) of AppArmor 4.1, "Rule Priority").
+pub record Priority : Type 0 where
+  pub below : Bool
+  pub size : ℕ
+
+-- 0, that of a rule that says none
+abbrev pub no_priority : Priority
+no_priority = record { below = false; size = 0 }
+
 pub record SubjectRule : Type 0 where
   pub kind : RuleKind
   pub applies_to : AppliesTo
@@ -18,6 +27,7 @@ pub record SubjectRule : Type 0 where
   -- the text after `->`, where that binds link (apparmor.d(5), "Link rules")
   pub target : Option (List ℕ)
   pub path : SubjectPath
+  pub priority : Priority
 
 -- What isn't known here: how AppArmor itself reads texts. What is said below is said of every way.
 pub record Unknown : Type 0 where

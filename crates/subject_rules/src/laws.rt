@@ -9,7 +9,7 @@ ghost use Rattle.subject_rules.specs.Changes.{change, effect, for_everybody, gai
 ghost use Rattle.subject_rules.specs.Changes.{NoneIsNarrower, NoneIsWider};
 ghost use Rattle.subject_rules.specs.Judging.{IsAllowedTo, IsDenied, IsGranted};
 ghost use Rattle.subject_rules.specs.Lists.{IsHit, LeavesOut};
-ghost use Rattle.subject_rules.specs.Restating.{is_read, restated_all, shape_of, IsPlain};
+ghost use Rattle.subject_rules.specs.Restating.{has_priority, is_read, restated_all, shape_of, IsPlain};
 ghost use Rattle.subject_rules.specs.SubjectRules.{SubjectRule, Unknown};
 ghost use Rattle.subject_rules.specs.declared.effect.Change.TheVariants.{Exact, Wider, Narrower};
 ghost use Rattle.subject_rules.specs.declared.mode.Mode.{Mode};
@@ -100,14 +100,14 @@ pub fn fewer_rules_say_less()
         IsVerdict rules name ask Allowed → IsVerdict left name ask Allowed }
 {}
 
-/// A rule for everybody whose path was read, and which binds link to no target, is exact for each subject.
+/// A rule for everybody whose path was read, which binds link to no target and has no priority, is exact for each subject.
 pub fn plain_rules_are_exact()
     ensures { (chosen subject : Subject) (rule : SubjectRule) →
-        rule.applies_to ≡ Everybody → is_read rule.path ≡ true → rule.target ≡ None →
+        rule.applies_to ≡ Everybody → is_read rule.path ≡ true → rule.target ≡ None → has_priority rule.priority ≡ false →
         change chosen subject (shape_of rule) ≡ Exact }
 {}
 
-/// A rule with such a path, no target and some permission that applies to one subject alone is exact for the chosen one. If
+/// A rule with such a path, no target, no priority and some permission that applies to one subject alone is exact for the chosen one. If
 /// that is the one that it applies to, the other gains it; else the other loses it.
 pub fn qualified_rules_change_for_one()
     ensures owner { (rule : SubjectRule) → rule.applies_to ≡ Owners → IsPlain rule →
@@ -120,9 +120,10 @@ pub fn qualified_rules_change_for_one()
         effect Owner (shape_of rule) ≡ record { chosen = Owner; on_chosen = Exact; on_other = lost rule.kind } }
 {}
 
-/// The chosen subject never gains a rule, and loses one only where its path wasn't read or it binds link to a target.
+/// The chosen subject never gains a rule, and loses one only where its path wasn't read, it binds link to a target or it has a
+/// priority.
 pub fn chosen_subject_gains_nothing()
     ensures never { (chosen : Subject) (shape : RuleShape) → change chosen chosen shape ≢ gained shape.kind }
     ensures exact { (chosen : Subject) (shape : RuleShape) →
-        shape.is_read ≡ true → shape.has_target ≡ false → change chosen chosen shape ≡ Exact }
+        shape.is_read ≡ true → shape.has_target ≡ false → shape.has_priority ≡ false → change chosen chosen shape ≡ Exact }
 {}

@@ -10,7 +10,8 @@ use crate::subject::Subject;
 pub enum Mode {
     /// It refuses it.
     Enforcing,
-    /// It allows it, except what a deny rule denies, as `complain` does.
+    /// It allows it, except what a deny rule denies, as `complain` does. (The kernel lets what an audited deny rule denies, too:
+    /// here that is refused, which is the safe side.)
     Permissive,
     /// It allows everything.
     Unconfined,

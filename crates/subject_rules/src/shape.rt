@@ -1,7 +1,7 @@
 //! What of a rule decides whether it is restated, and what that changes.
 ghost use Rattle.std.specs.Prelude.{◌≡◌};
 ghost use Rattle.subject_rules.specs.Changes.{change, for_everybody, gained, left_out_change, lost, qualifier_alone, restated_change};
-ghost use Rattle.subject_rules.specs.Restating.{has_some, is_restated, loses_link, restated_perms};
+ghost use Rattle.subject_rules.specs.Restating.{can_be_said, has_some, is_restated, loses_link, restated_perms};
 
 use crate::effect::Change;
 use crate::subject::{AppliesTo, Subject};
@@ -21,6 +21,8 @@ pub struct RuleShape {
     pub has_target: bool,
     /// Whether the path was read as AppArmor reads it.
     pub is_read: bool,
+    /// Whether its priority isn't 0.
+    pub has_priority: bool,
 }
 
 /// The permissions of a rule that are restated: link isn't where the rule binds it to a target, since a restated rule
@@ -43,12 +45,20 @@ fn has_some(perms: Perms) -> bool
 }
 
 impl RuleShape {
-    /// Whether the rule is restated for the chosen subject: it applies to it, its path was read, and a permission is left.
+    // Whether a restated rule can say it: its path was read, and its priority is 0.
+    fn can_be_said(self) -> bool
+        ensures { result ≡ can_be_said self }
+    {
+        self.is_read && !self.has_priority
+    }
+
+    /// Whether the rule is restated for the chosen subject: it applies to it, its path was read, its priority is 0, and a
+    /// permission is left.
     pub fn is_restated(self, chosen: Subject) -> bool
         ensures { result ≡ is_restated chosen self }
     {
         self.applies_to.applies_to(chosen)
-            && self.is_read
+            && self.can_be_said()
             && has_some(restated_perms(self.perms, self.has_target))
     }
 
@@ -70,11 +80,13 @@ impl RuleShape {
         RuleShape {
             has_target: false,
             is_read: true,
+            has_priority: false,
             ..self
         }
     }
 
-    /// The rule as if it had no qualifier: what its target changes, or a path that wasn't read, is reported separately.
+    /// The rule as if it had no qualifier: what its target changes, its priority, or a path that wasn't read, is reported
+    /// separately.
     pub fn for_everybody(self) -> RuleShape
         ensures { result ≡ for_everybody self }
     {

@@ -27,7 +27,7 @@
 //! | `choices` | | whether each group of a path's text is a choice |
 //! | `readings alike` | | whether AppArmor reads a path's text alike |
 //! | `profile names` | | whether a profile may have the name |
-//! | `substituted` | a variable's name, and its values in quotes | of `path TEXT` the path with the values; `first TEXT` sets the first |
+//! | `substituted` | a variable's name, and its values in quotes | what `show_substituted` shows of `path`, `first` and `count` |
 //! | `slashes` | | the text with one slash for each run |
 //! | `paths`, `components` | | `a path` or the error; its components with a bar between each two |
 //! | `effects` | `other`, if not for the owner | of the shape of a rule, what restating it for this subject changes |

@@ -7,8 +7,8 @@ use subject_rules::{AppliesTo, Effect, RuleShape, Subject};
 use verdicts::RuleKind;
 
 /// Shows for each shape of a rule what restating it changes, and whether it is restated or left out. A shape is `allow` or
-/// `deny`, to whom it applies, the letters of permissions, where it has some, `target` where its link has one, and `unread` where
-/// its path can't be read.
+/// `deny`, to whom it applies, the letters of permissions, where it has some, `target` where its link has one, `unread` where
+/// its path can't be read, and `priority` where it has one.
 pub(crate) fn show_effects<W: Write>(case: &Case<'_>, output: &mut W) -> io::Result<()> {
     let chosen = if case.options.contains(&"other") {
         Subject::Other
@@ -47,11 +47,13 @@ fn shape_of(line: &str) -> Option<RuleShape> {
         perms: Perms::NONE,
         has_target: false,
         is_read: true,
+        has_priority: false,
     };
     for word in words {
         match word {
             "target" => shape.has_target = true,
             "unread" => shape.is_read = false,
+            "priority" => shape.has_priority = true,
             _ => shape.perms = Perms::from_letters(word.as_bytes())?,
         }
     }

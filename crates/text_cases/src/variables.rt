@@ -7,8 +7,8 @@ use std::alloc::{AllocError, Global};
 use std::io;
 use std::io::Write;
 
-/// Shows each line, and of a path what it is with the variables in place. A line that gives the first variable another
-/// value is shown alone.
+/// Shows each line, of a path what it is with the variables in place, and of a number what the variables but the first count, or
+/// that it is more. A line that gives the first variable another value is shown alone.
 pub(crate) fn show_substituted<W: Write>(
     alloc: Global,
     case: &Case<'_>,
@@ -21,6 +21,7 @@ pub(crate) fn show_substituted<W: Write>(
         match word {
             "path" => tell_substituted(alloc, &mut lists, rest, output)?,
             "first" => given(lists.set_first(alloc, rest.as_bytes()))?,
+            "count" => tell_count(alloc, &mut lists, rest, output)?,
             _ => write!(output, ": no line")?,
         }
         writeln!(output)?;
@@ -71,6 +72,19 @@ fn tell_substituted<'a, W: Write>(
         Err(ExpandFault::Cycle { name }) => tell_fault("cycle", name, output),
         Err(ExpandFault::TooLong) => write!(output, "too long"),
         Err(ExpandFault::NoMemory) => write!(output, "no memory"),
+    }
+}
+
+/// Tells what the variables but the first count, if it is at most this number.
+fn tell_count<W: Write>(
+    alloc: Global,
+    lists: &mut Lists<'_>,
+    most: &str,
+    output: &mut W,
+) -> io::Result<()> {
+    match given(lists.count_others(alloc, most.parse().unwrap_or(0)))? {
+        Some(count) => write!(output, ": {count}"),
+        None => write!(output, ": more"),
     }
 }
 

@@ -4,7 +4,7 @@ use Rattle.flat_words.specs.Words.{quoted_at}
 use Rattle.flat_words.proofs.words.after_quoted.Given as goal
 
 abbrev pub invariant-loop-rest : goal.invariant-loop-rest
-invariant-loop-rest l = quoted_at l.behind_backslash l.rest ≡ quoted_at false l.bytes
+invariant-loop-rest l = quoted_at l.escaped l.rest ≡ quoted_at false l.bytes
 
 abbrev pub decreases-loop-rest : goal.decreases-loop-rest
 decreases-loop-rest l = length l.rest

@@ -3,7 +3,7 @@ use Rattle.flat_text.specs.Parts.{ItemValue}
 use Rattle.profile_variables.specs.Variables.{Variable}
 use Rattle.profile_variables.proofs.Places.{first_of_two}
 use Rattle.import_scope.specs.declared.fault.ScopeFault.{ScopeFault}
-use Rattle.import_scope.specs.FirstFaults.{FirstFault}
+use Rattle.import_scope.specs.FirstFaults.{FirstFault, nothing_counted}
 use Rattle.import_scope.specs.Scopes.{ScopeState, Head, Fault, at_start}
 use Rattle.import_scope.specs.Told.{fault_value}
 use Rattle.import_scope.specs.inner.Outlines.{AskedValue, asked_value, last_state, head_stop, all_asked}
@@ -16,16 +16,18 @@ use Rattle.import_scope.proofs.scope.scope_of.Goals as goal
 passed : (s : ScopeState) (all : List ItemValue) (state : ScopeState) (variables : List Variable) (heads : List Head)
     (asked : List AskedValue) (problem stop : Option Fault)
     → state ≡ last_state s all → variables ≡ state.declared → heads ≡ state.profiles → asked ≡ all_asked s all → stop ≡ head_stop s all
-    → FirstProblem variables heads asked problem → FirstFault s all (first_of_two problem stop)
+    → FirstProblem variables heads nothing_counted asked problem → FirstFault s all (first_of_two problem stop)
 passed s all state variables heads asked problem stop is vs hs asks ends h =
     let t = last_state s all in
-    let a : FirstProblem t.declared heads asked problem = subst (λ (x : List Variable). FirstProblem x heads asked problem)
+    let a : FirstProblem t.declared heads nothing_counted asked problem =
+    subst (λ (x : List Variable). FirstProblem x heads nothing_counted asked problem)
     (vs ∙ ap (λ (x : ScopeState). x.declared) is) h in
-    let b : FirstProblem t.declared t.profiles asked problem = subst (λ (x : List Head). FirstProblem t.declared x asked problem)
+    let b : FirstProblem t.declared t.profiles nothing_counted asked problem =
+    subst (λ (x : List Head). FirstProblem t.declared x nothing_counted asked problem)
     (hs ∙ ap (λ (x : ScopeState). x.profiles) is) a in
-    let d : FirstProblem t.declared t.profiles (all_asked s all) problem =
-    subst (λ (x : List AskedValue). FirstProblem t.declared t.profiles x problem) asks b in
-    subst (λ (x : Option Fault). FirstFault s all (first_of_two problem x)) (sym ends) (both_passes s all problem d)
+    let d : FirstProblem t.declared t.profiles nothing_counted (all_asked s all) problem =
+    subst (λ (x : List AskedValue). FirstProblem t.declared t.profiles nothing_counted x problem) asks b in
+    subst (λ (x : Option Fault). FirstFault s all (first_of_two problem x)) (sym ends) (both_passes s nothing_counted all problem d)
 
 -- if no fault was returned, there is no stop
 no_stop : (s : ScopeState) (all : List ItemValue) (stop : Option ScopeFault) → option_map fault_value stop ≡ head_stop s all →

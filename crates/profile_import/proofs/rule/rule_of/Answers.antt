@@ -16,7 +16,9 @@ returns-clause-paths c =
       has_target =
           c.is_some.result;
       is_read = true;
+      has_priority = c.of-words.result.has_priority;
     })
-    c.is_restated.result c.in_ok-paths.paths.items words.kind words.applies_to words.perms target refl c.is_restated.ensures
+    c.is_restated.result c.in_ok-paths.paths.items words.kind words.applies_to words.perms target refl words.has_priority
+    c.is_restated.ensures
     c.if-not-is_restated.false (paths_of_text c.args.lists.now c.args.parts.now _ c.in_ok-text.text.items c.in_ok-paths.paths.items
     words.path c.in_ok-text.ensures.text (c.in_ok-paths.ensures ∙ ap imported_paths c.deref.ensures.value))

@@ -1,12 +1,11 @@
-use Rattle.subject_rules.proofs.RestatedVerdicts.{allowed_by_exact, hits_by_exact}
+use Rattle.subject_rules.proofs.RestatedVerdicts.{allowed_by_exact, denied_by_exact, granted_by_exact}
 use Rattle.subject_rules.proofs.laws.exact_rules_say_the_same.Goals as goal
-use Rattle.verdicts.specs.declared.kind.RuleKind.TheVariants.{Allow, Deny}
 
 pub returns-clause-denied : goal.returns-clause-denied
-returns-clause-denied c unknown chosen subject rules name p = hits_by_exact unknown chosen subject rules name Deny p
+returns-clause-denied c = denied_by_exact
 
 pub returns-clause-granted : goal.returns-clause-granted
-returns-clause-granted c unknown chosen subject rules name p = hits_by_exact unknown chosen subject rules name Allow p
+returns-clause-granted c = granted_by_exact
 
 pub returns-clause-allowed : goal.returns-clause-allowed
 returns-clause-allowed c unknown mode chosen subject rules name ask =

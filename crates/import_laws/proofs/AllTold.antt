@@ -1,0 +1,30 @@
+-- What holds of the changes that are reported for all spans holds of the change of each rule of an import.
+use Rattle.std.proofs.Common.{◌≡◌, List}
+use Rattle.std.specs.List.{All}
+use Rattle.rule_globs.specs.Each.{Each}
+use Rattle.flat_text.specs.Laws.{IsItem}
+use Rattle.flat_text.specs.Parts.{ItemValue}
+use Rattle.profile_variables.specs.Variables.{Variable}
+use Rattle.subject_rules.specs.declared.effect.Change.{Change}
+use Rattle.subject_rules.specs.declared.effect.Effect.{Effect}
+use Rattle.subject_rules.specs.declared.subject.Subject.{Subject}
+use Rattle.subject_rules.specs.Changes.{change}
+use Rattle.subject_rules.specs.Restating.{shape_of}
+use Rattle.import_cut.specs.declared.reading.Choice.{Choice}
+use Rattle.import_cut.specs.PartSpans.{added_effect, added_rule}
+use Rattle.profile_import.specs.AddedRules.{added_rules}
+use Rattle.profile_import.specs.FileRules.{item_reading}
+use Rattle.profile_import.specs.Restated.{all_rules, cut_for}
+use Rattle.import_laws.specs.Imported.{plain_rules}
+use Rattle.import_laws.proofs.AddedTold.{added_told}
+use Rattle.import_laws.proofs.ExactRules.{RulesAreTold, all_told}
+use Rattle.import_laws.proofs.SpansBefore.{Tells}
+
+pub all_rules_told : (on : Effect → Change) (subject : Subject) (R : Change → Type 0) (variables : List Variable) (choice : Choice) →
+    RulesAreTold on subject R variables choice → (on (added_effect choice.subject) ≡ change choice.subject subject added_rule) →
+    (items : List ItemValue) → Each IsItem items → Tells on R (cut_for variables choice items).spans
+    → All (λ rule. R (change choice.subject subject (shape_of rule))) (plain_rules (all_rules variables choice items))
+all_rules_told on subject R variables choice law reads_off items whole h =
+    let cut = cut_for variables choice items in
+    all_told on subject R variables choice law items (added_rules cut.changes_profile cut.has_hat) whole h
+    (added_told on R choice subject reads_off (item_reading variables choice.subject) items whole h)
