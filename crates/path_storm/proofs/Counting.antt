@@ -4,10 +4,8 @@ use Rattle.std.proofs.Common.{length-append, All}
 use Rattle.std.proofs.Math.Nat.{suc-mul, zero-mul}
 use Rattle.std.proofs.lemmas.Grind.{flat_map-append}
 use Rattle.std.proofs.lemmas.List.{append-nil, take_more}
-use Rattle.std.proofs.lemmas.List.Elements.{All-head, All-tail}
+use Rattle.std.proofs.lemmas.List.Elements.{All-nil, All-cons, All-head, All-tail}
 use Rattle.std.specs.Prelude.{false, IsTrue, Result, Ok, Err, IfOk, map, vec_len}
-use Rattle.std.specs.declared.vec.Vec.{Vec}
-use Rattle.std.specs.declared.alloc.Global.{Global}
 use Rattle.names.specs.declared.permissions.Perms.{Perms}
 use Rattle.directory_tree.specs.declared.change.Change.{Change}
 use Rattle.matcher.specs.declared.profiles.PolicyChange.{PolicyChange}
@@ -15,27 +13,37 @@ use Rattle.mediation.specs.PolicyChanges.{deed_of}
 use Rattle.justification.specs.Justified.{Justified}
 use Rattle.answer_trail.specs.Opens.{Opens}
 use Rattle.path_storm.specs.declared.fault.StormFault.{StormFault}
+use Rattle.path_storm.specs.declared.log.SessionLog.{SessionLog}
 use Rattle.path_storm.specs.declared.plan.StormReport.{StormReport}
 use Rattle.justification.specs.declared.answer.Answer.{Answer}
 use Rattle.path_storm.specs.Counting.{answers_of, IsCountOfOthers}
+use Rattle.path_storm.specs.Logs.{IsOpenedBy}
 
-pub answers_more : (all : List (Vec Answer Global)) (i : ℕ) (own : Vec Answer Global) → i < length all → own ≡ get_or all i own
-    → answers_of (take (i + 1) all) ≡ answers_of (take i all) ++ own.items
+pub answers_more : (all : List SessionLog) (i : ℕ) (own : SessionLog) → i < length all → own ≡ get_or all i own
+    → answers_of (take (i + 1) all) ≡ answers_of (take i all) ++ own.answers.items
 answers_more all i own low here =
-    let taken : take (i + 1) all ≡ take i all ++ own ∷ [] = take_more all i own low ∙ ap (λ (v : Vec Answer Global). take i all ++ v ∷ [])
+    let taken : take (i + 1) all ≡ take i all ++ own ∷ [] = take_more all i own low ∙ ap (λ (v : SessionLog). take i all ++ v ∷ [])
     (sym here) in
-    ap answers_of taken ∙ flat_map-append (λ (v : Vec Answer Global). v.items) (take i all) (own ∷ [])
-    ∙ ap (λ answers. answers_of (take i all) ++ answers) (append-nil own.items)
+    ap answers_of taken ∙ flat_map-append (λ (v : SessionLog). v.answers.items) (take i all) (own ∷ [])
+    ∙ ap (λ answers. answers_of (take i all) ++ answers) (append-nil own.answers.items)
 
 -- lists of `opens` answers each
-pub all_answers : (opens : ℕ) (all : List (Vec Answer Global)) → All (λ own. vec_len own ≡ opens) all → length (answers_of all)
+pub all_answers : (opens : ℕ) (all : List SessionLog) → All (λ own. vec_len own.answers ≡ opens) all → length (answers_of all)
     ≡ length all * opens
 all_answers opens [] full = sym (zero-mul opens)
 all_answers opens (own ∷ all) full =
-    let P : Vec Answer Global → Type 0 = λ v. vec_len v ≡ opens in
-    let first : length own.items ≡ opens = sym own.ok.0 ∙ All-head P own all full in
+    let P : SessionLog → Type 0 = λ v. vec_len v.answers ≡ opens in
+    let first : length own.answers.items ≡ opens = sym own.answers.ok.0 ∙ All-head P own all full in
     let rest : length (answers_of all) ≡ length all * opens = all_answers opens all (All-tail P own all full) in
-    length-append own.items (answers_of all) ∙ omega (arith, first, rest, suc-mul (length all) opens)
+    length-append own.answers.items (answers_of all) ∙ omega (arith, first, rest, suc-mul (length all) opens)
+
+pub each_answered : (ask : Perms) (opens : ℕ) (all : List SessionLog) → All (IsOpenedBy ask opens) all →
+    All (λ own. vec_len own.answers ≡ opens) all
+each_answered ask opens [] opened = All-nil (λ own. vec_len own.answers ≡ opens)
+each_answered ask opens (own ∷ all) opened =
+    let P : SessionLog → Type 0 = λ v. vec_len v.answers ≡ opens in
+    All-cons P own all (All-head (IsOpenedBy ask opens) own all opened).answers
+    (each_answered ask opens all (All-tail (IsOpenedBy ask opens) own all opened))
 
 module _ (Holds : Answer → Type 0) where
   pub one_holds : (answers : List Answer) (answer : Answer) (count : ℕ) → IsCountOfOthers Holds answers count → Holds answer
@@ -61,13 +69,13 @@ module _ (Holds : Answer → Type 0) where
       inr (other, less + added, omega (arith, is), both answers more less added counted rest)
 
   -- the answers of one more session
-  pub one_session : (all : List (Vec Answer Global)) (i : ℕ) (own : Vec Answer Global) (count added : ℕ) → i < length all →
+  pub one_session : (all : List SessionLog) (i : ℕ) (own : SessionLog) (count added : ℕ) → i < length all →
       own ≡ get_or all i own
-      → IsCountOfOthers Holds (answers_of (take i all)) count → IsCountOfOthers Holds own.items added
+      → IsCountOfOthers Holds (answers_of (take i all)) count → IsCountOfOthers Holds own.answers.items added
       → IsCountOfOthers Holds (answers_of (take (i + 1) all)) (count + added)
   one_session all i own count added low here so_far rest =
       let Counted : List Answer → Type 0 = λ answers. IsCountOfOthers Holds answers (count + added) in
-      subst Counted (sym (answers_more all i own low here)) (both (answers_of (take i all)) own.items count added so_far rest)
+      subst Counted (sym (answers_more all i own low here)) (both (answers_of (take i all)) own.answers.items count added so_far rest)
 
   pub next_holds : (answers : List Answer) (i : ℕ) (default : Answer) (count : ℕ) → i < length answers →
       IsCountOfOthers Holds (take i answers) count → Holds (get_or answers i default)

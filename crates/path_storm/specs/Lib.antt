@@ -1,2 +1,4 @@
 pub mod Counting
 pub mod Faults
+pub mod Logs
+pub mod inner

@@ -1,10 +1,12 @@
 //! The setup of a storm.
+ghost use Rattle.std.specs.Prelude.{IfOk};
+ghost use Rattle.path_storm.specs.Logs.{IsPolicyLog, IsTreeLog};
+
 use crate::fault::StormFault;
+use crate::log::{PolicyLog, TreeLog};
 use crate::profiles::Profiles;
 use crate::renaming::make_file;
 use crate::replacing::publish_first;
-use directory_tree::Change;
-use matcher::PolicyChange;
 use path_guard::{Guard, Row};
 use std::alloc::Global;
 use std::sync::Wait;
@@ -15,11 +17,11 @@ pub const FILE: &[u8] = b"/a/f";
 /// The name of the profile under which all opens of a storm are made.
 pub const PROFILE: &[u8] = b"p";
 
-/// The changes made so far.
+/// The changes before a storm.
 #[derive(Drop)]
-pub(crate) struct Made {
-    pub changes: Vec<Change<'static>>,
-    pub policy: Vec<PolicyChange>,
+pub(crate) struct Laid {
+    pub tree: TreeLog,
+    pub policy: PolicyLog,
 }
 
 /// Makes the file, and publishes the first profile.
@@ -28,9 +30,11 @@ pub(crate) fn lay<M: Row>(
     alloc: Global,
     guard: &Guard<M>,
     profiles: &Profiles,
-) -> Result<Made, StormFault> {
-    Ok(Made {
-        changes: make_file(rt, alloc, guard)?,
+) -> Result<Laid, StormFault>
+    ensures { IfOk result (λ laid. IsTreeLog 2 laid.tree × IsPolicyLog 1 laid.policy) }
+{
+    Ok(Laid {
+        tree: make_file(rt, alloc, guard)?,
         policy: publish_first(rt, alloc, guard, profiles)?,
     })
 }

@@ -4,7 +4,8 @@
 //! [`storm_with`] runs it on a guard, and checks each answer against the trail of the changes actually made. [`storm_log`]
 //! returns what it did, and [`StormLog::report`] sums it up.
 //!
-//! The definitions to believe are those in `specs/`, and those of `justification`.
+//! The definitions to believe are those in `specs/`, and those of `justification`; those in `specs/inner/` are of private contracts
+//! and proofs.
 #![tactic(auto)]
 
 mod fault;
@@ -24,7 +25,7 @@ pub use fault::StormFault;
 pub use gate::{Gate, Open};
 pub use laws::storms_have_one_report;
 pub use laying::{FILE, PROFILE};
-pub use log::StormLog;
+pub use log::{PolicyLog, SessionLog, StormLog, TreeLog};
 pub use path_guard::{Guard, Row};
 pub use plan::{Plan, StormReport};
 pub use storm::{storm_log, storm_with};

@@ -1,16 +1,17 @@
 //! The storm.
-ghost use Rattle.std.specs.Prelude.{◌≡◌, ◌*◌, All, IfOk, vec_len};
+ghost use Rattle.std.specs.Prelude.{◌≡◌, ◌*◌, IfOk, vec_len};
 ghost use Rattle.path_storm.specs.declared.log.StormLog.{StormLog};
-ghost use Rattle.path_storm.specs.Counting.{AreFull, IsReportOf};
+ghost use Rattle.path_storm.specs.Counting.{IsReportOf};
+ghost use Rattle.path_storm.specs.Logs.{IsLogOf};
 
 use crate::fault::StormFault;
 use crate::gate::Gate;
-use crate::laying::{PROFILE, lay};
+use crate::laying::lay;
 use crate::log::StormLog;
 use crate::plan::{Plan, StormReport};
 use crate::profiles::Profiles;
 use crate::threads::{Scene, blow};
-use crate::worker::Worker;
+use crate::worker::{Opens, Worker};
 use names::{Permission, Perms};
 use path_guard::{Guard, Row};
 use std::alloc::Global;
@@ -28,14 +29,13 @@ pub fn storm_with<M: Row + Send + Sync, R: Threads + Wait + Sync, G: Gate + Sync
     gate: &G,
 ) -> Result<StormReport, StormFault>
     ensures answers { IfOk result (λ report. report.answers ≡ plan.now.sessions * plan.now.opens) }
-    ensures told { IfOk result (λ report. (log : StormLog) × AreFull plan.now.sessions plan.now.opens log.answers
-        × IsReportOf log report) }
+    ensures told { IfOk result (λ report. (log : StormLog) × IsLogOf plan.now log × IsReportOf log report) }
 {
     let log = storm_log(rt, alloc, guard, plan, gate)?;
     log.report(alloc)
 }
 
-/// The same, but returns all changes and answers instead of how many answers are right.
+/// The same, but returns what was done instead of how many answers are right.
 pub fn storm_log<M: Row + Send + Sync, R: Threads + Wait + Sync, G: Gate + Sync>(
     rt: &R,
     alloc: Global,
@@ -43,21 +43,34 @@ pub fn storm_log<M: Row + Send + Sync, R: Threads + Wait + Sync, G: Gate + Sync>
     plan: &Plan,
     gate: &G,
 ) -> Result<StormLog, StormFault>
-    ensures { IfOk result (λ log. AreFull plan.now.sessions plan.now.opens log.answers) }
+    ensures { IfOk result (IsLogOf plan.now) }
 {
     let profiles = Profiles::new(alloc)?;
-    let made = lay(rt, alloc, guard, &profiles)?;
+    let laid = lay(rt, alloc, guard, &profiles)?;
     let workers = workers(rt, alloc, guard, plan.sessions)?;
     let scene = Scene {
         alloc,
         guard,
         gate,
         profiles: &profiles,
-        ask: Perms::NONE.with(Permission::Read),
-        opens: plan.opens,
+        opens: Opens {
+            ask: Perms::NONE.with(Permission::Read),
+            times: plan.opens,
+        },
         changes: plan.changes,
     };
-    blow(rt, &scene, made, workers)
+    let StormLog {
+        ask,
+        tree,
+        policy,
+        sessions,
+    } = blow(rt, &scene, workers)?;
+    Ok(StormLog {
+        ask,
+        tree: laid.tree.and(tree)?,
+        policy: laid.policy.and(policy)?,
+        sessions,
+    })
 }
 
 /// Returns the sessions, before the first of them opens.
@@ -71,7 +84,7 @@ fn workers<M: Row>(
 {
     let mut workers = Vec::new(alloc);
     for number in 0..sessions {
-        workers.push(Worker::new(rt, guard, PROFILE, number)?)?;
+        workers.push(Worker::new(rt, guard, number)?)?;
     }
     Ok(workers)
 }

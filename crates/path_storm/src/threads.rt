@@ -1,20 +1,19 @@
 //! The threads of a storm.
 ghost use Rattle.std.specs.Prelude.{◌≡◌, All, IfOk, vec_len};
-ghost use Rattle.path_storm.specs.Counting.{AreFull};
+ghost use Rattle.path_storm.specs.Logs.{AreOpened};
+ghost use Rattle.path_storm.specs.inner.Threads.{IsOfThreads};
 
 use crate::fault::StormFault;
 use crate::gate::Gate;
-use crate::laying::Made;
-use crate::log::StormLog;
+use crate::log::{PolicyLog, SessionLog, StormLog, TreeLog};
 use crate::profiles::Profiles;
-use crate::renaming::rename_all;
-use crate::replacing::replace_all;
-use crate::worker::{Answered, Worker};
-use names::Perms;
-use path_guard::{Answer, Guard, Row};
+use crate::renaming::{Renames, rename_all};
+use crate::replacing::{Replacements, replace_all};
+use crate::worker::{Opens, Worker};
+use path_guard::{Guard, Row};
 use std::alloc::Global;
 use std::sync::Wait;
-use std::thread::{JoinHandle, PromisedHandle, Scope, Threads, scope, scope_env};
+use std::thread::{PromisedHandle, Scope, Threads, scope, scope_env};
 
 /// What all threads work on.
 #[derive(Drop)]
@@ -23,77 +22,92 @@ pub(crate) struct Scene<'a, M: Row, G> {
     pub guard: &'a Guard<M>,
     pub gate: &'a G,
     pub profiles: &'a Profiles,
-    pub ask: Perms,
-    /// The number of opens of each session.
-    pub opens: u64,
+    /// What each session opens.
+    pub opens: Opens,
     /// The number of renames, and of profiles.
     pub changes: u64,
 }
 
 /// A thread that opens.
-type Opening = PromisedHandle<Result<Vec<Answer>, StormFault>, Answered>;
+type Opening = PromisedHandle<Result<SessionLog, StormFault>, Opens>;
 
 /// Runs all threads, and waits for them.
 pub(crate) fn blow<M: Row + Send + Sync, R: Threads + Wait + Sync, G: Gate + Sync>(
     rt: &R,
     scene: &Scene<'_, M, G>,
-    made: Made,
     workers: Vec<Worker<M>>,
 ) -> Result<StormLog, StormFault>
-    ensures { IfOk result (λ log. AreFull (vec_len workers) scene.now.opens log.answers) }
+    ensures { IfOk result (IsOfThreads (vec_len workers) scene.now.opens scene.now.changes) }
 {
+    // The closure captures the fields: of a captured reference to a type with a lifetime its contract would say nothing.
+    let Scene {
+        alloc,
+        guard,
+        gate,
+        profiles,
+        opens,
+        changes,
+    } = *scene;
     scope(
         scope_env(),
         rt,
         move |scope| -> Result<StormLog, StormFault>
-            ensures { IfOk result (λ log. AreFull (vec_len workers) scene.entry.now.opens log.answers) }
-        { blow_in(scope, rt, scene, made, workers) },
+            ensures { IfOk result (IsOfThreads (vec_len workers) opens changes) }
+        {
+            let scene = Scene {
+                alloc,
+                guard,
+                gate,
+                profiles,
+                opens,
+                changes,
+            };
+            blow_in(scope, rt, &scene, workers)
+        },
     )
 }
 
 fn blow_in<'s, 'e: 's, M: Row + Send + Sync, R: Threads + Wait + Sync, G: Gate + Sync>(
     scope: &Scope<'s, &'e ()>,
     rt: &'e R,
-    scene: &'e Scene<'e, M, G>,
-    made: Made,
+    scene: &Scene<'e, M, G>,
     workers: Vec<Worker<M>>,
 ) -> Result<StormLog, StormFault>
-    ensures { IfOk result (λ log. AreFull (vec_len workers) scene.now.opens log.answers) }
+    ensures { IfOk result (IsOfThreads (vec_len workers) scene.now.opens scene.now.changes) }
 {
-    let Made { changes, policy } = made;
     let openings = start_workers(scope, rt, scene, workers)?;
-    let renamer = scope.spawn(move || rename_all(rt, scene.guard, changes, scene.changes));
+    let (alloc, guard, profiles) = (scene.alloc, scene.guard, scene.profiles);
+    let renames = Renames {
+        times: scene.changes,
+    };
+    let renamer = scope.spawn_with(renames, move || rename_all(rt, alloc, guard, renames));
     let renamer = renamer.map_err(|_| StormFault::NoThread)?;
-    let publisher = scope.spawn(move || {
-        replace_all(
-            rt,
-            scene.alloc,
-            scene.guard,
-            policy,
-            scene.profiles,
-            scene.changes,
-        )
+    let replacements = Replacements {
+        times: scene.changes,
+    };
+    let publisher = scope.spawn_with(replacements, move || {
+        replace_all(rt, alloc, guard, profiles, replacements)
     });
     let publisher = publisher.map_err(|_| StormFault::NoThread)?;
-    let answers = join_all(rt, scene.alloc, openings, scene.opens)?;
-    let changes = renamer.join(rt)?;
+    let sessions = join_all(rt, alloc, openings, scene.opens)?;
+    let tree = renamer.join(rt)?;
     let policy = publisher.join(rt)?;
     Ok(StormLog {
-        ask: scene.ask,
-        changes,
+        ask: scene.opens.ask,
+        tree,
         policy,
-        answers,
+        sessions,
     })
 }
 
 fn start_workers<'s, 'e: 's, M: Row + Send + Sync, R: Threads + Wait + Sync, G: Gate + Sync>(
     scope: &Scope<'s, &'e ()>,
     rt: &'e R,
-    scene: &'e Scene<'e, M, G>,
+    scene: &Scene<'e, M, G>,
     workers: Vec<Worker<M>>,
 ) -> Result<Vec<Opening>, StormFault>
     ensures len { IfOk result (λ openings. vec_len openings ≡ vec_len workers) }
-    ensures each { IfOk result (λ openings. All (λ opening. opening.promise.opens ≡ scene.now.opens) openings.items) }
+    ensures each { IfOk result (λ openings. All (λ opening. opening.promise ≡ scene.now.opens) openings.items) }
 {
     let mut workers = workers;
     let mut openings = Vec::new(scene.alloc);
@@ -106,14 +120,14 @@ fn start_workers<'s, 'e: 's, M: Row + Send + Sync, R: Threads + Wait + Sync, G: 
 fn start<'s, 'e: 's, M: Row + Send + Sync, R: Threads + Wait + Sync, G: Gate + Sync>(
     scope: &Scope<'s, &'e ()>,
     rt: &'e R,
-    scene: &'e Scene<'e, M, G>,
+    scene: &Scene<'e, M, G>,
     worker: Worker<M>,
 ) -> Result<Opening, StormFault>
-    ensures { IfOk result (λ opening. opening.promise.opens ≡ scene.now.opens) }
+    ensures { IfOk result (λ opening. opening.promise ≡ scene.now.opens) }
 {
-    let opens = scene.opens;
-    let opening = scope.spawn_with(Answered { opens }, move || {
-        worker.open_all(rt, scene.alloc, scene.guard, scene.gate, scene.ask, opens)
+    let (alloc, guard, gate, opens) = (scene.alloc, scene.guard, scene.gate, scene.opens);
+    let opening = scope.spawn_with(opens, move || {
+        worker.open_all(rt, alloc, guard, gate, opens)
     });
     opening.map_err(|_| StormFault::NoThread)
 }
@@ -123,10 +137,10 @@ fn join_all(
     rt: &impl Threads,
     alloc: Global,
     openings: Vec<Opening>,
-    opens: u64,
-) -> Result<Vec<Vec<Answer>>, StormFault>
-    requires { All (λ opening. opening.promise.opens ≡ opens) openings.items }
-    ensures { IfOk result (AreFull (vec_len openings) opens) }
+    opens: Opens,
+) -> Result<Vec<SessionLog>, StormFault>
+    requires { All (λ opening. opening.promise ≡ opens) openings.items }
+    ensures { IfOk result (AreOpened opens.ask (vec_len openings) opens.times) }
 {
     let mut openings = openings;
     let mut all = Vec::new(alloc);

@@ -1,33 +1,38 @@
 //! The work of a session's thread.
-ghost use Rattle.std.specs.Prelude.{◌≡◌, IfOk, vec_len};
+ghost use Rattle.std.specs.Prelude.{◌≡◌, IfOk};
+ghost use Rattle.path_storm.specs.Logs.{IsOpenedBy};
+ghost use Rattle.path_storm.specs.declared.laying.TheConstants.{PROFILE};
 
 use crate::fault::StormFault;
 use crate::gate::Gate;
-use crate::laying::FILE;
+use crate::laying::{FILE, PROFILE};
+use crate::log::SessionLog;
 use names::Perms;
-use path_guard::{Answer, Guard, Row, Session};
+use path_guard::{Guard, Row, Session};
 use std::alloc::Global;
 use std::marker::PhantomData;
 use std::sync::Wait;
 use std::thread::Promise;
 
-/// A session of a guard, with its number.
+/// A session of a guard that has not opened anything yet, with its number.
 #[derive(Drop)]
 pub(crate) struct Worker<M: Row> {
     session: Session,
     number: u32,
     of: PhantomData<M>,
     ghost ours: { session.walk.table ≡ M.table },
+    ghost profile: { session.profile ≡ PROFILE.now },
+    ghost entries: { session.reading.entries ≡ 0 },
+    ghost refused: { session.reading.refused ≡ 0 },
 }
 
 impl<M: Row> Worker<M> {
     pub(crate) fn new(
         rt: &impl Wait,
         guard: &Guard<M>,
-        profile: &[u8],
         number: u32,
     ) -> Result<Worker<M>, StormFault> {
-        let session = guard.session(rt, profile)?;
+        let session = guard.session(rt, PROFILE)?;
         Ok(Worker {
             session,
             number,
@@ -35,42 +40,45 @@ impl<M: Row> Worker<M> {
         })
     }
 
-    /// Opens the file `opens` times, and calls the gate before and after each open. Returns all answers.
+    /// Opens the file as often as promised, and calls the gate before and after each open. Returns the session and all answers.
+    #[tactic(auto, using(crate::proofs::Opened::opened_none, crate::proofs::Opened::opened_more))]
     pub(crate) fn open_all<G: Gate>(
         self,
         rt: &impl Wait,
         alloc: Global,
         guard: &Guard<M>,
         gate: &G,
-        ask: Perms,
-        opens: u64,
-    ) -> Result<Vec<Answer>, StormFault>
-        ensures { IfOk result (λ answers. vec_len answers ≡ opens) }
+        promised: Opens,
+    ) -> Result<SessionLog, StormFault>
+        ensures { IfOk result (IsOpenedBy promised.ask promised.times) }
     {
         let Worker {
             mut session,
             number,
             of: _,
         } = self;
-        let mut answers = Vec::with_capacity(alloc, opens as usize)?;
-        for call in 0..opens {
+        let Opens { ask, times } = promised;
+        let mut answers = Vec::with_capacity(alloc, times as usize)?;
+        for call in 0..times {
             gate.before(number, call + 1);
             let answer = guard.open(rt, &mut session, FILE, ask);
             gate.after(number, call + 1);
             answers.push(answer)?;
         }
-        Ok(answers)
+        Ok(SessionLog { session, answers })
     }
 }
 
-/// The promise that a thread which ends well returns this many answers.
+/// The promise that a thread which ends well opened the file this often, for these permissions.
 #[derive(Clone, Copy)]
-pub(crate) struct Answered {
-    pub opens: u64,
+pub(crate) struct Opens {
+    pub ask: Perms,
+    pub times: u64,
 }
 
-impl Promise<Result<Vec<Answer>, StormFault>> for Answered {
-    ghost use Rattle.std.specs.Prelude.{◌≡◌, IfOk, vec_len};
+impl Promise<Result<SessionLog, StormFault>> for Opens {
+    ghost use Rattle.std.specs.Prelude.{IfOk};
+    ghost use Rattle.path_storm.specs.Logs.{IsOpenedBy};
 
-    ghost kept_by = { λ p r. IfOk r (λ answers. vec_len answers ≡ p.opens) };
+    ghost kept_by = { λ p r. IfOk r (IsOpenedBy p.ask p.times) };
 }

@@ -1,19 +1,12 @@
 //! Commands, and what they do with a text.
-ghost use Rattle.std.specs.Prelude.{◌≡◌};
-ghost use Rattle.mediation.specs.History.{policy_version};
-
 use crate::ending::Ending;
 use crate::expand::expanded;
-use mediation::Bench;
-use names::NoMemory;
-use plain_bench::PlainBench;
 use std::alloc::{AllocError, Global};
 use std::io;
 use std::sync::Wait;
 use std::thread::Threads;
 use trace_line::{LineFault, command_line};
-use trace_program::run_words;
-use trace_script::run_script;
+use trace_program::{run_plain, run_words};
 
 /// Runs a command on a text: each part on what the part before it wrote, until one fails.
 pub(crate) fn run_command<H: Threads + Wait + Sync>(
@@ -60,7 +53,7 @@ fn run_part<H: Threads + Wait + Sync>(
     match words.first().copied() {
         Some("aa-trace") => Ok(run_program(rt, alloc, words, input)),
         Some("parse") => parse(alloc, words),
-        Some("plain-bench") => run_plain(alloc, number(words, 1), input),
+        Some("plain-bench") => Ok(run_in_memory(alloc, number(words, 1), input)),
         Some("set") => set_byte(alloc, number(words, 1), number(words, 2), input),
         Some("first") => first_bytes(alloc, number(words, 1), input),
         _ => Ok(Ending::of_fault(alloc, "no command of a case\n")?),
@@ -111,22 +104,12 @@ fn parse(alloc: Global, words: &[&str]) -> io::Result<Ending> {
 }
 
 /// Runs a script in plain memory.
-fn run_plain(alloc: Global, capacity: usize, script: &[u8]) -> io::Result<Ending> {
-    match PlainBench::new(alloc, capacity) {
-        Ok(mut bench) => Ok(run_on(alloc, &mut bench, script)),
-        Err(NoMemory) => Ok(Ending::of_fault(alloc, "no memory\n")?),
-    }
-}
-
-/// Runs a script on a new bench.
-fn run_on<B: Bench>(alloc: Global, bench: &mut B, script: &[u8]) -> Ending
-    requires { policy_version (B.history bench.old) ≡ 0 }
-{
+fn run_in_memory(alloc: Global, capacity: usize, script: &[u8]) -> Ending {
     let mut ending = Ending::nothing(alloc);
     let mut input = script;
-    ending.status = run_script(
+    ending.status = run_plain(
         alloc,
-        bench,
+        u32::try_from(capacity).unwrap_or(0),
         &mut input,
         &mut ending.answers,
         &mut ending.faults,

@@ -1,5 +1,7 @@
 //! Images over streams that fail.
-use crate::running::{PASSWD, expect_read_faults, expect_unread, run, run_into_failing};
+use crate::running::{
+    Failing, PASSWD, expect_read_faults, expect_unread, run, run_into_failing, run_within,
+};
 use std::alloc::Global;
 use std::io::ErrorKind;
 use std::process::Abort;
@@ -7,6 +9,9 @@ use std::sync::Wait;
 use std::test::Fail;
 use std::thread::Threads;
 use trace_report::Status;
+
+/// What `check` says of the image of [`PASSWD`].
+const CHECKED: &[u8] = b"ok states 13 cells 258 accepts 2\n";
 
 /// The image of a profile's text.
 fn image_of(rt: &(impl Abort + Threads + Wait + Sync), alloc: Global, text: &str) -> Vec<u8> {
@@ -77,4 +82,46 @@ fn images_that_cannot_be_written(rt: HostRuntime) {
     }
     let ending = run_into_failing(&rt, rt.alloc(), &["aa-trace", "compile"], 1_000, 4);
     assert!(rt; ending.is(Status::Done, &image, b""));
+}
+
+/// How many bytes of an answer are taken at a time.
+const PIECE: usize = 3;
+
+/// More calls than it takes to write an answer and to flush it.
+const CALLS: usize = 20;
+
+/// Asserts what a command that reads an image writes to a stream that takes N calls: a front of its answer, until all of it is
+/// written and flushed.
+fn expect_answer_cut(
+    rt: &(impl Abort + Threads + Wait + Sync),
+    alloc: Global,
+    words: &[&str],
+    image: &[u8],
+    answer: &[u8],
+) {
+    for calls in 0..CALLS {
+        let mut input = image;
+        let answers = Failing::after(alloc, PIECE, calls);
+        let ending = run_within(rt, alloc, words, &mut input, answers, Failing::never(alloc));
+        // The last call flushes.
+        if calls > 0 && PIECE * (calls - 1) >= answer.len() {
+            assert!(rt; ending.is(Status::Done, answer, b""), "{words:?} {calls}");
+        } else {
+            let front = &answer[..answer.len().min(PIECE * calls)];
+            let fault = b"refused: output\n";
+            assert!(rt;
+                ending.is(Status::OutputFailed, front, fault),
+                "{words:?} {calls}"
+            );
+        }
+    }
+}
+
+/// A failed write in `check` and in `match`: what was written is a front of the answer.
+#[test]
+fn answers_on_images_that_cannot_be_written(rt: HostRuntime) {
+    let image = image_of(&rt, rt.alloc(), PASSWD);
+    expect_answer_cut(&rt, rt.alloc(), &["aa-trace", "check"], &image, CHECKED);
+    let words = ["aa-trace", "match", "r", "/etc/passwd"];
+    expect_answer_cut(&rt, rt.alloc(), &words, &image, b"allowed\n");
 }

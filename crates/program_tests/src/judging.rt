@@ -53,6 +53,25 @@ fn answers_that_fail(rt: HostRuntime) {
     assert!(rt; ending.tells(Status::Done, "allowed\n"));
 }
 
+/// A failed read, and a refused one, in `explain`: nothing is explained.
+#[test]
+fn explanations_whose_text_cannot_be_read(rt: HostRuntime) -> Result<(), Fail> {
+    let broken = ErrorKind::BrokenPipe;
+    let refused = ErrorKind::OutOfMemory;
+    let whole = "allowed\nr: allowed by rule 1, line 2: \"/etc/passwd\" r,\n";
+    expect_read_faults(
+        &rt,
+        rt.alloc(),
+        &["aa-trace", "explain", "r", "/etc/passwd"],
+        &[
+            (1, 100, broken, Status::Done, whole),
+            (1, 7, broken, Status::InputFailed, "refused: input\n"),
+            (9, 0, broken, Status::InputFailed, "refused: input\n"),
+            (1, 7, refused, Status::NoMemory, "no memory\n"),
+        ],
+    )
+}
+
 #[test]
 fn explanations_that_are_cut_off(rt: HostRuntime) {
     let words = ["aa-trace", "explain", "r", "/etc/passwd"];

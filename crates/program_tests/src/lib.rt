@@ -1,7 +1,9 @@
-//! Tests of runs of the program that no text reaches: streams that fail half way, refused memory, and words that are none. Everything
-//! else that it writes is shown by `program_cases`.
+//! Tests of runs of the program that no text reaches: streams that fail half way, refused memory, and words that are none; and scripts
+//! on both engines of `run`. Everything else that it writes is shown by `program_cases`.
 #![tactic(auto)]
 
+#[cfg(test)]
+mod engines;
 #[cfg(test)]
 mod events;
 #[cfg(test)]

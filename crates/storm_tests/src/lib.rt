@@ -4,6 +4,8 @@
 #[cfg(test)]
 mod drawing;
 #[cfg(test)]
+mod logs;
+#[cfg(test)]
 mod storms;
 #[cfg(test)]
 mod testing;

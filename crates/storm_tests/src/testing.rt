@@ -18,7 +18,7 @@ pub(crate) fn keeper(alloc: Global) -> Result<Keeper, Fail> {
     }
 }
 
-fn publisher(alloc: Global) -> Result<Publisher, Fail> {
+pub(crate) fn publisher(alloc: Global) -> Result<Publisher, Fail> {
     match Publisher::new(alloc) {
         Ok(publisher) => Ok(publisher),
         Err(NoMemory) => Ok(Publisher::new(alloc)?),

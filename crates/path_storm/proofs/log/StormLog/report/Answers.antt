@@ -11,23 +11,23 @@ loop-own-preserved c =
     let log = c.args.self.now in
     let low = rw c.deref-own-items.ensures.value at c.loop-own-test.true in
     let here = rw c.deref-own-items.ensures.value at c.own-item.is in
-    let more = ap length (answers_more c.args.self.now.answers.items c.loop-own.own-index own low here) in
+    let more = ap length (answers_more c.args.self.now.sessions.items c.loop-own.own-index own low here) in
     let counted =
-    by_followed PROFILE.now FILE.now log.ask c.in_ok-trail.trail c.as_slice.result.now log.changes.items c.as_slice-in-loop-own.result.now
-    log.policy.items c.as_slice-in-loop-own-2.result.now own.items c.unjustified-unjustified.result
-    c.in_ok-trail.ensures c.as_slice.ensures.value c.as_slice-in-loop-own.ensures.value c.as_slice-in-loop-own-2.ensures.value
+    by_followed PROFILE.now FILE.now log.ask c.in_ok-trail.trail c.as_slice.result.now log.tree.made.items
+    c.as_slice-in-loop-own.result.now log.policy.made.items c.as_slice-answers.result.now own.answers.items
+    c.unjustified-unjustified.result
+    c.in_ok-trail.ensures c.as_slice.ensures.value c.as_slice-in-loop-own.ensures.value c.as_slice-answers.ensures.value
     c.unjustified-unjustified.ensures in
     record {
       answers = omega (
         arith,
         more,
-        length-append (answers_of (take c.loop-own.own-index c.args.self.now.answers.items))
-            own.items,
+        length-append (answers_of (take c.loop-own.own-index c.args.self.now.sessions.items))
+            own.answers.items,
         c.in_ok-sum.ensures.ok,
-        c.len.ensures,
+        ap length c.as_slice-answers.ensures.value,
         so_far.answers,
-        own.ok.0,
       );
-      unjustified = rw c.in_ok-sum-2.ensures.ok (one_session _ c.args.self.now.answers.items c.loop-own.own-index own
+      unjustified = rw c.in_ok-sum-2.ensures.ok (one_session _ c.args.self.now.sessions.items c.loop-own.own-index own
           c.loop-own.report.unjustified c.unjustified-unjustified.result low here so_far.unjustified counted);
     }

@@ -8,7 +8,7 @@ use Rattle.path_storm.proofs.log.StormLog.report.Given as goal
 -- the report is right for the sessions so far
 abbrev pub invariant-loop-own : goal.invariant-loop-own
 invariant-loop-own l = record {
-  answers : l.report.answers ≡ length (answers_of (take l.own-index l.self.answers.items));
-  unjustified : IsCountOfOthers (Justified PROFILE.now FILE.now l.self.ask l.self.changes.items (map deed_of l.self.policy.items))
-      (answers_of (take l.own-index l.self.answers.items)) l.report.unjustified;
+  answers : l.report.answers ≡ length (answers_of (take l.own-index l.self.sessions.items));
+  unjustified : IsCountOfOthers (Justified PROFILE.now FILE.now l.self.ask l.self.tree.made.items (map deed_of l.self.policy.made.items))
+      (answers_of (take l.own-index l.self.sessions.items)) l.report.unjustified;
 }
