@@ -2,6 +2,8 @@
 #![tactic(auto)]
 
 #[cfg(test)]
+mod altered_index;
+#[cfg(test)]
 mod circles;
 #[cfg(test)]
 mod drawing;

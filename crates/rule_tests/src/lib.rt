@@ -5,6 +5,8 @@
 #[cfg(test)]
 mod components;
 #[cfg(test)]
+mod cuts;
+#[cfg(test)]
 mod errors;
 #[cfg(test)]
 mod fronts;

@@ -12,6 +12,7 @@ fn allow(applies_to: AppliesTo, letters: &str) -> Result<RuleShape, Fail> {
         perms: Perms::from_letters(letters.as_bytes()).ok_or("letters")?,
         has_target: false,
         is_read: true,
+        has_priority: false,
     })
 }
 

@@ -7,6 +7,7 @@ use table_verifier::{State, Steps, VerifiedTable, tables_in_bounds_run, verify};
 use verdicts::Record;
 
 mod altered;
+mod chains;
 mod running;
 mod shapes;
 
