@@ -1,10 +1,9 @@
 #!/bin/sh
 # Refuses each allocation of one run of ./aa-trace in turn: only the first, then only the second, and so on, until a run has no
-# such allocation. Each refused run must write `no memory` (a storm may write `no thread`) to standard error and end with status
-# 4, with nothing on standard output or, for a script, a prefix of the answers in whole lines; or it does without that
-# allocation, and then gives all answers of the whole run. Last come walks over the row that threads share during its changes,
-# some of which then run out of memory: no walk may find what isn't there. Needs a C compiler, for the few lines that wrap malloc
-# and realloc.
+# such allocation. Each refused run must write `no memory` to standard error and end with status 4, with nothing on standard output
+# or, for a script, a prefix of the answers in whole lines; or it does without that allocation, and then gives all answers of the
+# whole run. Last come walks over the row that threads share during its changes, some of which then run out of memory: no walk may
+# find what isn't there. Needs a C compiler, for the few lines that wrap malloc and realloc.
 set -eu
 cd "$(dirname "$0")/.."
 [ -x ./aa-trace ] || { echo "./aa-trace is missing: run make" >&2; exit 1; }
@@ -55,13 +54,9 @@ is_front() {
     [ "$(tail -c 1 "$work/answers" | wc -l)" -eq 1 ] && head -c "$size" "$work/whole-answers" | cmp -s - "$work/answers"
 }
 
-# is_refusal: the message says that memory ran out or, of a storm, that a thread couldn't be started for lack of it
+# is_refusal: the message says that memory ran out
 is_refusal() {
-    case "$(cat "$work/faults")" in
-    'no memory') ;;
-    'no thread') [ "${what#aa-trace storm }" != "$what" ] ;;
-    *) return 1 ;;
-    esac
+    [ "$(cat "$work/faults")" = 'no memory' ]
 }
 
 # refuse_all TEXT PROGRAM ARGUMENTS..: every allocation of the run `PROGRAM ARGUMENTS < TEXT`
