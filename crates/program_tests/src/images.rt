@@ -123,5 +123,5 @@ fn answers_on_images_that_cannot_be_written(rt: HostRuntime) {
     let image = image_of(&rt, rt.alloc(), PASSWD);
     expect_answer_cut(&rt, rt.alloc(), &["aa-trace", "check"], &image, CHECKED);
     let words = ["aa-trace", "match", "r", "/etc/passwd"];
-    expect_answer_cut(&rt, rt.alloc(), &words, &image, b"allowed\n");
+    expect_answer_cut(&rt, rt.alloc(), &words, &image, b"allowed\nsteps 11\n");
 }
