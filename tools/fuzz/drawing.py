@@ -5,7 +5,8 @@ import images
 from texts import Byte, Class, Fault, Group, One, Run, read_profile
 from verdicts import ALL, Automaton, TooManyStates, taken_by
 
-PARTS = ["a", "b", "ab", "lib", "home", ".ssh", "id_", "...", "x-1", "é", "#", "a\\ b", "\\,", "=", ",c", ":", "@", "@x", "]", "a]"]
+PARTS = ["a", "b", "ab", "lib", "home", ".ssh", "id_", "...", "x-1", "é", "#", r"a\ b", r"\,", "=", ",c", ":", "@", "@x", "]", "a]",
+         r"\]", "\\\\", r"\[a\]", r'\"']
 CLASSES = ["[a-c]", "[^a]", "[^/]", "[ab]", "[-a]", "[a-]", "[a--]", "[+--z]", "[a-c--e]", "[a-c-]", "[\\]\\-]", "[/a]", "[^-b-d]",
            "[^^]", "[*?{,@]", "[!-~]"]
 BAD_CLASSES = ["[]", "[^]", "[c-a]", "[a", "[a-", "[--a]", "[a-c---e]", "[\\--z]", "[\\^-a]", "[a\\b]", "[\"]", "[ ]"]

@@ -36,7 +36,8 @@ class Drawing:
     def policy(self):
         text = draw_text(self.draw, 4).replace(b"\n.\n", b"\n")
         if chance(self.draw, 0.5):
-            rules = self.draw.choice([b"/** rwkm", b"/a/** rwlkm, /b/** r", b"/** rl, deny /b/** w", b"/{a,b}/* rwl, /** rl, /** rw"])
+            rules = self.draw.choice([b"/** rwkm", b"/a/** rwlkm, /b/** r", b"/** rl, deny /b/** w", b"/{a,b}/* rwl, /** rl, /** rw",
+                                      b"/** rlk, /a/** m, deny /b/** k", b"/{a,c}** lm, /** l, /b** rlk"])
             text = b"profile %s { %s, }" % (self.draw.choice([b"p", b"q"]), rules)
         text = mutate(self.draw, text) if chance(self.draw, 0.1) else text
         lines = [line for line in text.split(b"\n") if line != b"."]

@@ -6,7 +6,10 @@ STATEMENTS = frozenset(b"""abi capability network mount remount umount pivot_roo
 mqueue io_uring""".split())
 OPEN_FLAGS = frozenset(b"complain unconfined default_allow prompt".split())
 FLAGS = OPEN_FLAGS | frozenset(b"""enforce kill audit attach_disconnected mediate_deleted chroot_relative namespace_relative chroot_attach
-chroot_no_attach no_attach_disconnected delegate_deleted""".split())
+chroot_no_attach no_attach_disconnected delegate_deleted debug interruptible""".split())
+# Any value, with quotes or not. In AppArmor's parser a quote ends it, and begins another flag.
+FLAG_WITH_VALUE = re.compile(rb'(?:kill\.signal|error|attach_disconnected\.path)=.*', re.DOTALL)
+MOST_VARIABLES = 1024
 WHITE = re.compile(rb"[ \t\r\n]*")
 IN_LINE = re.compile(rb"[ \t\r]*")
 BLANK = re.compile(rb"[ \t\r\n]+|#[^\n]*")
@@ -15,8 +18,9 @@ KEYWORD = re.compile(rb"[A-Za-z][A-Za-z0-9_]*")
 ASSIGNMENT = re.compile(rb"@\{([A-Za-z][A-Za-z0-9_]*)\}[ \t\r\n]*(\+?=)")
 STATEMENT_ENDS = re.compile(rb",(?:[ \t\r\n#}]|\Z)")
 BARE_WORD = re.compile(rb'(?:\\[^\0]|(?![ \t\r\n"\\\0]|,(?:[ \t\r\n",!]|\Z)).)+', re.DOTALL)
-# No quote directly after a backslash ends it.
-IN_QUOTES = re.compile(rb'"((?:\\"|\\(?!")|[^"\\\n\0])*)')
+# A backslash before a byte that is refused in quotes is part of it, so that the fault is at that byte.
+IN_QUOTES = re.compile(rb'"((?:\\[^\n\0]|[^"\\\n\0])*\\?)', re.DOTALL)
+WHOLE_NUMBER = re.compile(rb"[+-]?([0-9]+)")
 PERMISSIONS = re.compile(rb"(?:[rRwWaAlLkKmM]|[pPcC]?[iIuU]?[xX])+")
 # The case of p, c and u says whether the environment is kept; that of i and x says nothing.
 MODE_CASES = bytes.maketrans(b"IX", b"ix")
@@ -42,12 +46,14 @@ class Part:
 
 @dataclasses.dataclass
 class FlatRule:
-    """A file rule. `parts` are its words in order, but for what its permissions and its path may be reported as."""
+    """A file rule. `parts` are its words in order, but for what its permissions and its path may be reported as. `has_priority` says
+    that it has one other than 0."""
     start: int
     end: int = 0
     is_deny: bool = False
     deny: int = 0
     subject: bytes = b""
+    has_priority: bool = False
     parts: list = dataclasses.field(default_factory=list)
     path: Part = None
     permissions: Part = None
@@ -199,6 +205,8 @@ class FlatReader:
         is_new = assignment.group(2) == b"="
         if name == b"profile_name" or is_new == (name in self.variables):
             raise ImportFault(7, start)
+        if is_new and len(self.variables) >= MOST_VARIABLES:
+            raise ImportFault(13, start)
         self.variables.setdefault(name, []).extend(values)
 
     def assignment_ends(self):
@@ -266,12 +274,12 @@ class FlatReader:
                 self.word()
             else:
                 self.at += 1
-        flags = re.split(rb"[ \t\r\n,(]+", self.text[first:self.at])
-        unknown = [flag for flag in flags if flag and flag not in FLAGS]
+        inside = self.text[first:self.at]
+        unknown = [flag for flag in flags_of(inside) if flag not in FLAGS and not FLAG_WITH_VALUE.fullmatch(flag)]
         self.at += 1
         if keyword != b"xattrs" and unknown:
             raise ImportFault(3, start, unknown[0])
-        return Part(keyword or b"flags", start, self.at, self.text[first:self.at])
+        return Part(keyword or b"flags", start, self.at, inside)
 
     def expect(self, byte):
         if self.peek() != byte:
@@ -302,6 +310,8 @@ class FlatReader:
         block.rules.append(rule)
 
     def qualifiers(self, rule):
+        if self.keyword() == b"priority":
+            self.priority(rule)
         for words in ((b"audit",), (b"allow", b"deny"), (b"owner", b"other")):
             keyword = self.keyword()
             if keyword not in words:
@@ -313,9 +323,22 @@ class FlatReader:
             rule.parts += [part] if keyword not in (b"allow", b"deny") else []
             self.blank()
 
+    def priority(self, rule):
+        part = self.take(b"priority")
+        self.white(WHITE)
+        self.expect(b"=")
+        self.white(WHITE)
+        found = WHOLE_NUMBER.match(self.text, self.at)
+        if not found:
+            raise self.syntax(self.at + (self.peek() in (b"+", b"-")))
+        rule.has_priority = found.group(1).strip(b"0") != b""
+        part.end = self.at = found.end()
+        rule.parts.append(part)
+        self.blank()
+
     def statement(self, start, qualifiers, keyword):
         self.take(keyword)
-        depths = {b"(": 0, b"{": 0}
+        depths, is_after_white = {b"(": 0, b"{": 0}, False
         while any(depths.values()) or not STATEMENT_ENDS.match(self.text, self.at):
             byte = self.peek()
             opening = {b")": b"(", b"}": b"{"}.get(byte)
@@ -325,19 +348,21 @@ class FlatReader:
                 depths[byte] += 1
             elif opening:
                 depths[opening] -= 1
-            self.skip()
+            is_after_white = self.skip(is_after_white)
         self.at += 1
         words = [part.what for part in qualifiers] + [keyword]
         return Part(b"+".join(words), start, self.at, keyword)
 
-    def skip(self):
-        """Skips a quoted word, an escaped byte, a comment after white, or a byte of a statement."""
-        if self.peek() == b'"':
+    def skip(self, is_after_white):
+        """Skips a quoted word, an escaped byte, a comment after white, or a byte of a statement. Says if that was white."""
+        byte = self.peek()
+        if byte == b'"':
             self.word()
-        elif self.peek() == b"#" and self.text[self.at - 1:self.at] in (b" ", b"\t", b"\r", b"\n"):
+        elif byte == b"#" and is_after_white:
             self.blank()
         else:
-            self.at += 2 if self.peek() == b"\\" else 1
+            self.at += 2 if byte == b"\\" else 1
+        return byte in (b" ", b"\t", b"\r", b"\n")
 
     def file_rule(self, rule, keyword):
         if keyword == b"link":
@@ -381,6 +406,8 @@ class FlatReader:
         if self.peek() in (b"{", b"$"):
             raise ImportFault(3, self.at, self.peek())
         is_first = self.keyword() != b""
+        if self.keyword() == b"all":
+            self.test_all()
         if is_first:
             self.permissions_first(rule)
         else:
@@ -391,6 +418,15 @@ class FlatReader:
         rule.parts.append(rule.path)
         self.arrow(rule, is_first)
         rule.parts.sort(key=lambda part: part.start)
+
+    def test_all(self):
+        """A rule for all that AppArmor mediates is left out; before a path the word is permissions."""
+        start = self.at
+        self.take(b"all")
+        self.blank()
+        if self.peek() == b",":
+            raise ImportFault(3, start, b"all")
+        self.at = start
 
     def permissions_first(self, rule):
         word = self.keyword()
@@ -430,6 +466,11 @@ class FlatReader:
         self.blank()
         self.word()
         rule.parts.append(Part(b"link" if rule.is_pair else b"target", start, self.at))
+
+
+def flags_of(text):
+    """The flags in the parentheses of a head."""
+    return [flag for flag in re.split(rb"[ \t\r\n,(]+", text) if flag]
 
 
 def is_expressible(name):

@@ -1,22 +1,30 @@
 """Imports: what becomes of a flattened text, and the account (docs/RULES.md, "Imports")."""
+import contextlib
 import dataclasses
+import functools
 import re
+import sys
 
-from flat_text import MODE, OPEN_FLAGS, FlatReader, ImportFault, Part
+from flat_text import MODE, OPEN_FLAGS, FlatReader, ImportFault, Part, flags_of
 from texts import MOST_RULES, Byte, Cursor, Fault, Group, Profile, Rule, Run, canonical_item, canonical_text, in_order, read_path
 
 LONGEST_TEXT = 16384
 MOST_TEXTS = 1024
+MOST_COUNTED = 16777216
+COUNT_OF_A_TEXT = 16
+COUNT_WITHOUT_A_LIST = 32768
 MOST_LEADS = 16
 SLASH = Byte(ord("/"))
 LONGEST_SHOWN = 72
-PIECE = re.compile(rb"\\.|@\{([A-Za-z][A-Za-z0-9_]*)\}|.", re.DOTALL)
+PIECE = re.compile(rb"[^\\@]+|\\.|@\{([A-Za-z][A-Za-z0-9_]*)\}|.", re.DOTALL)
 CLASS_OR_BYTE = re.compile(rb"\\.|\[((?:\\.|[^\]\\])+)\]|.", re.DOTALL)
 PLAIN_MEMBERS = re.compile(rb"(?!\\\^)\^?(?:\\?-(?!-))?(?:(?:\\[^-]|[^-\\])(?:-(?:\\[^-]|[^-\\]))?)*", re.DOTALL)
 STARS_BEFORE_ESCAPED_SLASH = re.compile(rb"(?<!\\)(?:\\\\)*\*\\/")
 ADDED_FIRST = (b'"/proc/*/attr/apparmor/" r', b'"/sys/module/apparmor/parameters/enabled" r')
 ADDED_LAST = {b"change_profile": b'"/proc/*/attr/{,apparmor/}{current,exec}" w', b"hat": b'"/proc/[0-9]*/attr/{,apparmor/}current" w'}
 OTHER = {"owners": "others", "others": "owners"}
+# Variables may lead from one to another through all of them.
+sys.setrecursionlimit(10000)
 
 
 @dataclasses.dataclass(frozen=True)
@@ -63,48 +71,95 @@ class Options:
 
 
 class Variables:
+    """The values of the variables, the lists that are known (None if there is none), and what has been counted for the paths so far.
+    The variables in `named` depend on the profile's name; the others count the same in each, together `alike`."""
+
     def __init__(self, defines):
         self.values, self.known = {}, {}
+        self.named, self.alike = None, 0
+        self.block, self.counted = None, 0
         for name, value in defines:
             self.values.setdefault(name, []).append(value)
 
+    def need(self, path, block):
+        """Tests that a path's variables can be put in, and counts what that takes."""
+        if block is not self.block:
+            self.block = block
+            self.count(self.size(path, block.name), path)
+        self.count(len(self.substituted(path, block.name)), path)
+
+    def count(self, size, path):
+        self.counted += size
+        if self.counted > MOST_COUNTED:
+            raise ImportFault(13, path.start)
+
+    def size(self, path, profile):
+        """What all variables count in this profile."""
+        if self.named is None:
+            self.named = self.that_are_named()
+            self.alike = sum(self.size_of(name, path, profile) for name in self.values if name not in self.named)
+        self.known = {key: texts for key, texts in self.known.items() if key[1] is None}
+        return self.alike + sum(self.size_of(name, path, profile) for name in self.values if name in self.named)
+
+    def that_are_named(self):
+        used = {name: set(names_in(*values)) for name, values in self.values.items()}
+        found, before = {b"profile_name"}, 0
+        while len(found) > before:
+            before = len(found)
+            found |= {name for name, inner in used.items() if not inner.isdisjoint(found)}
+        return found
+
+    def size_of(self, name, path, profile):
+        key = self.key(name, profile)
+        with contextlib.suppress(ImportFault):
+            if key not in self.known:
+                self.texts(name, path, profile)
+        texts = self.known[key]
+        of_list = COUNT_WITHOUT_A_LIST if texts is None else sum(map(len, texts)) + COUNT_OF_A_TEXT * len(texts)
+        return sum(map(len, self.values[name])) + of_list
+
+    def key(self, name, profile):
+        return name, profile if name in self.named else None
+
     def texts(self, name, path, profile, within=()):
-        """The list of texts that a variable stands for, for this path of this profile."""
+        """The list of texts of a variable, for this path of this profile. The variables in its values come before it."""
         values = [profile] if name == b"profile_name" else self.values.get(name)
         if name in within:
             raise ImportFault(6, path.start, name)
         if values is None:
             raise ImportFault(5, path.start, name)
-        if (name, profile) not in self.known:
+        key = self.key(name, profile)
+        if self.known.setdefault(key) is None:
+            for inner in names_in(*values):
+                self.texts(inner, path, profile, (*within, name))
             texts = []
             for value in values:
-                texts += self.choices(value, path, profile, (*within, name))
+                texts += self.choices(value, path, profile)
                 test_size(texts, path)
-            self.known[name, profile] = texts
-        return self.known[name, profile]
+            self.known[key] = texts
+        return self.known[key]
 
-    def choices(self, value, path, profile, within):
+    def choices(self, value, path, profile):
         """A value with the variables in it replaced, one text for each choice."""
         texts = [b""]
         for piece in PIECE.finditer(value):
-            ends = self.texts(piece.group(1), path, profile, within) if piece.group(1) else [piece.group()]
+            ends = self.texts(piece.group(1), path, profile) if piece.group(1) else [piece.group()]
             texts = [text + end for text in texts for end in ends]
             test_size(texts, path)
         return texts
 
     def substituted(self, path, profile):
-        """A path with its variables replaced."""
-        text, done = path.text, []
+        """A path with its variables replaced, one after the other: what is before one has been replaced, and what is after it hasn't."""
+        text, whole = path.text, b""
         for piece in PIECE.finditer(text):
             if not piece.group(1):
-                done.append(piece.group())
+                whole += piece.group()
                 continue
             texts = self.texts(piece.group(1), path, profile)
             if len(texts) > 1:
-                texts = [one.lstrip(b"/") if text[:piece.start()].endswith(b"/") else one for one in texts]
+                texts = [one.lstrip(b"/") if whole.endswith(b"/") else one for one in texts]
                 texts = [one.rstrip(b"/") if text[piece.end():].startswith(b"/") else one for one in texts]
-            done.append(texts[0] if len(texts) == 1 else b"{" + b",".join(texts) + b"}")
-        whole = b"".join(done)
+            whole += texts[0] if len(texts) == 1 else b"{" + b",".join(texts) + b"}"
         test_size([whole], path)
         return whole
 
@@ -112,6 +167,11 @@ class Variables:
 def test_size(texts, path):
     if len(texts) > MOST_TEXTS or sum(map(len, texts)) > LONGEST_TEXT:
         raise ImportFault(10, path.start)
+
+
+def names_in(*texts):
+    """The names of the variables in these texts, in their order."""
+    return [piece.group(1) for text in texts for piece in PIECE.finditer(text) if piece.group(1)]
 
 
 # Paths.
@@ -156,6 +216,7 @@ def read_plainly(text):
     return None if is_odd else items
 
 
+@functools.lru_cache(maxsize=16)
 def read_items(text):
     cursor = Cursor(b'"' + text + b'"')
     try:
@@ -188,7 +249,7 @@ class Import:
     def __init__(self, text, options):
         self.text, self.options = text, options
         self.variables = Variables(options.defines)
-        reader = FlatReader(text, self.variables.values, lambda path, block: self.variables.substituted(path, block.name))
+        reader = FlatReader(text, self.variables.values, self.variables.need)
         self.all = reader.read()
         names = [block.name for block in reader.profiles]
         wanted = [block for block in reader.profiles if options.profile in (None, block.name)]
@@ -242,7 +303,7 @@ class Import:
 
     def head(self):
         for part in self.chosen.heads:
-            is_open = part.what == b"flags" and OPEN_FLAGS & set(re.findall(rb"\w+", part.text))
+            is_open = part.what == b"flags" and not OPEN_FLAGS.isdisjoint(flags_of(part.text))
             self.line(part, "narrower" if is_open else "exact")
 
     def additions(self):
@@ -275,9 +336,10 @@ class Import:
         own = {b"owner": {"owners"}, b"other": {"others"}}.get(rule.subject, {"owners", "others"})
         letters, words = self.letters(rule)
         is_here = self.options.subject in own
-        paths = self.paths(rule) if letters and is_here else []
+        is_kept = letters and is_here and not rule.has_priority
+        paths = self.paths(rule) if is_kept else []
         parts = rule.parts
-        if not letters or not is_here or paths is None:
+        if not is_kept or paths is None:
             whole = Part(b"+".join(self.words(parts, words, rule, paths is None)), rule.start, rule.end)
             loses = own if letters or rule.is_pair else set()
             self.line(whole, self.effect(loses, rule.is_deny))

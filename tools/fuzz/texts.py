@@ -372,7 +372,11 @@ def read_class(cursor, is_quoted):
         is_range = not is_alone and cursor.peek() == b"-" and cursor.peek(2) != b"-]" and cursor.peek(3) != b"--]"
         if is_range:
             cursor.at += 1
+            is_hyphen = cursor.peek() == b"-"
             high = read_member(cursor, is_quoted, start)
+            # Only the byte after a hyphen says that it isn't the last member.
+            if is_hyphen:
+                test_text_goes_on(cursor, is_quoted)
         if high < low:
             raise Fault(Kind.CLASS, start)
         ranges.append((low, high))
@@ -383,10 +387,15 @@ def read_class(cursor, is_quoted):
     return Class(is_negated, tuple(ranges))
 
 
-def read_member(cursor, is_quoted, start):
+def test_text_goes_on(cursor, is_quoted):
     byte = cursor.peek()
     if byte == NUL or (is_quoted and byte in (END, LF)):
         raise syntax(cursor.at)
+
+
+def read_member(cursor, is_quoted, start):
+    test_text_goes_on(cursor, is_quoted)
+    byte = cursor.peek()
     if byte in (QUOTE, END) or (not is_quoted and byte in WHITE):
         raise Fault(Kind.CLASS, start)
     if byte == BACKSLASH:
@@ -410,7 +419,7 @@ def escape(value, special):
 
 def canonical_item(item):
     if isinstance(item, Byte):
-        return escape(item.value, b'*?[{},\\"@')
+        return escape(item.value, b'*?[]{},\\"@')
     if isinstance(item, One):
         return b"?"
     if isinstance(item, Run):

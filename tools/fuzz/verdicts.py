@@ -3,7 +3,7 @@
 import dataclasses
 import functools
 
-from texts import PERMISSIONS, Byte, Class, Group, One, Run, in_order
+from texts import PERMISSIONS, Byte, Class, Group, One, Run
 
 MOST_STATES = 16384
 SLASH = 1 << ord("/")
@@ -155,7 +155,7 @@ def verdict(record, asked):
 
 def allowed(record):
     """The permissions whose verdict is allowed."""
-    return in_order(letter for letter in PERMISSIONS if verdict(record, bytes((letter,))) == b"allowed")
+    return bytes(letter for letter in PERMISSIONS if verdict(record, bytes((letter,))) == b"allowed")
 
 
 def link_verdict(old, new):
