@@ -184,6 +184,8 @@ def one_slash(text):
 
 def read_paths(text):
     """The paths, as items, that match what this text of a path matches; None if AppArmor and profile texts may read it differently."""
+    # An escaped slash at the start, from a variable, is a slash.
+    text = text[1:] if text.startswith(b"\\/") else text
     items = read_plainly(text if text.startswith(b"/") else b"/" + text)
     if items is None or not text.startswith((b"/", b"{")):
         return None
