@@ -9,7 +9,8 @@
 # make tour       runs every command of README.md and docs/TOUR.md, and compares what it prints
 # make calls      calls the library for C, and compares its answers with those of ./aa-trace
 # make embed      builds the examples for embedders, ./embed in C and ./embed_rs in Rust, and runs them
-# make refusals   refuses each allocation of the program in turn, and of walks on the row that threads share
+# make refusals   refuses each allocation of the program in turn, of calls of the libraries, each of which is then made again, and of
+#                 walks on the row that threads share
 # make storm      opens a file 1,600,000 times in 16 threads during renames and new profiles, then random paths a million times
 #                 during random changes, and checks each answer
 # make serve      runs a server whose four threads answer requests while its profile's file is replaced, and counts the answers

@@ -1,17 +1,22 @@
 #!/bin/sh
 # Refuses each allocation of one run of ./aa-trace in turn: only the first, then only the second, and so on, until a run has no
-# such allocation. Each refused run must write `no memory` to standard error and end with status 4, with nothing on standard output
-# or, for a script, a prefix of the answers in whole lines; or it does without that allocation, and then gives all answers of the
-# whole run. Last come walks over the row that threads share during its changes, some of which then run out of memory: no walk may
-# find what isn't there. Needs a C compiler, for the few lines that wrap malloc and realloc.
+# such allocation. Each refused run must write `no memory` to standard error and end with status
+# 4, with nothing on standard output or, for a script, a prefix of the answers in whole lines; or it does without that
+# allocation, and then gives all answers of the whole run. Then come the calls of the libraries, each of which is made again where
+# memory is refused: the program `refusals` must print the same lines whatever is refused. Last come walks over the row that threads
+# share during its changes, some of which then run out of memory: no walk may find what isn't there. Needs a C compiler, for the few
+# lines that wrap malloc and realloc.
 set -eu
 cd "$(dirname "$0")/.."
 [ -x ./aa-trace ] || { echo "./aa-trace is missing: run make" >&2; exit 1; }
 work=$(mktemp -d)
 trap 'rm -rf "$work"' EXIT
 
-echo 'proving and building random_storms ..'
-python3 tools/build.py random_storms >"$work/log" 2>&1 || { cat "$work/log"; exit 1; }
+for name in refusals random_storms; do
+    echo "proving and building $name .."
+    python3 tools/build.py $name >"$work/log" 2>&1 || { cat "$work/log"; exit 1; }
+done
+REFUSALS=crates/refusals/out/refusals
 RANDOM_STORMS=crates/random_storms/out/random_storms
 
 cat >"$work/refuse.c" <<'C'
@@ -238,6 +243,12 @@ open p /b r
 keep create /b/none/x
 SCRIPT
 refuse_all "$work/events" ./aa-trace steps --capacity 9
+
+# Calls of the libraries. None may have another answer, or change anything where memory is refused: so no line may differ, and none
+# may say that memory was refused.
+refuse_all /dev/null "$REFUSALS"
+[ "$spared" -eq "$refused" ] || { echo "$((refused - spared)) allocations of 'refusals' end it" >&2; exit 1; }
+cmp -s "$work/whole-answers" crates/refusals/stdout || { echo "'refusals' prints other lines than its file stdout" >&2; exit 1; }
 
 # Walks during changes, with a walker in a thread of its own: a change that runs out of memory isn't made, and the walks find the
 # tree as it was before. What the threads' library allocates is refused, too.

@@ -1,0 +1,40 @@
+//! Profiles of texts.
+use crate::call::Call;
+use crate::difference::{Difference, How, expect};
+use crate::retry::{again, expect_ok};
+use matcher::{AnyProfile, CompiledProfile, MakeFault};
+use rule_reader::{Profile, ReadFault, read};
+use std::alloc::Global;
+use std::sync::Arc;
+
+/// Reads a text.
+pub fn read_text(alloc: Global, text: &[u8]) -> Result<Profile, Difference> {
+    again(Call::Read, ReadFault::NoMemory, || read(alloc, text))
+}
+
+/// The profile of a text, compiled. It is read again where memory is refused, since a call that is refused drops it.
+pub fn compiled_of(alloc: Global, text: &[u8]) -> Result<CompiledProfile, Difference> {
+    match CompiledProfile::make(alloc, read_text(alloc, text)?) {
+        Ok(compiled) => Ok(compiled),
+        Err(fault) => {
+            expect(
+                fault == MakeFault::NoMemory,
+                Call::MakeCompiledProfile,
+                How::Fails,
+            )?;
+            let compiled = CompiledProfile::make(alloc, read_text(alloc, text)?);
+            expect_ok(Call::MakeCompiledProfile, compiled)
+        }
+    }
+}
+
+/// The same, as a policy shares it.
+pub fn shared_of(alloc: Global, text: &[u8]) -> Result<Arc<AnyProfile>, Difference> {
+    match Arc::new(alloc, AnyProfile::Compiled(compiled_of(alloc, text)?)) {
+        Ok(profile) => Ok(profile),
+        Err(_) => {
+            let profile = Arc::new(alloc, AnyProfile::Compiled(compiled_of(alloc, text)?));
+            expect_ok(Call::ShareProfile, profile)
+        }
+    }
+}
