@@ -22,6 +22,7 @@
 # make fuzz       puts drawn and mutated texts, images and scripts to ./aa-trace and to a second implementation of the rules, in
 #                 Python: N=100000 of them, drawn from SEED=1; each that gets two answers is made smaller and kept
 # make edits      tries the wrong bodies that the gate leaves out: the prover must refuse each
+# make tested     tries the wrong bodies that contracts admit, such as one that is always out of memory: a test must refuse each
 # make reproduce  prints the checksums of ./aa-trace and of libcoqetwal.a, which are the same wherever they are built
 # make help       shows this
 
@@ -37,7 +38,7 @@ LIBRARY := crates/coqetwal/out/libcoqetwal.a
 LIBRARY_CRATES := coqetwal $(shell sed -n 's/^coqetwal staticlib: *//p' crates.txt)
 LIBRARY_SOURCES := crates.txt HANDLES $(filter $(addprefix crates/,$(addsuffix /%,$(LIBRARY_CRATES))),$(SOURCES))
 
-.PHONY: all run test tour bench calls embed refusals storm serve drawn fuzz edits reproduce install uninstall help need-rt
+.PHONY: all run test tour bench calls embed refusals storm serve drawn fuzz edits tested reproduce install uninstall help need-rt
 # Each recipe takes all processors, and two that prove the same crates would disturb each other.
 .NOTPARALLEL:
 
@@ -110,6 +111,9 @@ fuzz: aa-trace
 
 edits: need-rt
 	tools/more-edits --anew
+
+tested: need-rt
+	tools/tested-edits
 
 reproduce: aa-trace $(LIBRARY)
 	@sha256sum aa-trace
