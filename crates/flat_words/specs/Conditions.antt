@@ -31,8 +31,9 @@ past_condition bytes = past_byte 61 (after is_white bytes) >>= λ rest. past_par
 abbrev pub parts_flags : ℕ → Bool
 parts_flags b = is_white b || is_comma b || b == 40 || b == 41
 
--- Flags that allow what no rule allows; and flags that don't, some of them with a value, in which there are no quotes: the signal of kill, the number of the error
--- that a refusal gives, and where paths begin that lead to no root (apparmor.d(5) of AppArmor 4.1, "Profile Head").
+-- Flags that allow what no rule allows; and flags that don't, some of them with a value, in which there are no quotes: the signal of kill,
+-- the number of the error that a refusal gives, and where paths begin that lead to no root (apparmor.d(5) of AppArmor 4.1, "Profile
+-- Head").
 abbrev pub allowing_flags : List (List ℕ)
 allowing_flags = codes "complain" ∷ codes "unconfined" ∷ codes "default_allow" ∷ codes "prompt" ∷ []
 
