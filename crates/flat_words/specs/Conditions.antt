@@ -1,5 +1,5 @@
 -- The contents of the head of a profile besides its names: extended attributes and flags (apparmor.d(5), "Format").
-use Rattle.std.specs.Prelude.{ℕ, List, [], ◌∷◌, codes, Result, Ok, Option, Some, None, Bool, true, false, not, ◌&&◌, ◌||◌, ◌==◌}
+use Rattle.std.specs.Prelude.{ℕ, List, [], ◌∷◌, codes, Result, Ok, Option, Bool, true, false, not, ◌&&◌, ◌||◌, ◌==◌}
 use Rattle.std.specs.Prelude.{if◌then◌else◌, find, nat_eq}
 use Rattle.std.specs.List.{list_any, starts_with}
 use Rattle.rule_reader.specs.TextBytes.{is_white, is_quote, is_comma}

@@ -1,8 +1,8 @@
 -- Statements, i.e. the rules of a profile that aren't about files (apparmor.d(5), "Format"), and where each ends. The page says that a
 -- comma ends a rule, and not which commas belong to a word; AppArmor's parser (4.1.0) takes the longest word.
-use Rattle.std.specs.Prelude.{ℕ, suc, ◌-◌, ◌+◌, List, [], ◌∷◌, length, codes, Result, Ok, Option, Some, None, Bool, true, false, not, ◌&&◌}
-use Rattle.std.specs.Prelude.{◌||◌, ◌==◌, if◌then◌else◌, drop, nat_eq}
-use Rattle.std.specs.List.{list_any, starts_with}
+use Rattle.std.specs.Prelude.{ℕ, ◌-◌, ◌+◌, List, [], ◌∷◌, length, codes, Result, Ok, Option, Some, None, Bool, true, false, not, ◌&&◌}
+use Rattle.std.specs.Prelude.{◌||◌, ◌==◌, if◌then◌else◌, drop}
+use Rattle.std.specs.List.{list_any}
 use Rattle.std.specs.Str.{bytes_eq}
 use Rattle.rule_reader.specs.TextBytes.{begins, is_white, is_hash, is_include, is_quote, is_comma, is_close_brace, is_open_brace}
 use Rattle.rule_reader.specs.ReadWords.{word, after_word, after}
