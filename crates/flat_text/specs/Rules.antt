@@ -1,7 +1,7 @@
 -- File rules (apparmor.d(5), "Format" and "Access Modes"), and what else begins with a rule's qualifiers.
-use Rattle.std.specs.Prelude.{ℕ, List, [], ◌∷◌, length, codes, Result, Ok, Err, Option, Some, None, Bool, true, false, not, ◌&&◌, ◌||◌}
-use Rattle.std.specs.Prelude.{◌==◌, if◌then◌else◌, nat_eq, take, drop}
-use Rattle.std.specs.List.{list_any, starts_with}
+use Rattle.std.specs.Prelude.{ℕ, List, length, codes, Result, Ok, Err, Option, Some, None, Bool, true, false, not, ◌&&◌, ◌||◌}
+use Rattle.std.specs.Prelude.{◌==◌, if◌then◌else◌, take, drop}
+use Rattle.std.specs.List.{list_any}
 use Rattle.names.specs.declared.permissions.Permission.TheVariants.{Link}
 use Rattle.names.specs.Permissions.{has}
 use Rattle.rule_reader.specs.TextBytes.{begins, is_quote, is_comma, is_arrow, is_open_brace}
@@ -12,7 +12,7 @@ use Rattle.flat_text.specs.declared.part.ItemKind.{ItemKind}
 use Rattle.flat_text.specs.declared.part.ItemKind.TheVariants as items
 use Rattle.flat_words.specs.declared.letters.ExecMode.{ExecMode}
 use Rattle.flat_words.specs.declared.letters.Letters.{Letters}
-use Rattle.flat_words.specs.Letters.{letters_of, are_fitting, is_letter_there, is_bare, inherits}
+use Rattle.flat_words.specs.Letters.{letters_of, are_fitting, is_bare, inherits}
 use Rattle.flat_words.specs.Steps.{Stop, include, left_out, permissions, ◌>>=◌, fault_here, syntax_here}
 use Rattle.flat_text.specs.Parts.{PartValue}
 use Rattle.flat_text.specs.Readings.{Reading, taken, taken_to}
