@@ -11,7 +11,6 @@ use Rattle.rule_profile.specs.PathTokens.{depth_behind, is_plain_slash}
 use Rattle.rule_profile.specs.Readable.{can_stand, are_name_bytes, is_range, is_token, are_tokens}
 use Rattle.rule_writer.specs.Canonical.{escaped_among, range_text, token_text}
 use Rattle.rule_writer.proofs.CanonCells.{stands, is_special}
-use Rattle.flat_words.specs.declared.words.Quoted.{Quoted}
 use Rattle.flat_words.specs.Words.{quoted_at, word_end}
 use Rattle.flat_canonical.specs.CanonicalItems.{path_text, ends_plainly}
 
@@ -69,12 +68,9 @@ last_sooner false y (b ∷ bytes) h = h
 
 -- ---- words in quotes
 
-abbrev quoted_after : Bool → Bool → Quoted
-quoted_after escaped doubled = record { escaped = escaped; doubled = doubled }
-
 -- bytes that a name may have, the last of which is no backslash, and a quote
 pub quoted_ends : (escaped doubled : Bool) (bytes rest : List ℕ) → are_name_bytes escaped bytes ≡ true → is_last doubled bytes ≡ false →
-    quoted_at (quoted_after escaped doubled) (bytes ++ 34 ∷ rest) ≡ Ok rest
+    quoted_at (record { escaped = escaped; doubled = doubled }) (bytes ++ 34 ∷ rest) ≡ Ok rest
 quoted_ends true doubled [] rest h l = absurd cc
 quoted_ends false doubled [] rest h l = rw l refl
 quoted_ends escaped doubled (b ∷ bytes) rest h l =
