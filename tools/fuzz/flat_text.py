@@ -7,16 +7,20 @@ mqueue io_uring""".split())
 OPEN_FLAGS = frozenset(b"complain unconfined default_allow prompt".split())
 FLAGS = OPEN_FLAGS | frozenset(b"""enforce kill audit attach_disconnected mediate_deleted chroot_relative namespace_relative chroot_attach
 chroot_no_attach no_attach_disconnected delegate_deleted debug interruptible""".split())
-# Any value, with quotes or not. In AppArmor's parser a quote ends it, and begins another flag.
-FLAG_WITH_VALUE = re.compile(rb'(?:kill\.signal|error|attach_disconnected\.path)=.*', re.DOTALL)
+# Any value, even an empty one, but for quotes: in AppArmor's parser a quote ends it, and begins another flag.
+FLAG_WITH_VALUE = re.compile(rb'(?:kill\.signal|error|attach_disconnected\.path)=[^"]*')
 MOST_VARIABLES = 1024
+WHITE_BYTES = (b" ", b"\t", b"\r", b"\n")
 WHITE = re.compile(rb"[ \t\r\n]*")
 IN_LINE = re.compile(rb"[ \t\r]*")
 BLANK = re.compile(rb"[ \t\r\n]+|#[^\n]*")
 INCLUDE = re.compile(rb'#include[ \t<"]')
 KEYWORD = re.compile(rb"[A-Za-z][A-Za-z0-9_]*")
 ASSIGNMENT = re.compile(rb"@\{([A-Za-z][A-Za-z0-9_]*)\}[ \t\r\n]*(\+?=)")
-STATEMENT_ENDS = re.compile(rb",(?:[ \t\r\n#}]|\Z)")
+ENDS_WORD = re.compile(rb'[ \t\r\n",!]|\Z')
+WHITE_OR_END = re.compile(rb"[ \t\r\n]|\Z")
+# AppArmor's parser may end a word after these two bytes, or take the backslash with what follows.
+DOUBTFUL = re.compile(rb'[\\,]\\(?:[ \t\r\n",!]|\Z)')
 BARE_WORD = re.compile(rb'(?:\\[^\0]|(?![ \t\r\n"\\\0]|,(?:[ \t\r\n",!]|\Z)).)+', re.DOTALL)
 # A backslash before a byte that is refused in quotes is part of it, so that the fault is at that byte.
 IN_QUOTES = re.compile(rb'"((?:\\[^\n\0]|[^"\\\n\0])*\\?)', re.DOTALL)
@@ -25,6 +29,8 @@ PERMISSIONS = re.compile(rb"(?:[rRwWaAlLkKmM]|[pPcC]?[iIuU]?[xX])+")
 # The case of p, c and u says whether the environment is kept; that of i and x says nothing.
 MODE_CASES = bytes.maketrans(b"IX", b"ix")
 MODE = re.compile(rb"[rRwWaAlLkKmM]|[pPcC]?[iIuU]?[xX]")
+# An exec mode that isn't x alone, and has no i.
+APART = re.compile(rb"[pPcC][uU]?[xX]|[uU][xX]")
 
 
 class ImportFault(Exception):
@@ -58,6 +64,7 @@ class FlatRule:
     path: Part = None
     permissions: Part = None
     is_pair: bool = False
+    is_raised: bool = False
 
 
 @dataclasses.dataclass
@@ -72,6 +79,22 @@ class Block:
     statements: list = dataclasses.field(default_factory=list)
     blocks: list = dataclasses.field(default_factory=list)
     end: int = 0
+
+
+@dataclasses.dataclass
+class Statement:
+    """What is open in a statement at some place. `before` says what is directly before it: the "end" of the keyword, of parentheses or
+    of a quoted word, "white", or a "word". `last` is the last byte before that isn't white."""
+    parentheses: int = 0
+    braces: int = 0
+    before: str = "end"
+    last: bytes = b""
+
+    def take(self, byte):
+        self.parentheses += (byte == b"(") - (byte == b")")
+        self.braces += (byte == b"{") - (byte == b"}")
+        self.before = "white" if byte in WHITE_BYTES else "end" if byte == b")" else "word"
+        self.last = self.last if byte in WHITE_BYTES else byte
 
 
 class FlatReader:
@@ -129,13 +152,23 @@ class FlatReader:
         quoted = IN_QUOTES.match(self.text, start)
         if quoted:
             self.at = quoted.end()
+            if quoted.group(1).endswith(b"\\"):
+                self.test_quote()
             self.expect(b'"')
             return Part(b"", start, self.at, quoted.group(1))
         found = BARE_WORD.match(self.text, start)
+        for byte in re.finditer(rb"\\.?|.", found.group() if found else b"", re.DOTALL):
+            if DOUBTFUL.match(self.text, start + byte.start()):
+                raise self.syntax(start + byte.start())
         self.at = found.end() if found else start
         if not found or self.peek() in (b"\\", b"\0"):
             raise self.syntax(self.at + (self.peek() == b"\\"))
         return Part(b"", start, self.at, found.group())
+
+    def test_quote(self):
+        """After two backslashes AppArmor's parser reads on at a quote, if the text has another."""
+        if self.peek() == b'"' and b'"' in self.text[self.at + 1:]:
+            raise self.syntax()
 
     def is_absolute(self):
         start = self.at + (self.peek() == b'"')
@@ -266,13 +299,17 @@ class FlatReader:
             self.expect(b"=")
             self.white(WHITE)
         self.expect(b"(")
-        first = self.at
+        first, backslashes = self.at, 0
         while self.peek() != b")":
             if self.peek() in (b"", b"\0"):
                 raise self.syntax()
-            if self.peek() == b'"':
+            if self.peek() == b'"' and backslashes and backslashes % 2 == 0:
+                self.test_quote()
+            if self.peek() == b'"' and backslashes % 2 == 0:
                 self.word()
+                backslashes = 0
             else:
+                backslashes = backslashes + 1 if self.peek() == b"\\" else 0
                 self.at += 1
         inside = self.text[first:self.at]
         unknown = [flag for flag in flags_of(inside) if flag not in FLAGS and not FLAG_WITH_VALUE.fullmatch(flag)]
@@ -305,6 +342,8 @@ class FlatReader:
             block.statements.append(self.statement(rule.start, rule.parts, keyword))
             return
         self.file_rule(rule, keyword)
+        if rule.is_raised and rule.permissions and APART.search(rule.permissions.text):
+            raise ImportFault(3, rule.start, b"priority")
         if rule.path is not None:
             self.needs(rule.path, block)
         block.rules.append(rule)
@@ -332,37 +371,59 @@ class FlatReader:
         if not found:
             raise self.syntax(self.at + (self.peek() in (b"+", b"-")))
         rule.has_priority = found.group(1).strip(b"0") != b""
+        rule.is_raised = rule.has_priority and self.peek() != b"-"
         part.end = self.at = found.end()
         rule.parts.append(part)
         self.blank()
 
     def statement(self, start, qualifiers, keyword):
         self.take(keyword)
-        depths, is_after_white = {b"(": 0, b"{": 0}, False
-        while any(depths.values()) or not STATEMENT_ENDS.match(self.text, self.at):
-            byte = self.peek()
-            opening = {b")": b"(", b"}": b"{"}.get(byte)
-            if byte in (b"", b"\0") or opening and depths[opening] == 0:
-                raise self.syntax()
-            if byte in depths:
-                depths[byte] += 1
-            elif opening:
-                depths[opening] -= 1
-            is_after_white = self.skip(is_after_white)
+        here = Statement()
+        while not self.ends(here):
+            self.step(here)
         self.at += 1
         words = [part.what for part in qualifiers] + [keyword]
         return Part(b"+".join(words), start, self.at, keyword)
 
-    def skip(self, is_after_white):
-        """Skips a quoted word, an escaped byte, a comment after white, or a byte of a statement. Says if that was white."""
+    def ends(self, here):
+        """Whether a comma here ends the statement. Another one outside of parentheses and braces is a fault."""
+        if self.peek() != b"," or here.parentheses or here.braces:
+            return False
+        if here.before == "word" and not WHITE_OR_END.match(self.text, self.at + 1):
+            raise self.syntax()
+        return True
+
+    def step(self, here):
+        """Takes a quoted word, a comment, an escaped byte, or a byte of a statement."""
         byte = self.peek()
+        if byte in (b"", b"\0") or self.is_doubtful(byte, here):
+            raise self.syntax()
         if byte == b'"':
             self.word()
-        elif byte == b"#" and is_after_white:
+            here.before, here.last = "end", byte
+        elif byte == b"#" and here.before == "white":
             self.blank()
+        elif byte == b"\\":
+            self.at += 1
+            if self.peek() in (b"", b"\0"):
+                raise self.syntax()
+            self.at += 1
+            here.before, here.last = "word", byte
         else:
-            self.at += 2 if byte == b"\\" else 1
-        return byte in (b" ", b"\t", b"\r", b"\n")
+            here.take(byte)
+            self.at += 1
+
+    def is_doubtful(self, byte, here):
+        """Whether AppArmor's parser may read this byte in another way, or doesn't allow it."""
+        if byte in (b"\\", b",") and DOUBTFUL.match(self.text, self.at):
+            return True
+        return {
+            b",": self.peek(2) == b",\\" or not here.parentheses and ENDS_WORD.match(self.text, self.at + 1) is not None,
+            b"#": here.before == "end" or here.before == "white" and here.last in (b"=", b">"),
+            b"(": not (here.before == "white" or here.last in (b"=", b"(")),
+            b")": here.parentheses == 0,
+            b"}": here.braces == 0,
+        }.get(byte, byte in WHITE_BYTES and here.braces > 0 and here.parentheses == 0)
 
     def file_rule(self, rule, keyword):
         if keyword == b"link":
@@ -470,7 +531,7 @@ class FlatReader:
 
 def flags_of(text):
     """The flags in the parentheses of a head."""
-    return [flag for flag in re.split(rb"[ \t\r\n,(]+", text) if flag]
+    return [flag for flag in re.split(rb"[ \t\r\n,()]+", text) if flag]
 
 
 def is_expressible(name):

@@ -3,6 +3,7 @@ use Rattle.std.proofs.Common.{◌≡◌, ℕ, true, false, List, [], ◌∷◌, 
 use Rattle.std.specs.Prelude.{codes}
 use Rattle.std.specs.List.{flat_map, list_all}
 use Rattle.std.proofs.lemmas.Bool.{and_parts}
+use Rattle.rule_globs.specs.Each.{Each}
 use Rattle.names.specs.Permissions.{letters}
 use Rattle.verdicts.specs.declared.kind.RuleKind.{RuleKind}
 use Rattle.verdicts.specs.declared.kind.RuleKind.TheVariants.{Allow, Deny}
@@ -22,7 +23,7 @@ use Rattle.flat_text.specs.Rules as flat_rules
 use Rattle.flat_text.specs.Rules.{of_kind}
 use Rattle.flat_text.specs.Texts.{inner_item, outer_item, item_at, at_start, behind_item, ReadsFrom, ReadsItems, ends, goes_on}
 use Rattle.flat_canonical.specs.CanonicalItems.{part_of, path_text, blank_item, head_item, rule_item, close_item, inner_items}
-use Rattle.flat_canonical.specs.CanonicalItems.{canonical_items}
+use Rattle.flat_canonical.specs.CanonicalItems.{canonical_items, ends_plainly, WordsEndPlainly}
 use Rattle.flat_canonical.proofs.PartsRead.{reading, reads_blank}
 use Rattle.flat_canonical.proofs.HeadRead.{reads_head}
 use Rattle.flat_canonical.proofs.RulesRead.{body_text, reads_rule}
@@ -75,9 +76,9 @@ unfolding item_at inner_item
 rule_of Allow r rest = refl
 rule_of Deny r rest = refl
 
-rule_there : (r : RuleValue) (rest : List ℕ) → is_rule r ≡ true
+rule_there : (r : RuleValue) (rest : List ℕ) → is_rule r ≡ true → ends_plainly (path_text r.items) ≡ true
     → item_inside (rule_bytes r rest) ≡ Ok (items.Rule, reading (rule_item r).parts rest)
-rule_there r rest h = rule_of r.kind r rest ∙ reads_rule r rest h
+rule_there r rest h plain = rule_of r.kind r rest ∙ reads_rule r rest h plain
 
 -- what comes after the opening brace
 abbrev inner_text : List RuleValue → List ℕ
@@ -112,15 +113,15 @@ last_line =
     (reading (blank_item (codes "\n")).parts []) [] None (_, _, refl) refl
     (ends (behind_item items.Close (behind_item items.Profile at_start)) refl)))
 
-reads_inner : (rules : List RuleValue) → list_all is_rule rules ≡ true
+reads_inner : (rules : List RuleValue) → list_all is_rule rules ≡ true → Each (λ r. ends_plainly (path_text r.items) ≡ true) rules
     → ReadsInside (inner_text rules) (inner_items rules)
-reads_inner [] h = last_line
-reads_inner (r ∷ rules) h =
+reads_inner [] h plain = last_line
+reads_inner (r ∷ rules) h plain =
     let p = and_parts (is_rule r) (list_all is_rule rules) h in
     let rest = inner_text rules in
-    let behind = reads_inner rules p.1 in
+    let behind = reads_inner rules p.1 plain.1 in
     let rule = one_more (behind_item items.Profile at_start) (rule_bytes r rest) items.Rule (reading (rule_item r).parts rest)
-    (inner_items rules) None (some_rule r.kind r rest) (rule_there r rest p.0) behind in
+    (inner_items rules) None (some_rule r.kind r rest) (rule_there r rest p.0 plain.0) behind in
     rw (first_line r rules)
     (one_more (behind_item items.Profile at_start) (10 ∷ 32 ∷ 32 ∷ rule_bytes r rest) items.Blank
     (reading (blank_item (codes "\n  ")).parts (rule_bytes r rest)) (rule_item r ∷ inner_items rules) None
@@ -133,12 +134,12 @@ head_there : (name rest : List ℕ) → item_at at_start (reading [] (codes "pro
 unfolding item_at outer_item
 head_there name rest = refl
 
-pub reads_canonical : (p : ProfileValue) → is_profile p ≡ true → ReadsItems (canonical p) (canonical_items p) None
+pub reads_canonical : (p : ProfileValue) → is_profile p ≡ true → WordsEndPlainly p → ReadsItems (canonical p) (canonical_items p) None
 unfolding canonical
-reads_canonical p h =
+reads_canonical p h plain =
     let q = profile_parts p h in
     let rest = inner_text p.rules in
-    let head = reads_head p.name rest q.0 in
+    let head = reads_head p.name rest q.0 plain.name in
     one_more at_start (codes "profile \"" ++ (p.name ++ 34 ∷ 32 ∷ 123 ∷ rest)) items.Profile (reading (head_item p.name).parts rest)
     (inner_items p.rules) None (_, _, refl) (head_there p.name rest ∙ ap (λ (r : Result Reading Stop). of_kind items.Profile r) head)
-    (reads_inner p.rules q.2)
+    (reads_inner p.rules q.2 plain.paths)

@@ -14,7 +14,7 @@ use Rattle.flat_text.specs.Readings.{Reading, taken, taken_to}
 use Rattle.flat_text.specs.WordParts.{blank_part, word_part}
 use Rattle.flat_text.proofs.GoingWords.{front_taken}
 use Rattle.rule_profile.specs.Readable.{are_name_bytes}
-use Rattle.flat_canonical.specs.CanonicalItems.{part_of, in_quotes}
+use Rattle.flat_canonical.specs.CanonicalItems.{part_of, in_quotes, ends_plainly}
 use Rattle.flat_canonical.proofs.QuotedWords.{word_ends}
 
 abbrev pub reading : List PartValue → List ℕ → Reading
@@ -62,9 +62,10 @@ reads_blank read w white rest h e = rw (white_ends (w ∷ white) rest h e, takes
 -- ---- words in quotes
 
 pub reads_quoted : (kind : PartKind) (read : List PartValue) (bytes rest : List ℕ) → are_name_bytes false bytes ≡ true
+    → ends_plainly bytes ≡ true
     → word_part kind (reading read (34 ∷ (bytes ++ 34 ∷ rest))) ≡ Ok (reading (read ++ (part_of kind (in_quotes bytes) ∷ [])) rest)
-reads_quoted kind read bytes rest h = rw (
-  word_ends bytes rest h,
+reads_quoted kind read bytes rest h plain = rw (
+  word_ends bytes rest h plain,
   sym (append_assoc bytes (34 ∷ []) rest),
   takes_to kind read 34
       (bytes ++ 34 ∷ []) rest,

@@ -1,7 +1,9 @@
 -- Words in quotes: where one ends, and that names and the texts of paths are such words.
-use Rattle.std.proofs.Common.{◌≡◌, ℕ, Bool, true, false, cond, List, [], ◌∷◌, ◌++◌, Ok, refl, sym, ap, ◌∙◌, ◌==◌}
-use Rattle.std.specs.Prelude.{◌&&◌, ◌||◌, not, codes}
-use Rattle.std.specs.List.{list_all, flat_map}
+use Rattle.std.proofs.Common.{◌≡◌, ℕ, suc, ◌-◌, Bool, true, false, cond, List, [], ◌∷◌, ◌++◌, length, drop, Ok, refl, sym, ap, subst, ◌∙◌}
+use Rattle.std.proofs.Common.{◌==◌, arith}
+use Rattle.std.specs.Prelude.{◌&&◌, ◌||◌, not, codes, nat_eq}
+use Rattle.std.specs.List.{list_all, flat_map, ends_with}
+use lib.Pointwise.{pointwise}
 use Rattle.std.proofs.lemmas.Bool.{and_parts, not-true, eqb-true}
 use Rattle.rule_globs.specs.declared.items.ByteRange.{ByteRange}
 use Rattle.rule_globs.specs.Tokens.{Token, byte, any_byte, bracket, stars, opening, between, closing}
@@ -10,7 +12,7 @@ use Rattle.rule_profile.specs.Readable.{can_stand, are_name_bytes, is_range, is_
 use Rattle.rule_writer.specs.Canonical.{escaped_among, range_text, token_text}
 use Rattle.rule_writer.proofs.CanonCells.{stands, is_special}
 use Rattle.flat_words.specs.Words.{quoted_at, word_end}
-use Rattle.flat_canonical.specs.CanonicalItems.{path_text}
+use Rattle.flat_canonical.specs.CanonicalItems.{path_text, ends_plainly}
 
 pub record NameHead (escaped : Bool) (b : ℕ) (bytes : List ℕ) : Type 0 where
   pub zero : (b == 0) ≡ false
@@ -33,19 +35,53 @@ name_head escaped b bytes h =
     let s = stands b q.0 in
     record { zero = s.0; line_feed = s.1; quote = no_quote escaped b q.1; rest = p.1 }
 
--- bytes that a name may have, and a quote
-pub quoted_ends : (escaped : Bool) (bytes rest : List ℕ) → are_name_bytes escaped bytes ≡ true →
-    quoted_at escaped (bytes ++ 34 ∷ rest) ≡ Ok rest
-quoted_ends true [] rest h = absurd cc
-quoted_ends false [] rest h = refl
-quoted_ends escaped (b ∷ bytes) rest h =
+-- ---- the last byte
+
+-- the last of these bytes is a backslash; of none, this
+abbrev is_last : Bool → List ℕ → Bool
+is_last before [] = before
+is_last before (b ∷ bytes) = is_last (b == 92) bytes
+
+last_of_more : (b c : ℕ) (bytes : List ℕ) → ends_with nat_eq (b ∷ c ∷ bytes) (92 ∷ []) ≡ ends_with nat_eq (c ∷ bytes) (92 ∷ [])
+last_of_more b c bytes =
+    let n : length (b ∷ c ∷ bytes) - 1 ≡ suc (length (c ∷ bytes) - 1) = omega arith in
+    ap (λ k. pointwise nat_eq (92 ∷ []) (drop k (b ∷ c ∷ bytes))) n
+
+last_from : (b : ℕ) (bytes : List ℕ) → ends_plainly (b ∷ bytes) ≡ true → is_last (b == 92) bytes ≡ false
+last_from b [] h = at (b == 92) refl
+  where
+    at : (t : Bool) → (b == 92) ≡ t → t ≡ false
+    at false e = refl
+    at true e =
+        let same : b ≡ 92 = eqb-true b 92 e in
+        let no : false ≡ true = subst (λ (x : ℕ). ends_plainly (x ∷ []) ≡ true) same h in absurd cc
+last_from b (c ∷ bytes) h = last_from c bytes (sym (ap not (last_of_more b c bytes)) ∙ h)
+
+last_plain : (bytes : List ℕ) → ends_plainly bytes ≡ true → is_last false bytes ≡ false
+last_plain [] h = refl
+last_plain (b ∷ bytes) h = last_from b bytes h
+
+last_sooner : (x y : Bool) (bytes : List ℕ) → is_last y bytes ≡ false → is_last (x && y) bytes ≡ false
+last_sooner true y bytes h = h
+last_sooner false y [] h = refl
+last_sooner false y (b ∷ bytes) h = h
+
+-- ---- words in quotes
+
+-- bytes that a name may have, the last of which is no backslash, and a quote
+pub quoted_ends : (escaped doubled : Bool) (bytes rest : List ℕ) → are_name_bytes escaped bytes ≡ true → is_last doubled bytes ≡ false →
+    quoted_at (record { escaped = escaped; doubled = doubled }) (bytes ++ 34 ∷ rest) ≡ Ok rest
+quoted_ends true doubled [] rest h l = absurd cc
+quoted_ends false doubled [] rest h l = rw l refl
+quoted_ends escaped doubled (b ∷ bytes) rest h l =
     let p = name_head escaped b bytes h in
-    let more = quoted_ends (not escaped && b == 92) bytes rest p.rest in
+    let more = quoted_ends (not escaped && b == 92) (escaped && b == 92) bytes rest p.rest (last_sooner escaped (b == 92) bytes l) in
     rw (p.zero, p.line_feed, p.quote) more
 
-pub word_ends : (bytes rest : List ℕ) → are_name_bytes false bytes ≡ true → word_end (34 ∷ (bytes ++ 34 ∷ rest)) ≡ Ok rest
+pub word_ends : (bytes rest : List ℕ) → are_name_bytes false bytes ≡ true → ends_plainly bytes ≡ true →
+    word_end (34 ∷ (bytes ++ 34 ∷ rest)) ≡ Ok rest
 unfolding word_end
-word_ends bytes rest h = quoted_ends false bytes rest h
+word_ends bytes rest h plain = quoted_ends false false bytes rest h (last_plain bytes plain)
 
 -- ---- the texts of paths
 

@@ -23,7 +23,7 @@ use Rattle.flat_text.specs.Parts.{PartValue}
 use Rattle.flat_text.specs.WordParts.{path_part}
 use Rattle.flat_text.specs.Rules as rules
 use Rattle.flat_canonical.specs.CanonicalItems.{part_of, in_quotes, path_text, rule_item, qualifier_parts}
-use Rattle.flat_canonical.specs.CanonicalItems.{plain_letters}
+use Rattle.flat_canonical.specs.CanonicalItems.{plain_letters, ends_plainly}
 use Rattle.flat_canonical.proofs.LettersRead.{letters_read}
 use Rattle.flat_canonical.proofs.QuotedWords.{path_is_hidden}
 use Rattle.flat_canonical.proofs.PartsRead.{reading, takes_none, takes_to, takes_front, reads_blank, reads_quoted}
@@ -42,13 +42,14 @@ path_begins (between ∷ tokens) h = absurd cc
 path_begins (closing ∷ tokens) h = absurd cc
 
 reads_path : (read : List PartValue) (tokens : List Token) (rest : List ℕ) → readable.is_path tokens ≡ true
+    → ends_plainly (path_text tokens) ≡ true
     → path_part parts.Path (reading read (34 ∷ (path_text tokens ++ 34 ∷ rest)))
     ≡ Ok (reading (read ++ (part_of parts.Path (in_quotes (path_text tokens)) ∷ [])) rest)
-reads_path read tokens rest h =
+reads_path read tokens rest h plain =
     let p = path_parts tokens h in
     let first = path_begins tokens p.0 in
     let there : is_path (34 ∷ (path_text tokens ++ 34 ∷ rest)) ≡ true = rw (first.1) refl in
-    rw there (reads_quoted parts.Path read (path_text tokens) rest (path_is_hidden false 0 tokens p.2))
+    rw there (reads_quoted parts.Path read (path_text tokens) rest (path_is_hidden false 0 tokens p.2) plain)
 
 -- ---- the permissions
 
@@ -88,9 +89,10 @@ body_parts r =
     ∷ part_of parts.Comma (codes ",") ∷ []
 
 reads_body : (denies : Bool) (read : List PartValue) (r : RuleValue) (rest : List ℕ) → readable.is_rule r ≡ true
+    → ends_plainly (path_text r.items) ≡ true
     → rules.path_first denies (reading read (body_text r rest)) ≡ Ok (reading (read ++ body_parts r) rest)
 unfolding rules.path_first
-reads_body denies read r rest h =
+reads_body denies read r rest h plain =
     let p = and_parts (list_any (has r.perms) all_permissions) (readable.is_path r.items) h in
     let path = part_of parts.Path (in_quotes (path_text r.items)) in
     let blank = part_of parts.Blank (codes " ") in
@@ -99,7 +101,7 @@ reads_body denies read r rest h =
     let three = ((read ++ (path ∷ [])) ++ (blank ∷ [])) ++ (perms ∷ []) in
     let parted : three ++ (part_of parts.Comma (codes ",") ∷ []) ≡ read ++ body_parts r = simp append_assoc in
     rw (
-      reads_path read r.items (32 ∷ behind) p.1,
+      reads_path read r.items (32 ∷ behind) p.1 plain,
       reads_blank (read ++ (path ∷ [])) 32 [] behind refl (letters_begin r.perms rest),
       reads_permissions denies (record { kind = permissions; left = length behind }) r.perms rest p.0,
       takes_permissions ((read ++ (path ∷ [])) ++ (blank ∷ [])) r.perms rest p.0,
@@ -107,16 +109,16 @@ reads_body denies read r rest h =
     ) (ap (λ (x : List PartValue). Ok (reading x rest)) parted)
 
 -- a rule of this kind, with what comes after its qualifier
-reads_kind : (kind : RuleKind) (r : RuleValue) (rest : List ℕ) → readable.is_rule r ≡ true
+reads_kind : (kind : RuleKind) (r : RuleValue) (rest : List ℕ) → readable.is_rule r ≡ true → ends_plainly (path_text r.items) ≡ true
     → rules.rule_item (reading [] (qualifier_text kind ++ body_text r rest))
     ≡ Ok (items.Rule, reading (qualifier_parts kind ++ body_parts r) rest)
-unfolding rules.rule_item rules.unqualified_item rules.body_part
-reads_kind Allow r rest h = rw (reads_body false [] r rest h) refl
-reads_kind Deny r rest h =
+unfolding rules.rule_item rules.qualified_item rules.unqualified_item rules.body_part
+reads_kind Allow r rest h plain = rw (reads_body false [] r rest h plain) refl
+reads_kind Deny r rest h plain =
     let read = part_of parts.Deny (codes "deny") ∷ [] in
-    rw (takes_to parts.Blank read 32 [] (body_text r rest), reads_body true (qualifier_parts Deny) r rest h) refl
+    rw (takes_to parts.Blank read 32 [] (body_text r rest), reads_body true (qualifier_parts Deny) r rest h plain) refl
 
 -- a rule, and what is left after its comma
-pub reads_rule : (r : RuleValue) (rest : List ℕ) → readable.is_rule r ≡ true
+pub reads_rule : (r : RuleValue) (rest : List ℕ) → readable.is_rule r ≡ true → ends_plainly (path_text r.items) ≡ true
     → rules.rule_item (reading [] (qualifier_text r.kind ++ body_text r rest)) ≡ Ok (items.Rule, reading (rule_item r).parts rest)
-reads_rule r rest h = reads_kind r.kind r rest h
+reads_rule r rest h plain = reads_kind r.kind r rest h plain

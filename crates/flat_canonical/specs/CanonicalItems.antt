@@ -1,8 +1,9 @@
 -- The items of the canonical text of a profile, read as a flattened text (apparmor.d(5), "Format").
-use Rattle.std.specs.Prelude.{ℕ, List, [], ◌∷◌, ◌++◌, codes, None, false}
-use Rattle.std.specs.List.{flat_map}
+use Rattle.std.specs.Prelude.{◌≡◌, ℕ, List, [], ◌∷◌, ◌++◌, codes, None, Bool, true, false, not, nat_eq}
+use Rattle.std.specs.List.{flat_map, ends_with}
 use Rattle.names.specs.declared.permissions.Perms.{Perms}
 use Rattle.names.specs.Permissions.{letters}
+use Rattle.rule_globs.specs.Each.{Each}
 use Rattle.rule_globs.specs.Tokens.{Token}
 use Rattle.verdicts.specs.declared.kind.RuleKind.{RuleKind}
 use Rattle.verdicts.specs.declared.kind.RuleKind.TheVariants.{Allow, Deny}
@@ -60,6 +61,17 @@ inner_items (r ∷ rules) = blank_item (codes "\n  ") ∷ rule_item r ∷ inner_
 
 abbrev pub canonical_items : ProfileValue → List ItemValue
 canonical_items p = head_item p.name ∷ inner_items p.rules
+
+-- ---- words that end where they seem to
+
+-- AppArmor's parser reads a word whose last byte is a backslash on to the next quote.
+abbrev pub ends_plainly : List ℕ → Bool
+ends_plainly bytes = not (ends_with nat_eq bytes (codes "\\"))
+
+-- neither the profile's name nor the text of any of its paths ends with a backslash
+pub record WordsEndPlainly (p : ProfileValue) : Type 0 where
+  pub name : ends_plainly p.name ≡ true
+  pub paths : Each (λ r. ends_plainly (path_text r.items) ≡ true) p.rules
 
 -- ---- letters
 

@@ -7,12 +7,12 @@ ghost use Rattle.rule_profile.specs.Readable.{is_profile};
 ghost use Rattle.rule_writer.specs.Canonical.{canonical};
 ghost use Rattle.flat_words.specs.Letters.{letters_of};
 ghost use Rattle.flat_text.specs.Texts.{ReadsItems};
-ghost use Rattle.flat_canonical.specs.CanonicalItems.{canonical_items, plain_letters};
+ghost use Rattle.flat_canonical.specs.CanonicalItems.{canonical_items, plain_letters, WordsEndPlainly};
 
 /// The canonical text of a profile, read as a flattened text, has the items that it is written with: the head, the rules in
-/// their order, the closing brace, and blanks.
+/// their order, the closing brace, and blanks; unless its name or a path ends with a backslash.
 pub fn canonical_texts_have_their_items()
-    ensures { (p : ProfileValue) → IsTrue (is_profile p) → ReadsItems (canonical p) (canonical_items p) None }
+    ensures { (p : ProfileValue) → IsTrue (is_profile p) → WordsEndPlainly p → ReadsItems (canonical p) (canonical_items p) None }
 {}
 
 /// The letters that a set of permissions is written with in a canonical text are read as the same set, and nothing else.

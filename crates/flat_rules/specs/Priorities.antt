@@ -1,4 +1,4 @@
--- The number of a priority, as it is written (apparmor.d(5) of AppArmor 4.1, "Rule Priority").
+-- The number of a priority, as it is written (apparmor.d(5) of AppArmor 4.1, "Rule Qualifiers").
 use Rattle.std.specs.Prelude.{ℕ, ◌+◌, ◌-◌, ◌*◌, List, [], ◌∷◌, not, ◌==◌, drop}
 use Rattle.std.specs.Char.{is_ascii_digit}
 use Rattle.rule_reader.specs.TextBytes.{begins, is_white}

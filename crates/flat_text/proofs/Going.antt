@@ -1,19 +1,15 @@
 -- Each step reads on: what it takes from the front of what is left are parts more, none of which is empty.
-use Rattle.std.proofs.Common.{◌≡◌, ℕ, zero, suc, ◌≤◌, ◌<◌, ◌-◌, ◌+◌, Bool, true, false, cond, List, [], ◌∷◌, ◌++◌, length, take, drop}
-use Rattle.std.proofs.Common.{Result, Ok, Err, refl, sym, ap, subst, ◌∙◌, append_assoc, ◌⊎◌, inl, inr, ◌==◌, eqb, arith}
-use Rattle.std.proofs.lemmas.Bool.{eqb-true, ne_eqb}
-use Rattle.std.proofs.lemmas.List.{take-append-drop, append-nil, length-append, length-take, length-drop}
+use Rattle.std.proofs.Common.{◌≡◌, ℕ, ◌≤◌, ◌<◌, Bool, true, false, cond, List, [], ◌∷◌, ◌++◌, length, take, drop}
+use Rattle.std.proofs.Common.{refl, sym, ap, ◌∙◌, append_assoc, ◌==◌, arith}
+use Rattle.std.proofs.lemmas.List.{take-append-drop, append-nil, length-append}
 use Rattle.std.proofs.lemmas.Grind.{flat_map-append}
-use Rattle.std.specs.List.{flat_map}
 use Rattle.rule_globs.specs.Each.{Each}
 use Rattle.flat_text.specs.declared.part.PartKind.{PartKind}
 use Rattle.flat_text.specs.declared.part.PartKind.TheVariants as parts
 use Rattle.flat_text.specs.Parts.{PartValue, bytes_of_parts}
-use Rattle.flat_words.specs.Steps.{Stop, ◌>>=◌}
-use Rattle.flat_text.specs.Readings.{Reading, taken, taken_to}
+use Rattle.flat_text.specs.Readings.{Reading, taken}
 use Rattle.flat_words.specs.Blanks.{is_blank}
 use Rattle.flat_text.specs.Laws.{IsPart}
-use Rattle.flat_words.proofs.Steps.{bind_ok, chosen, ok_is, not_ok}
 
 -- from one reading to another: the parts that came, and that the bytes are the same
 pub record Goes (s t : Reading) : Type 0 where

@@ -1,43 +1,37 @@
 -- Statements, headers, assignments and rules read on.
-use Rattle.std.proofs.Common.{◌≡◌, ℕ, zero, suc, ◌≤◌, ◌<◌, ◌-◌, ◌+◌, Bool, true, false, not, cond, List, [], ◌∷◌, ◌++◌, length, take, drop}
-use Rattle.std.proofs.Common.{Option, Some, None, Result, Ok, Err, refl, sym, ap, subst, ◌∙◌, ◌⊎◌, inl, inr, ◌==◌, eqb, eq-eqb, arith}
-use Rattle.std.specs.Prelude.{◌&&◌, ◌||◌, nat_eq, codes}
+use Rattle.std.proofs.Common.{◌≡◌, ℕ, zero, suc, ◌<◌, ◌-◌, Bool, true, false, cond, List, length, take, drop}
+use Rattle.std.proofs.Common.{Option, Some, None, Result, Ok, refl, sym, ap, subst, ◌∙◌, inl, inr, ◌==◌, arith}
+use Rattle.std.specs.Prelude.{nat_eq, codes}
 use Rattle.std.specs.List.{starts_with}
-use Rattle.std.proofs.lemmas.Bool.{eqb-true, ne_eqb, and_parts}
-use Rattle.std.proofs.lemmas.List.{length-append, length-take, length-drop}
-use Rattle.std.proofs.Math.Seq.{take-append_seam}
-use Rattle.rule_reader.specs.TextBytes.{begins, is_white, is_hash, is_include, is_quote, is_comma, is_arrow, opens_blank, is_word_byte}
-use Rattle.rule_reader.specs.ReadWords.{after, leading, word, after_word, is_word}
+use Rattle.std.proofs.lemmas.List.{length-drop}
+use Rattle.rule_reader.specs.TextBytes.{begins, is_white}
+use Rattle.rule_reader.specs.ReadWords.{after, leading, is_word}
 use Rattle.rule_reader.proofs.ReadRuns.{leading_parts}
-use Rattle.flat_text.specs.declared.part.PartKind.{PartKind}
 use Rattle.flat_text.specs.declared.part.PartKind.TheVariants as parts
-use Rattle.flat_text.specs.declared.part.ItemKind.{ItemKind}
-use Rattle.flat_text.specs.declared.part.ItemKind.TheVariants as items
 use Rattle.flat_words.specs.Blanks.{is_blank}
-use Rattle.flat_words.specs.Steps.{Stop, left_out, ◌>>=◌, fault_here, syntax_here}
+use Rattle.flat_words.specs.Steps.{Stop, left_out, fault_here, syntax_here}
 use Rattle.flat_text.specs.Readings.{Reading, taken, taken_to}
 use Rattle.flat_words.specs.Words.{is_path, is_colon}
-use Rattle.flat_text.specs.WordParts.{blank_part, gap_part, word_part, path_part, literal_part, name_part, within_quotes}
-use Rattle.flat_words.specs.Statements.{nothing_open, statement_step, statement_at, past_word, past_byte, past_equals, is_space}
-use Rattle.flat_words.specs.Statements.{boolean_at}
+use Rattle.flat_text.specs.WordParts.{blank_part, word_part, name_part, within_quotes}
+use Rattle.flat_words.specs.Statements.{statement_end, past_word, boolean_at}
 use Rattle.flat_text.specs.Statements.{statement_part, boolean_part}
 use Rattle.flat_words.specs.Conditions.{past_condition, past_parentheses, unknown_flag}
 use Rattle.flat_text.specs.Headers.{flags_to, condition_part, attachment_part, head_rest, named_head, profile_head, hat_head, caret_head}
 use Rattle.flat_words.specs.Assignments.{past_use, past_separators, line_ends}
 use Rattle.flat_text.specs.Assignments.{separators_part, values_at, values_part, white_part, operator_part, assignment_part}
-use Rattle.flat_words.proofs.Shorter.{statement_shorter, after_shorter, boolean_shorter, leading_white, use_shorter}
+use Rattle.flat_words.proofs.Shorter.{statement_end_shorter, boolean_shorter, leading_white, use_shorter}
 use Rattle.flat_words.proofs.Steps.{bind_ok, chosen, ok_is, not_ok}
-use Rattle.flat_text.proofs.Going.{Goes, going_stays, going_on, going_taken, going_shortens}
-use Rattle.flat_text.proofs.GoingWords.{Shortens, shorter_on, on_shorter, shortens_taken, shortens_to, front_taken, blank_goes, gap_goes}
-use Rattle.flat_text.proofs.GoingWords.{word_shortens, path_shortens, name_shortens, literal_goes}
+use Rattle.flat_text.proofs.Going.{Goes, going_stays, going_on, going_taken}
+use Rattle.flat_text.proofs.GoingWords.{Shortens, shorter_on, on_shorter, shortens_to, front_taken, blank_goes}
+use Rattle.flat_text.proofs.GoingWords.{word_shortens, name_shortens, literal_goes}
 
 -- ---- statements
 
 pub statement_shortens : (s t : Reading) → statement_part s ≡ Ok t → Shortens s t
 statement_shortens s t e =
-    let p = bind_ok (statement_at nothing_open s.rest) (λ rest. Ok (taken_to parts.Statement rest s)) t e in
+    let p = bind_ok (statement_end s.rest) (λ rest. Ok (taken_to parts.Statement rest s)) t e in
     subst (λ u. Shortens s u) (ok_is (taken_to parts.Statement p.0 s) t p.2) (shortens_to parts.Statement p.0 s (λ b. absurd cc)
-    (statement_shorter nothing_open s.rest p.0 p.1))
+    (statement_end_shorter s.rest p.0 p.1))
 
 pub boolean_shortens : (s t : Reading) → 0 < length s.rest → boolean_part s ≡ Ok t → Shortens s t
 boolean_shortens s t there e =

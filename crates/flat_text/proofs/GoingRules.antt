@@ -1,10 +1,10 @@
 -- Rules and whole items read on.
-use Rattle.std.proofs.Common.{◌≡◌, ℕ, zero, suc, ◌≤◌, ◌<◌, ◌-◌, ◌+◌, Bool, true, false, not, cond, List, [], ◌∷◌, ◌++◌, length, take, drop}
-use Rattle.std.proofs.Common.{Option, Some, None, Result, Ok, Err, refl, sym, ap, subst, ◌∙◌, ◌⊎◌, inl, inr, ◌==◌, eqb, eq-eqb, arith}
-use Rattle.std.specs.Prelude.{◌&&◌, ◌||◌, nat_eq, codes}
-use Rattle.std.proofs.lemmas.Bool.{eqb-true, ne_eqb, and_parts}
+use Rattle.std.proofs.Common.{◌≡◌, ℕ, zero, suc, ◌<◌, ◌-◌, Bool, true, false, not, cond, List, [], ◌∷◌, length, drop}
+use Rattle.std.proofs.Common.{Result, Ok, sym, subst, inl, inr, ◌==◌, arith}
+use Rattle.std.specs.Prelude.{◌&&◌, codes}
+use Rattle.std.specs.List.{list_any}
 use Rattle.std.proofs.lemmas.Slice.Eq.{bytes_eq-Decides}
-use Rattle.rule_reader.specs.TextBytes.{begins, is_white, is_arrow, is_comma, is_close_brace, opens_blank}
+use Rattle.rule_reader.specs.TextBytes.{begins, is_arrow, is_comma, is_close_brace, opens_blank}
 use Rattle.rule_reader.specs.ReadWords.{word, is_word}
 use Rattle.flat_text.specs.declared.part.PartKind.{PartKind}
 use Rattle.flat_text.specs.declared.part.PartKind.TheVariants as parts
@@ -12,11 +12,11 @@ use Rattle.flat_text.specs.declared.part.ItemKind.{ItemKind}
 use Rattle.flat_text.specs.declared.part.ItemKind.TheVariants as items
 use Rattle.flat_words.specs.declared.letters.Letters.{Letters}
 use Rattle.flat_text.specs.declared.text.Position.{Position}
-use Rattle.flat_words.specs.Steps.{Stop, include, permissions, left_out, ◌>>=◌, fault_here, syntax_here}
+use Rattle.flat_words.specs.Steps.{Stop, permissions, left_out, syntax_here}
 use Rattle.flat_text.specs.Readings.{Reading, taken, taken_to}
 use Rattle.flat_words.specs.Words.{is_path, blank_at, word_end}
-use Rattle.flat_text.specs.WordParts.{blank_part, gap_part, word_part, path_part, literal_part}
-use Rattle.flat_words.specs.Priorities.{past_priority}
+use Rattle.flat_text.specs.WordParts.{blank_part, gap_part, path_part}
+use Rattle.flat_words.specs.Priorities.{past_priority, is_raised}
 use Rattle.flat_words.specs.Statements.{is_statement}
 use Rattle.flat_text.specs.Statements.{statement_part, boolean_part}
 use Rattle.flat_text.specs.Headers.{named_head, profile_head, hat_head, caret_head}
@@ -25,12 +25,13 @@ use Rattle.flat_text.specs.Assignments.{assignment_part}
 use Rattle.flat_text.specs.Rules.{priority_part, optional_word, optional_choice, permissions_word, permissions_part, target_part}
 use Rattle.flat_text.specs.Rules.{comma_part, rule_end}
 use Rattle.flat_text.specs.Rules.{path_first, links_and_runs, permissions_first, begins_path_word, is_left_out_byte, body_part}
-use Rattle.flat_text.specs.Rules.{is_all_rule, guarded_body, file_rule, link_rule, of_kind, unqualified_item, rule_item, word_left_out}
+use Rattle.flat_text.specs.Rules.{is_all_rule, guarded_body, file_rule, link_rule, of_kind, unqualified_item}
+use Rattle.flat_text.specs.Rules.{qualified_item, runs_apart, rule_item}
 use Rattle.flat_text.specs.Texts.{inner_item, outer_item, item_at}
 use Rattle.flat_words.proofs.Steps.{bind_ok, chosen, ok_is, not_ok}
-use Rattle.flat_text.proofs.Going.{Goes, going_stays, going_on, going_taken, going_shortens}
+use Rattle.flat_text.proofs.Going.{Goes, going_stays, going_on, going_taken}
 use Rattle.flat_text.proofs.GoingWords.{Shortens, shorter_on, on_shorter, shortens_taken, blank_goes, blank_shortens, gap_goes}
-use Rattle.flat_text.proofs.GoingWords.{word_shortens, path_shortens, literal_goes}
+use Rattle.flat_text.proofs.GoingWords.{path_shortens, literal_goes}
 use Rattle.flat_text.proofs.GoingItems.{statement_shortens, boolean_shortens, named_head_shortens, profile_head_shortens}
 use Rattle.flat_text.proofs.GoingItems.{hat_head_shortens, caret_head_shortens, assignment_shortens}
 
@@ -226,9 +227,9 @@ unqualified_shortens denies start s i e =
       ]
     ]
 
-rule_shortens : (s : Reading) (i : Item) → rule_item s ≡ Ok i → Shortens s i.1
-unfolding rule_item
-rule_shortens s i e =
+qualified_shortens : (s : Reading) (i : Item) → qualified_item s ≡ Ok i → Shortens s i.1
+unfolding qualified_item
+qualified_shortens s i e =
     let p = bind_ok (priority_part s) _ i e in
     let a = bind_ok (optional_word parts.Audit (codes "audit") p.0) _ i p.2 in
     let b = bind_ok (optional_choice parts.Allow (codes "allow") parts.Deny (codes "deny") a.0) _ i a.2 in
@@ -240,6 +241,15 @@ rule_shortens s i e =
     (on_shorter b.0 c.0 i.1 (choice_goes parts.Owner parts.Other (λ b. absurd cc) (λ b. absurd cc) (codes "owner")
     (codes "other") b.0 c.0 c.1)
     (unqualified_shortens (is_word (codes "deny") a.0.rest) (length a.0.rest) c.0 i c.2))))
+
+rule_shortens : (s : Reading) (i : Item) → rule_item s ≡ Ok i → Shortens s i.1
+unfolding rule_item
+rule_shortens s i e =
+    let p = bind_ok (qualified_item s) _ i e in
+    elim (chosen (is_raised s.rest && list_any runs_apart p.0.1.parts) _ _ _ p.2) [
+      | inl h ↦ absurd (not_ok _ i h.1)
+      | inr h ↦ subst (λ (u : Item). Shortens s u.1) (ok_is p.0 i h.1) (qualified_shortens s p.0 p.1)
+    ]
 
 inner_shortens : (s : Reading) (i : Item) → 0 < length s.rest → inner_item s ≡ Ok i → Shortens s i.1
 unfolding inner_item

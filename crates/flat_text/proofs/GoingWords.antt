@@ -1,24 +1,21 @@
 -- Blanks and words read on, and what they take is shorter than what was left.
-use Rattle.std.proofs.Common.{◌≡◌, ℕ, zero, suc, ◌≤◌, ◌<◌, ◌-◌, ◌+◌, Bool, true, false, not, cond, List, [], ◌∷◌, ◌++◌, length, take, drop}
-use Rattle.std.proofs.Common.{Result, Ok, Err, refl, sym, ap, subst, ◌∙◌, append_assoc, ◌⊎◌, inl, inr, ◌==◌, eqb, eq-eqb, arith}
-use Rattle.std.specs.Prelude.{◌&&◌, ◌||◌, nat_eq, codes}
+use Rattle.std.proofs.Common.{◌≡◌, ℕ, ◌<◌, ◌-◌, Bool, true, false, cond, List, [], ◌∷◌, ◌++◌, length, take, drop}
+use Rattle.std.proofs.Common.{Ok, refl, sym, ap, subst, ◌∙◌, inl, inr, ◌==◌, arith}
+use Rattle.std.specs.Prelude.{nat_eq}
 use Rattle.std.specs.List.{starts_with}
-use Rattle.std.proofs.lemmas.Bool.{eqb-true, ne_eqb, cases_lt}
-use Rattle.std.proofs.lemmas.List.{take-append-drop, append-nil, length-append, length-take, length-drop}
+use Rattle.std.proofs.lemmas.Bool.{eqb-true}
+use Rattle.std.proofs.lemmas.List.{length-append, length-take, length-drop}
 use Rattle.std.proofs.Math.Seq.{take-append_seam}
-use Rattle.rule_reader.specs.TextBytes.{begins, is_white, is_hash, opens_blank, is_include, is_quote, is_comma}
-use Rattle.rule_reader.specs.ReadWords.{after, leading}
-use Rattle.rule_reader.proofs.ReadRuns.{leading_parts}
+use Rattle.rule_reader.specs.TextBytes.{begins, opens_blank, is_quote}
 use Rattle.flat_text.specs.declared.part.PartKind.{PartKind}
 use Rattle.flat_text.specs.declared.part.PartKind.TheVariants as parts
 use Rattle.flat_words.specs.Blanks.{is_blank}
-use Rattle.flat_words.specs.Steps.{Stop, ◌>>=◌, syntax_here}
 use Rattle.flat_text.specs.Readings.{Reading, taken, taken_to}
-use Rattle.flat_words.specs.Words.{blank_at, comma_ends, bare_at, quoted_at, word_end, is_path, is_colon}
+use Rattle.flat_words.specs.Words.{blank_at, word_end, is_path, is_colon}
 use Rattle.flat_text.specs.WordParts.{blank_part, gap_part, word_part, path_part, literal_part, name_part, within_quotes, begins_no_name}
-use Rattle.flat_words.proofs.Shorter.{BlankBefore, blank_before, word_shorter, opened_shorter}
+use Rattle.flat_words.proofs.Shorter.{blank_before, word_shorter, opened_shorter}
 use Rattle.flat_words.proofs.Steps.{bind_ok, chosen, ok_is, not_ok}
-use Rattle.flat_text.proofs.Going.{Goes, going_stays, going_on, going_taken, going_shortens}
+use Rattle.flat_text.proofs.Going.{Goes, going_on, going_taken, going_shortens}
 
 -- a front part is what comes before the rest
 pub front_taken : (front rest : List ℕ) → take (length (front ++ rest) - length rest) (front ++ rest) ≡ front

@@ -1,5 +1,5 @@
 -- The items of a text, one by one.
-use Rattle.std.proofs.Common.{◌≡◌, ℕ, ◌<◌, ◌≤◌, ◌+◌, List, [], ◌∷◌, ◌++◌, ◌-◌, take, length, Option, Some, Result, Ok, Err, sym, ap, ◌∙◌}
+use Rattle.std.proofs.Common.{◌≡◌, ℕ, ◌<◌, ◌≤◌, ◌+◌, List, [], ◌∷◌, ◌++◌, ◌-◌, take, length, Option, Some, Ok, Err, sym, ap, ◌∙◌}
 use Rattle.std.proofs.Common.{subst, append_assoc, arith}
 use Rattle.std.proofs.lemmas.List.{append-nil}
 use Rattle.flat_text.specs.declared.part.ItemKind.{ItemKind}

@@ -1,5 +1,5 @@
 -- The values of an assignment, one by one, with more room than bytes are left.
-use Rattle.std.proofs.Common.{◌≡◌, ℕ, zero, suc, ◌<◌, ◌≤◌, Bool, true, false, cond, length, Result, Ok, sym, ap, ◌∙◌, arith}
+use Rattle.std.proofs.Common.{◌≡◌, ℕ, zero, suc, ◌<◌, ◌≤◌, true, false, cond, length, Result, Ok, sym, ap, ◌∙◌, arith}
 use Rattle.flat_text.specs.declared.part.PartKind.TheVariants as parts
 use Rattle.flat_words.specs.Steps.{Stop, ◌>>=◌}
 use Rattle.flat_text.specs.Readings.{Reading}

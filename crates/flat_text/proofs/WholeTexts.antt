@@ -1,6 +1,6 @@
 -- The items of a text are all of its bytes, and a text has one outcome.
-use Rattle.std.proofs.Common.{◌≡◌, ℕ, zero, suc, ◌≤◌, ◌<◌, ◌-◌, ◌+◌, Bool, true, false, not, cond, List, [], ◌∷◌, ◌++◌, length, Option}
-use Rattle.std.proofs.Common.{Some, None, Result, Ok, Err, refl, sym, ap, ap₂, subst, ◌∙◌, append_assoc, ◌⊎◌, inl, inr, arith}
+use Rattle.std.proofs.Common.{◌≡◌, ℕ, zero, suc, ◌<◌, Bool, true, false, List, [], ◌∷◌, ◌++◌, length, Option}
+use Rattle.std.proofs.Common.{Some, None, Result, Ok, Err, refl, sym, ap, subst, ◌∙◌, append_assoc, arith}
 use Rattle.rule_globs.specs.Each.{Each}
 use Rattle.flat_text.specs.declared.part.ItemKind.{ItemKind}
 use Rattle.flat_text.specs.declared.text.Position.{Position}
@@ -9,8 +9,6 @@ use Rattle.flat_text.specs.Parts.{PartValue, ItemValue, bytes_of_parts, bytes_of
 use Rattle.flat_words.specs.Steps.{Stop, syntax}
 use Rattle.flat_text.specs.Readings.{Reading}
 use Rattle.flat_text.specs.Texts.{item_at, behind_item, may_end, ReadsFrom, ends, lacks, stops, goes_on}
-use Rattle.flat_words.proofs.Steps.{ok_is, not_ok}
-use Rattle.flat_text.proofs.Going.{Goes, going_shortens}
 use Rattle.flat_text.proofs.GoingWords.{Shortens}
 use Rattle.flat_text.proofs.GoingRules.{item_shortens}
 

@@ -1,5 +1,5 @@
 -- Assignments to variables (apparmor.d(5), "Variables").
-use Rattle.std.specs.Prelude.{ℕ, zero, suc, List, length, codes, Result, Ok, Some, None, if◌then◌else◌, nat_eq}
+use Rattle.std.specs.Prelude.{ℕ, zero, suc, length, codes, Result, Ok, Some, None, if◌then◌else◌, nat_eq}
 use Rattle.std.specs.List.{starts_with}
 use Rattle.rule_reader.specs.TextBytes.{is_white}
 use Rattle.rule_reader.specs.ReadWords.{after}

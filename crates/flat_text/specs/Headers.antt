@@ -1,6 +1,6 @@
 -- What comes before the rules of a profile, of a child or of a hat (apparmor.d(5), "Format"): a name, an attachment, extended
 -- attributes, flags, and a brace.
-use Rattle.std.specs.Prelude.{ℕ, ◌-◌, List, length, codes, Result, Ok, Option, Some, None, Bool, ◌==◌, if◌then◌else◌, take}
+use Rattle.std.specs.Prelude.{ℕ, ◌-◌, List, length, codes, Result, Ok, Some, None, ◌==◌, if◌then◌else◌, take}
 use Rattle.rule_reader.specs.TextBytes.{begins}
 use Rattle.rule_reader.specs.ReadWords.{is_word}
 use Rattle.flat_words.specs.Steps.{Stop, left_out, ◌>>=◌, fault_here}

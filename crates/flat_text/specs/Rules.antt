@@ -1,7 +1,7 @@
 -- File rules (apparmor.d(5), "Format" and "Access Modes"), and what else begins with a rule's qualifiers.
-use Rattle.std.specs.Prelude.{ℕ, List, [], ◌∷◌, length, codes, Result, Ok, Err, Option, Some, None, Bool, true, false, not, ◌&&◌, ◌||◌}
-use Rattle.std.specs.Prelude.{◌==◌, if◌then◌else◌, nat_eq, take, drop}
-use Rattle.std.specs.List.{starts_with}
+use Rattle.std.specs.Prelude.{ℕ, List, length, codes, Result, Ok, Err, Option, Some, None, Bool, true, false, not, ◌&&◌, ◌||◌}
+use Rattle.std.specs.Prelude.{◌==◌, if◌then◌else◌, take, drop}
+use Rattle.std.specs.List.{list_any}
 use Rattle.names.specs.declared.permissions.Permission.TheVariants.{Link}
 use Rattle.names.specs.Permissions.{has}
 use Rattle.rule_reader.specs.TextBytes.{begins, is_quote, is_comma, is_arrow, is_open_brace}
@@ -12,12 +12,13 @@ use Rattle.flat_text.specs.declared.part.ItemKind.{ItemKind}
 use Rattle.flat_text.specs.declared.part.ItemKind.TheVariants as items
 use Rattle.flat_words.specs.declared.letters.ExecMode.{ExecMode}
 use Rattle.flat_words.specs.declared.letters.Letters.{Letters}
-use Rattle.flat_words.specs.Letters.{letters_of, are_fitting, is_letter_there}
+use Rattle.flat_words.specs.Letters.{letters_of, are_fitting, is_bare, inherits}
 use Rattle.flat_words.specs.Steps.{Stop, include, left_out, permissions, ◌>>=◌, fault_here, syntax_here}
+use Rattle.flat_text.specs.Parts.{PartValue}
 use Rattle.flat_text.specs.Readings.{Reading, taken, taken_to}
 use Rattle.flat_words.specs.Words.{blank_at, word_end}
 use Rattle.flat_text.specs.WordParts.{blank_part, gap_part, path_part, literal_part}
-use Rattle.flat_words.specs.Priorities.{past_priority}
+use Rattle.flat_words.specs.Priorities.{past_priority, is_raised}
 use Rattle.flat_words.specs.Statements.{is_statement}
 use Rattle.flat_text.specs.Statements.{statement_part}
 
@@ -32,7 +33,7 @@ abbrev pub optional_choice : PartKind → List ℕ → PartKind → List ℕ →
 optional_choice kind name other_kind other_name s =
     if is_word name s.rest then blank_part (taken kind (length name) s) else optional_word other_kind other_name s
 
--- a priority and the blank after it, if one is here (apparmor.d(5) of AppArmor 4.1, "Rule Priority")
+-- a priority and the blank after it, if one is here (apparmor.d(5) of AppArmor 4.1, "Rule Qualifiers")
 abbrev pub priority_part : Reading → Result Reading Stop
 priority_part s =
     if is_word (codes "priority") s.rest then (past_priority s.rest >>= λ rest. blank_part (taken_to parts.Priority rest s)) else Ok s
@@ -159,10 +160,36 @@ unqualified_item denies from_deny s =
     else guarded_body denies s)
 
 -- a priority, audit, then allow or deny, then owner or other, and what follows them
-unfoldable pub rule_item : Reading → Result (ItemKind × Reading) Stop
-rule_item s = do
+unfoldable pub qualified_item : Reading → Result (ItemKind × Reading) Stop
+qualified_item s = do
   ranked ← priority_part s
   audited ← optional_word parts.Audit (codes "audit") ranked
   told ← optional_choice parts.Allow (codes "allow") parts.Deny (codes "deny") audited
   from ← optional_choice parts.Owner (codes "owner") parts.Other (codes "other") told
   unqualified_item (is_word (codes "deny") audited.rest) (length audited.rest) from
+
+-- ---- rules that are raised above others
+
+abbrev pub is_permissions : PartKind → Bool
+is_permissions parts.Permissions = true
+is_permissions _ = false
+
+-- an exec mode that has letters, and no i among them
+abbrev pub is_mode_apart : Option ExecMode → Bool
+is_mode_apart None = false
+is_mode_apart (Some m) = not (is_bare m) && not (inherits m)
+
+abbrev pub have_mode_apart : Option Letters → Bool
+have_mode_apart None = false
+have_mode_apart (Some l) = is_mode_apart l.exec
+
+-- the part has letters with such a mode
+abbrev pub runs_apart : PartValue → Bool
+runs_apart part = is_permissions part.kind && have_mode_apart (letters_of part.bytes)
+
+-- A rule with its qualifiers. One with a priority over 0 that runs programs by a mode without i isn't supported: it also takes the
+-- permission to map from rules of a lower priority that run them by a mode with i (apparmor.d(5) of AppArmor 4.1, "Rule Qualifiers",
+-- says that it overrides them; the parser does so permission by permission, but for this).
+unfoldable pub rule_item : Reading → Result (ItemKind × Reading) Stop
+rule_item s = qualified_item s >>= λ item.
+    if is_raised s.rest && list_any runs_apart item.1.parts then word_left_out s.rest else Ok item

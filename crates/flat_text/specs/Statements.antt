@@ -1,13 +1,13 @@
 -- Statements as parts.
 use Rattle.std.specs.Prelude.{Result, Ok, drop}
 use Rattle.flat_words.specs.Steps.{Stop, ◌>>=◌}
-use Rattle.flat_words.specs.Statements.{nothing_open, statement_at, boolean_at}
+use Rattle.flat_words.specs.Statements.{statement_end, boolean_at}
 use Rattle.flat_text.specs.declared.part.PartKind.TheVariants as parts
 use Rattle.flat_text.specs.Readings.{Reading, taken_to}
 
--- a statement
+-- a statement, whose keyword is here
 abbrev pub statement_part : Reading → Result Reading Stop
-statement_part s = statement_at nothing_open s.rest >>= λ rest. Ok (taken_to parts.Statement rest s)
+statement_part s = statement_end s.rest >>= λ rest. Ok (taken_to parts.Statement rest s)
 
 -- a boolean, whose $ is here
 abbrev pub boolean_part : Reading → Result Reading Stop

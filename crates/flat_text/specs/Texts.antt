@@ -1,7 +1,7 @@
 -- Flattened profile texts (apparmor.d(5), "Format"; apparmor_parser(8), --preprocess): their items in order, up to the end or
 -- to the first fault.
-use Rattle.std.specs.Prelude.{◌≡◌, ℕ, ◌+◌, ◌-◌, List, [], ◌∷◌, length, codes, Result, Ok, Err, Option, Some, None, Bool, true, false, not}
-use Rattle.std.specs.Prelude.{◌&&◌, ◌||◌, ◌==◌, if◌then◌else◌}
+use Rattle.std.specs.Prelude.{◌≡◌, ℕ, ◌+◌, ◌-◌, List, [], ◌∷◌, length, codes, Result, Ok, Err, Option, Some, None, Bool, true, false}
+use Rattle.std.specs.Prelude.{◌&&◌, ◌==◌, if◌then◌else◌}
 use Rattle.rule_reader.specs.TextBytes.{begins, opens_blank, is_close_brace}
 use Rattle.rule_reader.specs.ReadWords.{word, is_word}
 use Rattle.flat_text.specs.declared.part.PartKind.TheVariants as parts
@@ -9,7 +9,7 @@ use Rattle.flat_text.specs.declared.part.ItemKind.{ItemKind}
 use Rattle.flat_text.specs.declared.part.ItemKind.TheVariants as items
 use Rattle.flat_text.specs.declared.text.Position.{Position}
 use Rattle.flat_text.specs.Parts.{ItemValue}
-use Rattle.flat_words.specs.Steps.{Stop, include, syntax, ◌>>=◌, fault_here, syntax_here}
+use Rattle.flat_words.specs.Steps.{Stop, include, syntax, fault_here, syntax_here}
 use Rattle.flat_text.specs.Readings.{Reading, taken}
 use Rattle.flat_words.specs.Words.{is_path}
 use Rattle.flat_text.specs.WordParts.{blank_part}
@@ -17,7 +17,7 @@ use Rattle.flat_text.specs.Statements.{statement_part, boolean_part}
 use Rattle.flat_text.specs.Headers.{named_head, profile_head, hat_head, caret_head}
 use Rattle.flat_words.specs.Assignments.{is_assignment}
 use Rattle.flat_text.specs.Assignments.{assignment_part}
-use Rattle.flat_text.specs.Rules.{word_left_out, of_kind, rule_item, begins_path_word}
+use Rattle.flat_text.specs.Rules.{word_left_out, of_kind, rule_item}
 
 -- Within a profile: its end, a hat (94 is ^), a child, a statement or a rule.
 unfoldable pub inner_item : Reading → Result (ItemKind × Reading) Stop

@@ -68,6 +68,13 @@ impl<'t> Reader<'t> {
         self.rest
     }
 
+    /// The parts.
+    pub(crate) fn parts(&self) -> &[Part<'t>]
+        ensures { result.now ≡ self.now.parts }
+    {
+        &self.parts
+    }
+
     /// The parts, and what is left.
     pub(crate) fn finish(self) -> (Vec<Part<'t>>, &'t [u8])
         ensures parts { result.0.items ≡ self.entry.parts }

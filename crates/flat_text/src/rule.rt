@@ -7,13 +7,13 @@ ghost use Rattle.flat_words.specs.Stops.{stop_value};
 ghost use Rattle.flat_text.specs.Rules.{comes_comma, is_all_rule, permissions_word, begins_path_word};
 ghost use Rattle.flat_words.specs.Words.{blank_at};
 ghost use Rattle.flat_words.specs.Gives.{Reads};
-ghost use Rattle.flat_text.specs.Rules.{links_and_runs};
+ghost use Rattle.flat_text.specs.Rules.{links_and_runs, runs_apart};
 
-use crate::part::{ItemKind, PartKind};
+use crate::part::{ItemKind, Part, PartKind};
 use crate::reader::{Reader, failure_here};
 use flat_words::{
     Failure, Letters, Stop, StopKind, after_blank, after_priority, after_word, fault_here,
-    is_statement, is_word, letter_word, letters_of,
+    is_raised, is_statement, is_word, letter_word, letters_of,
 };
 use names::Permission;
 
@@ -74,12 +74,29 @@ fn links_and_runs(letters: Letters) -> bool
     letters.perms.contains(Permission::Link) && letters.exec.is_some()
 }
 
+/// Whether a part is letters with an exec mode that isn't `x` alone and has no `i`.
+fn runs_apart(part: &Part<'_>) -> bool
+    ensures { result ≡ runs_apart part.now }
+{
+    if !matches!(part.kind(), PartKind::Permissions) {
+        return false;
+    }
+    let Some(letters) = letters_of(part.bytes()) else {
+        return false;
+    };
+    match letters.exec {
+        Some(mode) => !mode.is_bare() && !mode.inherits(),
+        None => false,
+    }
+}
+
 impl<'t> Reader<'t> {
     ghost use Rattle.std.specs.Prelude.{◌≡◌, length, Ok, codes};
     ghost use Rattle.flat_text.specs.Rules.{priority_part, optional_word, optional_choice, permissions_part, target_part};
     ghost use Rattle.flat_text.specs.Rules.{comma_part, rule_end};
     ghost use Rattle.flat_text.specs.Rules.{path_first, permissions_first, body_part, guarded_body, file_rule, link_rule};
-    ghost use Rattle.flat_text.specs.Rules.{unqualified_item, rule_item};
+    ghost use Rattle.flat_text.specs.Rules.{unqualified_item, qualified_item, runs_apart, rule_item};
+    ghost use Rattle.std.specs.List.{list_any};
     ghost use Rattle.flat_words.specs.Gives.{Gives};
 
     /// A priority and the blank after it, if one is here.
@@ -296,10 +313,17 @@ impl<'t> Reader<'t> {
         Ok(ItemKind::Rule)
     }
 
-    /// A statement or a file rule, with its qualifiers.
-    #[tactic(auto, unfolding(crate::specs::Rules::rule_item))]
-    pub(crate) fn rule_item(&mut self) -> Result<ItemKind, Failure<'t>>
-        ensures { Gives (λ kind. (kind, self.new)) result (rule_item self.old) }
+    /// Whether what was read of the item has an exec mode without `i`.
+    fn runs_apart(&self) -> bool
+        ensures { result ≡ list_any runs_apart self.now.parts }
+    {
+        self.parts().iter().any(|part| runs_apart(part))
+    }
+
+    /// A statement or a file rule, with its qualifiers, whatever its priority is.
+    #[tactic(auto, unfolding(crate::specs::Rules::qualified_item))]
+    fn qualified_item(&mut self) -> Result<ItemKind, Failure<'t>>
+        ensures { Gives (λ kind. (kind, self.new)) result (qualified_item self.old) }
     {
         self.priority()?;
         self.optional_word(PartKind::Audit, b"audit")?;
@@ -308,5 +332,18 @@ impl<'t> Reader<'t> {
         self.allow_or_deny()?;
         self.owner_or_other()?;
         self.unqualified_item(denies, from_deny)
+    }
+
+    /// A statement or a file rule, with its qualifiers. A priority over 0 isn't supported with an exec mode without `i`.
+    #[tactic(auto, unfolding(crate::specs::Rules::rule_item))]
+    pub(crate) fn rule_item(&mut self) -> Result<ItemKind, Failure<'t>>
+        ensures { Gives (λ kind. (kind, self.new)) result (rule_item self.old) }
+    {
+        let start = self.rest();
+        let kind = self.qualified_item()?;
+        if is_raised(start) && self.runs_apart() {
+            return Err(Failure::At(word_left_out(start)));
+        }
+        Ok(kind)
     }
 }

@@ -1,20 +1,21 @@
 -- What is left after a part of a text is shorter than what was there.
-use Rattle.std.proofs.Common.{◌≡◌, ℕ, zero, suc, ◌≤◌, ◌<◌, ◌-◌, ◌+◌, Bool, true, false, not, cond, List, [], ◌∷◌, ◌++◌, length, take, drop}
-use Rattle.std.proofs.Common.{Option, Some, None, Result, Ok, Err, refl, sym, ap, subst, ◌∙◌, ◌⊎◌, inl, inr, ◌==◌, eqb, eq-eqb, arith}
+use Rattle.std.proofs.Common.{◌≡◌, ℕ, ◌≤◌, ◌<◌, Bool, true, false, not, cond, List, [], ◌∷◌, ◌++◌, length, drop}
+use Rattle.std.proofs.Common.{Option, Some, None, Result, Ok, refl, ap, ◌∙◌, ◌⊎◌, inl, inr, ◌==◌, eq-eqb, arith}
 use Rattle.std.specs.Prelude.{◌&&◌, ◌||◌, nat_eq, codes}
 use Rattle.std.specs.List.{starts_with}
-use Rattle.std.proofs.lemmas.Bool.{eqb-true, ne_eqb, cases_lt, and_parts}
+use Rattle.std.proofs.lemmas.Bool.{cases_lt, and_parts}
 use Rattle.std.proofs.lemmas.List.{length-append, length-drop}
 use Rattle.rule_reader.specs.TextBytes.{begins, is_white, is_hash, opens_blank, is_include, is_quote, is_comma, is_word_byte}
 use Rattle.rule_reader.specs.TextBytes.{is_open_brace}
 use Rattle.rule_reader.specs.ReadWords.{after, leading, word, after_word}
 use Rattle.rule_reader.proofs.ReadRuns.{leading_parts}
 use Rattle.flat_words.specs.declared.statement.Unclosed.{Unclosed}
+use Rattle.flat_words.specs.declared.words.Quoted.{Quoted}
 use Rattle.flat_words.specs.Blanks.{is_blank}
 use Rattle.flat_words.specs.Steps.{Stop, ◌>>=◌, syntax_here}
-use Rattle.flat_words.specs.Words.{blank_at, comma_ends, bare_at, quoted_at, word_end}
+use Rattle.flat_words.specs.Words.{blank_at, comma_ends, is_doubtful, bare_at, quote_opened, quoted_step, quoted_at, word_end}
 use Rattle.flat_words.specs.Statements.{statement_step, statement_at, past_word, past_byte, past_equals, past_boolean_name, is_space}
-use Rattle.flat_words.specs.Statements.{boolean_at}
+use Rattle.flat_words.specs.Statements.{boolean_at, nothing_open, statement_end}
 use Rattle.flat_words.specs.Assignments.{past_use}
 use Rattle.flat_words.proofs.Steps.{bind_ok, chosen, ok_is, not_ok}
 
@@ -58,27 +59,32 @@ bare_shorter escaped (b ∷ bytes) rest e =
       | inl h ↦ absurd (not_ok _ rest h.1)
       | inr h ↦ elim (chosen (not escaped && (is_white b || is_quote b || (is_comma b && comma_ends bytes))) _ _ _ h.1) [
         | inl g ↦ let l = ap length (ok_is (b ∷ bytes) rest g.1) in omega (arith, l)
-        | inr g ↦ let l = bare_shorter (not escaped && b == 92) bytes rest g.1 in omega (arith, l)
+        | inr g ↦ elim (chosen (not escaped && is_doubtful b bytes) _ _ _ g.1) [
+          | inl d ↦ absurd (not_ok _ rest d.1)
+          | inr d ↦ let l = bare_shorter (not escaped && b == 92) bytes rest d.1 in omega (arith, l)
+        ]
       ]
     ]
 
-pub quoted_shorter : (escaped : Bool) (bytes rest : List ℕ) → quoted_at escaped bytes ≡ Ok rest → length rest < length bytes
-quoted_shorter escaped [] rest e = absurd (not_ok _ rest e)
-quoted_shorter escaped (b ∷ bytes) rest e =
-    elim (chosen (b == 0 || b == 10) _ _ _ e) [
-      | inl h ↦ absurd (not_ok _ rest h.1)
-      | inr h ↦ elim (chosen (is_quote b && not escaped) _ _ _ h.1) [
-        | inl g ↦ let l = ap length (ok_is bytes rest g.1) in omega (arith, l)
-        | inr g ↦ let l = quoted_shorter (not escaped && b == 92) bytes rest g.1 in omega (arith, l)
-      ]
-    ]
+quoted_behind : (b : ℕ) (bytes rest : List ℕ) (next : Option Quoted) → ((at : Quoted) → quoted_at at bytes ≡ Ok rest →
+    length rest < length bytes)
+    → ◌≡◌ {A = Result (List ℕ) Stop} (elim next [ None ↦ Ok bytes | Some at ↦ quoted_at at bytes ]) (Ok rest) →
+    length rest < length (b ∷ bytes)
+quoted_behind b bytes rest None h e = let l = ap length (ok_is bytes rest e) in omega (arith, l)
+quoted_behind b bytes rest (Some at) h e = let l = h at e in omega (arith, l)
+
+pub quoted_shorter : (before : Quoted) (bytes rest : List ℕ) → quoted_at before bytes ≡ Ok rest → length rest < length bytes
+quoted_shorter before [] rest e = absurd (not_ok _ rest e)
+quoted_shorter before (b ∷ bytes) rest e =
+    let p = bind_ok (quoted_step before b bytes) (λ next. elim next [ None ↦ Ok bytes | Some at ↦ quoted_at at bytes ]) rest e in
+    quoted_behind b bytes rest p.0 (λ at. quoted_shorter at bytes rest) p.2
 
 pub word_shorter : (bytes rest : List ℕ) → word_end bytes ≡ Ok rest → length rest < length bytes
 unfolding word_end
 word_shorter [] rest e = absurd cc
 word_shorter (b ∷ bytes) rest e =
     elim (chosen (is_quote b) _ _ _ e) [
-      | inl h ↦ let l = quoted_shorter false bytes rest h.1 in omega (arith, l)
+      | inl h ↦ let l = quoted_shorter quote_opened bytes rest h.1 in omega (arith, l)
       | inr h ↦
           let p = bind_ok (bare_at false (b ∷ bytes)) (λ rest. cond (length rest == length (b ∷ bytes)) (syntax_here (b ∷ bytes))
           (Ok rest)) rest h.1 in
@@ -152,6 +158,14 @@ word_past_shorter bytes rest e = elim (chosen (length (word bytes) == 0) _ _ _ e
   | inl h ↦ absurd (not_ok _ rest h.1)
   | inr h ↦ let s = ap length (ok_is (after_word bytes) rest h.1) in let l = after_shorter is_word_byte bytes in omega (arith, s, l)
 ]
+
+-- a statement with its keyword
+pub statement_end_shorter : (bytes rest : List ℕ) → statement_end bytes ≡ Ok rest → length rest < length bytes
+statement_end_shorter bytes rest e =
+    let p = bind_ok (past_word bytes) (λ behind. statement_at nothing_open behind) rest e in
+    let a = word_past_shorter bytes p.0 p.1 in
+    let b = statement_shorter nothing_open p.0 rest p.2 in
+    omega (arith, a, b)
 
 byte_past_shorter : (b : ℕ) (bytes rest : List ℕ) → past_byte b bytes ≡ Ok rest → length rest ≤ length bytes
 byte_past_shorter b bytes rest e = elim (chosen (begins (λ c. c == b) bytes) _ _ _ e) [

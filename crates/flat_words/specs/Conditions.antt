@@ -1,25 +1,27 @@
 -- The contents of the head of a profile besides its names: extended attributes and flags (apparmor.d(5), "Format").
-use Rattle.std.specs.Prelude.{ℕ, List, [], ◌∷◌, codes, Result, Ok, Option, Some, None, Bool, true, false, not, ◌&&◌, ◌||◌, ◌==◌}
+use Rattle.std.specs.Prelude.{ℕ, List, [], ◌∷◌, codes, Result, Ok, Option, Bool, true, false, not, ◌&&◌, ◌||◌, ◌==◌}
 use Rattle.std.specs.Prelude.{if◌then◌else◌, find, nat_eq}
 use Rattle.std.specs.List.{list_any, starts_with}
 use Rattle.rule_reader.specs.TextBytes.{is_white, is_quote, is_comma}
 use Rattle.rule_reader.specs.ReadWords.{leading, after}
 use Rattle.flat_words.specs.Steps.{Stop, ◌>>=◌, syntax_here}
+use Rattle.flat_words.specs.declared.words.Quoted.{Quoted}
 use Rattle.flat_words.specs.Statements.{is_one_of, past_byte}
+use Rattle.flat_words.specs.Words.{behind_byte, is_doubtful_quote, quote_opened}
 
 -- ---- conditions: xattrs=( .. ), flags=( .. ), and flags without the word
 
--- after an opening parenthesis, within quotes or not, and directly after a backslash that takes the next byte or not: what is left
--- after the closing one (41)
-abbrev pub parentheses_at : Bool → Bool → List ℕ → Result (List ℕ) Stop
-parentheses_at quoted escaped [] = syntax_here []
-parentheses_at quoted escaped (b ∷ bytes) =
-    if b == 0 || (quoted && b == 10) then syntax_here (b ∷ bytes)
+-- After an opening parenthesis, within quotes or not, and after these backslashes: what is left after the closing one (41). No quote is
+-- in doubt.
+abbrev pub parentheses_at : Bool → Quoted → List ℕ → Result (List ℕ) Stop
+parentheses_at quoted before [] = syntax_here []
+parentheses_at quoted before (b ∷ bytes) =
+    if b == 0 || (quoted && b == 10) || (is_quote b && is_doubtful_quote before bytes) then syntax_here (b ∷ bytes)
     else if b == 41 && not quoted then Ok bytes
-    else parentheses_at (if is_quote b && not escaped then not quoted else quoted) (not escaped && b == 92) bytes
+    else parentheses_at (if is_quote b && not before.escaped then not quoted else quoted) (behind_byte before b) bytes
 
 abbrev pub past_parentheses : List ℕ → Result (List ℕ) Stop
-past_parentheses bytes = past_byte 40 bytes >>= λ inside. parentheses_at false false inside
+past_parentheses bytes = past_byte 40 bytes >>= λ inside. parentheses_at false quote_opened inside
 
 -- = (61), possibly surrounded by whitespace, and parentheses
 abbrev pub past_condition : List ℕ → Result (List ℕ) Stop
@@ -29,8 +31,9 @@ past_condition bytes = past_byte 61 (after is_white bytes) >>= λ rest. past_par
 abbrev pub parts_flags : ℕ → Bool
 parts_flags b = is_white b || is_comma b || b == 40 || b == 41
 
--- Flags that allow what no rule allows; and flags that don't, some of them with a value: the signal of kill, the number of the error
--- that a refusal gives, and where paths begin that lead to no root (apparmor.d(5) of AppArmor 4.1, "Profile Flags").
+-- Flags that allow what no rule allows; and flags that don't, some of them with a value, in which there are no quotes: the signal of kill,
+-- the number of the error that a refusal gives, and where paths begin that lead to no root (apparmor.d(5) of AppArmor 4.1, "Profile
+-- Head").
 abbrev pub allowing_flags : List (List ℕ)
 allowing_flags = codes "complain" ∷ codes "unconfined" ∷ codes "default_allow" ∷ codes "prompt" ∷ []
 
@@ -47,8 +50,12 @@ valued_flags = codes "kill.signal=" ∷ codes "error=" ∷ codes "attach_disconn
 abbrev pub begins_with_one_of : List (List ℕ) → List ℕ → Bool
 begins_with_one_of fronts w = list_any (λ front. starts_with nat_eq w front) fronts
 
+-- A flag with a value. A quote would end the value, and begin another flag.
+abbrev pub is_valued_flag : List ℕ → Bool
+is_valued_flag w = begins_with_one_of valued_flags w && not (list_any is_quote w)
+
 abbrev pub is_flag : List ℕ → Bool
-is_flag w = is_one_of allowing_flags w || is_one_of other_flags w || begins_with_one_of valued_flags w
+is_flag w = is_one_of allowing_flags w || is_one_of other_flags w || is_valued_flag w
 
 -- a byte of a flag
 abbrev pub is_flag_byte : ℕ → Bool

@@ -1,5 +1,4 @@
 -- The code's faults as those of the definitions.
-use Rattle.std.specs.Prelude.{ℕ, List}
 use Rattle.flat_words.specs.declared.stop.Stop as told
 use Rattle.flat_words.specs.declared.stop.StopKind as told_kind
 use Rattle.flat_words.specs.declared.stop.StopKind.TheVariants.{Syntax, Include, LeftOut, Permissions}

@@ -3,31 +3,33 @@ ghost use Rattle.std.specs.Prelude.{◌≡◌, ◌==◌, length, find, false, ma
 ghost use Rattle.rule_reader.specs.TextBytes.{is_white};
 ghost use Rattle.rule_reader.specs.ReadWords.{leading, after};
 ghost use Rattle.flat_words.specs.Conditions.{parentheses_at, past_parentheses, past_condition, parts_flags, is_flag, is_flag_byte};
-ghost use Rattle.flat_words.specs.Conditions.{begins_with_one_of};
+ghost use Rattle.flat_words.specs.Conditions.{begins_with_one_of, is_valued_flag};
+ghost use Rattle.flat_words.specs.Words.{quote_opened};
 ghost use Rattle.flat_words.specs.Conditions.{allowing_flags, unknown_flag};
 ghost use Rattle.flat_words.specs.Statements.{is_one_of};
 ghost use Rattle.flat_words.specs.Gives.{Reads};
 
 use crate::bytes::is_white;
 use crate::stop::{Stop, StopKind, fault_here};
-use crate::words::{is_one_of, past_byte};
+use crate::words::{Quoted, is_one_of, past_byte};
 
 /// Returns what is left after the closing parenthesis; the opening one was already read.
 fn after_inside(bytes: &[u8]) -> Result<&[u8], Stop<'_>>
-    ensures { Reads (λ x. x.now) result (parentheses_at false false bytes.now) }
+    ensures { Reads (λ x. x.now) result (parentheses_at false quote_opened bytes.now) }
 {
     let mut rest = bytes;
     let mut quoted = false;
-    let mut escaped = false;
+    let mut before = Quoted::OPENED;
     while let [byte, more @ ..] = rest {
         match byte {
             0 => break,
             b'\n' if quoted => break,
             b')' if !quoted => return Ok(more),
-            b'"' if !escaped => quoted = !quoted,
+            b'"' if before.is_doubtful_quote(more) => break,
+            b'"' if !before.is_escaped() => quoted = !quoted,
             _ => {}
         }
-        escaped = !escaped && *byte == b'\\';
+        before = before.behind(*byte);
         rest = more;
     }
     Err(fault_here(StopKind::Syntax, rest))
@@ -88,7 +90,7 @@ const OTHER_FLAGS: [&str; 13] = [
     "interruptible",
 ];
 
-/// What flags with a value begin with that don't either.
+/// What flags with a value begin with that don't either, in which there are no quotes.
 const VALUED_FLAGS: [&str; 3] = ["kill.signal=", "error=", "attach_disconnected.path="];
 
 /// Whether the word begins with one of these.
@@ -110,13 +112,18 @@ pub fn is_allowing_flag(word: &[u8]) -> bool
     is_one_of(&ALLOWING_FLAGS, word)
 }
 
+/// Whether the word is a known flag with a value. A quote would begin another flag.
+fn is_valued_flag(word: &[u8]) -> bool
+    ensures { result ≡ is_valued_flag word.now }
+{
+    begins_with_one_of(&VALUED_FLAGS, word) && !word.contains(&b'"')
+}
+
 /// Whether the flag is known.
 fn is_flag(word: &[u8]) -> bool
     ensures { result ≡ is_flag word.now }
 {
-    is_allowing_flag(word)
-        || is_one_of(&OTHER_FLAGS, word)
-        || begins_with_one_of(&VALUED_FLAGS, word)
+    is_allowing_flag(word) || is_one_of(&OTHER_FLAGS, word) || is_valued_flag(word)
 }
 
 /// Returns the bytes from the first opening parenthesis on.

@@ -20,7 +20,7 @@ pub use condition::{
 };
 pub use laws::readings_have_one_answer;
 pub use letters::{ExecMode, Letters, letters_of};
-pub use priority::{after_priority, after_sign};
+pub use priority::{after_priority, after_sign, is_raised};
 pub use statement::{after_boolean, after_statement, is_statement};
 pub use stop::{Failure, Stop, StopKind, fault_here};
 pub use words::{after_blank, after_word, begins_gap, is_path, is_word, letter_word, past_word};

@@ -3,11 +3,11 @@ ghost use Rattle.std.specs.Prelude.{◌≡◌};
 ghost use Rattle.std.specs.Char.{is_ascii_digit};
 ghost use Rattle.rule_reader.specs.ReadWords.{after};
 ghost use Rattle.flat_words.specs.Gives.{Reads};
-ghost use Rattle.flat_words.specs.Priorities.{past_sign, past_digits, past_priority};
+ghost use Rattle.flat_words.specs.Priorities.{past_sign, past_digits, number_at, past_priority, has_size, is_raised};
 
 use crate::condition::after_white;
 use crate::stop::{Stop, StopKind, fault_here};
-use crate::words::{past_byte, past_word};
+use crate::words::{is_word, past_byte, past_word};
 
 /// Returns what is left after the digits at the front.
 fn after_leading_digits(bytes: &[u8]) -> &[u8]
@@ -42,10 +42,46 @@ fn after_digits(bytes: &[u8]) -> Result<&[u8], Stop<'_>>
     }
 }
 
+/// Returns the bytes from a priority's number on; its word is here.
+fn number_at(bytes: &[u8]) -> Result<&[u8], Stop<'_>>
+    ensures { Reads (λ x. x.now) result (number_at bytes.now) }
+{
+    let number = past_byte(b'=', after_white(past_word(bytes)?))?;
+    Ok(after_white(number))
+}
+
 /// Returns what is left after a priority, whose word is here.
 pub fn after_priority(bytes: &[u8]) -> Result<&[u8], Stop<'_>>
     ensures { Reads (λ x. x.now) result (past_priority bytes.now) }
 {
-    let number = past_byte(b'=', after_white(past_word(bytes)?))?;
-    after_digits(after_sign(after_white(number)))
+    after_digits(after_sign(number_at(bytes)?))
+}
+
+/// Whether some digit at the front isn't 0.
+fn has_size(bytes: &[u8]) -> bool
+    ensures { result ≡ has_size bytes.now }
+{
+    let mut rest = bytes;
+    while let [byte, more @ ..] = rest
+        && byte.is_ascii_digit()
+    {
+        if *byte != b'0' {
+            return true;
+        }
+        rest = more;
+    }
+    false
+}
+
+/// Whether a priority over 0 is here.
+pub fn is_raised(bytes: &[u8]) -> bool
+    ensures { result ≡ is_raised bytes.now }
+{
+    if !is_word(b"priority", bytes) {
+        return false;
+    }
+    match number_at(bytes) {
+        Ok(number) => !number.starts_with(b"-") && has_size(after_sign(number)),
+        Err(_) => false,
+    }
 }

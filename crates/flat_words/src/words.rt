@@ -1,11 +1,13 @@
 //! Blanks and words: where each ends.
-ghost use Rattle.std.specs.Prelude.{◌≡◌, ◌<◌, length, false, [], None, IfSome, map};
-ghost use Rattle.rule_reader.specs.TextBytes.{begins, opens_blank, is_word_byte};
+ghost use Rattle.std.specs.Prelude.{◌≡◌, ◌<◌, ◌∷◌, length, false, [], None, IfSome, map};
+ghost use Rattle.std.specs.List.{list_any};
+ghost use Rattle.rule_reader.specs.TextBytes.{begins, opens_blank, is_word_byte, is_quote};
 ghost use Rattle.rule_reader.specs.ReadWords.{leading, word, after_word, is_word};
 ghost use Rattle.flat_words.specs.Statements.{is_one_of, past_byte, past_word};
 ghost use Rattle.flat_words.specs.Steps.{syntax};
 ghost use Rattle.flat_words.specs.Gives.{Reads};
-ghost use Rattle.flat_words.specs.Words.{blank_at, comma_ends, bare_at, quoted_at, word_end, begins_path, is_path};
+ghost use Rattle.flat_words.specs.Words.{blank_at, comma_ends, is_doubtful, bare_at, word_end, begins_path, is_path};
+ghost use Rattle.flat_words.specs.Words.{quote_opened, behind_byte, is_doubtful_quote, quoted_step, quoted_at};
 
 use crate::bytes::{is_include, is_white};
 use crate::stop::{Stop, StopKind, fault_here};
@@ -40,12 +42,23 @@ pub fn begins_gap(bytes: &[u8]) -> bool
 }
 
 /// Whether a comma followed by these bytes ends a bare word.
-fn comma_ends(behind: &[u8]) -> bool
+pub(crate) fn comma_ends(behind: &[u8]) -> bool
     ensures { result ≡ comma_ends behind.now }
 {
     match behind {
         [] => true,
         [byte, ..] => is_white(*byte) || matches!(byte, b'"' | b',' | b'!'),
+    }
+}
+
+/// Whether AppArmor's parser may read a bare word with this byte, followed by these, in two ways: a backslash or a comma, another
+/// backslash, and what would end the word.
+pub(crate) fn is_doubtful(byte: u8, behind: &[u8]) -> bool
+    ensures { result ≡ is_doubtful byte behind.now }
+{
+    match behind {
+        [b'\\', more @ ..] => matches!(byte, b'\\' | b',') && comma_ends(more),
+        _ => false,
     }
 }
 
@@ -62,6 +75,7 @@ fn after_bare(bytes: &[u8]) -> Result<&[u8], Stop<'_>>
             b'"' => break,
             b',' if comma_ends(more) => break,
             _ if is_white(*byte) => break,
+            _ if is_doubtful(*byte, more) => return Err(fault_here(StopKind::Syntax, rest)),
             _ => escaped = *byte == b'\\',
         }
         rest = more;
@@ -69,19 +83,82 @@ fn after_bare(bytes: &[u8]) -> Result<&[u8], Stop<'_>>
     Ok(rest)
 }
 
+/// What a byte of a word in quotes comes after.
+#[derive(Clone, Copy)]
+pub(crate) struct Quoted {
+    /// A backslash that takes the byte.
+    escaped: bool,
+    /// A backslash that another one took.
+    doubled: bool,
+}
+
+impl Quoted {
+    ghost use Rattle.std.specs.Prelude.{◌≡◌};
+    ghost use Rattle.flat_words.specs.Words.{quote_opened, behind_byte, is_doubtful_quote};
+
+    /// The quote that begins the word.
+    pub(crate) const OPENED: Quoted = Quoted {
+        escaped: false,
+        doubled: false,
+    };
+
+    /// Whether a backslash takes the byte.
+    pub(crate) fn is_escaped(self) -> bool
+        ensures { result ≡ self.escaped }
+    {
+        self.escaped
+    }
+
+    /// What the byte after this one comes after.
+    pub(crate) fn behind(self, byte: u8) -> Quoted
+        ensures { result ≡ behind_byte self byte }
+    {
+        Quoted {
+            escaped: !self.escaped && byte == b'\\',
+            doubled: self.escaped && byte == b'\\',
+        }
+    }
+
+    /// Whether AppArmor's parser reads on at a quote that these bytes follow: it comes after two backslashes, and there is another.
+    pub(crate) fn is_doubtful_quote(self, behind: &[u8]) -> bool
+        ensures { result ≡ is_doubtful_quote self behind.now }
+    {
+        self.doubled && behind.contains(&b'"')
+    }
+}
+
+/// Returns what the byte after the first of the bytes `from` comes after, in a word in quotes. `None` if the first one is the quote that
+/// ends the word.
+pub(crate) fn quoted_step<'t>(
+    before: Quoted,
+    byte: u8,
+    behind: &'t [u8],
+    from: &'t [u8],
+) -> Result<Option<Quoted>, Stop<'t>>
+    requires { from.now ≡ byte ∷ behind.now }
+    ensures { Reads (λ x. x) result (quoted_step before byte behind.now) }
+{
+    match byte {
+        0 | b'\n' => Err(fault_here(StopKind::Syntax, from)),
+        b'"' if before.is_escaped() => Ok(Some(before.behind(byte))),
+        b'"' if before.is_doubtful_quote(behind) => Err(fault_here(StopKind::Syntax, from)),
+        b'"' => Ok(None),
+        _ => Ok(Some(before.behind(byte))),
+    }
+}
+
 /// Returns what is left after a word in quotes; the opening quote was already read.
 fn after_quoted(bytes: &[u8]) -> Result<&[u8], Stop<'_>>
-    ensures { Reads (λ x. x.now) result (quoted_at false bytes.now) }
+    ensures { Reads (λ x. x.now) result (quoted_at quote_opened bytes.now) }
 {
+    let mut before = Quoted::OPENED;
     let mut rest = bytes;
-    let mut escaped = false;
-    while let [byte, more @ ..] = rest {
-        match byte {
-            0 | b'\n' => break,
-            b'"' if !escaped => return Ok(more),
-            _ => escaped = !escaped && *byte == b'\\',
+    while let [byte, behind @ ..] = rest {
+        match quoted_step(before, *byte, behind, rest)? {
+            Some(next) => before = next,
+            None => return Ok(behind),
         }
-        rest = more;
+        rest = behind;
     }
     Err(fault_here(StopKind::Syntax, rest))
 }

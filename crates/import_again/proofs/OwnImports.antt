@@ -13,7 +13,7 @@ use Rattle.rule_globs.specs.Rules.{RuleValue, ProfileValue}
 use Rattle.rule_profile.specs.Limits.{max_rules}
 use Rattle.rule_profile.specs.Readable.{is_name, is_path, is_rule, is_profile}
 use Rattle.rule_writer.specs.Canonical.{canonical}
-use Rattle.flat_canonical.specs.CanonicalItems.{canonical_items}
+use Rattle.flat_canonical.specs.CanonicalItems.{canonical_items, path_text, ends_plainly, WordsEndPlainly}
 use Rattle.flat_canonical.proofs.ItemsRead.{reads_canonical}
 use Rattle.import_cut.specs.declared.span.Span.{Span}
 use Rattle.import_cut.specs.declared.span.SpanKind.{SpanKind}
@@ -28,6 +28,7 @@ use Rattle.profile_import.specs.Restated.{PlacedValue, cut_for, all_rules, resta
 use Rattle.import_again.specs.Untold.{IsUntold}
 use Rattle.import_again.proofs.Imported.{IsImported, IsImportedProfile, made, where_changed, where_counted, where_chosen}
 use Rattle.import_again.proofs.Cuts.{first_choice, whole_cut, whole_rules}
+use Rattle.import_again.proofs.RuleItems.{settles}
 use Rattle.import_again.proofs.ScopesAgain.{head_of, outside, faultless, all_behind}
 
 -- ---- the text
@@ -44,6 +45,13 @@ readable p h =
     (and_from (is_name p.name) (nat_le (length p.rules) max_rules) (and_parts (is_name p.name) _ h.name).0
     (le-leb (length p.rules) max_rules h.few))
     (rules_readable p.rules h.rules)
+
+plain_paths : (rules : List RuleValue) → Each IsImported rules → Each (λ r. ends_plainly (path_text r.items) ≡ true) rules
+plain_paths [] h = tt
+plain_paths (r ∷ rules) h = ((settles r h.0).ends, plain_paths rules h.1)
+
+words_end : (p : ProfileValue) → IsImportedProfile p → WordsEndPlainly p
+words_end p h = record { name = (and_parts (is_name p.name) _ h.name).1; paths = plain_paths p.rules h.rules }
 
 -- ---- the spans
 
@@ -117,7 +125,7 @@ module _ (p : ProfileValue) (h : IsImportedProfile p) (again : ImportOptions) wh
         items = all;
         end = None;
         fault = None;
-        read = reads_canonical p (readable p h);
+        read = reads_canonical p (readable p h) (words_end p h);
         first = subst (λ (d : List Define). FirstFault (at_start d) all None) (sym none) (faultless p h.name h.rules h.few);
         is = sym outcome;
       }

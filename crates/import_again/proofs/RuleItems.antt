@@ -47,13 +47,13 @@ quoted_content bytes =
 -- ---- the path
 
 -- what it means that a path's text is settled
-record Settles (text : List ℕ) : Type 0 where
+pub record Settles (text : List ℕ) : Type 0 where
   one : bytes_eq (one_slash text) text ≡ true
   plain : opens_variable text ≡ false
-  ends : not (ends_with nat_eq text (codes "\\")) ≡ true
+  pub ends : not (ends_with nat_eq text (codes "\\")) ≡ true
   short : length text ≤ most_bytes
 
-settles : (r : RuleValue) → IsImported r → Settles (path_text r.items)
+pub settles : (r : RuleValue) → IsImported r → Settles (path_text r.items)
 settles r h =
     let text = path_text r.items in
     let p = and_parts (groups_choose r.items) (is_settled_text text) h.settled in

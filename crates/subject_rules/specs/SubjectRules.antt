@@ -10,7 +10,7 @@ pub data SubjectPath : Type 0 where
   read : List (List Token) → SubjectPath
   unread : List ℕ → SubjectPath
 
--- A priority is a whole number: how far from 0 it is, and whether below (apparmor.d(5) of AppArmor 4.1, "Rule Priority").
+-- A priority is a whole number: how far from 0 it is, and whether below (apparmor.d(5) of AppArmor 4.1, "Rule Qualifiers").
 pub record Priority : Type 0 where
   pub below : Bool
   pub size : ℕ

@@ -1,4 +1,4 @@
-use Rattle.std.proofs.Common.{ℕ, ◌+◌, length, arith}
+use Rattle.std.proofs.Common.{◌+◌, length, arith}
 use Rattle.flat_text.specs.Texts.{at_start}
 use Rattle.flat_text.proofs.WholeTexts.{one_from, some_from}
 use Rattle.flat_text.proofs.laws.texts_have_one_outcome.Goals as goal

@@ -1,9 +1,5 @@
-use Rattle.std.proofs.Common.{◌≡◌, ◌-◌, [], List, ℕ, Result, Ok, take, length, sym, ap, subst, ◌∙◌}
-use Rattle.flat_text.specs.declared.part.ItemKind.{ItemKind}
-use Rattle.flat_text.specs.declared.part.Part.{Part}
-use Rattle.flat_text.specs.Parts.{PartValue, bytes_of_parts}
-use Rattle.flat_text.specs.Readings.{Reading}
-use Rattle.flat_text.specs.Texts.{item_at}
+use Rattle.std.proofs.Common.{◌-◌, List, ℕ, take, length, sym, ap, ◌∙◌}
+use Rattle.flat_text.specs.Parts.{bytes_of_parts}
 use Rattle.flat_text.proofs.ItemLoop.{item_taken}
 use Rattle.flat_text.proofs.text.next_item.Goals as goal
 

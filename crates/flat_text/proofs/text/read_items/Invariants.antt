@@ -1,5 +1,5 @@
 -- The items so far, and those that are read from here on, are those of the text; no more profiles are open than bytes were read.
-use Rattle.std.proofs.Common.{◌≡◌, ◌≤◌, ◌+◌, ◌++◌, List, Option, length}
+use Rattle.std.proofs.Common.{◌≤◌, ◌+◌, ◌++◌, List, Option, length}
 use Rattle.flat_text.specs.Parts.{ItemValue}
 use Rattle.flat_words.specs.Steps.{Stop}
 use Rattle.flat_text.specs.Readings.{}

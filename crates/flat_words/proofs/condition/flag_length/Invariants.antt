@@ -1,5 +1,5 @@
 -- The first bytes are the flag's.
-use Rattle.std.proofs.Common.{◌≡◌, ◌+◌, ◌-◌, ◌≤◌, length, drop, take}
+use Rattle.std.proofs.Common.{◌≡◌, ◌+◌, ◌-◌, ◌≤◌, length, drop}
 use Rattle.rule_reader.specs.ReadWords.{leading}
 use Rattle.flat_words.specs.Conditions.{is_flag_byte}
 use Rattle.flat_words.proofs.condition.flag_length.Given as goal

@@ -1,5 +1,5 @@
 -- Each flag that the loop has passed is known.
-use Rattle.std.proofs.Common.{◌≡◌, length, find, not, true}
+use Rattle.std.proofs.Common.{◌≡◌, length, find, not}
 use Rattle.flat_words.specs.Conditions.{flags_at, is_flag, unknown_flag}
 use Rattle.flat_words.proofs.condition.unknown_flag.Given as goal
 

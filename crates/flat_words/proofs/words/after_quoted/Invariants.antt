@@ -1,10 +1,10 @@
 -- What the loop has passed is a part of the word.
-use Rattle.std.proofs.Common.{◌≡◌, length, false}
-use Rattle.flat_words.specs.Words.{quoted_at}
+use Rattle.std.proofs.Common.{◌≡◌, length}
+use Rattle.flat_words.specs.Words.{quoted_at, quote_opened}
 use Rattle.flat_words.proofs.words.after_quoted.Given as goal
 
 abbrev pub invariant-loop-rest : goal.invariant-loop-rest
-invariant-loop-rest l = quoted_at l.escaped l.rest ≡ quoted_at false l.bytes
+invariant-loop-rest l = quoted_at l.before l.rest ≡ quoted_at quote_opened l.bytes
 
 abbrev pub decreases-loop-rest : goal.decreases-loop-rest
 decreases-loop-rest l = length l.rest

@@ -1,8 +1,7 @@
-use Rattle.std.proofs.Common.{◌≡◌, true, false, Ok, Result, ap, sym, subst, ◌∙◌}
+use Rattle.std.proofs.Common.{◌≡◌, true, false, Ok, ap, sym, subst, ◌∙◌}
 use Rattle.flat_text.specs.declared.part.PartKind.TheVariants as parts
 use Rattle.flat_words.specs.Assignments.{line_ends}
 use Rattle.flat_text.specs.Assignments.{separators_part}
-use Rattle.flat_words.specs.Steps.{Stop}
 use Rattle.flat_text.specs.Readings.{Reading}
 use Rattle.flat_text.specs.WordParts.{word_part}
 use Rattle.flat_words.proofs.Steps.{ok_is}

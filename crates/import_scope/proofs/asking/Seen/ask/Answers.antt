@@ -1,4 +1,4 @@
-use Rattle.std.proofs.Common.{true, false, List, Result, Ok, Err, sym, ap, ◌∙◌, subst}
+use Rattle.std.proofs.Common.{true, false, Result, Ok, Err, sym, ap, ◌∙◌, subst}
 use Rattle.std.specs.Prelude.{OnOk, option_map}
 use Rattle.std.proofs.lemmas.Result.{IfOk-weaker}
 use Rattle.import_scope.specs.FirstFaults.{Question, is_last, Answers}

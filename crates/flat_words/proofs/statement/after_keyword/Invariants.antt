@@ -1,7 +1,7 @@
 -- What the loop has passed is a part of the statement, and no more is open than bytes were passed.
 use Rattle.std.proofs.Common.{◌≡◌, ◌≤◌, ◌+◌, length}
 use Rattle.flat_words.specs.Statements.{statement_at, nothing_open}
-use Rattle.flat_words.proofs.statement.after_statement.Given as goal
+use Rattle.flat_words.proofs.statement.after_keyword.Given as goal
 
 abbrev pub invariant-loop-rest : goal.invariant-loop-rest
 invariant-loop-rest l = record {
