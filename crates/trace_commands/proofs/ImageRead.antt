@@ -1,9 +1,7 @@
 -- Images that are read as far as their header says.
-use Rattle.std.proofs.Common.{◌≡◌, ◌≢◌, ◌⊎◌, ℕ, ◌+◌, ◌<◌, ◌≤◌, List, [], ◌++◌, Option, Result, Ok, Err, length, take, refl, sym, ap, ◌∙◌, subst, inl, inr}
-use Rattle.std.proofs.Common.{arith, append-nil, append_assoc, length-append}
+use Rattle.std.proofs.Common.{◌≡◌, ◌≢◌, ◌⊎◌, ℕ, ◌+◌, ◌<◌, ◌≤◌, List, [], ◌++◌, Option, length, take, refl}
+use Rattle.std.proofs.Common.{sym, ap, ◌∙◌, subst, inl, inr, arith, append-nil, append_assoc, length-append}
 use Rattle.std.proofs.lemmas.List.{take-append-le, take_all}
-use Rattle.std.specs.Prelude.{Vec}
-use Rattle.std.specs.declared.alloc.Global.{Global}
 use Rattle.std.specs.Io.KnownBytes.{Consumes, IsAtEnd}
 use Rattle.image_header.specs.Headers.{IsFaultOfAll, IsLengthOfAll}
 use Rattle.tables.specs.Images.{HasImageFault, IsFirstImageFault}
@@ -92,7 +90,8 @@ reads_header old new read taken low = (read, taken, inl low)
 pub image_unread : (left : Option (List ℕ)) (Wanted : List ℕ → Output → Type 0) (f : Fault) → ((text : List ℕ) → AreGood (Wanted text))
     → ((text : List ℕ) (output : Output) → IsImageRefused text output → Wanted text output)
     → (f ≡ Input) ⊎ ((f ≡ Memory) ⊎ IsRefusedText left f) → (text : List ℕ) × IsTextOf left text × IsFaultOfOne (Wanted text) f
-image_unread left Wanted f good wants (inl h) = let text = text_of left in (text.0, text.1, unread_one (Wanted text.0) f (good text.0) (inl h))
+image_unread left Wanted f good wants (inl h) =
+    let text = text_of left in (text.0, text.1, unread_one (Wanted text.0) f (good text.0) (inl h))
 image_unread left Wanted f good wants (inr (inl h)) =
     let text = text_of left in (text.0, text.1, unread_one (Wanted text.0) f (good text.0) (inr h))
 image_unread left Wanted f good wants (inr (inr (text, of, k, is, first))) =

@@ -1,7 +1,6 @@
-use Rattle.std.proofs.Common.{◌≡◌, ◌≤◌, ◌+◌, ℕ, List, ◌++◌, length, take, drop, arith, sym, ap, ◌∙◌, append_assoc, length-append, length-take}
+use Rattle.std.proofs.Common.{◌≡◌, ◌+◌, ℕ, List, ◌++◌, length, take, drop, arith, ap, ◌∙◌, append_assoc, length-append, length-take}
 use Rattle.std.proofs.lemmas.List.{take-append-le}
 use Rattle.std.proofs.lemmas.Result.{err_from_is_err_and}
-use Rattle.std.proofs.lemmas.Grind.{common_steps}
 use Rattle.trace_commands.proofs.Consuming.{consumes_kept, consumes_more}
 use Rattle.trace_commands.proofs.reading.read_up_to.Goals as goal
 use Rattle.trace_commands.proofs.reading.read_up_to.Goals.{in-Ok+in_ok-extend_from_slice-in-Ok, in-Err+else-ne}
@@ -12,7 +11,8 @@ returns-in_err-extend_from_slice-in-Ok-clause-read g c =
     let part : List ℕ = take c.in-Ok.count c.read.new.buf in
     let p = err_from_is_err_and c.from_residual.result c.from_residual.ensures.1 in
     let within = c.in-Ok.ensures.bound.0 in
-    let far : length c.loop.bytes.items ≡ length c.args.bytes.now.items + length read = ap length is ∙ length-append c.args.bytes.now.items read in
+    let far : length c.loop.bytes.items ≡ length c.args.bytes.now.items + length read =
+    ap length is ∙ length-append c.args.bytes.now.items read in
     let more = length-append read part in
     let some = length-take c.in-Ok.count c.read.new.buf in
     let room = length-take c.min-room.result c.loop.piece in
@@ -21,7 +21,8 @@ returns-in_err-extend_from_slice-in-Ok-clause-read g c =
 pub returns-then-ne-clause-read : goal.returns-then-ne-clause-read
 returns-then-ne-clause-read g c =
     let (read, taken, is, low) = c.loop.invariant in
-    let far : length c.loop.bytes.items ≡ length c.args.bytes.now.items + length read = ap length is ∙ length-append c.args.bytes.now.items read in
+    let far : length c.loop.bytes.items ≡ length c.args.bytes.now.items + length read =
+    ap length is ∙ length-append c.args.bytes.now.items read in
     (read, consumes_kept _ _ _ read taken c.in-Err.ensures.bytes, omega (arith, far, low), tt)
 
 pub loop-preserved : goal.loop-preserved
