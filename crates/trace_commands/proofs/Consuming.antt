@@ -1,5 +1,5 @@
 -- Reading in parts: what was taken from a reader, part after part.
-use Rattle.std.proofs.Common.{◌≡◌, ℕ, List, [], ◌++◌, Option, Some, None, refl, sym, ap, ◌∙◌, append_assoc}
+use Rattle.std.proofs.Common.{◌≡◌, ℕ, List, [], ◌++◌, Option, Some, None, refl, sym, ap, ◌∙◌, append_assoc, append-nil}
 use Rattle.std.specs.Io.KnownBytes.{Consumes, IsAtEnd, Keeps}
 use Rattle.trace_report.specs.Streams.{IsTextOf}
 
@@ -19,9 +19,14 @@ consumes_kept (Some x) None c front p q = absurd p
 consumes_kept (Some x) (Some y) None front p q = absurd q
 consumes_kept (Some x) (Some y) (Some z) front p q = p ∙ ap (λ l. front ++ l) (sym q)
 
--- What was read begins all that there was to read, and is all of it where nothing is left.
-pub text_begins : (old new : Option (List ℕ)) (read : List ℕ) → Consumes old new read
-    → (more : List ℕ) × IsTextOf old (read ++ more) × (IsAtEnd new → more ≡ [])
-text_begins None new read h = ([], tt, λ e. refl)
+-- What was read begins all that there was to read.
+pub text_begins : (old new : Option (List ℕ)) (read : List ℕ) → Consumes old new read → (more : List ℕ) × IsTextOf old (read ++ more)
+text_begins None new read h = ([], tt)
 text_begins (Some xs) None read h = absurd h
-text_begins (Some xs) (Some ys) read h = (ys, sym h, λ e. e)
+text_begins (Some xs) (Some ys) read h = (ys, sym h)
+
+-- where nothing is left, all was read
+pub all_read : (old new : Option (List ℕ)) (read : List ℕ) → Consumes old new read → IsAtEnd new → IsTextOf old read
+all_read None new read h e = tt
+all_read (Some xs) None read h e = absurd h
+all_read (Some xs) (Some ys) read h e = sym (h ∙ ap (λ l. read ++ l) e ∙ append-nil read)

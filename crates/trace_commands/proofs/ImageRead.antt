@@ -1,23 +1,24 @@
 -- Images that are read as far as their header says.
 use Rattle.std.proofs.Common.{◌≡◌, ◌≢◌, ◌⊎◌, ℕ, ◌+◌, ◌<◌, ◌≤◌, List, [], ◌++◌, Option, length, take, refl}
-use Rattle.std.proofs.Common.{sym, ap, ◌∙◌, subst, inl, inr, arith, append-nil, append_assoc, length-append}
+use Rattle.std.proofs.Common.{sym, ap, ◌∙◌, subst, inl, inr, arith, append_assoc, length-append}
 use Rattle.std.proofs.lemmas.List.{take-append-le, take_all}
 use Rattle.std.specs.Io.KnownBytes.{Consumes, IsAtEnd}
+use Rattle.std.specs.declared.io.Error.{Error}
 use Rattle.image_header.specs.Headers.{IsFaultOfAll, IsLengthOfAll}
 use Rattle.tables.specs.Images.{HasImageFault, IsFirstImageFault}
 use Rattle.tables.specs.declared.fault.ImageFault.{ImageFault}
 use Rattle.tables.specs.declared.fault.ImageFault.TheVariants as fault_here
 use Rattle.trace_report.specs.declared.fault.Fault.{Fault}
-use Rattle.trace_report.specs.declared.fault.Fault.TheVariants.{Image, Input, Memory}
+use Rattle.trace_report.specs.declared.fault.Fault.TheVariants.{Permissions, Name, Text, Compiling, Image, Input, Memory}
 use Rattle.trace_report.specs.declared.status.Status.TheVariants.{Refused}
-use Rattle.trace_report.specs.Fault.{fault_of_image}
+use Rattle.trace_report.specs.Fault.{IsFaultOfReading, fault_of_image}
 use Rattle.trace_report.specs.Output.{Output, fault, image_refusal}
 use Rattle.trace_report.specs.Streams.{IsTextOf}
 use Rattle.trace_report.proofs.Endings.{text_of}
 use Rattle.trace_commands.specs.Reading.{IsFrontOfImage, ReadsImage}
 use Rattle.trace_commands.specs.Tables.{IsImageRefused}
 use Rattle.trace_commands.specs.inner.Answers.{AreGood, IsFaultOfOne, IsRefusedText}
-use Rattle.trace_commands.proofs.Consuming.{consumes_more, consumes_nothing, text_begins}
+use Rattle.trace_commands.proofs.Consuming.{all_read, consumes_more, consumes_nothing, text_begins}
 use Rattle.trace_commands.proofs.OneOutput.{unread_one}
 
 -- a fault of bytes is reported as one of an image
@@ -51,12 +52,8 @@ module _ (old mid new : Option (List ℕ)) (header : List ℕ) (taken : Consumes
     both = consumes_more old mid new header rest taken more
 
     -- all was read
-    pub all_read : (image : List ℕ) → image ≡ header ++ rest → IsAtEnd new → IsTextOf old image
-    all_read image is end =
-        let begins = text_begins old new (header ++ rest) both in
-        let none : begins.0 ≡ [] = begins.2 end in
-        let same : (header ++ rest) ++ begins.0 ≡ image = ap (λ l. (header ++ rest) ++ l) none ∙ append-nil (header ++ rest) ∙ sym is in
-        subst (IsTextOf old) same begins.1
+    pub all_of_both : (image : List ℕ) → image ≡ header ++ rest → IsAtEnd new → IsTextOf old image
+    all_of_both image is end = subst (IsTextOf old) (sym is) (all_read old new (header ++ rest) both end)
 
     -- more follows than the header gives
     pub longer_refused : (n : ℕ) (f : Fault) → IsLengthOfAll header n → n < length (header ++ rest) → f ≡ Image fault_here.Length
@@ -85,6 +82,17 @@ module _ (old mid new : Option (List ℕ)) (header : List ℕ) (taken : Consumes
 -- no more than the header was read
 pub reads_header : (old new : Option (List ℕ)) (read : List ℕ) → Consumes old new read → length read ≤ 20 → ReadsImage old new
 reads_header old new read taken low = (read, taken, inl low)
+
+-- a failed read is reported as such
+pub read_failed : (left : Option (List ℕ)) (error : Error) (f : Fault) → IsFaultOfReading error f
+    → (f ≡ Input) ⊎ ((f ≡ Memory) ⊎ IsRefusedText left f)
+read_failed left error Input h = inl refl
+read_failed left error Memory h = inr (inl refl)
+read_failed left error Permissions h = absurd h
+read_failed left error Name h = absurd h
+read_failed left error (Text k) h = absurd h
+read_failed left error (Compiling k) h = absurd h
+read_failed left error (Image k) h = absurd h
 
 -- where there is no image, a fault is reported that is wanted, or that hides what is
 pub image_unread : (left : Option (List ℕ)) (Wanted : List ℕ → Output → Type 0) (f : Fault) → ((text : List ℕ) → AreGood (Wanted text))
