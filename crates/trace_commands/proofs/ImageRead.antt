@@ -17,7 +17,7 @@ use Rattle.trace_report.specs.Streams.{IsTextOf}
 use Rattle.trace_report.proofs.Endings.{text_of}
 use Rattle.trace_commands.specs.Reading.{IsFrontOfImage, ReadsImage}
 use Rattle.trace_commands.specs.Tables.{IsImageRefused}
-use Rattle.trace_commands.specs.inner.Answers.{AreGood, IsFaultOfOne, IsRefusedText}
+use Rattle.trace_commands.specs.inner.Answers.{AreGood, IsFaultOfOne, IsRefusedText, IsUnread}
 use Rattle.trace_commands.proofs.Consuming.{all_read, consumes_more, consumes_nothing, text_begins}
 use Rattle.trace_commands.proofs.OneOutput.{unread_one}
 
@@ -84,8 +84,7 @@ pub reads_header : (old new : Option (List ℕ)) (read : List ℕ) → Consumes 
 reads_header old new read taken low = (read, taken, inl low)
 
 -- a failed read is reported as such
-pub read_failed : (left : Option (List ℕ)) (error : Error) (f : Fault) → IsFaultOfReading error f
-    → (f ≡ Input) ⊎ ((f ≡ Memory) ⊎ IsRefusedText left f)
+pub read_failed : (left : Option (List ℕ)) (error : Error) (f : Fault) → IsFaultOfReading error f → IsUnread left f
 read_failed left error Input h = inl refl
 read_failed left error Memory h = inr (inl refl)
 read_failed left error Permissions h = absurd h
@@ -97,7 +96,7 @@ read_failed left error (Image k) h = absurd h
 -- where there is no image, a fault is reported that is wanted, or that hides what is
 pub image_unread : (left : Option (List ℕ)) (Wanted : List ℕ → Output → Type 0) (f : Fault) → ((text : List ℕ) → AreGood (Wanted text))
     → ((text : List ℕ) (output : Output) → IsImageRefused text output → Wanted text output)
-    → (f ≡ Input) ⊎ ((f ≡ Memory) ⊎ IsRefusedText left f) → (text : List ℕ) × IsTextOf left text × IsFaultOfOne (Wanted text) f
+    → IsUnread left f → (text : List ℕ) × IsTextOf left text × IsFaultOfOne (Wanted text) f
 image_unread left Wanted f good wants (inl h) =
     let text = text_of left in (text.0, text.1, unread_one (Wanted text.0) f (good text.0) (inl h))
 image_unread left Wanted f good wants (inr (inl h)) =

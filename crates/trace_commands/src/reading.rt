@@ -1,8 +1,9 @@
 //! Images that are read no further than their header says.
-ghost use Rattle.std.specs.Prelude.{◌≡◌, ◌⊎◌, ℕ, ◌+◌, ◌≤◌, List, ◌++◌, OnOk, length};
+ghost use Rattle.std.specs.Prelude.{◌≡◌, ◌⊎◌, ℕ, ◌+◌, ◌≤◌, List, [], ◌++◌, IfErr, OnOk, length};
 ghost use Rattle.std.specs.Io.KnownBytes.{Consumes, IsAtEnd};
 ghost use Rattle.trace_commands.specs.Reading.{ReadsImage};
-ghost use Rattle.trace_commands.specs.inner.Answers.{IsImageRead};
+ghost use Rattle.trace_commands.specs.inner.Answers.{IsImageRead, IsUnread};
+ghost use Rattle.trace_report.specs.Streams.{IsTextOf};
 
 use image_header::{HEADER_LENGTH, image_length};
 use std::alloc::Global;
@@ -21,16 +22,27 @@ pub(crate) fn read_image<R: Read>(alloc: Global, input: &mut R) -> Result<Vec<u8
     ensures front { ReadsImage (R.remaining input.old) (R.remaining input.new) }
 {
     let mut image = Vec::new(alloc);
-    read_up_to(input, HEADER_LENGTH, &mut image)?;
+    read_into(input, &mut image)?;
+    Ok(image)
+}
+
+/// Reads the image into an empty vector, or says why there is none.
+fn read_into<R: Read>(input: &mut R, image: &mut Vec<u8>) -> Result<(), Fault>
+    requires empty { image.old.items ≡ [] }
+    ensures all { OnOk result (IsTextOf (R.remaining input.old) image.new.items) }
+    ensures unread { IfErr result (IsUnread (R.remaining input.old)) }
+    ensures front { ReadsImage (R.remaining input.old) (R.remaining input.new) }
+{
+    read_up_to(input, HEADER_LENGTH, image)?;
     if image.len() < HEADER_LENGTH {
-        return Ok(image);
+        return Ok(());
     }
-    let length = image_length(&image)?;
-    read_up_to(input, length + 1, &mut image)?;
+    let length = image_length(image)?;
+    read_up_to(input, length + 1, image)?;
     if image.len() > length {
         return Err(Fault::Image(ImageFault::Length));
     }
-    Ok(image)
+    Ok(())
 }
 
 /// Reads until there are as many bytes as `most`, or nothing is left to read.

@@ -33,10 +33,14 @@ IsTextRead left (Err f) = f ≡ Input ⊎ f ≡ Memory
 abbrev pub IsRefusedText : Option (List ℕ) → Fault → Type 0
 IsRefusedText left f = (text : List ℕ) × IsTextOf left text × (fault : ImageFault) × (f ≡ Image fault) × IsFirstImageFault text fault
 
--- all that was left where it's known, or a failure of the stream or of memory, or its first fault
+-- a failure of the stream or of memory, or the first fault of all that was left
+abbrev pub IsUnread : Option (List ℕ) → Fault → Type 0
+IsUnread left f = (f ≡ Input) ⊎ ((f ≡ Memory) ⊎ IsRefusedText left f)
+
+-- all that was left where it's known, or why it wasn't read
 abbrev pub IsImageRead : Option (List ℕ) → Result (Vec ℕ Global) Fault → Type 0
 IsImageRead left (Ok image) = IsTextOf left image.items
-IsImageRead left (Err f) = (f ≡ Input) ⊎ ((f ≡ Memory) ⊎ IsRefusedText left f)
+IsImageRead left (Err f) = IsUnread left f
 
 -- no wanted output reports bad arguments
 abbrev pub AreGood : (Output → Type 0) → Type 0
