@@ -1,5 +1,5 @@
 -- Images that are read as far as their header says.
-use Rattle.std.proofs.Common.{◌≡◌, ◌≢◌, ◌⊎◌, ℕ, ◌+◌, ◌<◌, ◌≤◌, List, [], ◌++◌, Option, length, take, refl}
+use Rattle.std.proofs.Common.{◌≡◌, ◌≢◌, ℕ, ◌+◌, ◌<◌, ◌≤◌, List, [], ◌++◌, Option, length, take, refl}
 use Rattle.std.proofs.Common.{sym, ap, ◌∙◌, subst, inl, inr, arith, append_assoc, length-append}
 use Rattle.std.proofs.lemmas.List.{take-append-le, take_all}
 use Rattle.std.specs.Io.KnownBytes.{Consumes, IsAtEnd}
@@ -15,7 +15,7 @@ use Rattle.trace_report.specs.Fault.{IsFaultOfReading, fault_of_image}
 use Rattle.trace_report.specs.Output.{Output, fault, image_refusal}
 use Rattle.trace_report.specs.Streams.{IsTextOf}
 use Rattle.trace_report.proofs.Endings.{text_of}
-use Rattle.trace_commands.specs.Reading.{IsFrontOfImage, ReadsImage}
+use Rattle.trace_commands.specs.Reading.{ReadsImage}
 use Rattle.trace_commands.specs.Tables.{IsImageRefused}
 use Rattle.trace_commands.specs.inner.Answers.{AreGood, IsFaultOfOne, IsRefusedText, IsUnread}
 use Rattle.trace_commands.proofs.Consuming.{all_read, consumes_more, consumes_nothing, text_begins}

@@ -25,9 +25,9 @@ returns-then-len-lt-HEADER_LENGTH-clause-all g c =
     let (read, taken, low, is) = c.in_ok-read_up_to.ensures.read in
     let here : c.read_up_to.new.bytes.items ≡ read = is ∙ ap (λ l. l ++ read) c.requires.empty in
     ⊎_elim
-        (λ full. absurd (omega (arith, c.len.ensures, c.if-len-lt-HEADER_LENGTH.true, full)))
-        (λ at_end. subst (IsTextOf (g.R.Read.remaining c.args.input.now)) (sym here) (all_read _ _ read taken at_end))
-        c.in_ok-read_up_to.ensures.end
+    (λ full. absurd (omega (arith, c.len.ensures, c.if-len-lt-HEADER_LENGTH.true, full)))
+    (λ at_end. subst (IsTextOf (g.R.Read.remaining c.args.input.now)) (sym here) (all_read _ _ read taken at_end))
+    c.in_ok-read_up_to.ensures.end
 
 pub returns-then-len-lt-HEADER_LENGTH-clause-front : goal.returns-then-len-lt-HEADER_LENGTH-clause-front
 returns-then-len-lt-HEADER_LENGTH-clause-front g c =
@@ -118,9 +118,9 @@ returns-clause-all g c =
     let (rest, more, low_2, is_2) = c.in_ok-read_up_to-2.ensures.read in
     let both : c.read_up_to-2.new.bytes.items ≡ read ++ rest = is_2 ∙ ap (λ l. l ++ rest) here in
     ⊎_elim
-        (λ full. absurd (omega (arith, c.len-2.ensures, c.if-len-length.false, full)))
-        (λ at_end. all_of_both _ _ _ read taken rest more _ both at_end)
-        c.in_ok-read_up_to-2.ensures.end
+    (λ full. absurd (omega (arith, c.len-2.ensures, c.if-len-length.false, full)))
+    (λ at_end. all_of_both _ _ _ read taken rest more _ both at_end)
+    c.in_ok-read_up_to-2.ensures.end
 
 pub returns-clause-front : goal.returns-clause-front
 returns-clause-front g c =
