@@ -1,4 +1,6 @@
 pub mod Arguments
+pub mod Consuming
 pub mod ExplainEndings
 pub mod OneOutput
 pub mod ImageAnswers
+pub mod ImageRead

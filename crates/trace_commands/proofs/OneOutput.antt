@@ -119,6 +119,14 @@ asked_arguments asked ask name image e = rw e (matched_arguments ask name image)
 pub match_arguments : (perms name image : List ℕ) (ask : Perms) → ask_of perms name ≡ Ok ask → AreGood (IsMatchOutput perms name image)
 match_arguments perms name image ask e = asked_arguments (ask_of perms name) ask name image e
 
+asked_refused : (asked : Result Perms (List ℕ)) (ask : Perms) (name image : List ℕ) (output : Output) → asked ≡ Ok ask →
+    IsImageRefused image output → IsMatchOutputOf asked name image output
+asked_refused asked ask name image output e h = rw e (inr h)
+
+pub match_refused : (perms name image : List ℕ) (ask : Perms) (output : Output) → ask_of perms name ≡ Ok ask → IsImageRefused image output
+    → IsMatchOutput perms name image output
+match_refused perms name image ask output e h = asked_refused (ask_of perms name) ask name image output e h
+
 asked_answer : (asked : Result Perms (List ℕ)) (ask : Perms) (name image : List ℕ) (result : Result (Vec ℕ Global) Fault) → asked ≡ Ok ask
     → IsAnswered (IsMatchedOutput ask name image) result → IsAnswered (IsMatchOutputOf asked name image) result
 asked_answer asked ask name image result e h = rw e h

@@ -1,4 +1,5 @@
 pub mod Tables
 pub mod Judge
 pub mod Explain
+pub mod Reading
 pub mod inner

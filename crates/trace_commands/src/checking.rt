@@ -1,11 +1,12 @@
 //! `check`: whether the image that is read can be run.
 ghost use Rattle.std.specs.Prelude.{◌≡◌, ◌≢◌, ◌⊎◌, ℕ, List, IfErr, IfOk, Some};
+ghost use Rattle.trace_commands.specs.Reading.{ReadsImage};
 ghost use Rattle.trace_commands.specs.inner.Answers.{IsAnswered};
 ghost use Rattle.trace_report.specs.Output.{line};
 ghost use Rattle.trace_report.specs.Streams.{EndsInOne, IsTextOf};
 ghost use Rattle.trace_commands.specs.Tables.{IsCheckOutput, IsMemoryOfWhole, counts_text};
 
-use crate::judging::read_all;
+use crate::reading::read_image;
 use names::NoMemory;
 use std::alloc::Global;
 use std::io::{Read, Write};
@@ -14,14 +15,14 @@ use tables::images_are_whole;
 use trace_report::{Fault, Status, fail, write_answer};
 
 /// Reads an image from `input` and writes to `answers` how many states, cells and records it has. Its first fault is reported on
-/// `faults` instead.
+/// `faults` instead. A fault of the header is reported once that is read, whatever follows it.
 pub fn check<R: Read, A: Write, F: Write>(
     alloc: Global,
     input: &mut R,
     answers: &mut A,
     faults: &mut F,
 ) -> Status
-    ensures { (text : List ℕ) × IsTextOf (R.remaining input.old) text × EndsInOne
+    ensures output { (text : List ℕ) × IsTextOf (R.remaining input.old) text × EndsInOne
         (record {
           answers_before = A.contents answers.old;
           answers_after = A.contents answers.new;
@@ -29,6 +30,7 @@ pub fn check<R: Read, A: Write, F: Write>(
           faults_after = F.contents faults.new;
         })
         (IsCheckOutput text) result }
+    ensures front { ReadsImage (R.remaining input.old) (R.remaining input.new) }
 {
     match counts_read(alloc, input) {
         Ok(line) => write_answer(answers, faults, &line),
@@ -38,9 +40,10 @@ pub fn check<R: Read, A: Write, F: Write>(
 
 /// The line of an image's counts, or why there is none.
 fn counts_read<R: Read>(alloc: Global, input: &mut R) -> Result<Vec<u8>, Fault>
-    ensures { (text : List ℕ) × IsTextOf (R.remaining input.old) text × IsAnswered (IsCheckOutput text) result }
+    ensures output { (text : List ℕ) × IsTextOf (R.remaining input.old) text × IsAnswered (IsCheckOutput text) result }
+    ensures front { ReadsImage (R.remaining input.old) (R.remaining input.new) }
 {
-    let image = read_all(alloc, input)?;
+    let image = read_image(alloc, input)?;
     counts_of_image(alloc, &image)
 }
 

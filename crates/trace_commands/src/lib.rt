@@ -11,6 +11,7 @@ mod explaining;
 mod judging;
 mod laws;
 mod matching;
+mod reading;
 
 pub use checking::check;
 pub use compiling::compile;

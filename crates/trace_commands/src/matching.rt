@@ -2,13 +2,15 @@
 ghost use Rattle.std.specs.Prelude.{◌≡◌, ◌≢◌, ◌⊎◌, ℕ, List, IsErr, IfErr, IfOk, Some};
 ghost use Rattle.std.specs.Io.KnownBytes.{Keeps};
 ghost use Rattle.verdicts.specs.declared.verdict.Verdict.{Verdict};
+ghost use Rattle.trace_commands.specs.Reading.{ReadsImage};
 ghost use Rattle.trace_commands.specs.inner.Answers.{IsAnswered};
 ghost use Rattle.trace_commands.specs.Judge.{ask_of};
 ghost use Rattle.trace_report.specs.Output.{whole_answer};
 ghost use Rattle.trace_report.specs.Streams.{EndsInOne, IsTextOf};
 ghost use Rattle.trace_commands.specs.Tables.{IsMatchOutput, IsMatchedOutput, IsMemoryOfWhole, IsVerdictOf, match_text};
 
-use crate::judging::{ask_of, read_all};
+use crate::judging::ask_of;
+use crate::reading::read_image;
 use names::{NoMemory, Perms};
 use std::alloc::Global;
 use std::io::{Read, Write};
@@ -19,7 +21,8 @@ use trace_report::{Fault, Status, fail, write_answer};
 use verdicts::told;
 
 /// Reads an image from `input` and writes to `answers` its verdict on the name for the permissions asked for, and how many cells
-/// were looked up. A fault is reported on `faults` instead. The arguments are tested before anything is read.
+/// were looked up. A fault is reported on `faults` instead. The arguments are tested before anything is read, and a fault of the
+/// header is reported once that is read, whatever follows it.
 pub fn match_name<R: Read, A: Write, F: Write>(
     alloc: Global,
     perms: &str,
@@ -38,6 +41,7 @@ pub fn match_name<R: Read, A: Write, F: Write>(
         (IsMatchOutput perms.now name.now text) result }
     ensures unread { IsErr (ask_of perms.now name.now)
         → Keeps (R.remaining input.old) (R.remaining input.new) }
+    ensures front { ReadsImage (R.remaining input.old) (R.remaining input.new) }
 {
     match match_read(alloc, perms, name, input) {
         Ok(lines) => write_answer(answers, faults, &lines),
@@ -56,9 +60,10 @@ fn match_read<R: Read>(
         × IsAnswered (IsMatchOutput perms.now name.now text) result }
     ensures unread { IsErr (ask_of perms.now name.now)
         → Keeps (R.remaining input.old) (R.remaining input.new) }
+    ensures front { ReadsImage (R.remaining input.old) (R.remaining input.new) }
 {
     let ask = ask_of(perms, name)?;
-    let image = read_all(alloc, input)?;
+    let image = read_image(alloc, input)?;
     match_image(alloc, &image, name.as_bytes(), ask)
 }
 

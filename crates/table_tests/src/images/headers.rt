@@ -1,5 +1,14 @@
 //! Images cut, longer, and with another header.
 use super::*;
+use image_header::{HEADER_LENGTH, image_length};
+
+// What the header of these bytes settles, if they have one: their fault, or their length.
+fn settled(bytes: &[u8]) -> Option<Result<usize, ImageFault>> {
+    if bytes.len() < HEADER_LENGTH {
+        return None;
+    }
+    Some(image_length(bytes))
+}
 
 // The first length such that the image cut to it isn't reported as too short.
 fn first_cut_told_otherwise(alloc: Global, image: &[u8]) -> Option<usize> {
@@ -39,6 +48,7 @@ fn fault_of_longer(alloc: Global, image: &[u8]) -> Result<Option<ImageFault>, Fa
 fn expect_whole(rt: &impl Abort, alloc: Global, image: &[u8], length: usize) -> Result<(), Fail> {
     let fault = fault_of_longer(alloc, image)?;
     assert!(rt; fault == Some(ImageFault::Length) && image.len() == length);
+    assert!(rt; settled(image) == Some(Ok(length)));
     let _table = tables_and_back(rt, alloc, image)?;
     Ok(())
 }
@@ -89,7 +99,17 @@ fn expect_header(
     let bytes = altered(alloc, image, *place, other)?;
     let fault = from_bytes(alloc, &bytes).err();
     assert!(rt; fault == Some(*want), "{other:?} at {place}");
+    expect_settled(rt, &bytes, *want);
     Ok(())
+}
+
+// Each fault but that of the length is settled by the header alone.
+fn expect_settled(rt: &impl Abort, bytes: &[u8], want: ImageFault) {
+    if let Some(Err(fault)) = settled(bytes) {
+        assert!(rt; fault == want && want != ImageFault::Length);
+    } else {
+        assert!(rt; want == ImageFault::Length);
+    }
 }
 
 fn expect_headers(
@@ -147,6 +167,23 @@ fn headers(rt: HostRuntime) -> Result<(), Fail> {
     let alloc = rt.alloc();
     expect_headers(&rt, alloc, &smallest(alloc)?, &HEADERS)?;
     expect_headers(&rt, alloc, &passwd(alloc)?, &HEADERS)
+}
+
+// The lengths that headers give, the greatest counts among them.
+#[test]
+fn lengths_by_headers(rt: HostRuntime) {
+    let rows: [(&[u8], usize); 4] = [
+        (b"PTAB\x01\0\0\0\x02\0\0\0\0\x01\0\0\x01\0\0\0", 2_112),
+        (b"PTAB\x01\0\0\0\x0d\0\0\0\x02\x01\0\0\x02\0\0\0", 2_280),
+        (
+            b"PTAB\x01\0\0\0\x02\0\0\0\0\x01\0\0\x01\0\0\0and more",
+            2_112,
+        ),
+        (b"PTAB\x01\0\0\0\0\0\x01\0\0\0\0\x01\0\0\x01\0", 136_314_900),
+    ];
+    for (header, length) in &rows {
+        assert!(rt; settled(header) == Some(Ok(*length)), "{length}");
+    }
 }
 
 fn expect_faults(rt: &impl Abort, alloc: Global, rows: &[(&[u8], ImageFault)]) -> Result<(), Fail> {

@@ -7,7 +7,10 @@ use Rattle.verdicts.specs.VerdictText.{verdict_text}
 use Rattle.trace_commands.specs.Judge.{ask_of}
 use Rattle.trace_report.specs.declared.status.Status.TheVariants.{BadArguments}
 use Rattle.trace_report.specs.declared.fault.Fault.{Fault}
-use Rattle.trace_report.specs.declared.fault.Fault.TheVariants.{Permissions, Name, Input, Memory}
+use Rattle.trace_report.specs.declared.fault.Fault.TheVariants.{Permissions, Name, Image, Input, Memory}
+use Rattle.tables.specs.Images.{IsFirstImageFault}
+use Rattle.tables.specs.declared.fault.ImageFault.{ImageFault}
+use Rattle.trace_report.specs.Streams.{IsTextOf}
 use Rattle.trace_report.specs.Fault.{IsFaultOf, fault_text, fault_status}
 use Rattle.trace_report.specs.Output.{Output, answer, fault, whole_answer}
 
@@ -25,6 +28,19 @@ IsAsked wanted (Err f) = (wanted ≡ Err (fault_text f)) × (f ≡ Permissions �
 abbrev pub IsTextRead : Option (List ℕ) → Result (Vec ℕ Global) Fault → Type 0
 IsTextRead left (Ok text) = IfSome left (λ known. text.items ≡ known)
 IsTextRead left (Err f) = f ≡ Input ⊎ f ≡ Memory
+
+-- all that was left has this first fault
+abbrev pub IsRefusedText : Option (List ℕ) → Fault → Type 0
+IsRefusedText left f = (text : List ℕ) × IsTextOf left text × (fault : ImageFault) × (f ≡ Image fault) × IsFirstImageFault text fault
+
+-- a failure of the stream or of memory, or the first fault of all that was left
+abbrev pub IsUnread : Option (List ℕ) → Fault → Type 0
+IsUnread left f = (f ≡ Input) ⊎ ((f ≡ Memory) ⊎ IsRefusedText left f)
+
+-- all that was left where it's known, or why it wasn't read
+abbrev pub IsImageRead : Option (List ℕ) → Result (Vec ℕ Global) Fault → Type 0
+IsImageRead left (Ok image) = IsTextOf left image.items
+IsImageRead left (Err f) = IsUnread left f
 
 -- no wanted output reports bad arguments
 abbrev pub AreGood : (Output → Type 0) → Type 0

@@ -1,0 +1,50 @@
+//! The header of an image, read before the rest of it is there.
+ghost use Rattle.std.specs.Prelude.{◌≡◌, ◌≢◌, ◌≤◌, IfOk, IfErr, MatchOption, length};
+ghost use Rattle.image_header.specs.Headers.{IsFaultOfAll, IsLengthOfAll};
+ghost use Rattle.tables.specs.Images.{IsFirstImageFault, told_length};
+ghost use Rattle.tables.specs.declared.fault.ImageFault.TheVariants as fault;
+
+use byteorder::{ByteOrder, LittleEndian};
+use tables::{Image, ImageFault, images_are_whole};
+
+/// How many bytes the header has.
+pub const HEADER_LENGTH: usize = 20;
+
+/// How many bytes an image has that begins with these bytes, or the first fault of every image that does. Nothing is settled by
+/// fewer bytes than the header has.
+pub fn image_length(front: &[u8]) -> Result<usize, ImageFault>
+    requires header { 20 ≤ length front.now }
+    ensures length { IfOk result (IsLengthOfAll front.now) }
+    ensures fault { IfErr result (IsFaultOfAll front.now) }
+{
+    let header = &front[..HEADER_LENGTH];
+    match fault_of_header(header) {
+        None => Ok(length_by_counts(header)),
+        Some(fault) => Err(fault),
+    }
+}
+
+/// The first fault of a header, apart from what follows it.
+fn fault_of_header(header: &[u8]) -> Option<ImageFault>
+    requires { length header.now ≡ 20 }
+    ensures { MatchOption result (IsFirstImageFault header.now fault.Length)
+        (λ f. IsFirstImageFault header.now f × (f ≢ fault.Length)) }
+{
+    images_are_whole();
+    match Image::of(header) {
+        // No image is as short as its header.
+        Ok(_) | Err(ImageFault::Length) => None,
+        Err(fault) => Some(fault),
+    }
+}
+
+/// The length in bytes of an image with the counts of this header.
+fn length_by_counts(header: &[u8]) -> usize
+    requires { length header.now ≡ 20 }
+    ensures { result ≡ told_length header.now }
+{
+    let states = LittleEndian::read_u32(&header[8..]) as usize;
+    let cells = LittleEndian::read_u32(&header[12..]) as usize;
+    let records = LittleEndian::read_u32(&header[16..]) as usize;
+    HEADER_LENGTH + 12 * states + 8 * cells + 20 * records
+}
