@@ -1,4 +1,8 @@
 //! Profiles of texts.
+ghost use Rattle.std.specs.Prelude.{IfOk};
+ghost use Rattle.rule_profile.specs.Profile.{profile_value};
+ghost use Rattle.rule_reader.specs.Grammar.{ReadsAs};
+
 use crate::call::Call;
 use crate::difference::{Difference, How, expect};
 use crate::retry::{again, expect_ok};
@@ -8,12 +12,16 @@ use std::alloc::Global;
 use std::sync::Arc;
 
 /// Reads a text.
-pub fn read_text(alloc: Global, text: &[u8]) -> Result<Profile, Difference> {
+pub fn read_text(alloc: Global, text: &[u8]) -> Result<Profile, Difference>
+    ensures { IfOk result (λ profile. ReadsAs text.now (profile_value profile)) }
+{
     again(Call::Read, ReadFault::NoMemory, || read(alloc, text))
 }
 
 /// The profile of a text, compiled. It is read again where memory is refused, since a call that is refused drops it.
-pub fn compiled_of(alloc: Global, text: &[u8]) -> Result<CompiledProfile, Difference> {
+pub fn compiled_of(alloc: Global, text: &[u8]) -> Result<CompiledProfile, Difference>
+    ensures { IfOk result (λ compiled. ReadsAs text.now (profile_value compiled.profile)) }
+{
     match CompiledProfile::make(alloc, read_text(alloc, text)?) {
         Ok(compiled) => Ok(compiled),
         Err(fault) => {

@@ -1,5 +1,5 @@
 //! Calls that are made again.
-ghost use Rattle.std.specs.Prelude.{◌≡◌, IfOk, Ok};
+ghost use Rattle.std.specs.Prelude.{◌≡◌, ◌↔◌, IfOk, IsOk, Ok};
 
 use crate::call::Call;
 use crate::difference::{Difference, How, expect};
@@ -24,7 +24,8 @@ pub fn again<T, E: Copy + PartialEq, F: Fn() -> Result<T, E>>(
 
 /// What a call returns that has to succeed, since memory isn't refused, or not again.
 pub fn expect_ok<T, E: Drop>(call: Call, answer: Result<T, E>) -> Result<T, Difference>
-    ensures { IfOk result (λ made. answer ≡ Ok made) }
+    ensures made { IfOk result (λ made. answer ≡ Ok made) }
+    ensures only { IsOk result ↔ IsOk answer }
 {
     match answer {
         Ok(made) => Ok(made),
