@@ -81,10 +81,11 @@ def corpus():
 
 def compare(program, case):
     """The command with what kind of answer it got, if both are the same; else the difference, made smaller."""
-    found = comparing.difference(program, case)
+    second = comparing.second_outcome(case)
+    found = comparing.difference(program, case, second)
     if found is not None:
         return None, comparing.Shrinking(program, found).shrink()
-    return (case.words[0], kind_of(case, comparing.second_outcome(case))), None
+    return (case.words[0], kind_of(case, second)), None
 
 
 def kind_of(case, second):

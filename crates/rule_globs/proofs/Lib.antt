@@ -1,10 +1,12 @@
 pub mod Behind
+pub mod Blocks
 pub mod ByteBits
 pub mod Sweeps
 pub mod WholeSweeps
 pub mod MeaningLaws
 pub mod Weight
 pub mod PassLaws
+pub mod Fronts
 pub mod StepLaws
 pub mod FollowLaws
 pub mod Cuts

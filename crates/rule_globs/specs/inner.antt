@@ -1,3 +1,4 @@
+pub mod Blocks
 pub mod Sweep
 pub mod Cursor
 pub mod RuleHits

@@ -1,14 +1,17 @@
 //! What rules mean: the items of a path and the pattern that they stand for, which names a pattern takes, and the verdict of
-//! rules on a name, as definitions. A name is matched by its live places, in one pass over the items for each byte.
+//! rules on a name, as definitions. A name is matched by its live places, in one pass over the
+//! items for each 64 bytes.
 //!
 //! The definitions to believe are those in `specs/`; those in `specs/inner/` are of private contracts and
 //! proofs.
 #![tactic(auto)]
 
+mod block;
 mod byte_bits;
 mod items;
 mod laws;
 mod live;
+mod matching;
 mod path;
 
 pub use items::{ByteRange, Class, Item, Stars};

@@ -1,6 +1,6 @@
 //! The path of a rule, and which names it takes.
 use crate::items::Item;
-use crate::live::{Cursor, pass_items};
+use crate::matching::take_all;
 use std::marker::Model;
 
 /// The most items of a path, with the braces and commas of its groups.
@@ -58,36 +58,11 @@ impl RulePath {
 
     /// Whether the path takes all the bytes (apparmor.d(5), "Globbing").
     ///
-    /// The time grows with the number of items times the number of bytes. No memory is taken: each byte moves the live places
-    /// on in one pass over the items, in room on the stack.
+    /// The time grows with the number of items times the number of bytes. No memory is taken: 64 bytes at a time move the live
+    /// places on in one pass over the items, in room on the stack.
     pub fn takes(&self, bytes: &[u8]) -> bool
         ensures { IsTrue result ↔ Takes (pattern_of self.now) bytes.now }
     {
-        let items = self.items();
-        let mut live = [false; MAX_PLACES];
-        // No item takes byte 0, so the pass by it lights the places that are live before the first byte.
-        let start = pass_items(
-            items,
-            0,
-            Cursor {
-                place: 0,
-                reached: true,
-            },
-            &mut live,
-        );
-        let mut taken = start.reached;
-        for byte in bytes {
-            let behind = pass_items(
-                items,
-                *byte,
-                Cursor {
-                    place: 0,
-                    reached: false,
-                },
-                &mut live,
-            );
-            taken = behind.reached;
-        }
-        taken
+        take_all(self.items(), bytes)
     }
 }

@@ -20,7 +20,7 @@ fn hits(rule: &Rule, name: &[u8], ask: Perms) -> bool
 /// (apparmor.d(5), "Access Modes" and "Rule Qualifiers").
 ///
 /// The time grows as the items of the rules times the bytes of the name. No memory is taken: each rule is passed over
-/// once for each byte, in room on the stack.
+/// once for each 64 bytes, in room on the stack.
 pub fn judge_slow(profile: &Profile, name: &[u8], ask: Perms) -> Verdict
     // The verdict, by sets of hits and least members.
     ensures verdict { IsVerdict (profile_value profile.now).rules name.now ask result }

@@ -3,6 +3,8 @@
 #![tactic(auto)]
 
 #[cfg(test)]
+mod blocks;
+#[cfg(test)]
 mod components;
 #[cfg(test)]
 mod cuts;
@@ -14,6 +16,8 @@ mod fronts;
 mod linking;
 #[cfg(test)]
 mod permissions;
+#[cfg(test)]
+mod plain;
 #[cfg(test)]
 mod printing;
 #[cfg(test)]

@@ -9,13 +9,13 @@ use Rattle.rule_globs.proofs.live.+pass.Given as goal
 -- what is left of the pass, from here
 abbrev pub invariant-pass_items-loop-item : goal.invariant-pass_items-loop-item
 invariant-pass_items-loop-item l =
-    sweep (meaning_of l.items) l.byte (pass_at l.initial.cursor l.initial.live)
-    ≡ sweep (meaning_of (drop l.item-index l.items)) l.byte (pass_at l.cursor l.live)
+    sweep (meaning_of l.items) l.block (pass_at l.initial.cursor l.initial.live)
+    ≡ sweep (meaning_of (drop l.item-index l.items)) l.block (pass_at l.cursor l.live)
 
 abbrev pub invariant-pass_alternatives-loop-items : goal.invariant-pass_alternatives-loop-items
 invariant-pass_alternatives-loop-items l =
-    sweep (alternatives_meaning l.alternatives) l.byte (pass_at l.cursor l.initial.live)
-    ≡ join l.reached (sweep (alternatives_meaning (drop l.items-index l.alternatives)) l.byte
+    sweep (alternatives_meaning l.alternatives) l.block (pass_at l.cursor l.initial.live)
+    ≡ join l.reached (sweep (alternatives_meaning (drop l.items-index l.alternatives)) l.block
     (record { place = l.place; reached = l.cursor.reached; live = l.live }))
 
 abbrev pub decreases-pass_item : goal.decreases-pass_item
