@@ -3,7 +3,7 @@ use Rattle.std.proofs.Common.{◌≡◌, ℕ, zero, suc, ◌+◌, ◌*◌, ◌/�
 use Rattle.std.proofs.Common.{◌++◌, length, get_or, max, min, bit_or, bit_and, bit_xor, refl, sym, ap, ◌∙◌, subst, arith}
 use Rattle.std.proofs.Common.{◌≢◌, ⊎_elim, set, get_or-set_same, get_or-set_other, nat_lt}
 use Rattle.std.specs.Int.{bit_at}
-use Rattle.std.proofs.Math.Nat.{pow-suc, mul_assoc}
+use Rattle.std.proofs.Math.Nat.{pow-suc}
 use Rattle.std.proofs.lemmas.Nat.{shr_split, shl_whole, or_comm, or_shifted}
 use Rattle.std.proofs.lemmas.Nat.Bits.{bit_at_lowest, bit_at-suc, bit_at-zero, bit_at-lt, bit_at_or, bit_at_and, bit_at_xor}
 use Rattle.std.proofs.lemmas.Nat.Bits.{bit_at_cat_low, same_from_bits}

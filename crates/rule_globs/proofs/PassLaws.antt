@@ -1,6 +1,6 @@
 -- What a sweep does at an item, at the first of some items and at the first of some alternatives.
 use Rattle.std.proofs.Common.{◌≡◌, ℕ, zero, suc, ◌+◌, ◌<◌, ◌≤◌, Bool, true, false, bit_or, List, [], ◌∷◌, drop, length, get_or}
-use Rattle.std.proofs.Common.{Vec, Global, refl, sym, ap, ◌∙◌, arith, drop-cons, drop_of_length-le, if◌then◌else◌}
+use Rattle.std.proofs.Common.{Vec, Global, sym, ap, ◌∙◌, arith, drop-cons, drop_of_length-le, if◌then◌else◌}
 use Rattle.std.specs.Int.Bits.{or_zero_r}
 use Rattle.rule_globs.specs.Glob.{one, run, cat, places, ByteSet, exactly, not_slash, class}
 use Rattle.rule_globs.specs.inner.Blocks.{taken}

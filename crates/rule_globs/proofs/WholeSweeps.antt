@@ -11,7 +11,7 @@ use Rattle.rule_globs.specs.inner.ByteBits.{has_bit}
 use Rattle.rule_globs.specs.inner.Sweep.{Pass, sweep}
 use Rattle.rule_globs.proofs.Behind.{Behind, LiveAfter, iff_trans, Live-below, both_empty}
 use Rattle.rule_globs.proofs.Blocks.{has_bit-zero, has_bit-one_suc}
-use Rattle.rule_globs.proofs.Sweeps.{sweep-holds, sweep-place, reached_last, Lit, Reached}
+use Rattle.rule_globs.proofs.Sweeps.{sweep-holds, reached_last, Lit, Reached}
 
 abbrev pub IsZero : List ℕ → Type 0
 IsZero y = y ≡ 0 ∷ []

@@ -1,7 +1,7 @@
 -- What is left of items and name is what is after the front.
-use Rattle.std.proofs.Common.{◌≡◌, ◌-◌, ◌↔◌, IsTrue, List, ℕ, length, take, drop, ap, subst, arith, length-drop}
+use Rattle.std.proofs.Common.{◌≡◌, ◌-◌, length, take, drop, ap, arith, length-drop}
 use Rattle.std.proofs.lemmas.List.{take_all}
-use Rattle.rule_globs.specs.Glob.{Takes, places}
+use Rattle.rule_globs.specs.Glob.{places}
 use Rattle.rule_globs.specs.Meaning.{meaning_of}
 use Rattle.rule_globs.proofs.Fronts.{places_cut}
 use Rattle.rule_globs.proofs.matching.take_all.Goals as goal

@@ -1,6 +1,6 @@
 -- Each word gets the bit of the byte.
-use Rattle.std.proofs.Common.{◌≡◌, ◌≢◌, ◌+◌, ◌<◌, ◌≤◌, ◌++◌, ◌∷◌, [], ℕ, List, length, get_or, take, set, refl, sym, ap, ◌∙◌, subst, arith}
-use Rattle.std.proofs.Common.{⊎_elim, length-take}
+use Rattle.std.proofs.Common.{◌≡◌, ◌+◌, ◌<◌, ◌++◌, ◌∷◌, [], ℕ, List, length, get_or, take, set, sym, ap, ◌∙◌, subst, arith}
+use Rattle.std.proofs.Common.{length-take}
 use Rattle.std.proofs.lemmas.List.{take_more_set}
 use Rattle.rule_globs.specs.Glob.{exactly, not_slash, every_byte}
 use Rattle.rule_globs.specs.inner.Blocks.{taken}
