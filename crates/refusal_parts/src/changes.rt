@@ -1,11 +1,17 @@
 //! Changes of a tree, made in each way that there is to keep one.
+ghost use Rattle.std.specs.Prelude.{◌≡◌, ◌↔◌, IfOk, IsOk, None};
+ghost use Rattle.names.specs.Paths.{path_fault};
+
 use crate::call::Call;
 use crate::difference::{Difference, How};
 use directory_tree::{Change, LinkBytes};
 use names::Path;
 
 /// Checks a path. No memory is taken.
-pub fn path(text: &[u8]) -> Result<Path<'_>, Difference> {
+pub fn path(text: &[u8]) -> Result<Path<'_>, Difference>
+    ensures path { IfOk result (λ path. path ≡ text.now) }
+    ensures fault { IsOk result ↔ path_fault text.now ≡ None }
+{
     match Path::check(text) {
         Ok(path) => Ok(path),
         Err(_) => Err(Difference::new(Call::CheckPath, How::Fails)),

@@ -1,5 +1,5 @@
 //! How a call differs from the same call of a run in which no memory is refused.
-ghost use Rattle.std.specs.Prelude.{◌↔◌, IsOk, IsTrue};
+ghost use Rattle.std.specs.Prelude.{◌≡◌, ◌↔◌, IsOk, IsTrue};
 
 use crate::call::Call;
 use std::{fmt, io};
@@ -25,7 +25,10 @@ pub struct Difference {
 }
 
 impl Difference {
-    pub fn new(call: Call, how: How) -> Difference {
+    pub fn new(call: Call, how: How) -> Difference
+        ensures call { result.call ≡ call }
+        ensures how { result.how ≡ how }
+    {
         Difference { call, how }
     }
 }

@@ -1,7 +1,9 @@
 //! Profiles of texts.
 ghost use Rattle.std.specs.Prelude.{IfOk};
 ghost use Rattle.rule_profile.specs.Profile.{profile_value};
+ghost use Rattle.std.specs.Arc.{arc_value};
 ghost use Rattle.rule_reader.specs.Grammar.{ReadsAs};
+ghost use Rattle.refusal_parts.specs.Profiles.{IsCompiledFrom};
 
 use crate::call::Call;
 use crate::difference::{Difference, How, expect};
@@ -37,7 +39,9 @@ pub fn compiled_of(alloc: Global, text: &[u8]) -> Result<CompiledProfile, Differ
 }
 
 /// The same, as a policy shares it.
-pub fn shared_of(alloc: Global, text: &[u8]) -> Result<Arc<AnyProfile>, Difference> {
+pub fn shared_of(alloc: Global, text: &[u8]) -> Result<Arc<AnyProfile>, Difference>
+    ensures { IfOk result (λ shared. IsCompiledFrom text.now (arc_value shared)) }
+{
     match Arc::new(alloc, AnyProfile::Compiled(compiled_of(alloc, text)?)) {
         Ok(profile) => Ok(profile),
         Err(_) => {
