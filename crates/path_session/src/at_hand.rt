@@ -41,7 +41,7 @@ impl Session {
             ≡ name_opened (open_answer (history_of keeper.old publisher.old.published) self.old.profile path.now ask)) }
         ensures kept { (self.new.kept_answers ≡ self.old.kept_answers)
             ⊎ (IsOk result × (self.new.kept_answers ≡ counted self.old.kept_answers)) }
-        ensures ok { OnOk result (IsLetInWith publisher.old.published self.old self.new) }
+        ensures let_in { OnOk result (IsLetInWith publisher.old.published self.old self.new) }
         ensures err { OnErr result ((self.new.judged ≡ [])
             × IsUnansweredWith publisher.old.published self.old.reading self.new.reading self.old.profile) }
     {
