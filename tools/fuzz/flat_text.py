@@ -83,11 +83,11 @@ class Block:
 
 @dataclasses.dataclass
 class Statement:
-    """What is open in a statement at some place. `before` says what is directly before it: the "end" of the keyword, of parentheses or
+    """What is open in a statement at some place. `before` says what is directly before it: the "keyword", the "end" of parentheses or
     of a quoted word, "white", or a "word". `last` is the last byte before that isn't white."""
     parentheses: int = 0
     braces: int = 0
-    before: str = "end"
+    before: str = "keyword"
     last: bytes = b""
 
     def take(self, byte):
@@ -419,8 +419,8 @@ class FlatReader:
             return True
         return {
             b",": self.peek(2) == b",\\" or not here.parentheses and ENDS_WORD.match(self.text, self.at + 1) is not None,
-            b"#": here.before == "end" or here.before == "white" and here.last in (b"=", b">"),
-            b"(": not (here.before == "white" or here.last in (b"=", b"(")),
+            b"#": here.before in ("keyword", "end") or here.before == "white" and here.last in (b"=", b">"),
+            b"(": not (here.before in ("keyword", "white") or here.last in (b"=", b"(")),
             b")": here.parentheses == 0,
             b"}": here.braces == 0,
         }.get(byte, byte in WHITE_BYTES and here.braces > 0 and here.parentheses == 0)

@@ -8,8 +8,8 @@ use Rattle.rule_reader.specs.TextBytes.{begins, is_white, is_hash, is_include, i
 use Rattle.rule_reader.specs.ReadWords.{word, after_word, after}
 use Rattle.flat_words.specs.declared.words.Quoted.{Quoted}
 use Rattle.flat_words.specs.declared.statement.Within.{Within}
-use Rattle.flat_words.specs.declared.statement.Within.TheVariants.{Apart, White, BeforeValue, Word, Equals, Arrow, Parenthesis, Backslash}
-use Rattle.flat_words.specs.declared.statement.Within.TheVariants.{Quotes, Comment}
+use Rattle.flat_words.specs.declared.statement.Within.TheVariants.{Keyword, Apart, White, BeforeValue, Word, Equals, Arrow, Parenthesis}
+use Rattle.flat_words.specs.declared.statement.Within.TheVariants.{Backslash, Quotes, Comment}
 use Rattle.flat_words.specs.declared.statement.Unclosed.{Unclosed}
 use Rattle.flat_words.specs.Steps.{Stop, include, ◌>>=◌, fault_here, syntax_here}
 use Rattle.flat_words.specs.Words.{comma_ends, is_doubtful, quote_opened, quoted_step}
@@ -33,9 +33,9 @@ abbrev pub ends_statement : List ℕ → Bool
 ends_statement [] = true
 ends_statement (b ∷ bytes) = is_white b
 
--- no parenthesis and no brace is open, and no word is: the keyword has ended
+-- no parenthesis and no brace is open, and the keyword has ended
 abbrev pub nothing_open : Unclosed
-nothing_open = record { parentheses = 0; braces = 0; within = Apart }
+nothing_open = record { parentheses = 0; braces = 0; within = Keyword }
 
 -- the same parentheses and braces are open, and this is the context of the next byte
 abbrev pub still : Unclosed → Within → Unclosed
@@ -53,13 +53,15 @@ behind_white _ = White
 
 -- Here a comma ends the statement whatever follows it: no word is open that it could belong to.
 abbrev pub is_word_over : Within → Bool
+is_word_over Keyword = true
 is_word_over Apart = true
 is_word_over White = true
 is_word_over BeforeValue = true
 is_word_over _ = false
 
--- An opening parenthesis may be here: after whitespace, = or another one.
+-- An opening parenthesis may be here: after the keyword, whitespace, = or another one.
 abbrev pub may_open : Within → Bool
+may_open Keyword = true
 may_open White = true
 may_open BeforeValue = true
 may_open Equals = true
@@ -78,6 +80,7 @@ abbrev pub hash_step : Unclosed → List ℕ → Result (Option Unclosed) Stop
 hash_step unclosed here = elim unclosed.within [
   | White ↦ if is_include here then fault_here include here else Ok (Some (still unclosed Comment))
   | BeforeValue ↦ syntax_here here
+  | Keyword ↦ syntax_here here
   | Apart ↦ syntax_here here
   | _ ↦ Ok (Some (still unclosed Word))
 ]

@@ -44,7 +44,9 @@ pub fn is_statement(bytes: &[u8]) -> bool
 /// The context of a byte of a statement.
 #[derive(Clone, Copy)]
 pub(crate) enum Within {
-    /// No word is open: after the keyword, a `)` or a word in quotes.
+    /// After the keyword.
+    Keyword,
+    /// No word is open: after a `)` or a word in quotes.
     Apart,
     /// After whitespace.
     White,
@@ -81,7 +83,10 @@ impl Within {
     fn is_word_over(self) -> bool
         ensures { result ≡ is_word_over self }
     {
-        matches!(self, Within::Apart | Within::White | Within::BeforeValue)
+        matches!(
+            self,
+            Within::Keyword | Within::Apart | Within::White | Within::BeforeValue
+        )
     }
 
     /// Whether a parenthesis may be opened here.
@@ -90,7 +95,11 @@ impl Within {
     {
         matches!(
             self,
-            Within::White | Within::BeforeValue | Within::Equals | Within::Parenthesis
+            Within::Keyword
+                | Within::White
+                | Within::BeforeValue
+                | Within::Equals
+                | Within::Parenthesis
         )
     }
 }
@@ -144,7 +153,9 @@ fn hash_step(unclosed: Unclosed, from: &[u8]) -> Result<Option<Unclosed>, Stop<'
     match unclosed.within {
         Within::White if is_include(from) => Err(fault_here(StopKind::Include, from)),
         Within::White => Ok(Some(unclosed.still(Within::Comment))),
-        Within::BeforeValue | Within::Apart => Err(fault_here(StopKind::Syntax, from)),
+        Within::BeforeValue | Within::Keyword | Within::Apart => {
+            Err(fault_here(StopKind::Syntax, from))
+        }
         _ => Ok(Some(unclosed.still(Within::Word))),
     }
 }
@@ -280,7 +291,7 @@ fn after_keyword(bytes: &[u8]) -> Result<&[u8], Stop<'_>>
     let mut unclosed = Unclosed {
         parentheses: 0,
         braces: 0,
-        within: Within::Apart,
+        within: Within::Keyword,
     };
     let mut rest = bytes;
     while let [byte, behind @ ..] = rest {
