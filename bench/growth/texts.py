@@ -31,11 +31,11 @@ def spelled_stars(i):
 
 
 SHAPES = [
-    Shape("rules of 1,022 places", ("judge", "r", NAME), same("/" + "*?" * 510 + " r,\n"), named=True),
-    Shape("the same, explained", ("explain", "r", NAME), same("/" + "*?" * 510 + " r,\n"), named=True),
-    Shape("rules of 500 times **a", ("judge", "r", NAME), same("/" + "**a" * 500 + " r,\n"), named=True),
+    Shape("rules of 1,022 places", ("judge", "r", NAME), same("/" + "*?" * 510 + " r,\n")),
+    Shape("the same, explained", ("explain", "r", NAME), same("/" + "*?" * 510 + " r,\n")),
+    Shape("rules of 500 times **a", ("judge", "r", NAME), same("/" + "**a" * 500 + " r,\n")),
     Shape("rules that all match, explained", ("explain", "r", NAME), same("/** r,\n")),
-    Shape("long rules that all match, explained", ("explain", "r", NAME), same("/**{," + "b" * 1000 + "} r,\n"), named=True),
+    Shape("long rules that all match, explained", ("explain", "r", NAME), same("/**{," + "b" * 1000 + "} r,\n")),
     Shape("rules of 1,024 items", ("judge", "w", "/x"), same("/" + "a" * 1023 + " r,\n")),
     Shape("towers of 50 groups", ("judge", "w", "/x"), same("/" + TOWER * 10 + " r,\n")),
     Shape("towers, compiled", ("compile",), same("/" + TOWER * 10 + " r,\n")),

@@ -1,7 +1,10 @@
 //! Matching in the plainest way by live places: one pass over the items for each byte of the name.
 use rule_globs::Item;
 
-/// Where a pass is: the number of the next place, and whether it is reached after the byte.
+/// How deep groups are nested at most, and one more.
+const MOST_LEVELS: u32 = 51;
+
+/// Where a pass is: the number of the next place, whether it is reached after the byte.
 #[derive(Clone, Copy)]
 struct Cursor {
     place: usize,
@@ -14,27 +17,33 @@ pub(crate) fn takes(items: &[Item], bytes: &[u8], live: &mut [bool]) -> bool {
         place: 0,
         reached: true,
     };
-    let mut taken = pass_items(items, 0, start, live).reached;
+    let mut taken = pass_items(items, 0, start, live, MOST_LEVELS).reached;
     for byte in bytes {
         let start = Cursor {
             place: 0,
             reached: false,
         };
-        taken = pass_items(items, *byte, start, live).reached;
+        taken = pass_items(items, *byte, start, live, MOST_LEVELS).reached;
     }
     taken
 }
 
 #[cycle(plain)]
-fn pass_items(items: &[Item], byte: u8, mut cursor: Cursor, live: &mut [bool]) -> Cursor {
+fn pass_items(
+    items: &[Item],
+    byte: u8,
+    mut cursor: Cursor,
+    live: &mut [bool],
+    levels: u32,
+) -> Cursor {
     for item in items {
-        cursor = pass_item(item, byte, cursor, live);
+        cursor = pass_item(item, byte, cursor, live, levels);
     }
     cursor
 }
 
 #[cycle(plain)]
-fn pass_item(item: &Item, byte: u8, cursor: Cursor, live: &mut [bool]) -> Cursor {
+fn pass_item(item: &Item, byte: u8, cursor: Cursor, live: &mut [bool], levels: u32) -> Cursor {
     let in_component = byte != 0 && byte != b'/';
     match item {
         Item::Byte(wanted) => pass_one(byte != 0 && *wanted == byte, cursor, live),
@@ -48,7 +57,14 @@ fn pass_item(item: &Item, byte: u8, cursor: Cursor, live: &mut [bool]) -> Cursor
                 pass_run(taken, cursor, live)
             }
         }
-        Item::Group(alternatives) => pass_alternatives(alternatives, byte, cursor, live),
+        Item::Group(_) if levels == 0 => cursor,
+        Item::Group(alternatives) => pass_alternatives(
+            alternatives,
+            byte,
+            cursor,
+            live,
+            levels - 1,
+        ),
     }
 }
 
@@ -58,6 +74,7 @@ fn pass_alternatives(
     byte: u8,
     cursor: Cursor,
     live: &mut [bool],
+    levels: u32,
 ) -> Cursor {
     let mut place = cursor.place;
     let mut reached = false;
@@ -66,7 +83,7 @@ fn pass_alternatives(
             place,
             reached: cursor.reached,
         };
-        let after = pass_items(items, byte, start, live);
+        let after = pass_items(items, byte, start, live, levels);
         place = after.place;
         reached = reached || after.reached;
     }
