@@ -4,7 +4,7 @@ import errno
 import functools
 import re
 
-from texts import Fault, in_order, is_permissions, read_profile
+from texts import Fault, are_letters, in_order, read_profile
 from tree import PLANS, Change, Kind, Refused, Tree, components_of, test_path
 from verdicts import Automaton, TooManyStates, link_verdict, verdict
 
@@ -94,7 +94,7 @@ class Script:
         if command == b"drop":
             return self.drop(words[0]) if len(words) == 1 else None
         if command == b"open":
-            return self.open(*words) if len(words) == 3 and is_permissions(words[2]) else None
+            return self.open(*words) if len(words) == 3 and are_letters(words[2]) else None
         if command == b"judged-link":
             return self.judged_link(*words) if len(words) == 3 else None
         change = read_change(line.words)
@@ -147,7 +147,7 @@ def opened(tree, places, policy, path, asked):
     if places is None:
         return b"no profile policy %d" % policy
     try:
-        if b"l" in asked:
+        if asked == b"" or b"l" in asked:
             raise Refused(errno.EINVAL)
         test_path(path)
         node, place = tree.walk(components_of(path))

@@ -217,8 +217,12 @@ def name_ends(cursor, is_quoted):
     return byte == QUOTE if is_quoted else byte in WHITE
 
 
+def are_letters(word):
+    return all(letter in PERMISSIONS for letter in word)
+
+
 def is_permissions(word):
-    return word != b"" and all(letter in PERMISSIONS for letter in word)
+    return word != b"" and are_letters(word)
 
 
 def in_order(letters):
