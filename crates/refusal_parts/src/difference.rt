@@ -1,5 +1,5 @@
 //! How a call differs from the same call of a run in which no memory is refused.
-ghost use Rattle.std.specs.Prelude.{◌≡◌, ◌↔◌, IsOk, IsTrue};
+ghost use Rattle.std.specs.Prelude.{◌≡◌, ◌↔◌, IfErr, IsOk, IsTrue};
 
 use crate::call::Call;
 use std::{fmt, io};
@@ -47,7 +47,8 @@ impl fmt::Display for Difference {
 
 /// Whether a call is as it is to be.
 pub fn expect(is: bool, call: Call, how: How) -> Result<(), Difference>
-    ensures { IsOk result ↔ IsTrue is }
+    ensures ok { IsOk result ↔ IsTrue is }
+    ensures err { IfErr result (λ difference. (difference.call ≡ call) × (difference.how ≡ how)) }
 {
     if is {
         Ok(())

@@ -1,5 +1,5 @@
 //! Calls that are made again.
-ghost use Rattle.std.specs.Prelude.{◌≡◌, ◌↔◌, IfOk, IsOk, Ok};
+ghost use Rattle.std.specs.Prelude.{◌≡◌, ◌↔◌, IfErr, IfOk, IsOk, Ok};
 
 use crate::call::Call;
 use crate::difference::{Difference, How, expect};
@@ -11,7 +11,8 @@ pub fn again<T, E: Copy + PartialEq, F: Fn() -> Result<T, E>>(
     make: F,
 ) -> Result<T, Difference>
     requires { F.IsAlwaysCallable make }
-    ensures { IfOk result (λ made. F.post make (Ok made)) }
+    ensures made { IfOk result (λ made. F.post make (Ok made)) }
+    ensures call { IfErr result (λ difference. difference.call ≡ call) }
 {
     match make() {
         Ok(made) => Ok(made),
@@ -26,6 +27,7 @@ pub fn again<T, E: Copy + PartialEq, F: Fn() -> Result<T, E>>(
 pub fn expect_ok<T, E: Drop>(call: Call, answer: Result<T, E>) -> Result<T, Difference>
     ensures made { IfOk result (λ made. answer ≡ Ok made) }
     ensures only { IsOk result ↔ IsOk answer }
+    ensures call { IfErr result (λ difference. difference.call ≡ call) }
 {
     match answer {
         Ok(made) => Ok(made),
