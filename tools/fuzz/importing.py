@@ -19,6 +19,8 @@ LONGEST_SHOWN = 72
 PIECE = re.compile(rb"[^\\@]+|\\.|@\{([A-Za-z][A-Za-z0-9_]*)\}|.", re.DOTALL)
 CLASS_OR_BYTE = re.compile(rb"\\.|\[((?:\\.|[^\]\\])+)\]|.", re.DOTALL)
 PLAIN_MEMBERS = re.compile(rb"(?!\\\^)\^?(?:\\?-(?!-))?(?:(?:\\[^-]|[^-\\])(?:-(?:\\[^-]|[^-\\]))?)*", re.DOTALL)
+# What begins like a variable.
+NO_VARIABLE = re.compile(rb"(?<!\\)(?:\\\\)*@\{")
 STARS_BEFORE_ESCAPED_SLASH = re.compile(rb"(?<!\\)(?:\\\\)*\*\\/")
 ADDED_FIRST = (b'"/proc/*/attr/apparmor/" r', b'"/sys/module/apparmor/parameters/enabled" r')
 ADDED_LAST = {b"change_profile": b'"/proc/*/attr/{,apparmor/}{current,exec}" w', b"hat": b'"/proc/[0-9]*/attr/{,apparmor/}current" w'}
@@ -214,8 +216,9 @@ def has_run(items):
 def read_plainly(text):
     """The items of a path, or None."""
     items = read_items(text)
-    is_odd = items is None or STARS_BEFORE_ESCAPED_SLASH.search(text) or not all(map(is_alike, items)) or has_odd_class(text)
-    return None if is_odd else items
+    if items is None or NO_VARIABLE.search(text) or STARS_BEFORE_ESCAPED_SLASH.search(text):
+        return None
+    return None if has_odd_class(text) or not all(map(is_alike, items)) else items
 
 
 @functools.lru_cache(maxsize=16)
