@@ -12,7 +12,7 @@ FLAG_WITH_VALUE = re.compile(rb'(?:kill\.signal|error|attach_disconnected\.path)
 MOST_VARIABLES = 1024
 WHITE_BYTES = (b" ", b"\t", b"\r", b"\n")
 WHITE = re.compile(rb"[ \t\r\n]*")
-IN_LINE = re.compile(rb"[ \t\r]*")
+SPACES = re.compile(rb"[ \t]*")
 BLANK = re.compile(rb"[ \t\r\n]+|#[^\n]*")
 INCLUDE = re.compile(rb'#include[ \t<"]')
 KEYWORD = re.compile(rb"[A-Za-z][A-Za-z0-9_]*")
@@ -217,9 +217,9 @@ class FlatReader:
         self.letters()
         if is_braced:
             self.expect(b"}")
-        self.white(IN_LINE)
+        self.white(SPACES)
         self.expect(b"=")
-        self.white(IN_LINE)
+        self.white(SPACES)
         self.letters()
         self.all.statements.append(Part(b"boolean", start, self.at))
 
