@@ -3,9 +3,10 @@
 # make test       the gate: every proof from nothing, must-fail edits, tests, programs
 # make bench      prints times: large inputs, each with the ratio to half the size or to another input; compiling profiles;
 #                 hostile input of each reader; the loop that runs names through a table, and many names side by side, next to
-#                 loops in C; names judged from C; plans and walks over a row, and changes and walks over the row that threads
-#                 share; reads of published profiles, and opens in threads, both next to a lock; opens of the same files again
-#                 and again, with and without kept verdicts; stat(2) and open(2) of the files that sessions open
+#                 loops in C; images with chains of defaults, next to those without; names judged from C; plans and walks over a
+#                 row, and changes and walks over the row that threads share; reads of published profiles, and opens in threads,
+#                 both next to a lock; opens of the same files again and again, with and without kept verdicts; stat(2) and
+#                 open(2) of the files that sessions open
 # make tour       runs every command of README.md and docs/TOUR.md, and compares what it prints
 # make calls      calls the library for C, and compares its answers with those of ./aa-trace
 # make embed      builds the examples for embedders, ./embed in C and ./embed_rs in Rust, and runs them
@@ -75,6 +76,7 @@ bench: aa-trace
 	sh bench/compile.sh
 	sh bench/match.sh
 	python3 bench/mixes.py
+	python3 bench/chains.py
 	python3 bench/growth
 	sh bench/judge.sh
 	sh bench/row.sh

@@ -13,7 +13,7 @@
 #include <stdio.h>
 #include <time.h>
 
-enum { REPEATS = 400, DRAWN = 4096, ROUNDS = 20, RECORD = 20 };
+enum { REPEATS = 400, DRAWN = 4096, ROUNDS = 20 };
 
 struct text {
     uint8_t *bytes;
@@ -55,8 +55,11 @@ static uint32_t word_at(const uint8_t *bytes) {
 static int is_told(const coqetwal_table *table, uint32_t state, size_t length, struct coqetwal_answer answer) {
     const uint8_t *image = coqetwal_image(table);
     size_t states = word_at(image + 8), cells = word_at(image + 12);
+    /* Version 2 has one more number for each state, its depth, and longer records. */
+    int is_second = image[4] == 2;
+    size_t per_state = is_second ? 16 : 12, per_record = is_second ? 24 : 20;
     uint32_t place = word_at(image + 20 + 4 * (2 * states + state));
-    const uint8_t *record = image + 20 + 12 * states + 8 * cells + RECORD * (size_t)place;
+    const uint8_t *record = image + 20 + per_state * states + 8 * cells + per_record * place;
     unsigned allow = record[0] | record[1] << 8, deny = record[2] | record[3] << 8;
     unsigned verdict = deny ? COQETWAL_DENIED : allow ? COQETWAL_ALLOWED : COQETWAL_NO_RULE;
     return answer.verdict == verdict && answer.rule == deny && answer.steps == length;

@@ -1,5 +1,5 @@
 /* Times the loop that runs a name through a table: the proved one, which the static library crates/loop_bench exports, and the
- * same loop written here in C, by turns, over one image and the same names.
+ * same loop written here in C, by turns, over one image and the same names. The image may have chains of defaults.
  *
  *     match IMAGE PATHS PAIRS
  *
@@ -49,6 +49,8 @@ static struct text read_file(const char *path) {
 
 struct table {
     uint32_t *next_by_default, *base, *next, *check;
+    /* Null in an image of version 1. */
+    uint32_t *depth;
 };
 
 static uint32_t word_at(const uint8_t *bytes) {
@@ -64,16 +66,19 @@ static uint32_t *words_at(const uint8_t *bytes, size_t count) {
 /* The tables of an image that was accepted. */
 static struct table load(struct text image) {
     size_t states = word_at(image.bytes + 8), cells = word_at(image.bytes + 12);
-    const uint8_t *at = image.bytes + 20;
+    int has_depths = image.bytes[4] == 2;
+    const uint8_t *at = image.bytes + 20, *of_cells = at + (has_depths ? 16 : 12) * states;
     struct table table;
     table.next_by_default = words_at(at, states);
     table.base = words_at(at + 4 * states, states);
-    table.next = words_at(at + 12 * states, cells);
-    table.check = words_at(at + 12 * states + 4 * cells, cells);
+    table.depth = has_depths ? words_at(at + 12 * states, states) : NULL;
+    table.next = words_at(of_cells, cells);
+    table.check = words_at(of_cells + 4 * cells, cells);
     return table;
 }
 
 static void unload(struct table table) {
+    free(table.depth);
     free(table.check);
     free(table.next);
     free(table.base);
@@ -85,10 +90,27 @@ static uint32_t step(const struct table *table, uint32_t state, uint8_t byte) {
     return table->check[cell] == state ? table->next[cell] : table->next_by_default[state];
 }
 
-/* A function of its own, as that of the library is. */
+/* The same where a state may have a depth: then the byte is looked up again, at the default. */
+static uint32_t chained_step(const struct table *table, uint32_t state, uint8_t byte) {
+    for (;;) {
+        size_t cell = (size_t)table->base[state] + byte;
+        if (table->check[cell] == state) return table->next[cell];
+        uint32_t depth = table->depth[state];
+        state = table->next_by_default[state];
+        if (!depth) return state;
+    }
+}
+
+/* Functions of their own, as that of the library is. */
 __attribute__((noinline)) static uint32_t run(const struct table *table, const uint8_t *name, size_t length) {
     uint32_t state = 1;
     for (size_t i = 0; i < length; i++) state = step(table, state, name[i]);
+    return state;
+}
+
+__attribute__((noinline)) static uint32_t chained_run(const struct table *table, const uint8_t *name, size_t length) {
+    uint32_t state = 1;
+    for (size_t i = 0; i < length; i++) state = chained_step(table, state, name[i]);
     return state;
 }
 
@@ -110,7 +132,7 @@ static struct walk run_in_c(struct text image, struct text names, uint32_t round
     size_t length = names.length / count;
     for (uint32_t round = 0; round < rounds; round++)
         for (size_t i = 0; i < count; i++) {
-            states[i] = run(&table, names.bytes + i * length, length);
+            states[i] = table.depth ? chained_run(&table, names.bytes + i * length, length) : run(&table, names.bytes + i * length, length);
             walk.steps += length;
         }
     unload(table);
@@ -190,7 +212,7 @@ static size_t visited(struct text image, struct text names, size_t length) {
     uint32_t state = 1;
     for (size_t i = 0; i < names.length; i++) {
         if (i % length == 0) state = 1;
-        state = step(&table, state, names.bytes[i]);
+        state = table.depth ? chained_step(&table, state, names.bytes[i]) : step(&table, state, names.bytes[i]);
         count += !met[state];
         met[state] = 1;
     }

@@ -60,6 +60,8 @@ static struct text copy_of(struct text from) {
 
 struct image {
     const uint32_t *next_by_default, *base, *next, *check;
+    /* Null in an image of version 1. */
+    const uint32_t *depth;
 };
 
 static struct image view(struct text image) {
@@ -68,12 +70,28 @@ static struct image view(struct text image) {
     struct image view;
     view.next_by_default = words + 5;
     view.base = view.next_by_default + states;
-    view.next = view.base + 2 * states;
+    view.depth = image.bytes[4] == 2 ? view.base + 2 * states : NULL;
+    view.next = view.base + (view.depth ? 3 : 2) * states;
     view.check = view.next + cells;
     return view;
 }
 
-__attribute__((noinline)) static uint32_t run_in_c(const struct image *image, const uint8_t *name, size_t length) {
+__attribute__((noinline)) static uint32_t run_chained(const struct image *image, const uint8_t *name, size_t length) {
+    uint32_t state = 1;
+    for (size_t i = 0; i < length;) {
+        size_t cell = (size_t)image->base[state] + name[i];
+        if (image->check[cell] == state) {
+            state = image->next[cell];
+            i++;
+        } else {
+            i += image->depth[state] == 0;
+            state = image->next_by_default[state];
+        }
+    }
+    return state;
+}
+
+__attribute__((noinline)) static uint32_t run_flat(const struct image *image, const uint8_t *name, size_t length) {
     const uint32_t *next_by_default = image->next_by_default, *base = image->base, *next = image->next, *check = image->check;
     uint32_t state = 1;
     for (size_t i = 0; i < length; i++) {
@@ -82,6 +100,10 @@ __attribute__((noinline)) static uint32_t run_in_c(const struct image *image, co
         else state = next_by_default[state];
     }
     return state;
+}
+
+static uint32_t run_in_c(const struct image *image, const uint8_t *name, size_t length) {
+    return image->depth ? run_chained(image, name, length) : run_flat(image, name, length);
 }
 
 /* --- the kernel's loop (aa_dfa_match_len in security/apparmor/match.c) --- */

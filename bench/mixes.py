@@ -3,7 +3,7 @@
 apparmor_parser is installed, next to the kernel's loop over the tables that it makes of the same text.
 
 The kinds: names of the rules of three large profiles; names that die after a few bytes; `/** r` with 60 denies; names of a tree; and
-an image of a stranger, whose states lead by default to one another in long chains. Each with names of 20, 60, 200 and 4,095 bytes,
+an image of a stranger, whose states lead by default each to the next one. Each with names of 20, 60, 200 and 4,095 bytes,
 and names of the first three with lengths from 8 to 200.
 
 Names of a length are made of names that the rules take, or of files of the tree: cut, or made longer by parts of others. A name of a
@@ -133,8 +133,8 @@ def with_denies(draw):
     return "\n".join(["profile p {", "  /** r,", *rules, "}", ""])
 
 
-def chained_image():
-    """States that share their cells, all of them free, and lead by default each to the next one."""
+def strangers_image():
+    """States that share their cells, all of them free: each byte leads from a state to the next one."""
     default = [0, *range(2, STATES), 1]
     numbers = [*default, *[0] * STATES, *[0] * STATES, *[0] * 256, *[0xFFFFFFFF] * 256]
     return b"PTAB" + struct.pack("<4I", 1, STATES, 256, 1) + struct.pack(f"<{len(numbers)}I", *numbers) + bytes(20)
@@ -260,10 +260,10 @@ def measure_all(work):
             rows.measure(kind, length, image, kernel, make(text, draw, length))
         if kind != "dying":
             rows.measure(kind, "mixed", image, kernel, mixed(make(text, draw, 200), draw))
-    with open(f"{work}/chained", "wb") as it:
-        it.write(chained_image())
+    with open(f"{work}/stranger", "wb") as it:
+        it.write(strangers_image())
     for length in LENGTHS:
-        rows.measure("stranger", length, f"{work}/chained", "-", names_of_rules(texts["browser"], draw, length))
+        rows.measure("stranger", length, f"{work}/stranger", "-", names_of_rules(texts["browser"], draw, length))
     print_means(rows)
 
 

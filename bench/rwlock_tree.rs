@@ -172,22 +172,29 @@ fn numbers(image: &[u8], start: usize, count: usize) -> Vec<u32> {
 impl Table {
     fn of_image(image: &[u8]) -> Table {
         assert_eq!(&image[..4], b"PTAB");
+        // Version 2 has a depth for each state, and 24 bytes a record.
+        let (per_state, per_record) = if image[4] == 2 { (16, 24) } else { (12, 20) };
         let counts = numbers(image, 8, 3);
         let (states, cells, records) = (counts[0] as usize, counts[1] as usize, counts[2] as usize);
         let default = numbers(image, 20, states);
         let base = numbers(image, 20 + 4 * states, states);
         let accept = numbers(image, 20 + 8 * states, states);
-        let next = numbers(image, 20 + 12 * states, cells);
-        let check = numbers(image, 20 + 12 * states + 4 * cells, cells);
-        let mut rows = vec![0; 256 * states];
-        for state in 0..states {
-            for byte in 0..256 {
-                let cell = base[state] as usize + byte;
-                rows[256 * state + byte] = if check[cell] == state as u32 { next[cell] } else { default[state] };
+        let depth = if image[4] == 2 { numbers(image, 20 + 12 * states, states) } else { vec![0; states] };
+        let next = numbers(image, 20 + per_state * states, cells);
+        let check = numbers(image, 20 + per_state * states + 4 * cells, cells);
+        let target = |mut state: usize, byte: usize| loop {
+            let cell = base[state] as usize + byte;
+            if check[cell] == state as u32 {
+                return next[cell];
             }
-        }
+            if depth[state] == 0 {
+                return default[state];
+            }
+            state = default[state] as usize;
+        };
+        let rows = (0..256 * states).map(|k| target(k / 256, k % 256)).collect();
         let record = |bytes: &[u8]| std::array::from_fn(|k| u16::from_le_bytes([bytes[2 * k], bytes[2 * k + 1]]));
-        let records = image[20 + 12 * states + 8 * cells..][..20 * records].chunks_exact(20).map(record).collect();
+        let records = image[20 + per_state * states + 8 * cells..][..per_record * records].chunks_exact(per_record).map(record).collect();
         Table { rows, accept, records }
     }
 

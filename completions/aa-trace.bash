@@ -16,7 +16,7 @@ _aa_trace_read_words() {
             command=$word
         elif [[ -z $literal && $word == -- ]]; then
             literal=yes
-        elif [[ -z $literal && $word == --@(capacity|sessions|opens|changes|profile|owner|strict) ]]; then
+        elif [[ -z $literal && $word == --@(capacity|depth|sessions|opens|changes|profile|owner|strict) ]]; then
             given+=" $word"
         elif [[ -n $literal || $word != -?* ]]; then
             ((arguments += 1))
@@ -79,15 +79,16 @@ _aa_trace() {
         return
     fi
     # The text of an option is nothing to complete.
-    [[ $command == @(run|test|steps|storm|import) && ($previous == --@(capacity|sessions|opens|changes|profile|define) || $previous == = || $cur == =) ]] && return
+    [[ $command == @(run|test|steps|storm|compile|import) && ($previous == --@(capacity|depth|sessions|opens|changes|profile|define) || $previous == = || $cur == =) ]] && return
     if [[ -z $literal && $cur == -* ]]; then
         local options='-h --help'
         case $command in
         '') options+=' --version' ;;
         run | test | steps) options+=$(_aa_trace_left --capacity) ;;
         storm) options+=$(_aa_trace_left --sessions --opens --changes) ;;
+        compile) options+=$(_aa_trace_left --depth) ;;
         import) options+="$(_aa_trace_left --profile --owner --strict) --define" ;;
-        judge | explain | compile | check | match) ;;
+        judge | explain | check | match) ;;
         *) return ;;
         esac
         _aa_trace_words "$options" "$cur"

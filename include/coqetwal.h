@@ -52,7 +52,8 @@ enum coqetwal_verdict {
 
 /* The answer on a name. */
 struct coqetwal_answer {
-    /* The number of look-ups: as many as the name has bytes, or 0 if nothing was judged. */
+    /* The number of steps: one for each byte of the name, or 0 if nothing was judged. In an image with chains of defaults a step
+     * may take more look-ups than one, at most one more than the image's bound of depths; they aren't counted here. */
     uint64_t steps;
     /* One of enum coqetwal_verdict. */
     uint16_t verdict;
@@ -69,9 +70,9 @@ enum coqetwal_fault_number {
     COQETWAL_SHORT = 1,
     /* the first four bytes aren't PTAB */
     COQETWAL_MAGIC = 2,
-    /* a version other than 1 */
+    /* a version other than 1 and 2 */
     COQETWAL_IMAGE_VERSION = 3,
-    /* the two bytes after the version aren't 0 */
+    /* the two bytes after version 1, which are reserved, aren't 0 */
     COQETWAL_RESERVED = 4,
     /* a count of states, cells or records is out of its limits */
     COQETWAL_COUNTS = 5,
@@ -86,12 +87,14 @@ enum coqetwal_fault_number {
     /* the next of a cell isn't a state; place: the cell */
     COQETWAL_NEXT = 10,
     /* coqetwal_load was out of memory; this says nothing about the image */
-    COQETWAL_NO_MEMORY = 11
+    COQETWAL_NO_MEMORY = 11,
+    /* the depth of a state is over the image's bound, or over 0 and not over that of its default; place: the state */
+    COQETWAL_DEPTH = 12
 };
 
 struct coqetwal_fault {
     uint16_t number;
-    /* The state or cell of the faults 7 to 10; else 0. */
+    /* The state or cell of the faults 7 to 10 and 12; else 0. */
     uint32_t place;
 };
 

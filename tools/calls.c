@@ -106,6 +106,17 @@ static int is_none(struct coqetwal_answer answer) {
 
 /* --- check --- */
 
+/* The bound of depths of an image that is accepted; version 1 has none. */
+static unsigned depth_bound(struct text image) {
+    return image.bytes[4] == 2 ? image.bytes[6] | (unsigned)image.bytes[7] << 8 : 0;
+}
+
+static void print_counts(const coqetwal_table *table, struct text image) {
+    printf("ok states %u cells %u accepts %u", coqetwal_states(table), coqetwal_cells(table), coqetwal_records(table));
+    if (depth_bound(image)) printf(" depth %u", depth_bound(image));
+    printf("\n");
+}
+
 static void check(const char *path) {
     struct text image = read_file(path);
     coqetwal_table *table;
@@ -114,7 +125,7 @@ static void check(const char *path) {
     if (number != verified.number || number != loaded.number || loaded.place != verified.place || !number != (table != NULL))
         fail("loading and verifying say different things");
     if (!number)
-        printf("ok states %u cells %u accepts %u\n", coqetwal_states(table), coqetwal_cells(table), coqetwal_records(table));
+        print_counts(table, image);
     else if (number >= COQETWAL_DEFAULT)
         printf("refused: image %d at %u\n", number, verified.place);
     else

@@ -5,7 +5,8 @@ Names are drawn at random, always the same ones: from the rules of each profile 
 and with bytes changed. What a script can open is compared with `./aa-trace run`, which compiles the profile by itself; part of
 what can be an argument with `match`, which also counts the steps, and with `judge`, which uses no image. All names, including
 those that ./aa-trace can't be given, and images that no profile has are compared with the few lines below that run an image as
-docs/RULES.md says ("Tables", "Images").
+docs/RULES.md says ("Tables", "Images"). By an image with chains of defaults (version 2) each answer must be that by the image of
+version 1 that leads each name to the same state.
 """
 import glob
 import os
@@ -25,6 +26,8 @@ LETTERS = "rwlkm"
 NAMES, ASKED, ENTRIES = 4000, 4, 16000
 # How many single runs of ./aa-trace there are for each profile: those of `match` read at most about MATCHED_BYTES.
 MATCHES, MATCHED_BYTES, JUDGES = 2500, 3 << 30, 400
+# The same of `match` on the profile's image with chains, of this depth at most.
+CHAIN_MATCHES, CHAIN_DEPTH = 400, "4"
 COMMON = b"""/ /etc/passwd /etc/shadow /etc/ld.so.cache /etc/ssl/certs/ca.pem /usr/lib/libc.so.6 /usr/lib/x86_64-linux-gnu/libm.so
 /usr/bin/ /usr/share/zoneinfo/UTC /usr/share/fonts/a.ttf /dev/null /dev/urandom /proc/1/status /proc/self/maps /sys/devices/
 /run/user/1000/bus /var/log/messages /var/lib/ /tmp/ /tmp/x /home/ann/ /home/ann/.ssh/id_rsa /home/ann/.config/a.ini
@@ -128,32 +131,65 @@ class Image:
 
     def __init__(self, image):
         words = memoryview(image[: len(image) // 4 * 4]).cast("I")
+        version, self.bound = memoryview(image[4:8]).cast("H")
         states, cells = words[2], words[3]
-        self.image, at = image, 5
-        for name, count in (("default", states), ("base", states), ("accept", states), ("next", cells), ("check", cells)):
+        self.image, self.depth, at = image, [0] * states, 5
+        for name in ("default", "base", "accept", *(["depth"] if version == 2 else []), "next", "check"):
+            count = cells if name in ("next", "check") else states
             setattr(self, name, words[at : at + count])
             at += count
-        self.records = 4 * at
+        self.records, self.record_length = 4 * at, 24 if version == 2 else 20
 
-    def record_of(self, name):
-        """The ten numbers of the record of a name's last state."""
-        state, base, check, following = 1, self.base, self.check, self.next
+    def step(self, state, byte):
+        """The next state, and the number of look-ups."""
+        look_ups = 1
+        while self.check[self.base[state] + byte] != state:
+            if self.depth[state] == 0:
+                return self.default[state], look_ups
+            state = self.default[state]
+            look_ups += 1
+        return self.next[self.base[state] + byte], look_ups
+
+    def run(self, name):
+        """The last state of a name, and the number of look-ups."""
+        state, look_ups = 1, 0
         for byte in name:
-            cell = base[state] + byte
-            state = following[cell] if check[cell] == state else self.default[state]
-        at = self.records + 20 * self.accept[state]
+            state, more = self.step(state, byte)
+            look_ups += more
+        return state, look_ups
+
+    def record_at(self, state):
+        """The ten numbers of the record of a state."""
+        at = self.records + self.record_length * self.accept[state]
         return memoryview(self.image[at : at + 20]).cast("H")
 
     def judge(self, name, asked):
         """The line that tools/calls.c prints."""
         if not 0 < asked < 32:
             return 0, 0, 0, 0
-        record, chosen = self.record_of(name), [at for at in range(5) if asked >> at & 1]
+        record, chosen = self.record_at(self.run(name)[0]), [at for at in range(5) if asked >> at & 1]
         denied = [record[2 * at + 1] for at in chosen if record[2 * at + 1]]
         missing = sum(1 << at for at in chosen if not record[2 * at])
         if denied:
             return 2, min(denied), 0, len(name)
         return (3, 0, missing, len(name)) if missing else (1, 0, 0, len(name))
+
+    def without_chains(self):
+        """An image of version 1 that leads each name to the same state: each state owns a cell for each byte."""
+        states, records = len(self.default), (len(self.image) - self.records) // self.record_length
+        targets = [self.step(state, byte)[0] for state in range(states) for byte in range(256)]
+        parts = [b"PTAB", numbers(1, 0, size=2), numbers(states, 256 * states, records), numbers(*self.default)]
+        parts += [numbers(*range(0, 256 * states, 256)), numbers(*self.accept), numbers(*targets)]
+        parts += [numbers(*(cell // 256 for cell in range(256 * states)))]
+        ends = (self.records + self.record_length * record for record in range(records))
+        return b"".join([*parts, *(self.image[at : at + 20] for at in ends)])
+
+    def first_too_deep(self):
+        """The first state whose depth is over the bound, or over 0 and not over that of its default; None if there is none."""
+        for state, depth in enumerate(self.depth):
+            if depth > self.bound or 0 < depth <= self.depth[self.default[state]]:
+                return state
+        return None
 
 
 def numbers(*values, size=4):
@@ -161,17 +197,28 @@ def numbers(*values, size=4):
     return b"".join(value.to_bytes(size, "little") for value in values)
 
 
-def drawn_image(draw):
-    """An image in bounds that no profile has: rows that share cells, states that own none or some of their row's."""
-    states, cells, records = draw.randrange(2, 40), draw.randrange(256, 2000), draw.randrange(1, 9)
+def drawn_image(draw, depths=None):
+    """An image in bounds that no profile has: rows that share cells, states that own none or some of their row's. With depths, one for
+    each state and 0 among them, it has version 2, and the default of a state that has a depth is a state of a lesser one."""
+    states, cells, records = len(depths) if depths else draw.randrange(2, 40), draw.randrange(256, 2000), draw.randrange(1, 9)
     state = lambda: draw.randrange(states)
+    lower = lambda depth: draw.choice([it for it in range(states) if depths[it] < depth]) if depth else state()
     bases = [draw.randrange(cells - 255) for _ in range(states)]
     owners = [state() if draw.randrange(4) else draw.randrange(1 << 32) for _ in range(cells)]
-    parts = [b"PTAB", numbers(1, 0, size=2), numbers(states, cells, records), numbers(*(state() for _ in range(states)))]
-    parts += [numbers(*bases), numbers(*(draw.randrange(records) for _ in range(states)))]
+    head = numbers(2, max(depths), size=2) if depths else numbers(1, 0, size=2)
+    parts = [b"PTAB", head, numbers(states, cells, records), numbers(*map(lower, depths or [0] * states))]
+    parts += [numbers(*bases), numbers(*(draw.randrange(records) for _ in range(states))), numbers(*(depths or []))]
     parts += [numbers(*(state() for _ in range(cells))), numbers(*owners)]
-    hits = (draw.choice([0, 0, 1, 7, 1024, 65535]) for _ in range(10 * records))
+    hits = (draw.choice([0, 0, 1, 7, 1024, 65535]) for _ in range((12 if depths else 10) * records))
     return b"".join([*parts, numbers(*hits, size=2)])
+
+
+def drawn_depths(draw):
+    """The depths of the states of a drawn image: up to 64, or as many as there are states, all of them different, or only a few."""
+    most = draw.choice([1, 4, 64, 64])
+    depths = [0, *range(1, most + 1)] if draw.randrange(2) else [0, *(draw.randrange(most + 1) for _ in range(draw.randrange(1, 40)))]
+    draw.shuffle(depths)
+    return depths
 
 
 # ---- What is compared.
@@ -249,10 +296,11 @@ def compare_run(profile, answers, queries, lines):
     return len(opened)
 
 
-def compare_match(image, query, answer):
-    """Compares an answer with that of `match` on the image in a file, with its steps."""
-    line, steps = trace_file(image, "match", letters_of(query[1]), query[0]).splitlines()
+def compare_match(image, tables, query, answer):
+    """Compares an answer with that of `match` on the image in a file, with its steps, and the look-ups with those of the tables."""
+    line, steps, *look_ups = trace_file(image, "match", letters_of(query[1]), query[0]).splitlines()
     same((*verdict_of(line), int(steps.split()[1])), answer, query)
+    same(look_ups, [b"lookups %d" % tables.run(query[0])[1]] if tables.bound else [], query)
 
 
 def compare_judge(profile, query, answer):
@@ -260,12 +308,19 @@ def compare_judge(profile, query, answer):
     same((*verdict_of(trace("judge", letters_of(query[1]), query[0], given=profile)), len(query[0])), answer, query)
 
 
+def matched(room, image, queries, answers, pool):
+    """Compares the answers on these queries with those of `match`."""
+    stored, tables = room.file(image), Image(image)
+    list(pool.map(lambda it: compare_match(stored, tables, it, answers[it]), queries))
+    return len(queries)
+
+
 def compare_profile(room, path, pool):
     """Compares all answers on one profile; returns how many with run, match, judge and the tables as this file runs them."""
     draw = random.Random(path)
     with open(f"{TOP}/{path}", "rb") as it:
         profile = it.read()
-    image = trace("compile", given=profile)
+    image, chained = trace("compile", given=profile), trace("compile", "--depth", CHAIN_DEPTH, given=profile)
     names = names_of(profile, draw)
     lines, standing = script_of(names)
     queries = [(name, asked) for name in standing for asked in draw.sample([it for it in range(1, 32) if not it & 4], ASKED)]
@@ -274,60 +329,83 @@ def compare_profile(room, path, pool):
     tables = Image(image)
     for query in queries:
         same(answers[query], tables.judge(*query), query)
+    same(room.judge(chained, queries), answers, f"{path}, with chains")
     single = [it for it in queries if 0 < it[1] < 32 and is_argument(it[0])]
-    matched = draw.sample(single, min(len(single), MATCHES, MATCHED_BYTES // len(image)))
+    some = lambda most, data: draw.sample(single, min(len(single), most, MATCHED_BYTES // len(data)))
+    found = matched(room, image, some(MATCHES, image), answers, pool) + matched(room, chained, some(CHAIN_MATCHES, chained), answers, pool)
     judged = draw.sample(single, min(len(single), JUDGES))
-    stored = room.file(image)
-    list(pool.map(lambda it: compare_match(stored, it, answers[it]), matched))
     list(pool.map(lambda it: compare_judge(profile, it, answers[it]), judged))
     asked = set(standing)
     opened = compare_run(profile, answers, [it for it in queries if it[0] in asked], lines)
-    return opened, len(matched), len(judged), len(queries)
+    return opened, found, len(judged), len(queries)
 
 
 def compare_drawn(room, pool):
-    """Compares answers on images that no profile has."""
+    """Compares answers on images that no profile has; on those with chains also with the answers on the image without chains that leads
+    each name to the same state."""
     draw, count = random.Random(1), 0
-    for _ in range(60):
-        image = drawn_image(draw)
+    for number in range(120):
+        image = drawn_image(draw, drawn_depths(draw) if number % 2 else None)
         names = {b"/" + draw.randbytes(draw.randrange(80)) for _ in range(150)} | {draw.choice(COMMON) for _ in range(20)}
         queries = [(name, draw.randrange(1, 32)) for name in sorted(names)]
         answers, tables = room.judge(image, queries), Image(image)
         for query in queries:
             same(answers[query], tables.judge(*query), query)
-        stored = room.file(image)
-        list(pool.map(lambda it: compare_match(stored, it, answers[it]), [it for it in queries if is_argument(it[0])]))
-        count += len(queries)
+        if tables.bound:
+            same(room.judge(tables.without_chains(), queries), answers, "the image without chains")
+        count += matched(room, image, [it for it in queries if is_argument(it[0])], answers, pool)
     return count
 
 
+def with_part(image, at, part):
+    """The image with these bytes from a place on."""
+    return image[:at] + part + image[at + len(part) :]
+
+
 def planted(image):
-    """The image with each fault in turn, and how it must be reported."""
-    states, cells, _ = memoryview(image[8:20]).cast("I")
-    with_part = lambda at, part: image[:at] + part + image[at + len(part) :]
-    at = lambda table, place: 20 + 4 * (table * states + place)
+    """The image, of any version, with each fault in turn but for 4 and 12, and how it must be reported."""
+    tables, (states, cells, _) = Image(image), memoryview(image[8:20]).cast("I")
     yield image[:19], (1,)
     yield b"", (1,)
-    yield with_part(0, b"Q"), (2,)
-    yield with_part(4, b"\2"), (3,)
-    yield with_part(7, b"\1"), (4,)
+    yield with_part(image, 0, b"Q"), (2,)
+    for version in (0, 3, 258):
+        yield with_part(image, 4, numbers(version, size=2)), (3,)
     for place, low, high in ((8, 1, 65537), (12, 255, (1 << 24) + 1), (16, 0, 65537)):
-        yield with_part(place, numbers(low)), (5,)
-        yield with_part(place, numbers(high)), (5,)
+        yield with_part(image, place, numbers(low)), (5,)
+        yield with_part(image, place, numbers(high)), (5,)
     yield image[:-1], (6,)
     yield image + b"\0", (6,)
+    # The other version, whose counts are in the same places.
+    yield with_part(image, 4, numbers(3 - image[4], 0, size=2)), (6,)
+    at = lambda table, place: 20 + 4 * (table * states + place)
     for state in (0, 1, states - 1):
-        yield with_part(at(0, state), numbers(states)), (7, state)
-        yield with_part(at(1, state), numbers(cells - 255)), (8, state)
-        yield with_part(at(2, state), numbers((1 << 32) - 1)), (9, state)
+        yield with_part(image, at(0, state), numbers(states)), (7, state)
+        yield with_part(image, at(1, state), numbers(cells - 255)), (8, state)
+        yield with_part(image, at(2, state), numbers((1 << 32) - 1)), (9, state)
     for cell in (0, cells // 2, cells - 1):
-        yield with_part(20 + 12 * states + 4 * cell, numbers(states)), (10, cell)
+        yield with_part(image, tables.records - 4 * (2 * cells - cell), numbers(states)), (10, cell)
+
+
+def planted_in_one(image):
+    """The same of the faults that one version has: reserved bytes in version 1, depths in version 2."""
+    if image[4] == 1:
+        yield with_part(image, 7, b"\1"), (4,)
+        return
+    tables, states = Image(image), len(Image(image).default)
+    changed = [with_part(image, 6, numbers(tables.bound - 1, size=2))]
+    for state in (it for it in range(states) if tables.depth[it]):
+        default = tables.default[state]
+        for place, number in ((3 * states + state, tables.bound + 1), (3 * states + state, (1 << 32) - 1), (state, state),
+                              (3 * states + default, tables.depth[state])):
+            changed.append(with_part(image, 20 + 4 * place, numbers(number)))
+    for it in changed:
+        yield it, (12, Image(it).first_too_deep())
 
 
 def compare_faults(room, image):
-    """Compares what is said of changed images with `check`; all ten faults are among them."""
-    draw, cases = random.Random(2), list(planted(image))
-    same({it[1][0] for it in cases}, set(range(1, 11)), "the faults")
+    """Compares what is said of changed images with `check`; all faults of the image's version are among them."""
+    draw, cases = random.Random(2), [*planted(image), *planted_in_one(image)]
+    same({it[1][0] for it in cases}, {1, 2, 3, 5, 6, 7, 8, 9, 10, 4 if image[4] == 1 else 12}, "the faults")
     turned_images = [it[0] for it in cases]
     for _ in range(400):
         turned_image = bytearray(image)
@@ -342,8 +420,8 @@ def compare_faults(room, image):
     return len(turned_images)
 
 
-def compile_calls(folder):
-    """Compiles tools/calls.c and, if there is a compiler for it, tools/calls.cpp."""
+def compile_calls(folder, images):
+    """Compiles tools/calls.c and, if there is a compiler for it, tools/calls.cpp, which judges names by these images."""
     compiler = os.environ.get("CC", "cc")
     run(compiler, *C, "-o", f"{folder}/calls", "tools/calls.c", LIBRARY)
     try:
@@ -351,12 +429,12 @@ def compile_calls(folder):
     except FileNotFoundError:
         print("no compiler for C++: the header isn't tried from it")
         return
-    image = f"{folder}/image"
-    with open(image, "wb") as it, open(f"{TOP}/examples/home.profile", "rb") as profile:
-        it.write(trace("compile", given=profile.read()))
-    for name, wanted in (("/home/me/notes", b"1\n"), ("/home/me/.ssh/id_rsa", b"2\n"), ("/etc/passwd", b"3\n")):
-        same(run(f"{folder}/calls_cpp", image, name), wanted, f"C++, {name}")
-    print("C++: the header is compiled, and three names are judged")
+    for image in images:
+        with open(f"{folder}/image", "wb") as it:
+            it.write(image)
+        for name, wanted in (("/home/me/notes", b"1\n"), ("/home/me/.ssh/id_rsa", b"2\n"), ("/etc/passwd", b"3\n")):
+            same(run(f"{folder}/calls_cpp", f"{folder}/image", name), wanted, f"C++, {name}")
+    print("C++: the header is compiled, and three names are judged by images of both versions")
 
 
 def compare_threads(room, image):
@@ -392,20 +470,24 @@ def main():
         sys.exit("./aa-trace is missing: run make")
     build_library()
     with tempfile.TemporaryDirectory() as folder, ThreadPoolExecutor(os.cpu_count()) as pool:
-        compile_calls(folder)
-        room = Room(folder)
         with open(f"{TOP}/examples/home.profile", "rb") as it:
-            image = trace("compile", given=it.read())
-        print("bad calls:", run(room.calls, "bad", room.file(image)).decode().strip(), "have the answers that the header tells")
-        print("images turned:", compare_faults(room, image), "are accepted or refused as `check` does")
-        compare_threads(room, image)
+            profile = it.read()
+        images = trace("compile", given=profile), trace("compile", "--depth", CHAIN_DEPTH, given=profile)
+        compile_calls(folder, images)
+        room = Room(folder)
+        for image in images:
+            version = f"version {image[4]}"
+            said = run(room.calls, "bad", room.file(image)).decode().strip()
+            print(f"bad calls, {version}:", said, "have the answers that the header tells")
+            print(f"images turned, {version}:", compare_faults(room, image), "are accepted or refused as `check` does")
+            compare_threads(room, image)
         print("images drawn:", compare_drawn(room, pool), "answers are those of their tables and of `match`")
         total = [0, 0, 0, 0]
         for path in sorted(glob.glob("examples/*.profile", root_dir=TOP) + glob.glob("examples/profiles/*.profile", root_dir=TOP)):
             total = [one + other for one, other in zip(total, compare_profile(room, path, pool))]
-        opened, matched, judged, all_of_them = total
-        print(f"answers on profiles: {all_of_them} are those of the tables; of these {opened} were compared with run,"
-              f" {matched} with match and {judged} with judge")
+        opened, found, judged, all_of_them = total
+        print(f"answers on profiles: {all_of_them} are those of the tables, with chains and without; of these {opened} were compared"
+              f" with run, {found} with match and {judged} with judge")
 
 
 if __name__ == "__main__":

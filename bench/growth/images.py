@@ -1,4 +1,5 @@
 """Images, for `check` and `match`."""
+import random
 import struct
 
 from shapes import Shape
@@ -14,6 +15,19 @@ def image(states, cells, records):
     return header + struct.pack(f"<{len(words)}I", *words) + bytes(20 * records)
 
 
+def chain_of(size):
+    """An image whose states, in any order and all but state 0, are one chain of defaults. Nobody owns a cell, so that each byte is
+    looked up at all of them; after the last one comes the start."""
+    states = min(65536, (size - 2092) // 16)
+    order = [1, *random.Random(1).sample(range(2, states), states - 2)]
+    default, depth = [1] * states, [0] * states
+    for place, state in enumerate(order[:-1]):
+        default[state], depth[state] = order[place + 1], len(order) - 1 - place
+    words = default + [0] * states + [0] * states + depth + [0] * ROW + [2**32 - 1] * ROW
+    header = b"PTAB" + struct.pack("<HHIII", 2, depth[1], states, ROW, 1)
+    return header + struct.pack(f"<{len(words)}I", *words) + bytes(24)
+
+
 def cells_of(size, number=0):
     """An image with as many cells as fit, all of which hold this number as the next state and as the owner."""
     cells = (size - 64) // 8
@@ -27,6 +41,7 @@ def header(size):
 
 MAKERS = {
     "states": lambda size: image(min(65536, (size - 2068) // 12), ROW, 1),
+    "a chain of all states": chain_of,
     "cells": cells_of,
     "cells of the last state": lambda size: cells_of(size, 1),
     "records": lambda size: image(2, ROW, min(65536, (size - 2092) // 20)),

@@ -5,7 +5,8 @@
 
 The cases of tools/fuzz-corpus come first, then N drawn ones; case K of a seed is always the same. What is written to both streams and
 the status are compared; of a bad command line only the status, since the words may change. An image that the program compiles must be
-the documented one, byte for byte, and judge five drawn names as the rules do, by another way than the second implementation's image.
+the documented one, byte for byte, and judge five drawn names as the rules do, by another way than the second implementation's image; one
+with chains must lead them through the same states as the program's image without chains, in no more look-ups than its bound allows.
 
 A case that both answer differently is made smaller, written to the folder, and shown with both answers; the status is then 1. The last
 line says how many cases got the same answers, and how many didn't. A case whose answer the rules leave open isn't counted: in `steps`,
@@ -27,6 +28,7 @@ sys.dont_write_bytecode = True
 import comparing  # noqa: E402
 import drawing  # noqa: E402
 import drawing_flat  # noqa: E402
+import drawing_images  # noqa: E402
 import drawing_scripts  # noqa: E402
 
 TOP = os.path.dirname(os.path.dirname(os.path.dirname(os.path.abspath(__file__))))
@@ -49,11 +51,11 @@ def draw_case(seed, number, only):
         text = drawing_flat.draw_flat_text(draw)
         words = drawing_flat.draw_options(draw, text)
     elif command in ("check", "match"):
-        text = drawing.draw_image(draw)
-        words = drawing.draw_question(draw, b"") if command == "match" else []
+        text = drawing_images.draw_image(draw)
+        words = drawing_images.draw_image_question(draw, text) if command == "match" else []
     else:
         text = drawing.draw_any_text(draw)
-        words = [] if command == "compile" else drawing.draw_question(draw, text)
+        words = drawing.draw_depth(draw) if command == "compile" else drawing.draw_question(draw, text)
     return comparing.Case((command, *words), text)
 
 
@@ -61,7 +63,7 @@ def mutated_case(draw, command):
     """A case of the corpus with its text mutated."""
     case = draw.choice([case for case in corpus() if case.words[0] == command])
     if command in ("check", "match"):
-        return comparing.Case(case.words, drawing.mutate_image(draw, case.text))
+        return comparing.Case(case.words, drawing_images.mutate_image(draw, case.text))
     return comparing.Case(case.words, drawing.mutate(draw, case.text, OTHER_TOKENS.get(command)))
 
 

@@ -11,6 +11,7 @@ from verdicts import Automaton, Places, TooManyStates, verdict
 
 CAPACITY = 1024
 MOST_ENTRIES = 16384
+MOST_DEPTH = 64
 
 
 @dataclasses.dataclass(frozen=True)
@@ -87,9 +88,26 @@ def shown_fault(fault, text):
     return f"line {text.count(bytes((10,)), 0, fault.at) + 1}, column {column}: {sentence}\n{shown}\n{' ' * (column - 1)}^"
 
 
-def compile_text(_, text):
+def number_of(arguments, option, default, least, most):
+    """The number of the only option of a command, or None if the command line is wrong."""
+    if not arguments:
+        return default
+    number = "=".join(arguments).removeprefix(f"--{option}=").removeprefix("+")
+    is_number = number.isascii() and number.isdigit() and least <= int(number) <= most
+    return int(number) if is_number else None
+
+
+def depth_of(arguments):
+    """The number of `--depth`, or None."""
+    return number_of(arguments, "depth", 0, 0, MOST_DEPTH)
+
+
+def compile_text(arguments, text):
+    depth = depth_of(arguments)
+    if depth is None:
+        return Outcome(2)
     try:
-        return Outcome(0, images.write_image(images.make_table(Automaton(read_profile(text)))))
+        return Outcome(0, images.write_image(images.make_table(Automaton(read_profile(text)), depth), 2 if depth else 1))
     except Fault as fault:
         return refused(read_refusal(fault))
     except TooManyStates:
@@ -105,25 +123,24 @@ def check(_, image):
         table = images.read_image(image)
     except images.ImageFault as fault:
         return image_refusal(fault)
-    return Outcome(0, b"ok states %d cells %d accepts %d\n" % (len(table.default), len(table.next), len(table.records)))
+    depth = b" depth %d" % table.bound if table.bound else b""
+    return Outcome(0, b"ok states %d cells %d accepts %d%b\n" % (len(table.default), len(table.next), len(table.records), depth))
 
 
 @judging
 def match(asked, name, image):
     try:
-        record = images.read_image(image).record(name)
+        table = images.read_image(image)
     except images.ImageFault as fault:
         return image_refusal(fault)
-    return Outcome(0, verdict(record, asked) + b"\nsteps %d\n" % len(name))
+    states, look_ups = table.run(name)
+    lines = [verdict(table.hits_at(states[-1]), asked), b"steps %d" % len(name), *([b"lookups %d" % look_ups] if table.bound else [])]
+    return Outcome(0, b"".join(line + b"\n" for line in lines))
 
 
 def capacity_of(arguments):
-    """The number of `--capacity`, or None if the command line is wrong."""
-    if not arguments:
-        return CAPACITY
-    number = "=".join(arguments).removeprefix("--capacity=").removeprefix("+")
-    is_number = number.isascii() and number.isdigit() and 1 <= int(number) <= MOST_ENTRIES
-    return int(number) if is_number else None
+    """The number of `--capacity`, or None."""
+    return number_of(arguments, "capacity", CAPACITY, 1, MOST_ENTRIES)
 
 
 def scripted(run):

@@ -80,19 +80,26 @@ def difference(program, case, second):
     found = program_outcome(program, case)
     if not is_same(found, second):
         return Difference(case, found, second)
-    wrong = wrong_name(case, found) if case.words[0] == "compile" and found.status == 0 else None
+    wrong = wrong_name(program, case, found) if case.words[0] == "compile" and found.status == 0 else None
     return Difference(case, found, wrong) if wrong else None
 
 
-def wrong_name(case, found):
-    """A name on which the image that the program wrote doesn't say what the rules say, by the places of the rules alone."""
+def wrong_name(program, case, found):
+    """A name on which the image that the program wrote doesn't say what the rules say, by the places of the rules alone; or, if the
+    image has chains, on which it doesn't lead where the program's image without chains does, or takes too many look-ups."""
     draw = random.Random(zlib.crc32(case.text))
     profile, table = read_profile(case.text), images.read_image(found.out)
     places = Places(profile)
+    flat = images.read_image(program_outcome(program, Case(("compile",), case.text)).out) if table.bound else None
     for _ in range(5):
         name = drawing.draw_name(draw, profile.rules)
         if table.record(name) != places.hits(name):
             return f"the image's record of {name} isn't {places.hits(name)}"
+        states, look_ups = table.run(name)
+        if flat and (states, len(name)) != flat.run(name):
+            return f"the image without chains leads {name} through the states {flat.run(name)[0]}, and not {states}"
+        if not len(name) <= look_ups <= (table.bound + 1) * len(name):
+            return f"{look_ups} look-ups of {name}"
     return None
 
 

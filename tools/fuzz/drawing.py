@@ -1,9 +1,6 @@
-"""Draws profile texts, names and images, and mutates them."""
-import struct
-
-import images
+"""Draws profile texts, names and questions, and mutates them."""
 from texts import Byte, Class, Fault, Group, One, Run, read_profile
-from verdicts import ALL, Automaton, TooManyStates, taken_by
+from verdicts import ALL, taken_by
 
 PARTS = ["a", "b", "ab", "lib", "home", ".ssh", "id_", "...", "x-1", "é", "#", r"a\ b", r"\,", "=", ",c", ":", "@", "@x", "]", "a]",
          r"\]", "\\\\", r"\[a\]", r'\"']
@@ -14,7 +11,6 @@ TOKENS = [b"{", b"}", b",", b"\"", b"\\", b"\n", b" ", b"\t", b"\r", b"#", b"#in
           b"-", b"deny ", b"allow ", b"owner ", b"audit ", b"r", b"rwlkm", b"rix", b"ux", b"a", b"file", b"[", b"]", b"[^", b"*", b"**",
           b"***", b"?", b"/", b"//", b"/**", b"profile ", b"flags=(complain)", b"xattrs=(a)", b"(", b":", b"\\a", b"\\/", b"\\\n", b"\0",
           b"\x80", b"\xff", b"{,}", b"/{a,b}/", b"\"/a b\"", b" r,", b",,", b"x", b"_", b"7"]
-EDGES = [0, 1, 2, 255, 256, 257, 65535, 65536, 65537, 2**24 - 1, 2**24, 2**24 + 1, 2**31, 2**32 - 1]
 
 
 def chance(draw, share):
@@ -181,50 +177,11 @@ def draw_any_text(draw):
     return mutate(draw, text) if kind < 0.45 else text
 
 
-def draw_image(draw):
-    """An image, most often one that is mutated."""
-    if chance(draw, 0.3):
-        return draw_small_image(draw)
-    try:
-        automaton = Automaton(read_profile(draw_text(draw, 3)))
-    except (Fault, TooManyStates):
-        return draw_small_image(draw)
-    image = images.write_image(images.make_table(automaton))
-    return image if chance(draw, 0.1) else mutate_image(draw, image)
-
-
-def draw_small_image(draw):
-    """The image of a table of any numbers, most of them in bounds."""
-    n, m, k = draw.randint(2, 5), draw.choice([256, 257, 300]), draw.randint(1, 3)
-    table = images.Table([draw.randrange(n) for _ in range(n)], [draw.randrange(m - 255) for _ in range(n)],
-                         [draw.randrange(k) for _ in range(n)], [draw.randrange(n) for _ in range(m)],
-                         [draw.choice([draw.randrange(n), n, images.FREE]) for _ in range(m)],
-                         [tuple(draw.choice([0, 1, 2, 65535, *[0] * 9 * (index % 2)]) for index in range(10)) for _ in range(k)])
-    image = images.write_image(table)
-    return mutate_image(draw, image) if chance(draw, 0.4) else image
-
-
-def mutate_image(draw, image):
-    for _ in range(draw.choice([1, 1, 2, 3])):
-        kind = draw.random()
-        if kind < 0.6:
-            image = set_word(draw, image)
-        elif kind < 0.75:
-            image = flip(draw, image, None)
-        elif kind < 0.85:
-            image = image[:draw.choice([draw.randrange(len(image) + 1), len(image) - 1, 19, 20, 0])]
-        else:
-            image += draw.choice([b"\0", b"\0" * 4, b"\0" * 20, image[:7]])
-    return image
-
-
-def set_word(draw, image):
-    """Sets a number of the header or of a table to a bound, or next to one."""
-    if len(image) < 24:
-        return image
-    n, m, k = struct.unpack_from("<III", image, 8)
-    words = (len(image) - 8) // 4
-    word = draw.choice([0, 1, 2, draw.randrange(words), draw.randrange(words), draw.randrange(words)])
-    bounds = [n, m, k, m - 255]
-    value = draw.choice([draw.choice(EDGES), draw.choice(bounds), draw.choice(bounds) - 1, draw.choice(bounds) + 1]) % 2**32
-    return image[:8 + 4 * word] + struct.pack("<I", value) + image[12 + 4 * word:]
+def draw_depth(draw):
+    """The arguments of `compile`."""
+    if chance(draw, 0.4):
+        return []
+    if chance(draw, 0.03):
+        return [draw.choice(["--depth=65", "--depth=x", "--depth=", "--depth=-1", "--depth=+", "--depth=4294967296"])]
+    written = draw.choice(["", "", "", "+", "0", "+00"]) + str(draw.choice([0, 1, 1, 2, 3, 4, 4, 8, 16, 63, 64]))
+    return draw.choice([["--depth", written], ["--depth=" + written]])

@@ -1,10 +1,18 @@
 """Tables and images (docs/RULES.md, "Tables" and "Images"): those that the program makes, and the faults of any bytes."""
 import dataclasses
+import itertools
+import operator
 import struct
+
+from texts import PERMISSIONS
 
 HEADER = struct.Struct("<4sHHIII")
 FREE = 2**32 - 1
-RECORD_BYTES = 20
+# A record as version 1 stores it, and as version 2 does, with two more numbers: the hits of append.
+RECORDS = {1: struct.Struct("<10H"), 2: struct.Struct("<12H")}
+WRITE = 2 * PERMISSIONS.index(b"w")
+# How many states before a state its default may be, if the state has a depth.
+REACH = 64
 
 
 class ImageFault(Exception):
@@ -13,30 +21,89 @@ class ImageFault(Exception):
         self.number, self.index = number, index
 
 
+def with_append(hits):
+    """A record with the hits of append, which are those of write."""
+    return hits + hits[WRITE:WRITE + 2]
+
+
 @dataclasses.dataclass
 class Table:
+    """The records are as version 2 stores them. In version 1 the bound is 0, and so is each depth."""
     default: list
     base: list
     accept: list
     next: list
     check: list
     records: list
+    bound: int
+    depth: list
+
+    def step(self, state, byte):
+        """The next state, and the number of look-ups."""
+        for look_ups in itertools.count(1):
+            cell = self.base[state] + byte
+            if self.check[cell] == state:
+                return self.next[cell], look_ups
+            if self.depth[state] == 0:
+                return self.default[state], look_ups
+            state = self.default[state]
+
+    def run(self, name):
+        """The states that a name leads through, from the start on, and the number of look-ups."""
+        states, look_ups = [1], 0
+        for byte in name:
+            state, more = self.step(states[-1], byte)
+            states.append(state)
+            look_ups += more
+        return states, look_ups
+
+    def hits_at(self, state):
+        """The least hits of the permissions in the record of a state."""
+        return self.records[self.accept[state]][:2 * len(PERMISSIONS)]
 
     def record(self, name):
-        """The record of the state that a name leads to."""
-        state = 1
-        for byte in name:
-            cell = self.base[state] + byte
-            state = self.next[cell] if self.check[cell] == state else self.default[state]
-        return self.records[self.accept[state]]
+        return self.hits_at(self.run(name)[0][-1])
 
 
-def default_of(state):
-    """The target that the most bytes have, the least among equals."""
+@dataclasses.dataclass
+class Choice:
+    """The default and the depth of a state, and its cells: a target for each of their bytes."""
+    default: int
+    depth: int
+    cells: dict
+
+
+def commonest(targets):
+    """The target that the most bytes have, the least among equals, and how many bytes have another one."""
     counts = {}
-    for alike, target in state.targets:
+    for alike, target in targets:
         counts[target] = counts.get(target, 0) + len(alike)
-    return min(counts, key=lambda target: (-counts[target], target))
+    target = min(counts, key=lambda target: (-counts[target], target))
+    return target, sum(counts.values()) - counts[target]
+
+
+class Choosing:
+    """Chooses default and depth of each state, which has the fewest cells then."""
+
+    def __init__(self, automaton, most):
+        self.states, self.most = automaton.states, most
+        self.weights = [len(alike) for alike, _ in self.states[0].targets]
+        self.rows = [[target for _, target in state.targets] for state in self.states]
+        self.choices = []
+        for number in range(len(self.states)):
+            self.choices.append(self.choose(number))
+
+    def choose(self, state):
+        """Equally few cells: the depth is 0, and if it isn't, the default is the least state."""
+        default, least = commonest(self.states[state].targets)
+        depth, inherited = 0, [default] * len(self.weights)
+        for earlier in range(max(0, state - REACH), state) if self.most else ():
+            if self.choices[earlier].depth < self.most:
+                cost = sum(itertools.compress(self.weights, map(operator.ne, self.rows[state], self.rows[earlier])))
+                if cost < least:
+                    least, default, depth, inherited = cost, earlier, self.choices[earlier].depth + 1, self.rows[earlier]
+        differing = (it for it, other in zip(self.states[state].targets, inherited) if it[1] != other)
+        return Choice(default, depth, {byte: target for alike, target in differing for byte in alike})
 
 
 def place_states(rows):
@@ -53,45 +120,67 @@ def place_states(rows):
     return bases
 
 
-def make_table(automaton):
-    states = automaton.states
-    defaults = [default_of(state) for state in states]
-    cells = [{byte: target for alike, target in state.targets if target != default for byte in alike}
-             for state, default in zip(states, defaults)]
-    bases = place_states([tuple(sorted(row)) for row in cells])
+def make_table(automaton, most=0):
+    """The table of an automaton. No state has a depth over `most`."""
+    choices = Choosing(automaton, most).choices
+    bases = place_states([tuple(sorted(choice.cells)) for choice in choices])
     count = max(bases) + 256
-    table = Table(defaults, bases, [], [0] * count, [FREE] * count, [])
-    for number, row in enumerate(cells):
-        for byte, target in row.items():
+    depths = [choice.depth for choice in choices]
+    table = Table([choice.default for choice in choices], bases, [], [0] * count, [FREE] * count, [], max(depths), depths)
+    for number, choice in enumerate(choices):
+        for byte, target in choice.cells.items():
             table.next[bases[number] + byte] = target
             table.check[bases[number] + byte] = number
-    table.records = list(dict.fromkeys(state.record for state in states))
+    table.records = list(dict.fromkeys(with_append(state.record) for state in automaton.states))
     numbers = {record: number for number, record in enumerate(table.records)}
-    table.accept = [numbers[state.record] for state in states]
+    table.accept = [numbers[with_append(state.record)] for state in automaton.states]
     return table
 
 
-def write_image(table):
-    numbers = table.default + table.base + table.accept + table.next + table.check
-    return (HEADER.pack(b"PTAB", 1, 0, len(table.default), len(table.next), len(table.records))
-            + struct.pack("<%dI" % len(numbers), *numbers) + b"".join(struct.pack("<10H", *record) for record in table.records))
+def write_image(table, version=1):
+    """The image of a table in a version. One whose states have a depth has none in version 1."""
+    numbers = table.default + table.base + table.accept + (table.depth if version == 2 else []) + table.next + table.check
+    stored = RECORDS[version]
+    return (HEADER.pack(b"PTAB", version, table.bound if version == 2 else 0, len(table.default), len(table.next), len(table.records))
+            + struct.pack("<%dI" % len(numbers), *numbers)
+            + b"".join(stored.pack(*record[:stored.size // 2]) for record in table.records))
+
+
+def words_of_a_state(version):
+    return 4 if version == 2 else 3
 
 
 def read_image(image):
     """The table of an image; raises its first fault."""
     if len(image) < HEADER.size:
         raise ImageFault(1)
-    magic, version, reserved, n, m, k = HEADER.unpack_from(image)
-    for number, is_right in ((2, magic == b"PTAB"), (3, version == 1), (4, reserved == 0),
-                             (5, 2 <= n <= 65536 and 256 <= m <= 16777216 and 1 <= k <= 65536),
-                             (6, len(image) == HEADER.size + 12 * n + 8 * m + RECORD_BYTES * k)):
+    magic, version, bound, n, m, k = HEADER.unpack_from(image)
+    for number, is_right in ((2, magic == b"PTAB"), (3, version in RECORDS), (4, version == 2 or bound == 0),
+                             (5, 2 <= n <= 65536 and 256 <= m <= 16777216 and 1 <= k <= 65536)):
         if not is_right:
             raise ImageFault(number)
-    numbers = list(struct.unpack_from("<%dI" % (3 * n + 2 * m), image, HEADER.size))
-    records = list(struct.iter_unpack("<10H", image[HEADER.size + 12 * n + 8 * m:]))
-    table = Table(numbers[:n], numbers[n:2 * n], numbers[2 * n:3 * n], numbers[3 * n:3 * n + m], numbers[3 * n + m:], records)
-    for number, entries, bound in ((7, table.default, n), (8, table.base, m - 255), (9, table.accept, k), (10, table.next, n)):
-        index = next((index for index, entry in enumerate(entries) if entry >= bound), None)
+    words = words_of_a_state(version) * n + 2 * m
+    if len(image) != HEADER.size + 4 * words + RECORDS[version].size * k:
+        raise ImageFault(6)
+    table = table_of(image, version, bound, n, m, words)
+    for number, entries, limit in ((7, table.default, n), (8, table.base, m - 255), (9, table.accept, k), (10, table.next, n)):
+        index = next((index for index, entry in enumerate(entries) if entry >= limit), None)
         if index is not None:
             raise ImageFault(number, index)
+    for state, depth in enumerate(table.depth):
+        if depth > bound or depth > 0 and table.depth[table.default[state]] >= depth:
+            raise ImageFault(12, state)
     return table
+
+
+def table_of(image, version, bound, n, m, words):
+    """The table of an image whose header has no fault, and whose length is right."""
+    numbers = iter(struct.unpack_from("<%dI" % words, image, HEADER.size))
+    taken = lambda count: list(itertools.islice(numbers, count))
+    default, base, accept = taken(n), taken(n), taken(n)
+    depth = taken(n) if version == 2 else [0] * n
+    following, check = taken(m), taken(m)
+    records = list(RECORDS[version].iter_unpack(image[HEADER.size + 4 * words:]))
+    if version == 1:
+        records = [with_append(record) for record in records]
+    return Table(default, base, accept, following, check, records, bound, depth)

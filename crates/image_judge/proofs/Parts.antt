@@ -12,7 +12,7 @@ use Rattle.tables.specs.Tables.{Table, record_of, state_after}
 use Rattle.verdicts.specs.Records.{IsTold}
 use Rattle.verdicts.specs.declared.record.Record.{Record}
 use Rattle.verdicts.specs.declared.verdict.Verdict.{Verdict}
-use Rattle.table_runner.specs.Batches.{name_at as part_name_at}
+use Rattle.table_batches.specs.Batches.{name_at as part_name_at}
 use Rattle.image_judge.specs.Answers.{IsAnswerOf, IsToldByTable, answer_of, no_answer}
 use Rattle.image_judge.specs.declared.answer.Answer.{Answer}
 use Rattle.image_judge.specs.inner.Parts.{AreToldTo, IsToldAt}

@@ -20,7 +20,7 @@ const NO_RULE: u16 = 3;
 #[repr(C)]
 #[derive(Clone, Copy, Debug, PartialEq, Eq)]
 pub struct Answer {
-    /// The number of look-ups: one for each byte of the name.
+    /// The number of steps: one for each byte of the name.
     pub steps: u64,
     /// 0 nothing was judged, 1 allowed, 2 denied, 3 there is no rule for something that was asked.
     pub verdict: u16,

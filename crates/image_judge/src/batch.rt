@@ -1,7 +1,7 @@
 //! Many names judged in one call.
 ghost use Rattle.std.specs.Prelude.{◌≡◌, ◌+◌, ◌-◌, ◌<◌, ◌≤◌, ℕ, IfSome, Some, length, slice_get};
 ghost use Rattle.std.specs.Option.{option_copied};
-ghost use Rattle.table_runner.specs.Batches.{AreAfter, AreOffsets};
+ghost use Rattle.table_batches.specs.Batches.{AreAfter, AreOffsets};
 ghost use Rattle.image_judge.specs.Answers.{IsNoneOrLoaded, no_answer};
 ghost use Rattle.image_judge.specs.declared.answer.Answer.{Answer};
 ghost use Rattle.image_judge.specs.Batches.{AreAnswersOf, name_at};
@@ -11,8 +11,8 @@ use crate::answer::{Answer, answer_on, no_answer};
 use crate::judging::judge_by;
 use crate::permissions::set_of_number;
 use names::Perms;
-use table_runner::{are_offsets, run_names_by_image};
-use table_verifier::{State, Steps, VerifiedImage};
+use table_batches::{are_offsets, run_names_by_image};
+use table_verifier::{LookUps, State, Steps, VerifiedImage};
 use verdicts::grounds_of;
 
 /// The most names that are run side by side before their answers are written: their states are on the stack.
@@ -118,7 +118,11 @@ fn judge_part(
     let count = part.len() - 1;
     let mut all: [State; MOST] = [0; MOST];
     let states = &mut all[..count];
-    run_names_by_image(image, names, part, states, &mut Steps::new());
+    let mut steps = Steps::new();
+    let mut lookups = LookUps::new();
+    // A bound of depths has few bits, so the look-ups of names can be counted.
+    let _bound = image.depth_bound();
+    run_names_by_image(image, names, part, states, &mut steps, &mut lookups);
     answer_by(image, names, offsets, part, states, ask, first, answers);
 }
 

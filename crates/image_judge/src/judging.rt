@@ -5,8 +5,7 @@ ghost use Rattle.image_judge.specs.Sets.{set_of_number};
 use crate::answer::{Answer, answer_on, no_answer};
 use crate::permissions::set_of_number;
 use names::Perms;
-use table_runner::record_by_image;
-use table_verifier::{Steps, VerifiedImage};
+use table_verifier::{LookUps, Steps, VerifiedImage, record_by_image};
 use verdicts::grounds_of;
 
 /// What an image that was accepted says about a name, for permissions that are asked by the sum of their numbers.
@@ -31,7 +30,9 @@ pub fn judge(image: &[u8], name: &[u8], asked: u32, answer: &mut Answer)
 pub(crate) fn judge_by(image: &VerifiedImage<'_>, name: &[u8], ask: Perms, answer: &mut Answer)
     ensures { IsToldByTable image.now ask name.now answer.new }
 {
+    // A bound of depths has few bits, so the look-ups of a name can be counted.
+    let _bound = image.depth_bound();
     let mut steps = Steps::new();
-    let record = record_by_image(image, name, &mut steps);
+    let record = record_by_image(image, name, &mut steps, &mut LookUps::new());
     *answer = answer_on(grounds_of(&record, ask), steps.count());
 }

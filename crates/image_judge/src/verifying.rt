@@ -8,9 +8,9 @@ use table_verifier::{VerifiedImage, verify_image};
 #[repr(C)]
 #[derive(Clone, Copy, Debug, PartialEq, Eq)]
 pub struct Fault {
-    /// Its number, 1 to 10; 0 if there is none.
+    /// Its number, 1 to 10 or 12; 0 if there is none.
     pub number: u16,
-    /// The state or cell of the faults 7 to 10; otherwise 0.
+    /// The state or cell of the faults 7 to 10 and 12; otherwise 0.
     pub place: u32,
 }
 

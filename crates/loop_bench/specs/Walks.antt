@@ -3,8 +3,7 @@ use Rattle.std.specs.Prelude.{◌≡◌, ◌⊎◌, ℕ, ◌*◌, ◌/◌, ◌^�
 use Rattle.tables.specs.Bounds.{fault_number}
 use Rattle.tables.specs.Tables.{Table, state_after}
 use Rattle.tables.specs.declared.fault.ImageFault.{ImageFault}
-use Rattle.table_runner.specs.Loading.{IsRefusedFor}
-use Rattle.table_verifier.specs.Loading.{IsLoaded}
+use Rattle.table_verifier.specs.Loading.{IsLoaded, IsRefusedFor}
 use Rattle.loop_bench.specs.declared.running.Walk.{Walk}
 
 -- how long each name is, where there are as many as states
@@ -14,9 +13,9 @@ name_length names states = length names / length states
 abbrev pub name_at : List ℕ → List ℕ → ℕ → List ℕ
 name_at names states i = take (name_length names states) (drop (i * name_length names states) names)
 
--- how many cells are looked up in a round: one for each byte of a name
-abbrev pub looked_up : List ℕ → List ℕ → ℕ
-looked_up names states = length states * name_length names states
+-- how many steps a round takes: one for each byte of a name
+abbrev pub steps_of_round : List ℕ → List ℕ → ℕ
+steps_of_round names states = length states * name_length names states
 
 -- each state is the one that its name leads to
 abbrev pub AreAfter : Table → List ℕ → List ℕ → Type 0
@@ -28,11 +27,11 @@ pub record AreAfterRounds (t : Table) (names : List ℕ) (rounds : ℕ) (old new
   pub none : rounds ≡ 0 → new ≡ old
   pub some : 0 < rounds → AreAfter t names new
 
--- The outcome of a walk: how many cells were looked up in all rounds, or the image's first fault, or that the count may have no
--- room for the look-ups.
+-- The outcome of a walk: how many steps were taken in all rounds, or the image's first fault, or that the count may have no
+-- room for the steps.
 abbrev pub IsWalkOf : List ℕ → List ℕ → ℕ → List ℕ → List ℕ → Walk → Type 0
 IsWalkOf image names rounds old new walk =
     ((t : Table) × IsLoaded image t × AreAfterRounds t names rounds old new
-    × (walk ≡ record { kind = 0; number = 0; steps = rounds * looked_up names old }))
+    × (walk ≡ record { kind = 0; number = 0; steps = rounds * steps_of_round names old }))
     ⊎ ((new ≡ old) × (((f : ImageFault) × IsRefusedFor image f × (walk ≡ record { kind = 1; number = fault_number f; steps = 0 }))
     ⊎ ((2 ^ 64 ≤ rounds * length names) × (walk ≡ record { kind = 2; number = 0; steps = 0 }))))

@@ -1,10 +1,9 @@
 //! Many names run through one table.
 ghost use Rattle.std.specs.Prelude.{◌≡◌, ◌+◌, ◌*◌, ◌^◌, ◌<◌, length};
-ghost use Rattle.loop_bench.specs.Walks.{AreAfter, AreAfterRounds, IsWalkOf, looked_up};
+ghost use Rattle.loop_bench.specs.Walks.{AreAfter, AreAfterRounds, IsWalkOf, steps_of_round};
 
 use std::alloc::Global;
-use table_runner::{LoadedProfile, run};
-use table_verifier::{Steps, VerifiedTable};
+use table_verifier::{LoadedProfile, LookUps, Steps, VerifiedTable, run};
 
 const RUN: u16 = 0;
 
@@ -16,11 +15,11 @@ const BAD_CALL: u16 = 2;
 #[repr(C)]
 #[derive(Clone, Copy, Debug)]
 pub struct Walk {
-    /// 0 if they were run, 1 if the image has a fault, 2 if the count may have no room for the look-ups.
+    /// 0 if they were run, 1 if the image has a fault, 2 if the count may have no room for the steps.
     pub kind: u16,
     /// The number of the image's fault, or 0.
     pub number: u16,
-    /// How many cells were looked up.
+    /// How many steps were taken: one for each byte of a name.
     pub steps: u64,
 }
 
@@ -57,10 +56,10 @@ pub extern "C" fn loop_bench_run(
     }
 }
 
-// Runs this many rounds, and returns how many cells were looked up.
+// Runs this many rounds, and returns how many steps were taken.
 fn run_rounds(table: &VerifiedTable, names: &[u8], rounds: u32, states: &mut [u32]) -> u64
     requires { rounds * length names.now < 2 ^ 64 }
-    ensures count { result ≡ rounds * looked_up names.now states.old }
+    ensures count { result ≡ rounds * steps_of_round names.now states.old }
     ensures states { AreAfterRounds table.now names.now rounds states.old states.new }
 {
     let mut steps = Steps::new();
@@ -73,14 +72,21 @@ fn run_rounds(table: &VerifiedTable, names: &[u8], rounds: u32, states: &mut [u3
 // Runs one round.
 fn run_all(table: &VerifiedTable, names: &[u8], states: &mut [u32], steps: &mut Steps)
     requires { steps.old + length names.now < 2 ^ 64 }
-    ensures count { steps.new ≡ steps.old + looked_up names.now states.old }
+    ensures count { steps.new ≡ steps.old + steps_of_round names.now states.old }
     ensures long { length states.new ≡ length states.old }
     ensures states { AreAfter table.now names.now states.new }
 {
+    // A bound of depths has few bits, so the look-ups of a name can be counted.
+    let _bound = table.depth_bound();
     let count = states.len();
     for place in 0..count {
         let long = names.len() / count;
         let begin = place * long;
-        states[place] = run(table, &names[begin..begin + long], steps);
+        states[place] = run(
+            table,
+            &names[begin..begin + long],
+            steps,
+            &mut LookUps::new(),
+        );
     }
 }

@@ -12,6 +12,7 @@ no_fault t (fault.Default s) bounds (n, at, least) = omega (arith, bounds.defaul
 no_fault t (fault.Base s) bounds (n, at, least) = omega (arith, bounds.bases s n at)
 no_fault t (fault.Accept s) bounds (n, at, least) = omega (arith, bounds.accepts s n at)
 no_fault t (fault.Next k) bounds (n, at, least) = omega (arith, bounds.nexts k n at)
+no_fault t (fault.Depth s) bounds (d, at, deep) = bounds.depths s d at deep
 no_fault t fault.Short bounds has = has
 no_fault t fault.Magic bounds has = has
 no_fault t fault.Version bounds has = has

@@ -1,5 +1,5 @@
 //! Profiles with the tables that they are compiled to.
-ghost use Rattle.std.specs.Prelude.{◌≡◌, IfOk, IfErr};
+ghost use Rattle.std.specs.Prelude.{◌≡◌, ◌≤◌, IfOk, IfErr};
 ghost use Rattle.std.specs.Coded.{codes};
 ghost use Rattle.glob_automaton.specs.Automata.{most_sets};
 ghost use Rattle.glob_automaton.specs.Sets.{AreMoreThan};
@@ -8,19 +8,22 @@ ghost use Rattle.matcher.specs.Making.{IsMakeFault};
 ghost use Rattle.matcher.specs.Telling.{IsDeadAtZero, IsTableOfRules, TellsLeastHits};
 ghost use Rattle.rule_profile.specs.Profile.{profile_value};
 ghost use Rattle.tables.specs.Bounds.{InBounds};
+ghost use Rattle.tables.specs.Images.{FitsVersion1};
 ghost use Rattle.tables.specs.Tables.{table_value};
 
 use crate::fault::MakeFault;
 use glob_automaton::{compile, names_have_one_least_record};
 use rule_profile::Profile;
 use std::alloc::Global;
-use table_image::pack;
+use table_image::{pack, pack_chained};
 use table_verifier::{VerifiedTable, verify};
 use tables::RawTable;
 
-/// A table of a profile's rules, in bounds, if they haven't too many states.
+/// A table of a profile's rules, in bounds, if they haven't too many states. No state has a depth, so version 1 of images can hold
+/// it.
 pub fn table_of(alloc: Global, profile: &Profile) -> Result<RawTable, MakeFault>
     ensures bounds { IfOk result (λ table. InBounds (table_value table)) }
+    ensures fits { IfOk result (λ table. FitsVersion1 (table_value table)) }
     ensures rules { IfOk result (λ table. IsTableOfRules (profile_value profile.now).rules (table_value table)) }
     ensures few { IfOk result (λ _. ¬ (AreMoreThan most_sets (profile_value profile.now).rules)) }
     ensures err { IfErr result (IsMakeFault (profile_value profile.now).rules) }
@@ -28,6 +31,24 @@ pub fn table_of(alloc: Global, profile: &Profile) -> Result<RawTable, MakeFault>
     names_have_one_least_record();
     let dfa = compile(alloc, profile)?;
     Ok(pack(alloc, &dfa)?)
+}
+
+/// A table of a profile's rules, in bounds, if they haven't too many states, with chains of defaults that are at most as deep as
+/// asked for. It has fewer cells, and names take more look-ups.
+pub fn chained_table_of(
+    alloc: Global,
+    profile: &Profile,
+    most_depth: u16,
+) -> Result<RawTable, MakeFault>
+    ensures bounds { IfOk result (λ table. InBounds (table_value table)) }
+    ensures depth { IfOk result (λ table. table.depth_bound ≤ most_depth) }
+    ensures rules { IfOk result (λ table. IsTableOfRules (profile_value profile.now).rules (table_value table)) }
+    ensures few { IfOk result (λ _. ¬ (AreMoreThan most_sets (profile_value profile.now).rules)) }
+    ensures err { IfErr result (IsMakeFault (profile_value profile.now).rules) }
+{
+    names_have_one_least_record();
+    let dfa = compile(alloc, profile)?;
+    Ok(pack_chained(alloc, &dfa, most_depth)?)
 }
 
 /// A profile's rules and their table, which leads every name to the least hits of the rules and so gives their verdicts.

@@ -4,8 +4,7 @@ ghost use Rattle.matcher.specs.Profiles.{any_table};
 
 use crate::compiled::CompiledProfile;
 use std::sync::Arc;
-use table_runner::LoadedProfile;
-use table_verifier::VerifiedTable;
+use table_verifier::{LoadedProfile, VerifiedTable};
 
 /// A profile of either origin.
 #[derive(Drop)]

@@ -13,7 +13,7 @@ ghost use Rattle.tables.specs.Tables.{record_after};
 use crate::laws::told_is_the_one_verdict;
 use matcher::{AnyProfile, record_of_name, tables_of_rules_tell_their_verdicts};
 use names::{Permission, Perms, permissions_are_numbered};
-use table_verifier::{Steps, VerifiedTable};
+use table_verifier::{LookUps, Steps, VerifiedTable};
 use verdicts::{Record, Verdict, told};
 
 /// A profile's verdict on a name (apparmor.d(5), "Rule Qualifiers"): by its rules if it was compiled, else by its table. No
@@ -59,7 +59,9 @@ fn record_by(profile: &AnyProfile, name: &[u8]) -> Record
 fn last_record(table: &VerifiedTable, name: &[u8]) -> Record
     ensures { record_after table.now name.now ≡ Some result }
 {
-    record_of_name(table, name, &mut Steps::new())
+    // A bound of depths has few bits, so the look-ups of a name can be counted.
+    let _bound = table.depth_bound();
+    record_of_name(table, name, &mut Steps::new(), &mut LookUps::new())
 }
 
 /// Whether a record allows a permission that is asked for alone.

@@ -1,5 +1,5 @@
-//! Opens and links judged by a compiled profile, and by one that was loaded from an image of the same rules.
-use matcher::{AnyProfile, CompiledProfile, LoadedProfile, table_of};
+//! Opens and links judged by a compiled profile, and by ones that were loaded from images of the same rules.
+use matcher::{AnyProfile, CompiledProfile, LoadedProfile, chained_table_of, table_of};
 use mediation::{judge_file, judge_names, told_is_the_one_verdict};
 use names::{Errno, Path, Perms};
 use path_walk::{Change, LinkBytes, PlainTree, Scratch, WalkFault};
@@ -7,7 +7,7 @@ use rule_text::{LinkVerdict, Profile, Verdict, read};
 use std::alloc::Global;
 use std::process::Abort;
 use std::test::Fail;
-use table_image::to_bytes;
+use table_image::{to_bytes, to_bytes_v1};
 
 fn rules(alloc: Global) -> Result<Profile, Fail> {
     Ok(read(
@@ -20,9 +20,18 @@ fn compiled(alloc: Global) -> Result<AnyProfile, Fail> {
     Ok(AnyProfile::Compiled(CompiledProfile::make(alloc, rules(alloc)?)?))
 }
 
-fn loaded(alloc: Global) -> Result<AnyProfile, Fail> {
-    let image = to_bytes(alloc, &table_of(alloc, &rules(alloc)?)?)?;
-    Ok(AnyProfile::Loaded(LoadedProfile::make(alloc, &image)?))
+fn loaded(alloc: Global, image: &[u8]) -> Result<AnyProfile, Fail> {
+    Ok(AnyProfile::Loaded(LoadedProfile::make(alloc, image)?))
+}
+
+// The image of the rules in version 1.
+fn first_image(alloc: Global) -> Result<Vec<u8>, Fail> {
+    Ok(to_bytes_v1(alloc, &table_of(alloc, &rules(alloc)?)?)?)
+}
+
+// Their image in version 2, with chains of defaults up to a depth.
+fn second_image(alloc: Global, most_depth: u16) -> Result<Vec<u8>, Fail> {
+    Ok(to_bytes(alloc, &chained_table_of(alloc, &rules(alloc)?, most_depth)?)?)
 }
 
 // `/d` with the files `/d/f` and `/d/k`, and a link `/l` to it.
@@ -113,10 +122,25 @@ fn by_rules(rt: HostRuntime) -> Result<(), Fail> {
     links(&rt, rt.alloc(), &profile)
 }
 
-#[test]
-fn by_an_image(rt: HostRuntime) -> Result<(), Fail> {
+fn by_image(rt: &impl Abort, alloc: Global, image: &[u8]) -> Result<(), Fail> {
     told_is_the_one_verdict();
-    let profile = loaded(rt.alloc())?;
-    opens(&rt, rt.alloc(), &profile)?;
-    links(&rt, rt.alloc(), &profile)
+    let profile = loaded(alloc, image)?;
+    opens(rt, alloc, &profile)?;
+    links(rt, alloc, &profile)
+}
+
+#[test]
+fn by_images_of_both_versions(rt: HostRuntime) -> Result<(), Fail> {
+    let alloc = rt.alloc();
+    by_image(&rt, alloc, &first_image(alloc)?)?;
+    by_image(&rt, alloc, &second_image(alloc, 0)?)
+}
+
+#[test]
+fn by_an_image_with_chains(rt: HostRuntime) -> Result<(), Fail> {
+    let alloc = rt.alloc();
+    let image = second_image(alloc, 4)?;
+    // The bound of depths, which is no more than the depth asked for.
+    assert!(rt; image.get(6).copied().unwrap_or(0) > 0);
+    by_image(&rt, alloc, &image)
 }

@@ -10,7 +10,7 @@ use Rattle.matcher.specs.contracts.profiles.AnyProfile as any
 use Rattle.matcher.specs.contracts.profiles.PolicyChange as change
 use Rattle.matcher.specs.contracts.compiled.CompiledProfile as compiled
 use Rattle.table_verifier.proofs.verified.VerifiedTable.TheSendSync as verified
-use Rattle.table_runner.proofs.loaded.LoadedProfile.TheSendSync as loaded
+use Rattle.table_verifier.proofs.loaded.LoadedProfile.TheSendSync as loaded
 use Rattle.profile_registry.proofs.refusals.Refusals.TheSendSync as refusals
 use Rattle.profile_registry.specs.contracts.store.Store as store
 use Rattle.profile_registry.specs.contracts.reader.Told as told

@@ -186,11 +186,11 @@ fn expect_settled(rt: &impl Abort, alloc: Global, front: &[u8], told: &str, byte
     }
 }
 
-/// Headers of streams without end: those with a fault, and the smallest that has none.
-const ENDLESS: [(&[u8], &str, usize); 6] = [
+/// Headers of streams without end: those with a fault, and the smallest of each version that has none.
+const ENDLESS: [(&[u8], &str, usize); 7] = [
     (b"", "refused: image 2\n", 20),
     (b"PTAC\x01\0\0\0", "refused: image 2\n", 20),
-    (b"PTAB\x02\0\0\0", "refused: image 3\n", 20),
+    (b"PTAB\x03\0\0\0", "refused: image 3\n", 20),
     (b"PTAB\x01\0\x01\0", "refused: image 4\n", 20),
     (
         b"PTAB\x01\0\0\0\x01\0\0\0\0\x01\0\0\x01\0\0\0",
@@ -201,6 +201,11 @@ const ENDLESS: [(&[u8], &str, usize); 6] = [
         b"PTAB\x01\0\0\0\x02\0\0\0\0\x01\0\0\x01\0\0\0",
         "refused: image 6\n",
         2_113,
+    ),
+    (
+        b"PTAB\x02\0\x01\0\x02\0\0\0\0\x01\0\0\x01\0\0\0",
+        "refused: image 6\n",
+        2_125,
     ),
 ];
 
@@ -242,7 +247,7 @@ fn expect_broken(
 #[test]
 fn streams_that_fail_after_the_header(rt: HostRuntime) -> Result<(), Fail> {
     let image = image_of(&rt, rt.alloc(), PASSWD);
-    let bad = b"PTAB\x02\0\0\0\0\0\0\0\0\0\0\0\0\0\0\0".as_slice();
+    let bad = b"PTAB\x03\0\0\0\0\0\0\0\0\0\0\0\0\0\0\0".as_slice();
     let rows: [Broken<'_>; 5] = [
         (bad, 7, 2, Status::InputFailed, "refused: input\n"),
         (bad, 7, 3, Status::Refused, "refused: image 3\n"),

@@ -3,6 +3,7 @@ pub mod TakenCells
 pub mod WrittenCells
 pub mod OtherBytes
 pub mod RecordNumbers
+pub mod ChainedTables
 pub mod PackedStates
 pub mod PackedTables
 pub mod StartSlots

@@ -1,10 +1,12 @@
 -- The bytes that need a cell, range after range.
-use Rattle.std.proofs.Common.{◌≡◌, ◌≢◌, ◌⊎◌, inl, ⊎_elim, ℕ, ◌+◌, ◌<◌, ◌≤◌, List, [], ◌∷◌, Bool, if◌then◌else◌, slice_index_or}
+use Rattle.std.proofs.Common.{◌≡◌, ◌≢◌, ◌⊎◌, inl, ⊎_elim, ℕ, ◌+◌, ◌<◌, ◌≤◌, List, Bool, if◌then◌else◌, length, slice_index_or}
 use Rattle.std.proofs.Common.{sym, ap, ◌∙◌, arith}
 use Rattle.std.specs.List.{Contains}
-use Rattle.std.proofs.lemmas.Bool.{cases_lt, le-leb}
-use Rattle.automata.specs.Rows.{target_in}
-use Rattle.table_image.specs.inner.PackSteps.{AreOthers}
+use Rattle.std.proofs.lemmas.Bool.{cases_lt}
+use Rattle.automata.specs.Automata.{Automaton, target}
+use Rattle.table_image.specs.Chains.{source}
+use Rattle.table_image.specs.inner.PackSteps.{AreOthers, without_cell}
+use Rattle.table_image.proofs.ChainedTables.{not_zero}
 
 -- the bytes before one that need a cell, each with its target
 pub record OthersBefore (target without : ℕ → ℕ) (from : ℕ) (bytes targets : List ℕ) : Type 0 where
@@ -46,6 +48,27 @@ all_others target without from bytes targets all is = record {
   only = λ b there. let has = is.only b there in (omega (arith, has.0, all), has.1, has.2);
 }
 
--- a row with one target
-pub one_target : (t b : ℕ) → b < 256 → target_in (record { last = 255; target = t } ∷ []) b ≡ t
-one_target t b small = ap (λ (z : Bool). if z then t else 0) (le-leb b 255 (omega (arith, small)))
+-- the same targets need the same cells
+pub others_as : (target without its its_without : ℕ → ℕ) (bytes targets : List ℕ) → ((b : ℕ) → b < 256 → target b ≡ its b) →
+    ((b : ℕ) → b < 256 → without b ≡ its_without b) → AreOthers target without bytes targets → AreOthers its its_without bytes targets
+others_as target without its its_without bytes targets same same_without is = record {
+  each = λ b small other. is.each b small (λ e. other (sym (same b small) ∙ e ∙ same_without b small));
+  only = λ b there.
+      let has = is.only b there in
+      let small = has.0 in (
+        small,
+        λ e. has.1 (same b small ∙ e ∙ sym (same_without b small)),
+        has.2 ∙ same b small,
+      );
+}
+
+-- without a cell, a state of depth 0 goes to its default
+pub leads_flat : (a : Automaton) (default depth b : ℕ) → depth ≡ 0 → without_cell a default depth b ≡ default
+leads_flat a default depth b none = ap (λ (d : ℕ). without_cell a default d b) none
+
+-- and another leads where its default does
+pub leads_on : (a : Automaton) (default depth b : ℕ) → default < length a.rows → depth ≢ 0 →
+    without_cell a default depth b ≡ target a default b
+leads_on a default depth b there some =
+    ap (λ (z : Bool). if z then default else target a (source a default) b) (not_zero depth (omega (arith, some)))
+    ∙ ap (λ z. target a z b) (omega (arith, there))

@@ -1,24 +1,52 @@
 -- The table of an automaton, once each state is packed.
-use Rattle.std.proofs.Common.{◌≡◌, ⊎_elim, ℕ, ◌+◌, ◌<◌, ◌≤◌, ◌==◌, List, [], ◌∷◌, length, Some, suc, slice_get}
-use Rattle.std.proofs.Common.{slice_index_or, if◌then◌else◌, sym, ap, ◌∙◌, arith}
-use Rattle.std.specs.Option.{option_and_then}
+use Rattle.std.proofs.Common.{◌≡◌, inl, inr, ⊎_elim, ℕ, ◌<◌, ◌≤◌, Bool, true, false, true≢false, All, List, [], ◌∷◌, length}
+use Rattle.std.proofs.Common.{Some, slice_get, slice_index_or, replicate, suc, if◌then◌else◌, refl, sym, ap, ◌∙◌, arith}
+use Rattle.std.specs.Option.{option_and_then, option_map}
+use Rattle.std.proofs.lemmas.Bool.{eqb-true}
 use Rattle.std.proofs.lemmas.Bool.Decides.{eqb_tells}
 use Rattle.std.proofs.lemmas.Option.{slice_get-get_or, slice_get_within, get_or_from_slice_get}
-use Rattle.automata.specs.Automata.{Automaton, IsWhole, target, goes_to}
-use Rattle.names.specs.Bytes.{are_bytes}
-use Rattle.tables.specs.Bounds.{InBounds}
-use Rattle.table_image.specs.Packing.{IsTableOf}
-use Rattle.tables.specs.Tables.{Table, next_state, state_from, record_of}
+use Rattle.automata.specs.Automata.{Automaton, target}
+use Rattle.names.specs.declared.permissions.Permission.TheVariants.{Write}
+use Rattle.tables.specs.Bounds.{InBounds, IsTooDeep}
+use Rattle.tables.specs.Images.{FitsVersion1}
+use Rattle.tables.specs.Tables.{Table, cell_of, default_of, depth_of, owns, record_of}
+use Rattle.tables.specs.declared.table.StoredRecord.{StoredRecord}
+use Rattle.verdicts.specs.Least.{hits_of}
+use Rattle.table_image.specs.Chains.{source, IsChained, IsOnward}
 use Rattle.table_image.specs.declared.taken.Taken.{Taken}
-use Rattle.table_image.specs.inner.PackSteps.{source, IsPacked}
-use Rattle.table_image.proofs.PackedStates.{source_there}
+use Rattle.table_image.specs.inner.PackSteps.{IsPacked, without_cell}
 
 read_at : (list : List ℕ) (i n : ℕ) → slice_get list i ≡ Some n → (i < length list) × (slice_index_or list i 0 ≡ n)
 read_at list i n at = (slice_get_within list i n at, get_or_from_slice_get list i n 0 at)
 
-module _ (a : Automaton) (t : Table) (taken : Taken) (states : ℕ) (whole : IsWhole a) (two : 2 ≤ states) (all : length a.rows ≤ states)
-    (few : states ≤ 16384)
-    (packed : IsPacked a t taken states) where
+-- what a state does without a cell, by whether it has a depth
+onward_is : (a : Automaton) (t : Table) (s b : ℕ) → without_cell a (default_of t s) (depth_of t s) b ≡ target a (source a s) b →
+    IsOnward a t s b
+onward_is a t s b leads = ⊎_elim
+    (λ flat. inl (flat.1, ap leading (sym flat.0) ∙ leads))
+    (λ deep. inr (omega (arith, deep.1), ap leading (sym deep.0) ∙ leads))
+    (eqb_tells (depth_of t s) 0)
+  where
+    leading : Bool → ℕ
+    leading flat = if flat then default_of t s else target a (source a (default_of t s)) b
+
+module _ (a : Automaton) (t : Table) (taken : Taken) (states : ℕ) (two : 2 ≤ states) (all : length a.rows ≤ states)
+    (few : states ≤ 16384) (packed : IsPacked a t taken states) where
+  depth_right : (s d : ℕ) → slice_get t.depth s ≡ Some d → ¬ (IsTooDeep t s d)
+  depth_right s d at deep =
+      let read = read_at t.depth s d at in
+      let lt : s < states = omega (arith, read.0, packed.depths_long) in
+      ⊎_elim
+      (λ over. omega (arith, over, read.1, packed.depth s lt))
+      (λ h.
+      let next : default_of t s ≡ h.1 = (read_at t.default s h.1 h.2).1 in
+      let below : depth_of t (default_of t s) ≡ h.3 = ap (depth_of t) next ∙ (read_at t.depth h.1 h.3 h.4).1 in
+      ⊎_elim
+      (λ flat. omega (arith, flat, read.1, h.0))
+      (λ chain. omega (arith, chain.1, below, read.1, h.5))
+      (packed.chain s lt))
+      deep
+
   bounds : InBounds t
   bounds = record {
     limits = record {
@@ -33,6 +61,7 @@ module _ (a : Automaton) (t : Table) (taken : Taken) (states : ℕ) (whole : IsW
       bases = packed.bases_long ∙ sym packed.defaults_long;
       accepts = packed.accepts_long ∙ sym packed.defaults_long;
       checks = packed.checks_long;
+      depths = packed.depths_long ∙ sym packed.defaults_long;
     };
     defaults = λ s n at.
         let read = read_at t.default s n at in
@@ -46,63 +75,47 @@ module _ (a : Automaton) (t : Table) (taken : Taken) (states : ℕ) (whole : IsW
     nexts = λ c n at.
         let read = read_at t.next c n at in
         omega (arith, read.1, packed.next c read.0, all, packed.defaults_long);
+    depths = depth_right;
   }
 
-  -- one step in the table is one step in the automaton
-  step_is : (s b : ℕ) → s < states → b < 256 → next_state t s b ≡ Some (target a (source a s) b)
-  step_is s b lt small =
-      let base : ℕ = slice_index_or t.base s 0 in
-      let w : ℕ = slice_index_or t.check (base + b) 0 in
+  owned_is : (s b : ℕ) → s < states → b < 256 → owns t s b ≡ true → slice_get t.next (cell_of t s b) ≡ Some (target a (source a s) b)
+  owned_is s b lt small own =
       let room = packed.base s lt in
-      let at : slice_get t.base s ≡ Some base = slice_get-get_or t.base s 0 (omega (arith, lt, packed.bases_long)) in
-      let owner : slice_get t.check (base + b) ≡ Some w = slice_get-get_or t.check (base + b) 0
-      (omega (arith, room, small, packed.checks_long)) in
-      ap (λ o. option_and_then (λ z. option_and_then (λ k. if k == s then slice_get t.next (z + b) else slice_get t.default s)
-      (slice_get t.check (z + b))) o) at
-      ∙ ap (λ o. option_and_then (λ k. if k == s then slice_get t.next (base + b) else slice_get t.default s) o) owner
-      ∙ ⊎_elim
-      (λ h. ap (λ z. if z then slice_get t.next (base + b) else slice_get t.default s) h.0
-      ∙ slice_get-get_or t.next (base + b) 0 (omega (arith, room, small)) ∙ ap Some (packed.owned s b lt small h.1))
-      (λ h. ap (λ z. if z then slice_get t.next (base + b) else slice_get t.default s) h.0
-      ∙ slice_get-get_or t.default s 0 (omega (arith, lt, packed.defaults_long)) ∙ ap Some (packed.unowned s b lt small h.1))
-      (eqb_tells w s)
+      slice_get-get_or t.next (cell_of t s b) 0 (omega (arith, room, small))
+      ∙ ap Some (packed.owned s b lt small (eqb-true (slice_index_or t.check (cell_of t s b) 0) s own))
 
-  itself : (s : ℕ) → s < length a.rows → source a s ≡ s
-  itself s lt = omega (arith, lt)
+  unowned_is : (s b : ℕ) → s < states → b < 256 → owns t s b ≡ false → IsOnward a t s b
+  unowned_is s b lt small other = onward_is a t s b (packed.unowned s b lt small (λ own. ⊎_elim
+      (λ h. true≢false (sym h.0 ∙ other))
+      (λ h. h.1 own)
+      (eqb_tells (slice_index_or t.check (cell_of t s b) 0) s)))
 
   record_is : (s : ℕ) → s < states → record_of t s ≡ slice_get a.records (source a s)
   record_is s lt =
-      ap (λ o. option_and_then (λ k. slice_get t.records k) o)
+      ap (λ o. option_and_then (λ k. option_map (λ (r : StoredRecord). r.hits) (slice_get t.records k)) o)
       (slice_get-get_or t.accept s 0 (omega (arith, lt, packed.accepts_long)))
       ∙ packed.record_at s lt
 
-  follows : (s : ℕ) (bytes : List ℕ) → s < states → are_bytes bytes →
-      option_and_then (λ n. record_of t n) (state_from t s bytes) ≡ slice_get a.records (goes_to a (source a s) bytes)
-  follows s [] lt small = record_is s lt
-  follows s (b ∷ bytes) lt small =
-      let one : b < 256 = small 0 0 (omega arith) in
-      let m : ℕ = target a (source a s) b in
-      let within : target a (source a s) b < length a.rows = whole.targets (source a s) b (source_there a s whole) one in
-      ap (λ o. option_and_then (λ n. record_of t n) (option_and_then (λ n. state_from t n bytes) o)) (step_is s b lt one)
-      ∙ follows m bytes (omega (arith, within, all)) (λ k d inside. small (suc k) d (omega (arith, inside)))
-      ∙ ap (λ z. slice_get a.records (goes_to a z bytes)) (itself m within)
-
-  start_is : source a 1 ≡ a.start
-  start_is = ⊎_elim
-      (λ first. omega (arith, first, whole.start_there))
-      (λ dead. omega (arith, dead.0, dead.1))
-      whole.begins
-
-  none_first : source a 0 ≡ 0
-  none_first = omega arith
-
-  pub table_of : IsTableOf a t
-  table_of = record {
+  pub all_chained : IsChained a t
+  all_chained = record {
     bounds = bounds;
-    dead = λ b small.
-        step_is 0 b (omega (arith, two)) small
-        ∙ ap Some (ap (λ z. target a z b) none_first ∙ whole.stays_dead b small);
-    dead_record = record_is 0 (omega (arith, two)) ∙ ap (slice_get a.records) none_first;
-    same = λ bytes small.
-        follows 1 bytes (omega (arith, two)) small ∙ ap (λ z. slice_get a.records (goes_to a z bytes)) start_is;
+    all = omega (arith, all, packed.defaults_long);
+    owned = λ s b lt. owned_is s b (omega (arith, lt, packed.defaults_long));
+    onward = λ s b lt. unowned_is s b (omega (arith, lt, packed.defaults_long));
+    recorded = λ s lt. record_is s (omega (arith, lt, packed.defaults_long));
   }
+
+all_zero : (list : List ℕ) → ((k : ℕ) → k < length list → slice_index_or list k 0 ≡ 0) → list ≡ replicate (length list) 0
+all_zero [] each = refl
+all_zero (d ∷ list) each =
+    ap (λ z. z ∷ list) (each 0 (omega arith)) ∙ ap (λ z. 0 ∷ z) (all_zero list (λ k lt. each (suc k) (omega (arith, lt))))
+
+-- without a depth, version 1 can hold the table
+pub fits_version_1 : (a : Automaton) (t : Table) (taken : Taken) (states : ℕ) → IsPacked a t taken states → t.depth_bound ≡ 0 →
+    All (λ (r : StoredRecord). r.append ≡ hits_of r.hits Write) t.records → FitsVersion1 t
+fits_version_1 a t taken states packed none appends = record {
+  bound = none;
+  depths = all_zero t.depth (λ k lt. omega (arith, packed.depth k (omega (arith, lt, packed.depths_long)), none))
+      ∙ ap (λ n. replicate n 0) (packed.depths_long ∙ sym packed.defaults_long);
+  appends = appends;
+}

@@ -1,3 +1,4 @@
 pub mod Taking
 pub mod Starting
+pub mod Choosing
 pub mod PackSteps

@@ -1,39 +1,41 @@
 //! Images of small profiles, byte for byte.
 ghost use Rattle.std.specs.Prelude.{IfOk};
-ghost use Rattle.tables.specs.Bounds.{InBounds};
+ghost use Rattle.tables.specs.Bounds.{InBounds, IsShaped, IsWithinLimits};
+ghost use Rattle.tables.specs.Images.{FitsVersion1};
 ghost use Rattle.tables.specs.Tables.{table_value};
 
+use crate::verifying::are_equal;
 use glob_automaton::compile;
 use rule_text::read;
 use std::alloc::Global;
 use std::process::Abort;
 use std::test::Fail;
 use table_image::{
-    ImageFault, RawTable, bytes_have_one_outcome, from_bytes, pack, tables_have_one_outcome,
-    to_bytes,
+    ImageFault, RawTable, StoredRecord, bytes_have_one_outcome, from_bytes, pack,
+    tables_have_one_outcome, to_bytes, to_bytes_v1,
 };
 
 mod faults;
 mod headers;
 mod layout;
 mod numbers;
-mod packing;
 
 // The tables of a profile's text.
 fn tables_of(alloc: Global, text: &[u8]) -> Result<RawTable, Fail>
-    ensures { IfOk result (λ table. InBounds (table_value table)) }
+    ensures bounds { IfOk result (λ table. InBounds (table_value table)) }
+    ensures fits { IfOk result (λ table. FitsVersion1 (table_value table)) }
 {
     let profile = read(alloc, text)?;
     Ok(pack(alloc, &compile(alloc, &profile)?)?)
 }
 
-// The image of a profile's text.
+// The image of a profile's text, in version 1.
 fn image_of(alloc: Global, text: &[u8]) -> Result<Vec<u8>, Fail> {
     let table = tables_of(alloc, text)?;
-    Ok(to_bytes(alloc, &table)?)
+    Ok(to_bytes_v1(alloc, &table)?)
 }
 
-// The smallest image: 2 dead states that share 256 free cells, and a record of no hits.
+// The smallest image of version 1: 2 dead states that share 256 free cells, and a record of no hits.
 pub(crate) fn smallest(alloc: Global) -> Result<Vec<u8>, Fail> {
     let mut bytes = b"PTAB\x01\0\0\0\x02\0\0\0\0\x01\0\0\x01\0\0\0".to_vec(alloc)?;
     bytes.resize(1_068, 0)?;
@@ -42,7 +44,7 @@ pub(crate) fn smallest(alloc: Global) -> Result<Vec<u8>, Fail> {
     Ok(bytes)
 }
 
-// The image of a profile of one name: 13 states, 258 cells and 2 records.
+// The image in version 1 of a profile of one name: 13 states, 258 cells and 2 records.
 pub(crate) fn passwd(alloc: Global) -> Result<Vec<u8>, Fail> {
     image_of(alloc, b"profile p { /etc/passwd r, }")
 }
@@ -63,10 +65,24 @@ pub(crate) fn altered(
     Ok(bytes)
 }
 
-// The tables of an image, from which the same image is written again.
+// The tables of an image of version 1.
+fn tables_of_first(alloc: Global, image: &[u8]) -> Result<RawTable, Fail>
+    ensures shaped { IfOk result (λ table. IsShaped (table_value table)) }
+    ensures limits { IfOk result (λ table. IsWithinLimits (table_value table)) }
+    ensures fits { IfOk result (λ table. FitsVersion1 (table_value table)) }
+{
+    if !image.starts_with(b"PTAB\x01\0") {
+        return Err(Fail::from("another version"));
+    }
+    Ok(from_bytes(alloc, image)?)
+}
+
+// The tables of an image of version 1, from which the same image is written again. Written in version 2, they are the same tables.
 fn tables_and_back(rt: &impl Abort, alloc: Global, image: &[u8]) -> Result<RawTable, Fail> {
-    let table = from_bytes(alloc, image)?;
-    let again = to_bytes(alloc, &table)?;
+    let table = tables_of_first(alloc, image)?;
+    let again = to_bytes_v1(alloc, &table)?;
     assert!(rt; again.as_slice() == image);
+    let second = to_bytes(alloc, &table)?;
+    assert!(rt; are_equal(&from_bytes(alloc, &second)?, &table));
     Ok(table)
 }

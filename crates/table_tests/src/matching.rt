@@ -8,8 +8,8 @@ use rule_text::{Profile, read};
 use std::alloc::Global;
 use std::process::Abort;
 use std::test::Fail;
-use table_image::{ImageFault, to_bytes};
-use table_verifier::{Steps, VerifiedTable};
+use table_image::{ImageFault, to_bytes_v1};
+use table_verifier::{LookUps, Steps, VerifiedTable};
 
 mod agreeing;
 mod batches;
@@ -30,9 +30,9 @@ fn compiled_of(alloc: Global, rules: &[u8]) -> Result<CompiledProfile, Fail> {
     Ok(CompiledProfile::make(alloc, profile)?)
 }
 
-// The profile that is loaded from the image of a compiled one's table.
+// The profile that is loaded from the image, in version 1, of a compiled one's table.
 fn loaded_of(alloc: Global, compiled: &CompiledProfile) -> Result<LoadedProfile, Fail> {
     let table = table_of(alloc, compiled.profile())?;
-    let image = to_bytes(alloc, &table)?;
+    let image = to_bytes_v1(alloc, &table)?;
     Ok(LoadedProfile::make(alloc, &image)?)
 }

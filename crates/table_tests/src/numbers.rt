@@ -149,6 +149,16 @@ fn names_are_judged(rt: HostRuntime) -> Result<(), Fail> {
     assert_eq!(rt; told(image, b"a", 25), answer(3, 0, 24, 1));
     assert_eq!(rt; told(image, b"aa", 1), answer(3, 0, 1, 2));
     assert_eq!(rt; told(image, b"", 1), answer(3, 0, 1, 0));
+    Ok(())
+}
+
+// No set of permissions, one that isn't known, and no image.
+#[test]
+fn nothing_is_judged(rt: HostRuntime) -> Result<(), Fail> {
+    let alloc = rt.alloc();
+    let image = image(alloc)?;
+    let image = &image[..];
+    assert!(rt; is_accepted(image));
     assert_eq!(rt; told(image, b"a", 0), answer(0, 0, 0, 0));
     assert_eq!(rt; told(image, b"a", 32), answer(0, 0, 0, 0));
     assert_eq!(rt; told(b"", b"a", 1), answer(0, 0, 0, 0));

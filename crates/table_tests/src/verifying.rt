@@ -2,8 +2,8 @@
 use std::alloc::Global;
 use std::process::Abort;
 use std::test::Fail;
-use table_image::{ImageFault, RawTable};
-use table_verifier::{State, Steps, VerifiedTable, tables_in_bounds_run, verify};
+use table_image::{ImageFault, RawTable, StoredRecord};
+use table_verifier::{LookUps, State, Steps, VerifiedTable, tables_in_bounds_run, verify};
 use verdicts::Record;
 
 mod altered;
@@ -11,16 +11,18 @@ mod chains;
 mod running;
 mod shapes;
 
-// A table of `states` dead states that share one row, `cells` cells, which state 0 owns, and `records` records.
+// A table of `states` dead states that share one row and have no depth, `cells` cells, which state 0 owns, and `records` records.
 fn counted(alloc: Global, states: usize, cells: usize, records: usize) -> Result<RawTable, Fail> {
     let zeros = Vec::from_elem(alloc, 0u32, states)?;
     Ok(RawTable {
         default: zeros.clone()?,
         base: zeros.clone()?,
-        accept: zeros,
+        accept: zeros.clone()?,
         next: Vec::from_elem(alloc, 0, cells)?,
         check: Vec::from_elem(alloc, 0, cells)?,
-        records: Vec::from_elem(alloc, Record::none(), records)?,
+        records: Vec::from_elem(alloc, StoredRecord::of(Record::none()), records)?,
+        depth_bound: 0,
+        depth: zeros,
     })
 }
 
@@ -60,7 +62,20 @@ pub(crate) fn copy_of(table: &RawTable) -> Result<RawTable, Fail> {
         next: table.next.clone()?,
         check: table.check.clone()?,
         records: table.records.clone()?,
+        depth_bound: table.depth_bound,
+        depth: table.depth.clone()?,
     })
+}
+
+pub(crate) fn are_equal(one: &RawTable, other: &RawTable) -> bool {
+    one.default == other.default
+        && one.base == other.base
+        && one.accept == other.accept
+        && one.next == other.next
+        && one.check == other.check
+        && one.records == other.records
+        && one.depth_bound == other.depth_bound
+        && one.depth == other.depth
 }
 
 // The lists of numbers in a table.
@@ -71,6 +86,7 @@ enum List {
     Accept,
     Next,
     Check,
+    Depth,
 }
 
 fn list_of(table: &mut RawTable, list: List) -> &mut Vec<u32> {
@@ -80,5 +96,6 @@ fn list_of(table: &mut RawTable, list: List) -> &mut Vec<u32> {
         List::Accept => &mut table.accept,
         List::Next => &mut table.next,
         List::Check => &mut table.check,
+        List::Depth => &mut table.depth,
     }
 }

@@ -4,16 +4,20 @@ ghost use Rattle.tables.specs.Tables.{next_state, state_count};
 ghost use Rattle.table_verifier.specs.Eight.{AreNext, AreThere};
 
 use crate::entries::{Entries, READER};
+use crate::laws::chains_fall;
 use crate::steps::Steps;
 use crate::verified::State;
 
 // One look-up that branches on nothing that is read: the targets by the cell and by the default are both read, and one is taken.
 #[inline(always)]
 fn choose<E: Entries>(entries: &E, state: State, byte: u8) -> State
-    requires { state < state_count (E.table entries.now) }
+    requires flat { (E.table entries.now).depth_bound ≡ 0 }
+    requires there { state < state_count (E.table entries.now) }
     ensures next { next_state (E.table entries.now) state byte ≡ Some result }
     ensures there { result < state_count (E.table entries.now) }
 {
+    entries.stay_in_bounds();
+    chains_fall();
     let cell = entries.base_at(READER, state as usize) + usize::from(byte);
     let is_own = entries.check_at(READER, cell) == state;
     let by_cell = entries.next_at(READER, cell);
@@ -21,8 +25,9 @@ fn choose<E: Entries>(entries: &E, state: State, byte: u8) -> State
     if is_own { by_cell } else { by_default }
 }
 
-/// The states after eight states and a byte for each: eight look-ups, none of which waits for another. Where it isn't known which
-/// names come, a wrong guess of a branch costs more than the read that it saves, so there is no branch.
+/// The states after eight states and a byte for each, in tables whose states have no depth: eight steps of one look-up each, none of
+/// which waits for another. Where it isn't known which names come, a wrong guess of a branch costs more than the read that it saves,
+/// so there is no branch.
 #[inline(always)]
 pub fn look_up_eight<E: Entries>(
     entries: &E,
@@ -30,6 +35,7 @@ pub fn look_up_eight<E: Entries>(
     bytes: [u8; 8],
     steps: &mut Steps,
 ) -> [State; 8]
+    requires flat { (E.table entries.now).depth_bound ≡ 0 }
     requires there { AreThere (E.table entries.now) states }
     requires room { steps.old + 8 < 2 ^ 64 }
     ensures next { AreNext (E.table entries.now) states bytes result }

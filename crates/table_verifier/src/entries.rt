@@ -1,13 +1,14 @@
 //! The entries of tables, wherever they are kept, and look-ups in them.
-ghost use Rattle.std.specs.Prelude.{◌≡◌, ◌+◌, ◌^◌, ◌<◌, IfSome, MatchOption, Some, slice_get};
-ghost use Rattle.tables.specs.Tables.{Table, cell_count, next_state, state_count};
-ghost use Rattle.table_verifier.specs.Standing.{IsAt};
+ghost use Rattle.std.specs.Prelude.{◌≡◌, ℕ, ◌+◌, ◌^◌, ◌<◌, false, IfSome, MatchOption, Some, slice_get};
+ghost use Rattle.tables.specs.Bounds.{InBounds};
+ghost use Rattle.tables.specs.Tables.{Table, cell_count, look_ups, next_state, owns, state_count};
+ghost use Rattle.table_verifier.specs.inner.Standing.{IsAt};
 
+use crate::laws::chains_fall;
 use crate::steps::Steps;
 use crate::verified::State;
 
-/// What it takes to read an entry: nothing outside this crate has one, so this crate alone reads entries. [`look`] and
-/// [`look_up_eight`](crate::look_up_eight), which count, are the ones that read a check.
+/// What it takes to read an entry: nothing outside this crate has one, so this crate alone reads entries.
 #[derive(Clone, Copy, Debug)]
 pub struct Reader {
     _private: (),
@@ -17,9 +18,26 @@ pub struct Reader {
 pub(crate) const READER: Reader = Reader { _private: () };
 
 /// The entries of tables that no index leaves. Where the lists are is found once, and not again at each look-up.
-pub trait Entries {
+pub trait Entries: Drop {
     // The tables that they are of.
     ghost table: { Self → Table };
+
+    /// The same entries: a copy for a function that stays a call leaves the caller's own in registers.
+    fn copied(&self) -> Self
+        ensures { table result ≡ table self.now };
+
+    /// The tables are in bounds. Nothing is done.
+    fn stay_in_bounds(&self)
+        ensures { InBounds (table self.now) };
+
+    /// The greatest depth that a state may have.
+    fn depth_bound(&self) -> u16
+        ensures { result ≡ (table self.now).depth_bound };
+
+    /// A state's depth.
+    fn depth_at(&self, reader: Reader, state: usize) -> u32
+        requires { state < state_count (table self.now) }
+        ensures { slice_get (table self.now).depth state ≡ Some result };
 
     /// A state's default: where it leads by a byte for which it has no cell.
     fn default_at(&self, reader: Reader, state: usize) -> State
@@ -47,25 +65,15 @@ pub trait Entries {
 }
 
 /// A state and its base. [`stand`] makes those of a table.
-#[derive(Clone, Copy, Debug)]
-pub struct Standing {
+#[derive(Clone, Copy)]
+pub(crate) struct Standing {
     pub(crate) state: State,
     pub(crate) base: usize,
 }
 
-impl Standing {
-    /// The state.
-    #[inline(always)]
-    pub fn state(self) -> State
-        ensures { result ≡ self.state }
-    {
-        self.state
-    }
-}
-
 /// A state with its base. Nothing else reads a base.
 #[inline(always)]
-pub fn stand<E: Entries>(entries: &E, state: State) -> Standing
+pub(crate) fn stand<E: Entries>(entries: &E, state: State) -> Standing
     requires { state < state_count (E.table entries.now) }
     ensures at { IsAt (E.table entries.now) result }
     ensures state { result.state ≡ state }
@@ -76,17 +84,24 @@ pub fn stand<E: Entries>(entries: &E, state: State) -> Standing
     }
 }
 
-/// One look-up: the cell of a state for a byte, if the state owns it.
+/// The first look-up of a byte: the cell of a state for it, if the state owns that. One step is counted.
 #[inline(always)]
-pub fn look<E: Entries>(entries: &E, at: Standing, byte: u8, steps: &mut Steps) -> Option<usize>
+pub(crate) fn look<E: Entries>(
+    entries: &E,
+    at: Standing,
+    byte: u8,
+    steps: &mut Steps,
+) -> Option<usize>
     requires at { IsAt (E.table entries.now) at }
     requires room { steps.old + 1 < 2 ^ 64 }
-    ensures found { MatchOption result
-        (next_state (E.table entries.now) at.state byte ≡ slice_get (E.table entries.now).default at.state)
-        (λ cell. next_state (E.table entries.now) at.state byte ≡ slice_get (E.table entries.now).next cell) }
+    ensures found { MatchOption result (owns (E.table entries.now) at.state byte ≡ false)
+        (λ cell. (next_state (E.table entries.now) at.state byte ≡ slice_get (E.table entries.now).next cell)
+        × (look_ups (E.table entries.now) at.state byte ≡ 1)) }
     ensures there { IfSome result (λ cell. cell < cell_count (E.table entries.now)) }
     ensures steps { steps.new ≡ steps.old + 1 }
 {
+    entries.stay_in_bounds();
+    chains_fall();
     steps.add();
     let cell = at.base + usize::from(byte);
     if entries.check_at(READER, cell) == at.state {
@@ -98,7 +113,7 @@ pub fn look<E: Entries>(entries: &E, at: Standing, byte: u8, steps: &mut Steps) 
 
 /// Where a cell leads.
 #[inline(always)]
-pub fn follow<E: Entries>(entries: &E, cell: usize) -> State
+pub(crate) fn follow<E: Entries>(entries: &E, cell: usize) -> State
     requires { cell < cell_count (E.table entries.now) }
     ensures next { slice_get (E.table entries.now).next cell ≡ Some result }
     ensures there { result < state_count (E.table entries.now) }
@@ -106,28 +121,16 @@ pub fn follow<E: Entries>(entries: &E, cell: usize) -> State
     entries.next_at(READER, cell)
 }
 
-/// Where a state leads by the bytes for which it has no cell.
+/// A state's default. If it is the state itself, a byte for which the state has no cell stays there, in one look-up.
 #[inline(always)]
-pub fn default_of<E: Entries>(entries: &E, at: Standing) -> State
+pub(crate) fn default_of<E: Entries>(entries: &E, at: Standing) -> State
     requires { IsAt (E.table entries.now) at }
     ensures default { slice_get (E.table entries.now).default at.state ≡ Some result }
     ensures there { result < state_count (E.table entries.now) }
+    ensures stays { result ≡ at.state → (b : ℕ) → b < 256 → owns (E.table entries.now) at.state b ≡ false →
+        (next_state (E.table entries.now) at.state b ≡ Some at.state) × (look_ups (E.table entries.now) at.state b ≡ 1) }
 {
+    entries.stay_in_bounds();
+    chains_fall();
     entries.default_at(READER, at.state as usize)
-}
-
-/// The state after a state and a byte: one look-up.
-#[inline(always)]
-pub(crate) fn look_up<E: Entries>(entries: &E, state: State, byte: u8, steps: &mut Steps) -> State
-    requires state { state < state_count (E.table entries.now) }
-    requires room { steps.old + 1 < 2 ^ 64 }
-    ensures next { next_state (E.table entries.now) state byte ≡ Some result }
-    ensures there { result < state_count (E.table entries.now) }
-    ensures steps { steps.new ≡ steps.old + 1 }
-{
-    let at = stand(entries, state);
-    match look(entries, at, byte, steps) {
-        Some(cell) => follow(entries, cell),
-        None => default_of(entries, at),
-    }
 }

@@ -1,11 +1,13 @@
 //! Tables that were accepted.
 ghost use Rattle.std.specs.Prelude.{◌≡◌, ◌+◌, ◌^◌, ◌<◌, Some, slice_get};
 ghost use Rattle.tables.specs.Bounds.{InBounds};
-ghost use Rattle.tables.specs.Tables.{cell_count, next_state, record_count, record_of, state_count, table_value};
+ghost use Rattle.tables.specs.Tables.{cell_count, look_ups, next_state, record_count, record_of, state_count, table_value};
 ghost use Rattle.table_verifier.specs.Running.{Runs};
 
-use crate::entries::{Entries, Reader, look_up};
+use crate::chains::look_up;
+use crate::entries::{Entries, Reader};
 use crate::laws::tables_in_bounds_run;
+use crate::look_ups::LookUps;
 use crate::steps::Steps;
 use std::marker::Model;
 use tables::RawTable;
@@ -58,18 +60,21 @@ impl VerifiedTable {
             base: &self.table.base,
             next: &self.table.next,
             check: &self.table.check,
+            depth: &self.table.depth,
         }
     }
 
-    /// The state after a state and a byte: one look-up.
-    pub fn look_up(&self, state: State, byte: u8, steps: &mut Steps) -> State
+    /// The state after a state and a byte: one step, and at most one look-up more than the bound of depths.
+    pub fn look_up(&self, state: State, byte: u8, steps: &mut Steps, lookups: &mut LookUps) -> State
         requires state { state < state_count self.now }
-        requires room { steps.old + 1 < 2 ^ 64 }
+        requires steps { steps.old + 1 < 2 ^ 64 }
+        requires look_ups { lookups.old + self.now.depth_bound + 1 < 2 ^ 128 }
         ensures next { next_state self.now state byte ≡ Some result }
         ensures there { result < state_count self.now }
         ensures steps { steps.new ≡ steps.old + 1 }
+        ensures look_ups { lookups.new ≡ lookups.old + look_ups self.now state byte }
     {
-        look_up(&self.entries(), state, byte, steps)
+        look_up(&self.entries(), state, byte, steps, lookups)
     }
 
     /// The record of names that end in a state.
@@ -77,7 +82,7 @@ impl VerifiedTable {
         requires { state < state_count self.now }
         ensures { record_of self.now state ≡ Some result }
     {
-        self.table.records[self.table.accept[state as usize] as usize]
+        self.table.records[self.table.accept[state as usize] as usize].hits
     }
 
     /// How many states there are.
@@ -100,6 +105,13 @@ impl VerifiedTable {
     {
         self.table.records.len() as u32
     }
+
+    /// The greatest depth that a state may have.
+    pub fn depth_bound(&self) -> u16
+        ensures { result ≡ self.now.depth_bound }
+    {
+        self.table.depth_bound
+    }
 }
 
 /// The entries of a verified table: its lists.
@@ -110,6 +122,7 @@ pub struct TableEntries<'a> {
     base: &'a [u32],
     next: &'a [u32],
     check: &'a [u32],
+    depth: &'a [u32],
 }
 
 impl<'a> Model for TableEntries<'a> {
@@ -123,11 +136,33 @@ impl<'a> Model for TableEntries<'a> {
 
     ghost invariant = { λ entries. InBounds entries.verified.now × (entries.default.now ≡ entries.verified.now.default)
         × (entries.base.now ≡ entries.verified.now.base) × (entries.next.now ≡ entries.verified.now.next)
-        × (entries.check.now ≡ entries.verified.now.check) };
+        × (entries.check.now ≡ entries.verified.now.check) × (entries.depth.now ≡ entries.verified.now.depth) };
 }
 
 impl<'a> Entries for TableEntries<'a> {
     ghost table = { λ entries. entries };
+
+    #[inline(always)]
+    fn copied(&self) -> TableEntries<'a> {
+        self.verified.entries()
+    }
+
+    #[inline(always)]
+    fn stay_in_bounds(&self) {
+        // What the type keeps of its tables is known from here on.
+        let _ = &self.verified;
+    }
+
+    #[inline(always)]
+    fn depth_bound(&self) -> u16 {
+        self.verified.depth_bound()
+    }
+
+    #[inline(always)]
+    fn depth_at(&self, _reader: Reader, state: usize) -> u32 {
+        let depth = self.depth;
+        depth[state]
+    }
 
     #[inline(always)]
     fn default_at(&self, _reader: Reader, state: usize) -> State {

@@ -1,9 +1,9 @@
 -- Facts that hold or don't, and the least place of a list where one doesn't.
-use Rattle.std.proofs.Common.{◌≡◌, ℕ, zero, suc, ◌<◌, ◌⊎◌, inl, inr, ⊎_elim, List, [], ◌∷◌, Some, length, get_or, slice_get, refl, sym}
-use Rattle.std.proofs.Common.{◌∙◌, subst, arith}
+use Rattle.std.proofs.Common.{◌≡◌, ℕ, zero, suc, ◌<◌, ◌⊎◌, inl, inr, ⊎_elim, List, [], ◌∷◌, Some, length, get_or, slice_get, refl}
+use Rattle.std.proofs.Common.{sym, ◌∙◌, subst, arith}
 use Rattle.std.proofs.lemmas.Bool.{cases_lt}
 use Rattle.std.proofs.lemmas.Option.{same_Some, slice_get_within, slice_get-get_or}
-use Rattle.tables.specs.Bounds.{InLimits, IsShaped, cell_limit, record_limit, row_length, state_limit}
+use Rattle.tables.specs.Bounds.{InLimits, IsShaped, IsTooDeep, cell_limit, record_limit, row_length, state_limit}
 use Rattle.tables.specs.Tables.{Table, state_count, cell_count}
 
 -- the fact holds, or it doesn't
@@ -50,7 +50,10 @@ pub decided_shaped : (t : Table) → Decided (IsShaped t)
 decided_shaped t = ⊎_elim
     (λ a. ⊎_elim
     (λ b. ⊎_elim
-    (λ d. inl (record { bases = a; accepts = b; checks = d }))
+    (λ d. ⊎_elim
+    (λ e. inl (record { bases = a; accepts = b; checks = d; depths = e }))
+    (λ no. inr (λ h. no h.depths))
+    (decided_equal (length t.depth) (state_count t)))
     (λ no. inr (λ h. no h.checks))
     (decided_equal (length t.check) (cell_count t)))
     (λ no. inr (λ h. no h.accepts))
@@ -89,3 +92,48 @@ entries_outcome xs Low Past d = ⊎_elim
         (λ low. inl (λ n here. subst Low (same_Some (get_or xs i 0) n (sym at ∙ here)) low))
         (λ past. inr (get_or xs i 0, at, past))
         (d (get_or xs i 0))
+
+-- the same where what is asked of a number depends on its place
+pub places_outcome : (xs : List ℕ) (Low Past : ℕ → ℕ → Type 0) → ((i n : ℕ) → slice_get xs i ≡ Some n → Low i n ⊎ Past i n) →
+    ((i n : ℕ) → slice_get xs i ≡ Some n → Low i n)
+    ⊎ ((i : ℕ) × ((n : ℕ) × (slice_get xs i ≡ Some n) × Past i n) × ((j n : ℕ) → j < i → slice_get xs j ≡ Some n → Low j n))
+places_outcome xs Low Past d = ⊎_elim
+    (λ all. inl (λ i n at. all i (slice_get_within xs i n at) n at))
+    (λ some. inr (some.0, some.1, λ j n lt at. some.2 j lt n at))
+    (all_or_least (λ i. (n : ℕ) → slice_get xs i ≡ Some n → Low i n) (λ i. (n : ℕ) × (slice_get xs i ≡ Some n) × Past i n) (length xs)
+    entry)
+  where
+    entry : (i : ℕ) → i < length xs → ((n : ℕ) → slice_get xs i ≡ Some n → Low i n) ⊎ ((n : ℕ) × (slice_get xs i ≡ Some n) × Past i n)
+    entry i lt =
+        let at : slice_get xs i ≡ Some (get_or xs i 0) = slice_get-get_or xs i 0 lt in
+        ⊎_elim
+        (λ low. inl (λ n here. subst (Low i) (same_Some (get_or xs i 0) n (sym at ∙ here)) low))
+        (λ past. inr (get_or xs i 0, at, past))
+        (d i (get_or xs i 0) at)
+
+-- a state is too deep, or it isn't
+pub deep_or_not : (t : Table) → IsShaped t → ((s n : ℕ) → slice_get t.default s ≡ Some n → n < state_count t) →
+    (s d : ℕ) → slice_get t.depth s ≡ Some d → (¬ (IsTooDeep t s d)) ⊎ IsTooDeep t s d
+deep_or_not t shaped defaults s d at =
+    let within : s < length t.depth = slice_get_within t.depth s d at in
+    let n : ℕ = get_or t.default s 0 in
+    let default : slice_get t.default s ≡ Some (get_or t.default s 0) =
+    slice_get-get_or t.default s 0 (omega (arith, within, shaped.depths)) in
+    let low : n < state_count t = defaults s n default in
+    let e : ℕ = get_or t.depth n 0 in
+    let depth : slice_get t.depth n ≡ Some (get_or t.depth n 0) = slice_get-get_or t.depth n 0 (omega (arith, low, shaped.depths)) in
+    ⊎_elim
+    (λ over. inr (inl over))
+    (λ le. ⊎_elim
+    (λ some. ⊎_elim
+    (λ falls. inl (λ deep. ⊎_elim
+    (λ over. omega (arith, le, over))
+    (λ w. let same_default : n ≡ w.1 = same_Some n w.1 (sym default ∙ w.2) in
+    let same_depth : e ≡ w.3 = same_Some e w.3 (sym depth ∙ subst (λ z. slice_get t.depth z ≡ Some w.3) (sym same_default) w.4) in
+    omega (arith, falls, same_depth, w.5))
+    deep))
+    (λ no. inr (inr (some, n, default, e, depth, no)))
+    (cases_lt e d))
+    (λ none. inl (λ deep. ⊎_elim (λ over. omega (arith, le, over)) (λ w. omega (arith, none, w.0)) deep))
+    (cases_lt 0 d))
+    (cases_lt t.depth_bound d)

@@ -1,11 +1,11 @@
 -- A table is in bounds, or has a first fault.
 use Rattle.std.proofs.Common.{◌≡◌, ℕ, ◌+◌, ◌<◌, ◌≤◌, ◌⊎◌, inl, inr, ⊎_elim, Some, slice_get, arith}
 use Rattle.std.proofs.lemmas.Bool.{cases_lt}
-use Rattle.tables.specs.Bounds.{HasFault, InBounds, InLimits, IsFirstFault, IsShaped, fault_number, fault_place}
+use Rattle.tables.specs.Bounds.{HasFault, InBounds, InLimits, IsFirstFault, IsShaped, IsTooDeep, fault_number, fault_place}
 use Rattle.tables.specs.Tables.{Table, state_count, cell_count, record_count}
 use Rattle.tables.specs.declared.fault.ImageFault.{ImageFault}
 use Rattle.tables.specs.declared.fault.ImageFault.TheVariants as fault
-use Rattle.tables.proofs.Deciding.{decided_limits, decided_shaped, entries_outcome}
+use Rattle.tables.proofs.Deciding.{decided_limits, decided_shaped, deep_or_not, entries_outcome, places_outcome}
 
 -- fault n at place j is tested before fault k at place p
 abbrev pub Earlier : ℕ → ℕ → ℕ → ℕ → Type 0
@@ -47,6 +47,7 @@ record IsRightBefore (t : Table) (k p : ℕ) : Type 0 where
   bases : (j n : ℕ) → Earlier 8 j k p → slice_get t.base j ≡ Some n → n + 255 < cell_count t
   accepts : (j n : ℕ) → Earlier 9 j k p → slice_get t.accept j ≡ Some n → n < record_count t
   nexts : (j n : ℕ) → Earlier 10 j k p → slice_get t.next j ≡ Some n → n < state_count t
+  depths : (j d : ℕ) → Earlier 12 j k p → slice_get t.depth j ≡ Some d → ¬ (IsTooDeep t j d)
 
 none_earlier : (t : Table) (k p : ℕ) → IsRightBefore t k p →
     (g : ImageFault) → Earlier (fault_number g) (fault_place g) k p → ¬ (HasFault t g)
@@ -61,6 +62,7 @@ none_earlier t k p right (fault.Base s) e h = let low = right.bases s h.0 e h.1 
 none_earlier t k p right (fault.Accept s) e h = let low = right.accepts s h.0 e h.1 in let past = h.2 in omega (arith, low, past)
 none_earlier t k p right (fault.Next c) e h = let low = right.nexts c h.0 e h.1 in let past = h.2 in omega (arith, low, past)
 none_earlier t k p right fault.NoMemory e h = h
+none_earlier t k p right (fault.Depth s) e h = right.depths s h.0 e h.1 h.2
 
 abbrev DefaultsLow : Table → Type 0
 DefaultsLow t = (s n : ℕ) → slice_get t.default s ≡ Some n → n < state_count t
@@ -83,6 +85,7 @@ module _ (t : Table) where
     bases = λ j n e. absurd (later 8 j 5 0 (omega arith) e);
     accepts = λ j n e. absurd (later 9 j 5 0 (omega arith) e);
     nexts = λ j n e. absurd (later 10 j 5 0 (omega arith) e);
+    depths = λ j d e. absurd (later 12 j 5 0 (omega arith) e);
   }))
 
   module _ (limits : InLimits (state_count t) (cell_count t) (record_count t)) where
@@ -94,6 +97,7 @@ module _ (t : Table) where
       bases = λ j n e. absurd (later 8 j 6 0 (omega arith) e);
       accepts = λ j n e. absurd (later 9 j 6 0 (omega arith) e);
       nexts = λ j n e. absurd (later 10 j 6 0 (omega arith) e);
+      depths = λ j d e. absurd (later 12 j 6 0 (omega arith) e);
     }))
 
     module _ (shaped : IsShaped t) where
@@ -106,6 +110,7 @@ module _ (t : Table) where
         bases = λ j n e. absurd (later 8 j 7 s (omega arith) e);
         accepts = λ j n e. absurd (later 9 j 7 s (omega arith) e);
         nexts = λ j n e. absurd (later 10 j 7 s (omega arith) e);
+        depths = λ j d e. absurd (later 12 j 7 s (omega arith) e);
       }))
 
       module _ (defaults : DefaultsLow t) where
@@ -118,6 +123,7 @@ module _ (t : Table) where
           bases = λ j n e. below j n (at_place 8 j s e);
           accepts = λ j n e. absurd (later 9 j 8 s (omega arith) e);
           nexts = λ j n e. absurd (later 10 j 8 s (omega arith) e);
+          depths = λ j d e. absurd (later 12 j 8 s (omega arith) e);
         }))
 
         module _ (bases : BasesLow t) where
@@ -130,6 +136,7 @@ module _ (t : Table) where
             bases = λ j n e. bases j n;
             accepts = λ j n e. below j n (at_place 9 j s e);
             nexts = λ j n e. absurd (later 10 j 9 s (omega arith) e);
+            depths = λ j d e. absurd (later 12 j 9 s (omega arith) e);
           }))
 
           module _ (accepts : AcceptsLow t) where
@@ -142,7 +149,21 @@ module _ (t : Table) where
               bases = λ j n e. bases j n;
               accepts = λ j n e. accepts j n;
               nexts = λ j n e. below j n (at_place 10 j c e);
+              depths = λ j d e. absurd (later 12 j 10 c (omega arith) e);
             }))
+
+            module _ (nexts : NextsLow t) where
+              depth_first : (s : ℕ) → HasFault t (fault.Depth s) →
+                  ((j d : ℕ) → j < s → slice_get t.depth j ≡ Some d → ¬ (IsTooDeep t j d)) → IsFirstFault t (fault.Depth s)
+              depth_first s h below = first_by t (fault.Depth s) h (none_earlier t 12 s (record {
+                limits = λ e. limits;
+                shaped = λ e. shaped;
+                defaults = λ j n e. defaults j n;
+                bases = λ j n e. bases j n;
+                accepts = λ j n e. accepts j n;
+                nexts = λ j n e. nexts j n;
+                depths = λ j d e. below j d (at_place 12 j s e);
+              }))
 
 pub table_outcome : (t : Table) → InBounds t ⊎ ((f : ImageFault) × IsFirstFault t f)
 table_outcome t = ⊎_elim
@@ -151,7 +172,18 @@ table_outcome t = ⊎_elim
     (λ defaults. ⊎_elim
     (λ bases. ⊎_elim
     (λ accepts. ⊎_elim
-    (λ nexts. inl (record { limits = limits; shaped = shaped; defaults = defaults; bases = bases; accepts = accepts; nexts = nexts }))
+    (λ nexts. ⊎_elim
+    (λ depths. inl (record {
+      limits = limits;
+      shaped = shaped;
+      defaults = defaults;
+      bases = bases;
+      accepts = accepts;
+      nexts = nexts;
+      depths = depths;
+    }))
+    (λ w. inr (fault.Depth w.0, depth_first t limits shaped defaults bases accepts nexts w.0 w.1 w.2))
+    (places_outcome t.depth (λ s d. ¬ (IsTooDeep t s d)) (IsTooDeep t) (deep_or_not t shaped defaults)))
     (λ w. inr (fault.Next w.0, next_first t limits shaped defaults bases accepts w.0 w.1 w.2))
     (entries_outcome t.next (λ n. n < state_count t) (λ n. state_count t ≤ n) (λ n. cases_lt n (state_count t))))
     (λ w. inr (fault.Accept w.0, accept_first t limits shaped defaults bases w.0 w.1 w.2))

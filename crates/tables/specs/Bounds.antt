@@ -31,12 +31,18 @@ pub record IsShaped (t : Table) : Type 0 where
   pub bases : length t.base ≡ state_count t
   pub accepts : length t.accept ≡ state_count t
   pub checks : length t.check ≡ cell_count t
+  pub depths : length t.depth ≡ state_count t
 
 -- the numbers of states, cells and records are within the limits
 abbrev pub IsWithinLimits : Table → Type 0
 IsWithinLimits t = InLimits (state_count t) (cell_count t) (record_count t)
 
--- no entry leads out of the tables, whatever the checks
+-- the depth of a state is over the bound, or is over 0 and not over that of the state's default
+abbrev pub IsTooDeep : Table → ℕ → ℕ → Type 0
+IsTooDeep t s d = (t.depth_bound < d)
+    ⊎ ((0 < d) × (n : ℕ) × (slice_get t.default s ≡ Some n) × (e : ℕ) × (slice_get t.depth n ≡ Some e) × (d ≤ e))
+
+-- no entry leads out of the tables, whatever the checks, and no byte is looked up more often than the bound allows
 pub record InBounds (t : Table) : Type 0 where
   pub limits : IsWithinLimits t
   pub shaped : IsShaped t
@@ -44,6 +50,7 @@ pub record InBounds (t : Table) : Type 0 where
   pub bases : (s n : ℕ) → slice_get t.base s ≡ Some n → n + 255 < cell_count t
   pub accepts : (s n : ℕ) → slice_get t.accept s ≡ Some n → n < record_count t
   pub nexts : (c n : ℕ) → slice_get t.next c ≡ Some n → n < state_count t
+  pub depths : (s d : ℕ) → slice_get t.depth s ≡ Some d → ¬ (IsTooDeep t s d)
 
 -- the table has this fault
 abbrev pub HasFault : Table → ImageFault → Type 0
@@ -53,6 +60,7 @@ HasFault t (fault.Default s) = (n : ℕ) × (slice_get t.default s ≡ Some n) �
 HasFault t (fault.Base s) = (n : ℕ) × (slice_get t.base s ≡ Some n) × (cell_count t ≤ n + 255)
 HasFault t (fault.Accept s) = (n : ℕ) × (slice_get t.accept s ≡ Some n) × (record_count t ≤ n)
 HasFault t (fault.Next c) = (n : ℕ) × (slice_get t.next c ≡ Some n) × (state_count t ≤ n)
+HasFault t (fault.Depth s) = (d : ℕ) × (slice_get t.depth s ≡ Some d) × IsTooDeep t s d
 HasFault t _ = ⊥
 
 abbrev pub fault_number : ImageFault → ℕ
@@ -67,6 +75,7 @@ fault_number (fault.Base s) = 8
 fault_number (fault.Accept s) = 9
 fault_number (fault.Next c) = 10
 fault_number fault.NoMemory = 11
+fault_number (fault.Depth s) = 12
 
 -- the state or cell of a fault, if it has one
 abbrev pub fault_index : ImageFault → Option ℕ
@@ -74,6 +83,7 @@ fault_index (fault.Default s) = Some s
 fault_index (fault.Base s) = Some s
 fault_index (fault.Accept s) = Some s
 fault_index (fault.Next c) = Some c
+fault_index (fault.Depth s) = Some s
 fault_index _ = None
 
 -- the same, 0 where it has none

@@ -3,56 +3,90 @@ ghost use Rattle.std.specs.Prelude.{◌≡◌, ◌⊎◌, All, ◌+◌, ◌*◌,
 ghost use Rattle.std.specs.List.{concat};
 ghost use Rattle.byteorder.specs.Endian.{little_bytes};
 ghost use Rattle.tables.specs.Bounds.{IsShaped, IsWithinLimits};
-ghost use Rattle.tables.specs.Images.{AreShort, AreWords, IsFirstImageFault, IsImageOf, IsShortRecord, IsWhole, header_of, hits_bytes};
-ghost use Rattle.tables.specs.Images.{record_bytes, word_at, words};
-ghost use Rattle.tables.specs.inner.Reading.{hits_at, record_at, records_at, table_at, words_at};
+ghost use Rattle.tables.specs.Images.{AreShort, AreWords, FitsVersion1, IsFirstImageFault, IsImageOf, IsShortRecord, IsShortStored};
+ghost use Rattle.tables.specs.Images.{IsVersionOf, IsWhole, bound_of, depth_count, depths_of, header_of, hits_bytes, record_bytes};
+ghost use Rattle.tables.specs.Images.{stored_bytes, stored_length, words};
+ghost use Rattle.tables.specs.inner.Places.{IsCounted};
+ghost use Rattle.tables.specs.inner.Reading.{depths_at, hits_at, record_at, records_at, stored_at, table_at, words_at};
 ghost use Rattle.tables.specs.Tables.{table_value};
 ghost use Rattle.tables.specs.declared.fault.ImageFault.TheVariants as fault;
+ghost use Rattle.tables.specs.declared.header.Version.TheVariants.{First, Second};
 
 use crate::fault::ImageFault;
-use crate::header::{Counts, HEADER_LENGTH, HITS_LENGTH, RECORD_LENGTH, WORD_LENGTH, read_header};
-use crate::table::RawTable;
+use crate::header::{
+    Counts, HEADER_LENGTH, HITS_LENGTH, RECORD_LENGTH, Version, WORD_LENGTH, read_header,
+};
+use crate::table::{RawTable, StoredRecord};
 use byteorder::{ByteOrder, LittleEndian};
 use names::{NoMemory, Permission, permissions_are_numbered};
 use std::alloc::{AllocError, Global};
 use verdicts::{LeastHits, Record};
 
-/// The image of tables whose counts are within the limits and whose lists are equally long within each group.
+/// The image, in version 2, of tables whose counts are within the limits and whose lists are equally long within each group.
 pub fn to_bytes(alloc: Global, table: &RawTable) -> Result<Vec<u8>, NoMemory>
     requires shaped { IsShaped (table_value table.now) }
     requires limits { IsWithinLimits (table_value table.now) }
-    ensures { IfOk result (λ bytes. IsImageOf bytes.items (table_value table.now)) }
+    ensures { IfOk result (λ bytes. IsVersionOf Second bytes.items (table_value table.now)) }
 {
-    match write_table(alloc, table) {
+    match write_table(alloc, table, Version::Second) {
         Ok(bytes) => Ok(bytes),
         Err(AllocError) => Err(NoMemory),
     }
 }
 
-fn write_table(alloc: Global, table: &RawTable) -> Result<Vec<u8>, AllocError>
+/// The image in version 1 of such tables whose states have no depth, and whose records have the hits of write for append.
+pub fn to_bytes_v1(alloc: Global, table: &RawTable) -> Result<Vec<u8>, NoMemory>
     requires shaped { IsShaped (table_value table.now) }
     requires limits { IsWithinLimits (table_value table.now) }
-    ensures { IfOk result (λ bytes. IsImageOf bytes.items (table_value table.now)) }
+    requires fits { FitsVersion1 (table_value table.now) }
+    ensures { IfOk result (λ bytes. IsVersionOf First bytes.items (table_value table.now)) }
+{
+    match write_table(alloc, table, Version::First) {
+        Ok(bytes) => Ok(bytes),
+        Err(AllocError) => Err(NoMemory),
+    }
+}
+
+fn write_table(alloc: Global, table: &RawTable, version: Version) -> Result<Vec<u8>, AllocError>
+    requires shaped { IsShaped (table_value table.now) }
+    requires limits { IsWithinLimits (table_value table.now) }
+    requires fits { version ≡ First → FitsVersion1 (table_value table.now) }
+    ensures { IfOk result (λ bytes. IsVersionOf version bytes.items (table_value table.now)) }
 {
     let mut bytes = Vec::new(alloc);
-    push_header(&mut bytes, table)?;
+    push_header(&mut bytes, table, version)?;
     push_words(&mut bytes, &table.default)?;
     push_words(&mut bytes, &table.base)?;
     push_words(&mut bytes, &table.accept)?;
+    push_depths(&mut bytes, table, version)?;
     push_words(&mut bytes, &table.next)?;
     push_words(&mut bytes, &table.check)?;
-    push_records(&mut bytes, &table.records)?;
+    push_records(&mut bytes, &table.records, version)?;
     Ok(bytes)
 }
 
-fn push_header(bytes: &mut Vec<u8>, table: &RawTable) -> Result<(), AllocError>
+fn push_header(bytes: &mut Vec<u8>, table: &RawTable, version: Version) -> Result<(), AllocError>
     requires { IsWithinLimits (table_value table.now) }
-    ensures { OnOk result (bytes.new.items ≡ bytes.old.items ++ header_of (table_value table.now)) }
+    ensures bytes { OnOk result (bytes.new.items ≡ bytes.old.items ++ header_of version (table_value table.now)) }
+    ensures room { OnOk result (bound_of version (table_value table.now) < 65536) }
 {
-    bytes.extend_from_slice(b"PTAB\x01\x00\x00\x00")?;
+    bytes.extend_from_slice(b"PTAB")?;
+    push_short(bytes, version.number())?;
+    push_short(bytes, version.bound(table.depth_bound))?;
     push_word(bytes, table.default.len() as u32)?;
     push_word(bytes, table.next.len() as u32)?;
     push_word(bytes, table.records.len() as u32)
+}
+
+// The depths, if the version has them.
+fn push_depths(bytes: &mut Vec<u8>, table: &RawTable, version: Version) -> Result<(), AllocError>
+    ensures bytes { OnOk result (bytes.new.items ≡ bytes.old.items ++ words (depths_of version (table_value table.now))) }
+    ensures room { AreWords (depths_of version (table_value table.now)) }
+{
+    match version {
+        Version::First => Ok(()),
+        Version::Second => push_words(bytes, &table.depth),
+    }
 }
 
 fn push_word(bytes: &mut Vec<u8>, word: u32) -> Result<(), AllocError>
@@ -100,12 +134,40 @@ fn push_record(bytes: &mut Vec<u8>, record: &Record) -> Result<(), AllocError>
     Ok(())
 }
 
-fn push_records(bytes: &mut Vec<u8>, records: &[Record]) -> Result<(), AllocError>
-    ensures bytes { OnOk result (bytes.new.items ≡ bytes.old.items ++ concat (map record_bytes records.now)) }
-    ensures room { OnOk result (All IsShortRecord records.now) }
+// The same hits: each number of them is below 65,536.
+fn numbered(hits: LeastHits) -> LeastHits
+    ensures same { result ≡ hits }
+    ensures short { AreShort hits }
 {
-    for record in records {
-        push_record(bytes, record)?;
+    hits
+}
+
+fn push_stored(
+    bytes: &mut Vec<u8>,
+    stored: &StoredRecord,
+    version: Version,
+) -> Result<(), AllocError>
+    ensures bytes { OnOk result (bytes.new.items ≡ bytes.old.items ++ stored_bytes version stored.now) }
+    ensures room { OnOk result (IsShortStored stored.now) }
+{
+    let append = numbered(stored.append);
+    push_record(bytes, &stored.hits)?;
+    match version {
+        Version::First => Ok(()),
+        Version::Second => push_hits(bytes, append),
+    }
+}
+
+fn push_records(
+    bytes: &mut Vec<u8>,
+    records: &[StoredRecord],
+    version: Version,
+) -> Result<(), AllocError>
+    ensures bytes { OnOk result (bytes.new.items ≡ bytes.old.items ++ concat (map (stored_bytes version) records.now)) }
+    ensures room { OnOk result (All IsShortStored records.now) }
+{
+    for stored in records {
+        push_stored(bytes, stored, version)?;
     }
     Ok(())
 }
@@ -121,17 +183,15 @@ pub fn from_bytes(alloc: Global, bytes: &[u8]) -> Result<RawTable, ImageFault>
 
 // The tables that follow a header, whose places depend on its counts.
 fn read_table(alloc: Global, bytes: &[u8], counts: Counts) -> Result<RawTable, AllocError>
-    requires whole { IsWhole bytes.now }
-    requires states { counts.states ≡ word_at bytes.now 8 }
-    requires cells { counts.cells ≡ word_at bytes.now 12 }
-    requires records { counts.records ≡ word_at bytes.now 16 }
-    ensures { IfOk result (λ table. table_value table ≡ table_at bytes.now) }
+    requires { IsCounted bytes.now counts }
+    ensures { IfOk result (λ table. table_value table ≡ table_at counts.version bytes.now) }
 {
     let states = counts.states as usize;
     let cells = counts.cells as usize;
     let base_at = HEADER_LENGTH + WORD_LENGTH * states;
     let accept_at = base_at + WORD_LENGTH * states;
-    let next_at = accept_at + WORD_LENGTH * states;
+    let depth_at = accept_at + WORD_LENGTH * states;
+    let next_at = depth_at + WORD_LENGTH * counts.version.depth_count(counts.states) as usize;
     let check_at = next_at + WORD_LENGTH * cells;
     let records_at = check_at + WORD_LENGTH * cells;
     Ok(RawTable {
@@ -140,7 +200,9 @@ fn read_table(alloc: Global, bytes: &[u8], counts: Counts) -> Result<RawTable, A
         accept: read_words(alloc, bytes, accept_at, states)?,
         next: read_words(alloc, bytes, next_at, cells)?,
         check: read_words(alloc, bytes, check_at, cells)?,
-        records: read_records(alloc, bytes, records_at, counts.records as usize)?,
+        records: read_records(alloc, bytes, records_at, counts)?,
+        depth_bound: counts.bound,
+        depth: read_depths(alloc, bytes, depth_at, counts)?,
     })
 }
 
@@ -155,6 +217,22 @@ fn read_words(alloc: Global, bytes: &[u8], at: usize, count: usize) -> Result<Ve
     Ok(words)
 }
 
+fn read_depths(
+    alloc: Global,
+    bytes: &[u8],
+    at: usize,
+    counts: Counts,
+) -> Result<Vec<u32>, AllocError>
+    requires { at + 4 * depth_count counts.version counts.states ≤ length bytes.now }
+    ensures { IfOk result (λ v. v.items ≡ depths_at counts.version bytes.now at counts.states) }
+{
+    let states = counts.states as usize;
+    match counts.version {
+        Version::First => Vec::from_elem(alloc, 0, states),
+        Version::Second => read_words(alloc, bytes, at, states),
+    }
+}
+
 fn read_hits(bytes: &[u8], at: usize) -> LeastHits
     requires { at + 4 ≤ length bytes.now }
     ensures { result ≡ hits_at bytes.now at }
@@ -165,7 +243,7 @@ fn read_hits(bytes: &[u8], at: usize) -> LeastHits
     }
 }
 
-pub(crate) fn read_record(bytes: &[u8], at: usize) -> Record
+fn read_record(bytes: &[u8], at: usize) -> Record
     requires { at + 20 ≤ length bytes.now }
     ensures { result ≡ record_at bytes.now at }
 {
@@ -177,18 +255,34 @@ pub(crate) fn read_record(bytes: &[u8], at: usize) -> Record
     Record::from_hits(hits)
 }
 
+pub(crate) fn read_stored(bytes: &[u8], at: usize, version: Version) -> StoredRecord
+    requires { at + stored_length version ≤ length bytes.now }
+    ensures { result ≡ stored_at version bytes.now at }
+{
+    let hits = read_record(bytes, at);
+    match version {
+        Version::First => StoredRecord::of(hits),
+        Version::Second => StoredRecord {
+            hits,
+            append: read_hits(bytes, at + RECORD_LENGTH),
+        },
+    }
+}
+
 fn read_records(
     alloc: Global,
     bytes: &[u8],
     at: usize,
-    count: usize,
-) -> Result<Vec<Record>, AllocError>
-    requires { at + 20 * count ≤ length bytes.now }
-    ensures { IfOk result (λ v. v.items ≡ records_at bytes.now at count) }
+    counts: Counts,
+) -> Result<Vec<StoredRecord>, AllocError>
+    requires { at + stored_length counts.version * counts.records ≤ length bytes.now }
+    ensures { IfOk result (λ v. v.items ≡ records_at counts.version bytes.now at counts.records) }
 {
+    let count = counts.records as usize;
     let mut records = Vec::with_capacity(alloc, count)?;
     for place in 0..count {
-        records.push(read_record(bytes, at + RECORD_LENGTH * place))?;
+        let start = at + counts.version.stored_length() * place;
+        records.push(read_stored(bytes, start, counts.version))?;
     }
     Ok(records)
 }

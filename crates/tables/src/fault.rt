@@ -16,10 +16,10 @@ pub enum ImageFault {
     /// The first four bytes aren't `PTAB`.
     #[error("no image")]
     Magic,
-    /// Another version than 1.
+    /// Another version than 1 and 2.
     #[error("another version")]
     Version,
-    /// The two bytes after the version aren't 0.
+    /// In version 1, the two bytes after the version aren't 0.
     #[error("reserved bytes in use")]
     Reserved,
     /// Fewer than 2 or more than 65,536 states, fewer than 256 or more than 16,777,216 cells, or fewer than 1 or more than
@@ -44,10 +44,13 @@ pub enum ImageFault {
     /// Memory was refused; nothing is said of the image.
     #[error("{}", NoMemory)]
     NoMemory,
+    /// A state's depth is over the bound, or is over 0 and not over that of its default.
+    #[error("the depth of state {state} is over the bound, or not over that of its default")]
+    Depth { state: u32 },
 }
 
 impl ImageFault {
-    /// The number of the fault, 1 to 11.
+    /// The number of the fault, 1 to 12.
     pub fn number(self) -> u16
         ensures { result ≡ fault_number self }
     {
@@ -63,17 +66,19 @@ impl ImageFault {
             ImageFault::Accept { .. } => 9,
             ImageFault::Next { .. } => 10,
             ImageFault::NoMemory => 11,
+            ImageFault::Depth { .. } => 12,
         }
     }
 
-    /// The state or cell of the faults 7 to 10.
+    /// The state or cell of the faults 7 to 10 and 12.
     pub fn index(self) -> Option<u32>
         ensures { result ≡ fault_index self }
     {
         match self {
             ImageFault::Default { state }
             | ImageFault::Base { state }
-            | ImageFault::Accept { state } => Some(state),
+            | ImageFault::Accept { state }
+            | ImageFault::Depth { state } => Some(state),
             ImageFault::Next { cell } => Some(cell),
             _ => None,
         }

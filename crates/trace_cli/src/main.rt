@@ -1,7 +1,7 @@
 //! `aa-trace`: says what profiles of file rules make of names, and of opens in a directory tree.
 //!
 //! `aa-trace judge PERMS NAME` judges a name by the profile on standard input: it writes `allowed`, `denied by rule K` or
-//! `no rule for LETTERS`. `aa-trace compile` writes the image of that profile. `aa-trace check` tests the image on standard
+//! `no rule for LETTERS`. `aa-trace compile --depth N` writes the image of that profile. `aa-trace check` tests the image on standard
 //! input, and `aa-trace match PERMS NAME` judges a name by it. `aa-trace run --capacity N` answers the script on standard
 //! input line by line: changes of a tree, profiles, and judged opens. `aa-trace test --capacity N` compares the answers with lines
 //! of the script that expect them. `aa-trace steps --capacity N` takes the events of the script on standard input one at a time:

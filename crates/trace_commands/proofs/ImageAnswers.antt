@@ -1,5 +1,9 @@
 -- Each image has one answer.
-use Rattle.std.proofs.Common.{◌≡◌, ℕ, List, Result, Ok, Err, Some, sym, ap, subst, ◌∙◌, inl, inr}
+use Rattle.std.proofs.Common.{arith, ◌≡◌, ◌≤◌, ℕ, List, [], ◌++◌, Result, Ok, Err, Some, refl, sym, ap, subst, ◌∙◌, inl, inr}
+use Rattle.std.proofs.Common.{append_assoc, length}
+use Rattle.std.proofs.lemmas.Bool.{ne_eqb}
+use Rattle.std.proofs.lemmas.List.{append-nil}
+use Rattle.std.specs.Prelude.{◌==◌, codes, decimal, if◌then◌else◌}
 use Rattle.std.proofs.lemmas.Option.{same_Some}
 use Rattle.verdicts.specs.Records.{IsTold}
 use Rattle.names.specs.Bytes.{are_bytes}
@@ -9,16 +13,35 @@ use Rattle.matcher.specs.Telling.{TellsLeastHits, TellsVerdicts}
 use Rattle.names.specs.declared.permissions.Perms.{Perms}
 use Rattle.rule_globs.specs.PlainVerdict.{verdict}
 use Rattle.rule_profile.specs.Profile.{ProfileValue, RuleValue}
+use Rattle.verdicts.specs.VerdictText.{verdict_text}
 use Rattle.verdicts.specs.declared.verdict.Verdict.{Verdict}
 use Rattle.tables.specs.Bounds.{InBounds, IsFirstFault}
 use Rattle.tables.specs.Images.{IsFirstImageFault, IsImageOf}
-use Rattle.tables.specs.Tables.{Table, record_after}
+use Rattle.tables.specs.Tables.{Table, look_ups_after, record_after}
 use Rattle.tables.specs.declared.fault.ImageFault.{ImageFault}
 use Rattle.trace_commands.specs.Judge.{ask_of}
 use Rattle.trace_report.specs.Output.{Output, fault, image_refusal, line, whole_answer}
 use Rattle.trace_commands.specs.Tables.{IsCheckOutput, IsImageOutput, IsImageRefused, IsMatchOutput, IsMatchOutputOf, IsMatchedOutput}
-use Rattle.trace_commands.specs.Tables.{IsVerdictOf, counts_text, match_text}
+use Rattle.trace_commands.specs.Tables.{IsVerdictOf, counts_text, match_text, steps_text, version_asked}
 use Rattle.trace_report.specs.declared.status.Status.TheVariants.{Refused}
+
+-- nothing is written of look-ups where states have no depth
+pub flat_text : (t : Table) (name : List ℕ) (v : Verdict) → t.depth_bound ≡ 0 → match_text t name v ≡ steps_text name v
+flat_text t name v none = rw none (append-nil (steps_text name v))
+
+chained_if : (bound : ℕ) (steps looked : List ℕ) → ¬ (bound ≡ 0) → steps ++ (if bound == 0 then [] else looked) ≡ steps ++ looked
+chained_if bound steps looked some = rw (ne_eqb bound 0 some) refl
+
+-- and else their number
+pub chained_text : (t : Table) (name : List ℕ) (v : Verdict) → ¬ (t.depth_bound ≡ 0) →
+    match_text t name v ≡ verdict_text v ++ (codes "\nsteps " ++ (decimal (length name) ++ (codes "\nlookups "
+    ++ (decimal (look_ups_after t name) ++ codes "\n"))))
+chained_text t name v some =
+    let looked : List ℕ = codes "lookups " ++ (decimal (look_ups_after t name) ++ codes "\n") in
+    let steps : List ℕ = decimal (length name) ++ codes "\n" in
+    chained_if t.depth_bound (steps_text name v) looked some
+    ∙ append_assoc (verdict_text v) (codes "\nsteps " ++ steps) looked
+    ∙ ap (λ l. verdict_text v ++ (codes "\nsteps " ++ l)) (append_assoc (decimal (length name)) (codes "\n") looked)
 
 -- what the laws of images, of tables and of records say
 module _
@@ -62,7 +85,8 @@ module _
         IsMatchedOutput ask name image other → one ≡ other
     one_matched ask name image one other (inl (t, loaded, v, told, e)) (inl (u, so, w, second, h)) =
         let here : IsVerdictOf t name ask w = subst (λ (x : Table). IsVerdictOf x name ask w) (one_table image u t so.0 loaded.0) second in
-        e ∙ ap (λ (x : Verdict). whole_answer (match_text name x)) (verdict_of_one t name ask v w told here) ∙ sym h
+        e ∙ ap (λ (x : Verdict). whole_answer (match_text t name x)) (verdict_of_one t name ask v w told here)
+        ∙ ap (λ (x : Table). whole_answer (match_text x name w)) (one_table image t u loaded.0 so.0) ∙ sym h
     one_matched ask name image one other (inl (t, loaded, v, told, e)) (inr (g, first, h)) =
         absurd (loaded_or_refused image t g loaded first)
     one_matched ask name image one other (inr (f, first, e)) (inl (u, so, w, second, h)) = absurd (loaded_or_refused image u f so first)
@@ -80,17 +104,31 @@ module _
   module _ (right : (rules : List RuleValue) (t : Table) → TellsLeastHits rules t → TellsVerdicts rules t) where
     matched_right : (profile : ProfileValue) (bytes : List ℕ) (t : Table) (matched : Output) (ask : Perms) (name : List ℕ) → are_bytes name
         → TellsLeastHits profile.rules t → IsLoaded bytes t → IsMatchedOutput ask name bytes matched
-        → matched ≡ whole_answer (match_text name (verdict profile.rules name ask))
+        → matched ≡ whole_answer (match_text t name (verdict profile.rules name ask))
     matched_right profile bytes t matched ask name small least loaded (inl (u, so, v, (r, at, told), e)) =
         let same : u ≡ t = one_table bytes u t so.0 loaded.0 in
         let there : record_after t name ≡ Some r = subst (λ (x : Table). record_after x name ≡ Some r) same at in
-        e ∙ ap (λ (x : Verdict). whole_answer (match_text name x)) (right profile.rules t least name r ask v small there told)
+        e ∙ ap (λ (x : Table). whole_answer (match_text x name v)) same
+        ∙ ap (λ (x : Verdict). whole_answer (match_text t name x)) (right profile.rules t least name r ask v small there told)
     matched_right profile bytes t matched ask name small least loaded (inr (f, first, e)) =
         absurd (loaded_or_refused bytes t f loaded first)
 
-    pub matched_by_image : (profile : ProfileValue) (image matched : Output) (ask : Perms) (name : List ℕ) → are_bytes name
-        → IsImageOutput profile image → IsMatchedOutput ask name image.answers matched
-        → matched ≡ whole_answer (match_text name (verdict profile.rules name ask))
-    matched_by_image profile image matched ask name small (t, of, bytes, loaded, e) wanted =
-        matched_right profile bytes t matched ask name small of.least loaded
-        (subst (λ (o : Output). IsMatchedOutput ask name o.answers matched) e wanted)
+    pub matched_by_image : (depth : ℕ) (profile : ProfileValue) (image matched : Output) (ask : Perms) (name : List ℕ) → are_bytes name
+        → IsImageOutput depth profile image → IsMatchedOutput ask name image.answers matched
+        → (t : Table) × IsLoaded image.answers t × (t.depth_bound ≤ depth)
+        × (matched ≡ whole_answer (match_text t name (verdict profile.rules name ask)))
+    matched_by_image depth profile image matched ask name small made wanted =
+        let loaded : IsLoaded made.bytes made.table = ((version_asked depth, made.image), made.bounds) in (
+          made.table,
+          subst (λ (o : Output). IsLoaded o.answers made.table) (sym made.is) loaded,
+          made.depth_asked,
+          matched_right profile made.bytes made.table matched ask name small made.of_rules.least loaded
+              (subst (λ (o : Output). IsMatchedOutput ask name o.answers matched) made.is wanted),
+        )
+
+    pub matched_by_first : (profile : ProfileValue) (image matched : Output) (ask : Perms) (name : List ℕ) → are_bytes name
+        → IsImageOutput 0 profile image → IsMatchedOutput ask name image.answers matched
+        → matched ≡ whole_answer (steps_text name (verdict profile.rules name ask))
+    matched_by_first profile image matched ask name small made wanted =
+        let (t, loaded, low, told) = matched_by_image 0 profile image matched ask name small made wanted in
+        told ∙ ap whole_answer (flat_text t name (verdict profile.rules name ask) (omega (arith, low)))

@@ -34,6 +34,7 @@ reported bytes (fault_here.Base s) h = refl
 reported bytes (fault_here.Accept s) h = refl
 reported bytes (fault_here.Next c) h = refl
 reported bytes fault_here.NoMemory h = absurd h
+reported bytes (fault_here.Depth s) h = refl
 
 -- nothing was read
 pub reads_nothing : (known : Option (List ℕ)) → ReadsImage known known

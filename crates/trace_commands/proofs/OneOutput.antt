@@ -1,17 +1,12 @@
 -- Commands that may write one of several outputs.
 use Rattle.table_verifier.specs.Loading.{IsLoadFault}
 use Rattle.std.specs.Prelude.{Vec}
-use Rattle.glob_automaton.specs.Automata.{most_sets}
-use Rattle.glob_automaton.specs.Sets.{AreMoreThan}
 use Rattle.matcher.specs.declared.fault.MakeFault.TheVariants.{TooManyStates}
-use Rattle.matcher.specs.Telling.{IsTableOfRules}
-use Rattle.tables.specs.Bounds.{InBounds}
-use Rattle.tables.specs.Images.{IsImageOf}
-use Rattle.tables.specs.Tables.{Table}
+use Rattle.tables.specs.declared.header.Version.TheVariants.{Second}
 use Rattle.std.specs.declared.alloc.Global.{Global}
 use Rattle.tables.specs.declared.fault.ImageFault.{ImageFault}
 use Rattle.tables.specs.declared.fault.ImageFault.TheVariants as fault_here
-use Rattle.std.proofs.Common.{◌≡◌, ◌≢◌, ◌⊎◌, ℕ, List, Option, Result, Ok, Err, refl, inl, inr}
+use Rattle.std.proofs.Common.{arith, ◌≡◌, ◌≢◌, ◌<◌, ◌⊎◌, ℕ, zero, suc, List, Option, Result, Ok, Err, refl, inl, inr}
 use Rattle.names.specs.declared.permissions.Perms.{Perms}
 use Rattle.rule_profile.specs.Profile.{ProfileValue}
 use Rattle.rule_reader.specs.Reading.{outcome_of}
@@ -22,7 +17,7 @@ use Rattle.trace_commands.specs.Judge.{ask_of}
 use Rattle.trace_report.specs.Output.{Output, compile_refusal, fault, image_refusal, refusal, whole_answer}
 use Rattle.trace_report.specs.Streams.{Ends, EndsInOne, IsTold, Streams}
 use Rattle.trace_commands.specs.Tables.{IsCheckOutput, IsCompileOutput, IsCompileOutputOf, IsImageRefused, IsMatchOutput, IsMemoryOfWhole}
-use Rattle.trace_commands.specs.Tables.{IsMatchOutputOf, IsMatchedOutput}
+use Rattle.trace_commands.specs.Tables.{IsMatchOutputOf, IsMatchedOutput, version_asked}
 use Rattle.trace_report.specs.declared.fault.Fault.{Fault}
 use Rattle.trace_report.specs.declared.fault.Fault.TheVariants.{Permissions, Name, Text, Compiling, Image, Input, Memory}
 use Rattle.trace_report.specs.declared.status.Status.{Status}
@@ -37,13 +32,13 @@ not_bad output bytes e = rw e (λ bad. cc)
 refused : (output : Output) (text : List ℕ) → output ≡ fault text Refused → output.status ≢ BadArguments
 refused output text e = rw e (λ bad. cc)
 
-compile_status : (outcome : Result ProfileValue ReadFault) → AreGood (IsCompileOutputOf outcome)
-compile_status (Err f) output e = refused output (refusal f) e
-compile_status (Ok profile) output (inl over) = refused output (compile_refusal TooManyStates) over.1
-compile_status (Ok profile) output (inr made) = not_bad output made.1.2 made.1.4
+compile_status : (depth : ℕ) (outcome : Result ProfileValue ReadFault) → AreGood (IsCompileOutputOf depth outcome)
+compile_status depth (Err f) output e = refused output (refusal f) e
+compile_status depth (Ok profile) output (inl over) = refused output (compile_refusal TooManyStates) over.1
+compile_status depth (Ok profile) output (inr made) = not_bad output made.1.bytes made.1.is
 
-pub compile_arguments : (text : List ℕ) → AreGood (IsCompileOutput text)
-compile_arguments text = compile_status (outcome_of text)
+pub compile_arguments : (depth : ℕ) (text : List ℕ) → AreGood (IsCompileOutput depth text)
+compile_arguments depth text = compile_status depth (outcome_of text)
 
 image_refused : (image : List ℕ) (output : Output) → IsImageRefused image output → output.status ≢ BadArguments
 image_refused image output h = refused output (image_refusal h.0) h.2
@@ -152,6 +147,7 @@ told_fault image Wanted (fault_here.Default s) wants h = wants _ (fault_here.Def
 told_fault image Wanted (fault_here.Base s) wants h = wants _ (fault_here.Base s, h, refl)
 told_fault image Wanted (fault_here.Accept s) wants h = wants _ (fault_here.Accept s, h, refl)
 told_fault image Wanted (fault_here.Next s) wants h = wants _ (fault_here.Next s, h, refl)
+told_fault image Wanted (fault_here.Depth s) wants h = wants _ (fault_here.Depth s, h, refl)
 
 -- and where memory runs out, the bytes are whole
 pub image_memory : (image : List ℕ) (f : ImageFault) → IsLoadFault image f → IsMemoryOfWhole image (fault_of_image f)
@@ -167,9 +163,9 @@ image_memory image (fault_here.Default s) h e = cc
 image_memory image (fault_here.Base s) h e = cc
 image_memory image (fault_here.Accept s) h e = cc
 image_memory image (fault_here.Next s) h e = cc
+image_memory image (fault_here.Depth s) h e = cc
 
--- the image of a table of the rules, in bounds, is an answer
-pub image_made : (outcome : Result ProfileValue ReadFault) (profile : ProfileValue) (t : Table) (bytes : List ℕ) → outcome ≡ Ok profile
-    → ¬ (AreMoreThan most_sets profile.rules) → IsTableOfRules profile.rules t → InBounds t → IsImageOf bytes t
-    → IsCompileOutputOf outcome (whole_answer bytes)
-image_made outcome profile t bytes read few of bounds is = rw read (inr (few, (t, of, bytes, (is, bounds), refl)))
+-- with a depth, version 2 is written
+pub second_asked : (depth : ℕ) → 0 < depth → version_asked depth ≡ Second
+second_asked zero some = absurd (omega (arith, some))
+second_asked (suc depth) some = refl

@@ -1,5 +1,6 @@
 -- What `compile`, `check` and `match` write, memory and failures of the streams aside.
-use Rattle.std.specs.Prelude.{◌≡◌, ◌⊎◌, ℕ, List, ◌++◌, Result, Ok, Err, Some, codes, decimal, length}
+use Rattle.std.specs.Prelude.{◌≡◌, ◌⊎◌, ◌≤◌, ◌==◌, ℕ, zero, suc, List, [], ◌++◌, Result, Ok, Err, Some, codes, decimal, length}
+use Rattle.std.specs.Prelude.{if◌then◌else◌}
 use Rattle.glob_automaton.specs.Automata.{most_sets}
 use Rattle.verdicts.specs.Records.{IsTold}
 use Rattle.glob_automaton.specs.Sets.{AreMoreThan}
@@ -13,30 +14,44 @@ use Rattle.rule_reader.specs.Reading.{outcome_of}
 use Rattle.verdicts.specs.VerdictText.{verdict_text}
 use Rattle.rule_reader.specs.declared.fault.ReadFault.{ReadFault}
 use Rattle.verdicts.specs.declared.verdict.Verdict.{Verdict}
-use Rattle.tables.specs.Tables.{Table, state_count, cell_count, record_count, record_after}
-use Rattle.tables.specs.Images.{IsWhole}
+use Rattle.tables.specs.Bounds.{InBounds}
+use Rattle.tables.specs.Tables.{Table, state_count, cell_count, record_count, look_ups_after, record_after}
+use Rattle.tables.specs.Images.{IsVersionOf, IsWhole}
 use Rattle.tables.specs.declared.fault.ImageFault.{ImageFault}
+use Rattle.tables.specs.declared.header.Version.{Version}
+use Rattle.tables.specs.declared.header.Version.TheVariants.{First, Second}
 use Rattle.trace_report.specs.declared.fault.Fault.{Fault}
 use Rattle.trace_report.specs.declared.fault.Fault.TheVariants.{Memory}
 use Rattle.trace_commands.specs.Judge.{ask_of}
 use Rattle.trace_report.specs.Output.{Output, compile_refusal, fault, image_refusal, line, refusal, whole_answer}
 use Rattle.trace_report.specs.declared.status.Status.TheVariants.{BadArguments, Refused}
 
--- The image of a table of the rules, which is in bounds. How the table is laid out is left open.
-abbrev pub IsImageOutput : ProfileValue → Output → Type 0
-IsImageOutput profile output = (t : Table) × IsTableOfRules profile.rules t × (bytes : List ℕ) × IsLoaded bytes t
-    × (output ≡ whole_answer bytes)
+-- the version of the image that is written where states may have this depth
+abbrev pub version_asked : ℕ → Version
+version_asked zero = First
+version_asked (suc depth) = Second
+
+-- The image of a table of the rules, which is in bounds: in the version for the depth that is asked for, and with no state of a
+-- greater depth. How the table is laid out is left open.
+pub record IsImageOutput (depth : ℕ) (profile : ProfileValue) (output : Output) : Type 0 where
+  pub table : Table
+  pub of_rules : IsTableOfRules profile.rules table
+  pub bounds : InBounds table
+  pub depth_asked : table.depth_bound ≤ depth
+  pub bytes : List ℕ
+  pub image : IsVersionOf (version_asked depth) bytes table
+  pub is : output ≡ whole_answer bytes
 
 -- what is written for a profile that was read, or for a text that is refused
-abbrev pub IsCompileOutputOf : Result ProfileValue ReadFault → Output → Type 0
-IsCompileOutputOf (Err f) output = output ≡ fault (refusal f) Refused
-IsCompileOutputOf (Ok profile) output =
+abbrev pub IsCompileOutputOf : ℕ → Result ProfileValue ReadFault → Output → Type 0
+IsCompileOutputOf depth (Err f) output = output ≡ fault (refusal f) Refused
+IsCompileOutputOf depth (Ok profile) output =
     (AreMoreThan most_sets profile.rules × (output ≡ fault (compile_refusal TooManyStates) Refused))
-    ⊎ (¬ (AreMoreThan most_sets profile.rules) × IsImageOutput profile output)
+    ⊎ (¬ (AreMoreThan most_sets profile.rules) × IsImageOutput depth profile output)
 
--- what `compile` may write on a text
-abbrev pub IsCompileOutput : List ℕ → Output → Type 0
-IsCompileOutput text output = IsCompileOutputOf (outcome_of text) output
+-- what `compile --depth N` may write on a text
+abbrev pub IsCompileOutput : ℕ → List ℕ → Output → Type 0
+IsCompileOutput depth text output = IsCompileOutputOf depth (outcome_of text) output
 
 -- what is written for an image that is refused: its first fault
 abbrev pub IsImageRefused : List ℕ → Output → Type 0
@@ -46,19 +61,32 @@ IsImageRefused image output = (f : ImageFault) × IsLoadFault image f × (output
 abbrev pub IsMemoryOfWhole : List ℕ → Fault → Type 0
 IsMemoryOfWhole image f = f ≡ Memory → IsWhole image
 
--- `ok states N cells M accepts K`
+-- ` depth D`, the bound of depths, where states may have one
+abbrev pub depth_text : Table → List ℕ
+depth_text t = if t.depth_bound == 0 then [] else codes " depth " ++ decimal t.depth_bound
+
+-- `ok states N cells M accepts K`, and the bound of depths
 abbrev pub counts_text : Table → List ℕ
 counts_text t = codes "ok states " ++ decimal (state_count t) ++ codes " cells " ++ decimal (cell_count t)
-    ++ codes " accepts " ++ decimal (record_count t)
+    ++ codes " accepts " ++ decimal (record_count t) ++ depth_text t
 
 -- what `check` writes on an image
 abbrev pub IsCheckOutput : List ℕ → Output → Type 0
 IsCheckOutput image output =
     ((t : Table) × IsLoaded image t × (output ≡ whole_answer (line (counts_text t)))) ⊎ IsImageRefused image output
 
--- the verdict, and then how many cells were looked up: one for each byte of the name
-abbrev pub match_text : List ℕ → Verdict → List ℕ
-match_text name verdict = verdict_text verdict ++ (codes "\nsteps " ++ (decimal (length name) ++ codes "\n"))
+-- the verdict, and then how many steps there were: one for each byte of the name
+abbrev pub steps_text : List ℕ → Verdict → List ℕ
+steps_text name verdict = verdict_text verdict ++ (codes "\nsteps " ++ (decimal (length name) ++ codes "\n"))
+
+-- where states may have a depth, how many cells were looked up
+abbrev pub look_ups_text : Table → List ℕ → List ℕ
+look_ups_text t name =
+    if t.depth_bound == 0 then [] else codes "lookups " ++ (decimal (look_ups_after t name) ++ codes "\n")
+
+-- both
+abbrev pub match_text : Table → List ℕ → Verdict → List ℕ
+match_text t name verdict = steps_text name verdict ++ look_ups_text t name
 
 -- the verdict by the record of the name in the table
 abbrev pub IsVerdictOf : Table → List ℕ → Perms → Verdict → Type 0
@@ -68,7 +96,7 @@ IsVerdictOf t name ask verdict = (r : Record) × (record_after t name ≡ Some r
 abbrev pub IsMatchedOutput : Perms → List ℕ → List ℕ → Output → Type 0
 IsMatchedOutput ask name image output =
     ((t : Table) × IsLoaded image t × (verdict : Verdict) × IsVerdictOf t name ask verdict
-    × (output ≡ whole_answer (match_text name verdict)))
+    × (output ≡ whole_answer (match_text t name verdict)))
     ⊎ IsImageRefused image output
 
 -- the same, for the permissions asked for or the message about the arguments

@@ -14,8 +14,9 @@ use table_verifier::{VerifiedImage, verify_image};
 use tables::images_are_whole;
 use trace_report::{Fault, Status, fail, write_answer};
 
-/// Reads an image from `input` and writes to `answers` how many states, cells and records it has. Its first fault is reported on
-/// `faults` instead. A fault of the header is reported once that is read, whatever follows it.
+/// Reads an image from `input` and writes to `answers` how many states, cells and records it has, and which depth its states may
+/// have, where that is over 0. Its first fault is reported on `faults` instead. A fault of the header is reported once that is
+/// read, whatever follows it.
 pub fn check<R: Read, A: Write, F: Write>(
     alloc: Global,
     input: &mut R,
@@ -60,14 +61,20 @@ fn counts_of_image(alloc: Global, image: &[u8]) -> Result<Vec<u8>, Fault>
     }
 }
 
-/// `ok states N cells M accepts K`.
+/// `ok states N cells M accepts K`, and then ` depth D` where states may have a depth.
 fn counts_line(alloc: Global, image: &VerifiedImage<'_>) -> Result<Vec<u8>, NoMemory>
     ensures { IfOk result (λ text. text.items ≡ line (counts_text image.now)) }
 {
     let states = image.states();
     let cells = image.cells();
     let records = image.records();
-    match format!(in alloc; "ok states {states} cells {cells} accepts {records}\n") {
+    let depth = image.depth_bound();
+    let text = if depth == 0 {
+        format!(in alloc; "ok states {states} cells {cells} accepts {records}\n")
+    } else {
+        format!(in alloc; "ok states {states} cells {cells} accepts {records} depth {depth}\n")
+    };
+    match text {
         Ok(text) => Ok(text.into_bytes()),
         Err(_) => Err(NoMemory),
     }

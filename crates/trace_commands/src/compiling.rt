@@ -1,21 +1,25 @@
 //! `compile`: the image of the profile that is read.
-ghost use Rattle.std.specs.Prelude.{◌≡◌, ◌≢◌, ◌⊎◌, ℕ, List, Some};
+ghost use Rattle.std.specs.Prelude.{◌≡◌, ◌≢◌, ◌⊎◌, ◌<◌, ℕ, List, Ok, Some};
+ghost use Rattle.rule_profile.specs.Profile.{profile_value};
 ghost use Rattle.trace_commands.specs.inner.Answers.{IsAnswered};
 ghost use Rattle.trace_report.specs.Streams.{EndsInOne, IsTextOf};
-ghost use Rattle.trace_commands.specs.Tables.{IsCompileOutput};
+ghost use Rattle.trace_commands.specs.Tables.{IsCompileOutput, IsCompileOutputOf};
 
 use crate::judging::read_all;
-use matcher::table_of;
+use matcher::{chained_table_of, table_of};
 use names::NoMemory;
+use rule_profile::Profile;
 use rule_reader::read;
 use std::alloc::Global;
 use std::io::{Read, Write};
-use tables::to_bytes;
+use tables::{to_bytes, to_bytes_v1};
 use trace_report::{Fault, Status, fail, write_answer};
 
-/// Reads a profile from `input` and writes the image of its table to `answers`. A fault is reported on `faults` instead.
+/// Reads a profile from `input` and writes the image of its table to `answers`: in version 1 for a depth of 0, else in version 2,
+/// where no state has a greater depth. A fault is reported on `faults` instead.
 pub fn compile<R: Read, A: Write, F: Write>(
     alloc: Global,
+    depth: u16,
     input: &mut R,
     answers: &mut A,
     faults: &mut F,
@@ -27,28 +31,51 @@ pub fn compile<R: Read, A: Write, F: Write>(
           faults_before = F.contents faults.old;
           faults_after = F.contents faults.new;
         })
-        (IsCompileOutput text) result }
+        (IsCompileOutput depth text) result }
 {
-    match image_read(alloc, input) {
+    match image_read(alloc, depth, input) {
         Ok(image) => write_answer(answers, faults, &image),
         Err(fault) => fail(faults, fault, fault.status()),
     }
 }
 
 /// The image of the profile, or why there is none.
-fn image_read<R: Read>(alloc: Global, input: &mut R) -> Result<Vec<u8>, Fault>
-    ensures { (text : List ℕ) × IsTextOf (R.remaining input.old) text × IsAnswered (IsCompileOutput text) result }
+fn image_read<R: Read>(alloc: Global, depth: u16, input: &mut R) -> Result<Vec<u8>, Fault>
+    ensures { (text : List ℕ) × IsTextOf (R.remaining input.old) text × IsAnswered (IsCompileOutput depth text) result }
 {
     let text = read_all(alloc, input)?;
-    image_of_text(alloc, &text)
+    image_of_text(alloc, depth, &text)
 }
 
 /// The image of a text's profile, or why there is none.
-fn image_of_text(alloc: Global, text: &[u8]) -> Result<Vec<u8>, Fault>
-    ensures { IsAnswered (IsCompileOutput text.now) result }
+fn image_of_text(alloc: Global, depth: u16, text: &[u8]) -> Result<Vec<u8>, Fault>
+    ensures { IsAnswered (IsCompileOutput depth text.now) result }
 {
     let profile = read(alloc, text)?;
-    let table = table_of(alloc, &profile)?;
+    if depth == 0 {
+        first_image(alloc, &profile)
+    } else {
+        chained_image(alloc, depth, &profile)
+    }
+}
+
+/// The image of a profile in version 1, or why there is none.
+fn first_image(alloc: Global, profile: &Profile) -> Result<Vec<u8>, Fault>
+    ensures { IsAnswered (IsCompileOutputOf 0 (Ok (profile_value profile.now))) result }
+{
+    let table = table_of(alloc, profile)?;
+    match to_bytes_v1(alloc, &table) {
+        Ok(image) => Ok(image),
+        Err(NoMemory) => Err(Fault::Memory),
+    }
+}
+
+/// The image of a profile in version 2, with chains of defaults, or why there is none.
+fn chained_image(alloc: Global, depth: u16, profile: &Profile) -> Result<Vec<u8>, Fault>
+    requires { 0 < depth }
+    ensures { IsAnswered (IsCompileOutputOf depth (Ok (profile_value profile.now))) result }
+{
+    let table = chained_table_of(alloc, profile, depth)?;
     match to_bytes(alloc, &table) {
         Ok(image) => Ok(image),
         Err(NoMemory) => Err(Fault::Memory),

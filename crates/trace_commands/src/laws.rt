@@ -1,13 +1,15 @@
 //! Laws that show the definitions of `specs/` sane. The functions do nothing: each stands for its contract.
-ghost use Rattle.std.specs.Prelude.{◌≡◌, ◌⊎◌, ◌++◌, ◌∷◌, [], ℕ, List};
+ghost use Rattle.std.specs.Prelude.{◌≡◌, ◌⊎◌, ◌≤◌, ◌++◌, ◌∷◌, [], ℕ, List};
 ghost use Rattle.names.specs.Bytes.{are_bytes};
 ghost use Rattle.names.specs.declared.permissions.Perms.{Perms};
 ghost use Rattle.rule_globs.specs.PlainVerdict.{verdict};
 ghost use Rattle.rule_profile.specs.Profile.{ProfileValue};
+ghost use Rattle.tables.specs.Tables.{Table};
+ghost use Rattle.table_verifier.specs.Loading.{IsLoaded};
 ghost use Rattle.trace_report.specs.Output.{Output, whole_answer};
 ghost use Rattle.trace_commands.specs.Explain.{explain_output, GoesOnFrom};
 ghost use Rattle.trace_commands.specs.Judge.{judge_output};
-ghost use Rattle.trace_commands.specs.Tables.{IsCheckOutput, IsImageOutput, IsMatchOutput, IsMatchedOutput, match_text};
+ghost use Rattle.trace_commands.specs.Tables.{IsCheckOutput, IsImageOutput, IsMatchOutput, IsMatchedOutput, match_text, steps_text};
 
 use matcher::tables_of_rules_tell_their_verdicts;
 use tables::{bytes_have_one_outcome, tables_have_one_outcome};
@@ -25,11 +27,16 @@ pub fn images_have_one_answer()
     records_tell_one_verdict();
 }
 
-/// For an image that `compile` wrote, `match` gives the verdict of the profile's rules.
+/// For an image that `compile` wrote, `match` gives the verdict of the profile's rules, and no state of the image's table has a
+/// greater depth than was asked for; where that was 0, nothing is written but the verdict and the number of steps.
 pub fn images_of_rules_tell_their_verdicts()
-    ensures { (profile : ProfileValue) (image matched : Output) (ask : Perms) (name : List ℕ) → are_bytes name →
-        IsImageOutput profile image → IsMatchedOutput ask name image.answers matched →
-        matched ≡ whole_answer (match_text name (verdict profile.rules name ask)) }
+    ensures verdicts { (depth : ℕ) (profile : ProfileValue) (image matched : Output) (ask : Perms) (name : List ℕ) → are_bytes name →
+        IsImageOutput depth profile image → IsMatchedOutput ask name image.answers matched →
+        (t : Table) × IsLoaded image.answers t × (t.depth_bound ≤ depth)
+        × (matched ≡ whole_answer (match_text t name (verdict profile.rules name ask))) }
+    ensures flat { (profile : ProfileValue) (image matched : Output) (ask : Perms) (name : List ℕ) → are_bytes name →
+        IsImageOutput 0 profile image → IsMatchedOutput ask name image.answers matched →
+        matched ≡ whole_answer (steps_text name (verdict profile.rules name ask)) }
 {
     bytes_have_one_outcome();
     tables_have_one_outcome();

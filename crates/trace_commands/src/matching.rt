@@ -14,15 +14,14 @@ use crate::reading::read_image;
 use names::{NoMemory, Perms};
 use std::alloc::Global;
 use std::io::{Read, Write};
-use table_runner::record_by_image;
-use table_verifier::{Steps, VerifiedImage, verify_image};
+use table_verifier::{LookUps, Steps, VerifiedImage, record_by_image, verify_image};
 use tables::images_are_whole;
 use trace_report::{Fault, Status, fail, write_answer};
 use verdicts::told;
 
-/// Reads an image from `input` and writes to `answers` its verdict on the name for the permissions asked for, and how many cells
-/// were looked up. A fault is reported on `faults` instead. The arguments are tested before anything is read, and a fault of the
-/// header is reported once that is read, whatever follows it.
+/// Reads an image from `input` and writes to `answers` its verdict on the name for the permissions asked for, and how many steps
+/// there were; also how many cells were looked up, where states may have a depth. A fault is reported on `faults` instead. The
+/// arguments are tested before anything is read, and a fault of the header is reported once that is read, whatever follows it.
 pub fn match_name<R: Read, A: Write, F: Write>(
     alloc: Global,
     perms: &str,
@@ -80,7 +79,7 @@ fn match_image(alloc: Global, image: &[u8], name: &[u8], ask: Perms) -> Result<V
     }
 }
 
-/// The verdict, and then `steps N`.
+/// The verdict, then `steps N`, and then `lookups K` where states may have a depth.
 fn match_lines(
     alloc: Global,
     image: &VerifiedImage<'_>,
@@ -88,12 +87,21 @@ fn match_lines(
     ask: Perms,
 ) -> Result<Vec<u8>, NoMemory>
     ensures { IfOk result (λ text. (verdict : Verdict) × IsVerdictOf image.now name.now ask verdict
-        × (text.items ≡ match_text name.now verdict)) }
+        × (text.items ≡ match_text image.now name.now verdict)) }
 {
+    // A depth has few bits, so the look-ups of a name can be counted.
+    let depth = image.depth_bound();
     let mut steps = Steps::new();
-    let verdict = told(&record_by_image(image, name, &mut steps), ask);
+    let mut lookups = LookUps::new();
+    let verdict = told(&record_by_image(image, name, &mut steps, &mut lookups), ask);
     let count = steps.count();
-    match format!(in alloc; "{verdict}\nsteps {count}\n") {
+    let cells = lookups.count();
+    let text = if depth == 0 {
+        format!(in alloc; "{verdict}\nsteps {count}\n")
+    } else {
+        format!(in alloc; "{verdict}\nsteps {count}\nlookups {cells}\n")
+    };
+    match text {
         Ok(text) => Ok(text.into_bytes()),
         Err(_) => Err(NoMemory),
     }

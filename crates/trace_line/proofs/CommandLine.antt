@@ -1,6 +1,6 @@
 -- Facts that combine the statements about reading a command line.
-use Rattle.std.proofs.Common.{◌≡◌, ◌∙◌, Bool, true, false, List, [], ◌∷◌, Option, Some, None, Result, Ok, Err, IfErr, IsErrAnd, ℕ, refl}
-use Rattle.std.proofs.Common.{ap, ap₂, subst, sym, inl, inr, drop}
+use Rattle.std.proofs.Common.{◌≡◌, ◌≤◌, ◌∙◌, Bool, true, false, List, [], ◌∷◌, Option, Some, None, Result, Ok, Err, IfErr, IsErrAnd, ℕ}
+use Rattle.std.proofs.Common.{refl, ap, ap₂, subst, sym, inl, inr, drop}
 use Rattle.std.proofs.lemmas.Slice.Eq.{bytes_eq-Decides}
 use Rattle.std.specs.Prelude.{codes, is_some, option_map, unwrap_or}
 use Rattle.std.specs.Borrow.{Bor}
@@ -13,9 +13,9 @@ use Rattle.clap.specs.declared.parser.matches.Found.{Found}
 use Rattle.clap.specs.Words.{App, HasKind, HasMatchesOf, Row, Text, fault_of, first_value, found_of, matched_of, raw_values}
 use Rattle.clap.specs.Words.{is_simple_and_free, is_simple, rows_of, subcommand_name_of, subcommand_of, subcommand_rows_of}
 use Rattle.clap.specs.declared.error.Error.{Error}
-use Rattle.trace_line.specs.CommandLine.{CommandForm, LineValue, NumberOption, capacity, changes, command_named, commands, import_command}
-use Rattle.trace_line.specs.CommandLine.{import_of, line_of, many_texts, no_text, numbers, one_text, opens, pair, sessions, storm}
-use Rattle.trace_line.specs.CommandLine.{storm_by, text_given, texts_given}
+use Rattle.trace_line.specs.CommandLine.{CommandForm, LineValue, NumberOption, capacity, changes, command_named, commands, compile, depth}
+use Rattle.trace_line.specs.CommandLine.{import_command, import_of, line_of, many_texts, no_text, numbers, one_text, opens, pair}
+use Rattle.trace_line.specs.CommandLine.{sessions, storm, storm_by, text_given, texts_given}
 use Rattle.trace_line.specs.inner.Parser.{GivesLine, HasNumbers, IsLineFaultOf, IsReadAs, IsStormOf, flag_read, import_read, number_read}
 use Rattle.trace_line.specs.inner.Parser.{program_app}
 use Rattle.trace_line.specs.declared.line.LineFault.{LineFault}
@@ -177,7 +177,7 @@ module _ (words : List Text) (name : Text) (found : Found) (h : HasLine words na
       → (n : ℕ) × (number_read (codes "capacity") (rows_of found) ≡ Some n) × (line_of words ≡ Some (line n))
   capacity_given known line is form =
       let asked = numbers_line known (capacity ∷ []) (λ number. line (number capacity)) is form in
-      (asked.0 capacity, asked.1 capacity refl, asked.2)
+      (asked.0 capacity, (asked.1 capacity refl).0, asked.2)
 
   pub capacity_asked : (known : Text) (line : ℕ → LineValue) → name ≡ known
       → command_named commands known ≡ Some (record { name = known; takes = numbers (capacity ∷ []) (λ number. line (number capacity)) })
@@ -191,26 +191,48 @@ module _ (words : List Text) (name : Text) (found : Found) (h : HasLine words na
       let given = capacity_given known line is form in
       given.2 ∙ ap (λ (k : ℕ). Some (line k)) (same_number _ given.0 n given.1 read)
 
+  -- a command of a depth
+  depth_given : name ≡ codes "compile"
+      → (n : ℕ) × (number_read (codes "depth") (rows_of found) ≡ Some n) × (n ≤ 64) × (line_of words ≡ Some (compile n))
+  depth_given is =
+      let asked = numbers_line (codes "compile") (depth ∷ []) (λ number. compile (number depth)) is refl in
+      let read = asked.1 depth refl in
+      (asked.0 depth, read.0, read.1, asked.2)
+
+  pub depth_asked : name ≡ codes "compile" → is_some (number_read (codes "depth") (rows_of found)) ≡ true
+  depth_asked is = ap is_some (depth_given is).1
+
+  pub depth_low : name ≡ codes "compile" → (n : ℕ) → number_read (codes "depth") (rows_of found) ≡ Some n → n ≤ 64
+  depth_low is n read =
+      let given = depth_given is in
+      subst (λ (k : ℕ). k ≤ 64) (same_number _ given.0 n given.1 read) given.2
+
+  pub depth_line : name ≡ codes "compile" → (n : ℕ) → number_read (codes "depth") (rows_of found) ≡ Some n →
+      line_of words ≡ Some (compile n)
+  depth_line is n read =
+      let given = depth_given is in
+      given.3 ∙ ap (λ (k : ℕ). Some (compile k)) (same_number _ given.0 n given.1 read)
+
   -- a storm
   storm_given : name ≡ codes "storm" → (number : NumberOption → ℕ) × HasNumbers (sessions ∷ opens ∷ changes ∷ []) (rows_of found) number
       × (line_of words ≡ Some (storm_by number))
   storm_given is = numbers_line (codes "storm") (sessions ∷ opens ∷ changes ∷ []) storm_by is refl
 
   pub sessions_asked : name ≡ codes "storm" → is_some (number_read (codes "sessions") (rows_of found)) ≡ true
-  sessions_asked is = ap is_some ((storm_given is).1 sessions refl)
+  sessions_asked is = ap is_some ((storm_given is).1 sessions refl).0
 
   pub opens_asked : name ≡ codes "storm" → is_some (number_read (codes "opens") (rows_of found)) ≡ true
-  opens_asked is = ap is_some ((storm_given is).1 opens refl)
+  opens_asked is = ap is_some ((storm_given is).1 opens refl).0
 
   pub changes_asked : name ≡ codes "storm" → is_some (number_read (codes "changes") (rows_of found)) ≡ true
-  changes_asked is = ap is_some ((storm_given is).1 changes refl)
+  changes_asked is = ap is_some ((storm_given is).1 changes refl).0
 
   pub storm_line : name ≡ codes "storm" → (value : LineValue) → IsStormOf (rows_of found) value → line_of words ≡ Some value
   storm_line is value h =
       let given = storm_given is in
-      let first = same_number _ (given.0 sessions) h.0 (given.1 sessions refl) h.3 in
-      let second = same_number _ (given.0 opens) h.1 (given.1 opens refl) h.4 in
-      let third = same_number _ (given.0 changes) h.2 (given.1 changes refl) h.5 in
+      let first = same_number _ (given.0 sessions) h.0 (given.1 sessions refl).0 h.3 in
+      let second = same_number _ (given.0 opens) h.1 (given.1 opens refl).0 h.4 in
+      let third = same_number _ (given.0 changes) h.2 (given.1 changes refl).0 h.5 in
       given.2 ∙ ap Some (ap₂ (λ (a b : ℕ). storm a b (given.0 changes)) first second ∙ ap (storm h.0 h.1) third ∙ sym h.6)
 
   -- an import, by its options' texts

@@ -9,6 +9,7 @@ pub mod OptionRules
 pub mod OptionEnds
 pub mod OptionWalk
 pub mod ThreeOptions
+pub mod DepthOption
 pub mod ImportWords
 pub mod LineWalk
 pub mod CommandLine

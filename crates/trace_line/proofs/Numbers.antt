@@ -108,6 +108,29 @@ taken_if o x xs false e below is =
     let most : n ≤ o.most = leb-true n o.most (both (nat_le o.least n) (nat_le n o.most) range.1).1 in
     rw e (small_if (x ∷ xs) tests.0 (omega arith))
 
+most_if : (o : NumberOption) (x : ℕ) (xs : Text) (minus : Bool) → nat_eq x 45 ≡ minus → is_number_of o (x ∷ xs) ≡ true
+    → digits_value 10 (without_leading_sign (x ∷ xs)) ≤ o.most
+most_if o x xs true e is =
+    let n : ℕ = digits_value 10 xs in
+    let tests = both (is_numeral xs)
+    (fits_i64 (neg_ℤ (pos n)) && (int_le (pos o.least) (neg_ℤ (pos n)) && int_le (neg_ℤ (pos n)) (pos o.most))) (rw e at is) in
+    let range = both (fits_i64 (neg_ℤ (pos n))) (int_le (pos o.least) (neg_ℤ (pos n)) && int_le (neg_ℤ (pos n)) (pos o.most)) tests.1 in
+    let none : n ≡ 0 = minus_zero o.least n
+    (both (int_le (pos o.least) (neg_ℤ (pos n))) (int_le (neg_ℤ (pos n)) (pos o.most)) range.1).0 in
+    rw (e, none) (omega arith)
+most_if o x xs false e is =
+    let ds : Text = without_leading_plus (x ∷ xs) in
+    let n : ℕ = digits_value 10 ds in
+    let tests = both (is_numeral ds) (fits_i64 (pos n) && (nat_le o.least n && nat_le n o.most)) (rw e at is) in
+    let range = both (fits_i64 (pos n)) (nat_le o.least n && nat_le n o.most) tests.1 in
+    let most : n ≤ o.most = leb-true n o.most (both (nat_le o.least n) (nat_le n o.most) range.1).1 in
+    rw e most
+
+-- no number that an option accepts is over its greatest
+pub taken_most : (o : NumberOption) (text : Text) → is_number_of o text ≡ true → digits_value 10 (without_leading_sign text) ≤ o.most
+taken_most o [] is = absurd (cc is)
+taken_most o (x ∷ xs) is = most_if o x xs (nat_eq x 45) refl is
+
 -- what an option accepts is read as the number that it writes
 pub taken_read : (o : NumberOption) (text : Text) → nat_lt o.most 4294967296 ≡ true → is_number_of o text ≡ true
     → small_number (without_minus text) ≡ Some (digits_value 10 (without_leading_sign text))

@@ -13,7 +13,7 @@ use Rattle.clap.proofs.WalkLemmas.{both}
 use Rattle.trace_line.specs.CommandLine.{Given, NumberOption, OptionForm, Wants, is_number_of, many_texts, no_text, number_form, number_of}
 use Rattle.trace_line.specs.CommandLine.{one_number, one_text, option_named, text_given, texts_given}
 use Rattle.trace_line.specs.inner.Parser.{HasNumbers, HasTexts, flag_read}
-use Rattle.trace_line.proofs.Numbers.{taken_read}
+use Rattle.trace_line.proofs.Numbers.{taken_most, taken_read}
 use Rattle.trace_line.proofs.LeafWalk.{help, leaf_shape}
 use Rattle.trace_line.proofs.OptionRules.{Are, are_sound, built_rule, built_rules, defaults_by, found_row, is_sound, reading_to, row_by}
 use Rattle.trace_line.proofs.OptionRules.{row_named, row_with, rows_often, rows_once, sound_named, with_other, with_same}
@@ -161,8 +161,11 @@ numbers_found options rows given sound ends n at =
     let form : OptionForm = number_form n in
     let text : Text = unwrap_or (text_given given n.name) n.default in
     let bounds = both (is_number_of n n.default) (nat_lt n.most 4294967296) (sound_named (map number_form options) form sound at) in
-    rw (number_end rows n (text_given given n.name) (found_end (map number_form options) rows given form sound ends at))
-    (taken_read n text bounds.1 (ends.2 form at).1)
+    let is_number = (ends.2 form at).1 in (
+      rw (number_end rows n (text_given given n.name) (found_end (map number_form options) rows given form sound ends at))
+          (taken_read n text bounds.1 is_number),
+      taken_most n text is_number,
+    )
 
 -- ---- no fault
 

@@ -26,7 +26,8 @@ pub data LineValue : Type 0 where
   -- how many entries the tree has room for
   run : ℕ → LineValue
   test : ℕ → LineValue
-  compile : LineValue
+  -- at how many defaults a byte may be looked up again
+  compile : ℕ → LineValue
   check : LineValue
   -- PERMS and NAME
   match_name : List ℕ → List ℕ → LineValue
@@ -49,7 +50,7 @@ line_value (Judge perms name) = judge perms.now name.now
 line_value (Explain perms name) = explain perms.now name.now
 line_value (Run capacity) = run capacity
 line_value (Test capacity) = test capacity
-line_value Compile = compile
+line_value (Compile depth) = compile depth
 line_value Check = check
 line_value (Match perms name) = match_name perms.now name.now
 line_value (Steps capacity) = steps capacity
@@ -260,6 +261,9 @@ opens = record { name = codes "opens"; default = codes "1000"; least = 1; most =
 abbrev pub changes : NumberOption
 changes = record { name = codes "changes"; default = codes "1000"; least = 0; most = 100000 }
 
+abbrev pub depth : NumberOption
+depth = record { name = codes "depth"; default = codes "0"; least = 0; most = 64 }
+
 abbrev pub storm_by : (NumberOption → ℕ) → LineValue
 storm_by number = storm (number sessions) (number opens) (number changes)
 
@@ -273,7 +277,7 @@ script_commands = record { name = codes "run"; takes = numbers (capacity ∷ [])
 
 -- the commands of the image of a profile
 abbrev pub image_commands : List CommandForm
-image_commands = record { name = codes "compile"; takes = numbers [] (λ number. compile) }
+image_commands = record { name = codes "compile"; takes = numbers (depth ∷ []) (λ number. compile (number depth)) }
     ∷ record { name = codes "check"; takes = numbers [] (λ number. check) }
     ∷ record { name = codes "match"; takes = pair match_name } ∷ []
 

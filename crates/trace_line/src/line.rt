@@ -5,7 +5,7 @@ ghost use Rattle.trace_line.specs.CommandLine.{line_of, line_value, line_fault_n
 ghost use Rattle.trace_line.specs.inner.Parser.{IsLineFaultOf, IsReadAs, IsStormOf, number_read};
 
 use crate::import::{ImportOptions, import_in};
-use crate::parser::{CAPACITY, CHANGES, OPENS, SESSIONS, program};
+use crate::parser::{CAPACITY, CHANGES, DEPTH, OPENS, SESSIONS, program};
 use clap::ArgMatches;
 use clap::error::ErrorKind;
 use names::NoMemory;
@@ -34,8 +34,10 @@ pub enum Line<'a> {
     Test {
         capacity: u32,
     },
-    /// `compile`
-    Compile,
+    /// `compile --depth N`
+    Compile {
+        depth: u16,
+    },
     /// `check`
     Check,
     /// `match PERMS NAME`
@@ -125,7 +127,10 @@ pub fn command_line<'a, S: AsStr>(alloc: Global, words: &'a [S]) -> Result<Line<
         "test" => Ok(Line::Test {
             capacity: number_in(found, CAPACITY.name),
         }),
-        "compile" => Ok(Line::Compile),
+        "compile" => Ok(Line::Compile {
+            // The parser takes no depth over 64.
+            depth: number_in(found, DEPTH.name) as u16,
+        }),
         "check" => Ok(Line::Check),
         "match" => {
             let (perms, name) = pair_in(found);

@@ -33,6 +33,15 @@ pub(crate) const CAPACITY: NumberOption = NumberOption {
     help: "The number of entries that the tree has room for, 1 to 16384",
 };
 
+/// At how many defaults a byte may be looked up again, in the image that `compile` writes.
+pub(crate) const DEPTH: NumberOption = NumberOption {
+    name: "depth",
+    default: "0",
+    least: 0,
+    most: 64,
+    help: "The number of defaults at which a byte may be looked up again, 0 to 64; 0 writes an image of version 1",
+};
+
 /// How many sessions there are in a storm.
 pub(crate) const SESSIONS: NumberOption = NumberOption {
     name: "sessions",
@@ -124,7 +133,7 @@ fn with_image_commands<'a>(program: Command<'a>, alloc: Global) -> Result<Comman
         alloc,
         "compile",
         "Writes the image of the profile on standard input",
-        &[],
+        &[DEPTH],
     )?;
     let checking = with_numbers(
         compiling,

@@ -2,7 +2,7 @@
 use Rattle.std.specs.Prelude.{◌≡◌, ℕ, ◌+◌, ◌<◌, List, Option, Some, None, slice_get}
 use Rattle.names.specs.declared.permissions.Perms.{Perms}
 use Rattle.tables.specs.Tables.{Table}
-use Rattle.table_runner.specs.Batches.{name_at as part_name_at}
+use Rattle.table_batches.specs.Batches.{name_at as part_name_at}
 use Rattle.image_judge.specs.Answers.{IsToldByTable, no_answer}
 use Rattle.image_judge.specs.Batches.{name_at}
 use Rattle.image_judge.specs.declared.answer.Answer.{Answer}

@@ -1,33 +1,31 @@
 -- What is packed of an automaton's states so far.
-use Rattle.std.specs.Prelude.{◌≡◌, ◌≢◌, ◌⊎◌, ℕ, ◌+◌, ◌-◌, ◌*◌, ◌/◌, ◌<◌, ◌≤◌, true, List, ◌++◌, length, min, Some, slice_get}
-use Rattle.std.specs.Prelude.{slice_index_or, Contains}
+use Rattle.std.specs.Prelude.{◌≡◌, ◌≢◌, ◌⊎◌, ℕ, ◌+◌, ◌*◌, ◌/◌, ◌<◌, ◌≤◌, ◌==◌, true, false, List, ◌++◌, length, Some, slice_get}
+use Rattle.std.specs.Prelude.{slice_index_or, if◌then◌else◌, Contains}
+use Rattle.std.specs.Option.{option_map}
 use Rattle.automata.specs.Automata.{Automaton, target}
-use Rattle.verdicts.specs.declared.record.Record.{Record}
 use Rattle.automata.specs.declared.range.TargetRange.{TargetRange}
 use Rattle.automata.specs.Rows.{IsRowFrom, target_in}
-use Rattle.tables.specs.Tables.{Table}
+use Rattle.tables.specs.Tables.{Table, default_of, depth_of}
+use Rattle.tables.specs.declared.table.StoredRecord.{StoredRecord}
+use Rattle.table_image.specs.Chains.{source}
 use Rattle.table_image.specs.declared.taken.Taken.{Taken}
-use Rattle.table_image.specs.inner.Taking.{is_taken}
+use Rattle.table_image.specs.inner.Taking.{is_taken, is_blocked}
 
 -- what a free cell's check is
 abbrev pub free : ℕ
 free = 4294967295
 
--- the state of the automaton that a state of the table stands for
-abbrev pub source : Automaton → ℕ → ℕ
-source a s = min s (length a.rows - 1)
-
 -- The record has its number. At most one record is new, and it is the last.
-pub record IsRecordNumber (old new : List Record) (record_value : Record) (number : ℕ) : Type 0 where
+pub record IsRecordNumber (old new : List StoredRecord) (record_value : StoredRecord) (number : ℕ) : Type 0 where
   pub at : slice_get new number ≡ Some record_value
-  pub more : List Record
+  pub more : List StoredRecord
   pub is : new ≡ old ++ more
   pub few : length new ≤ length old + 1
 
--- What a state leads to at a byte without a cell. (Where a table's state leads on from its default, it is what the default leads
--- to.)
-abbrev pub without_cell : Table → ℕ → ℕ → ℕ
-without_cell t s b = slice_index_or t.default s 0
+-- What a state with this default and depth leads to at a byte without a cell: the default at depth 0, and else what the default
+-- leads to.
+abbrev pub without_cell : Automaton → ℕ → ℕ → ℕ → ℕ
+without_cell a default depth b = if depth == 0 then default else target a (source a default) b
 
 -- The bytes that need a cell are those whose target isn't the one without a cell. Each of them has its target.
 pub record AreOthers (target without : ℕ → ℕ) (bytes targets : List ℕ) : Type 0 where
@@ -57,12 +55,14 @@ pub record IsPacked (a : Automaton) (t : Table) (taken : Taken) (states : ℕ) :
   pub defaults_long : length t.default ≡ states
   pub bases_long : length t.base ≡ states
   pub accepts_long : length t.accept ≡ states
+  pub depths_long : length t.depth ≡ states
   pub checks_long : length t.check ≡ length t.next
   pub few_cells : length t.next ≤ 256 * states
   pub one_row : 0 < states → 256 ≤ length t.next
   pub few_records : length t.records ≤ states
   pub few_words : length taken.words.items ≤ 4 * states + 1
-  pub record_at : (s : ℕ) → s < states → slice_get t.records (slice_index_or t.accept s 0) ≡ slice_get a.records (source a s)
+  pub record_at : (s : ℕ) → s < states →
+      option_map (λ r. r.hits) (slice_get t.records (slice_index_or t.accept s 0)) ≡ slice_get a.records (source a s)
   pub accept : (s : ℕ) → s < states → slice_index_or t.accept s 0 < length t.records
   pub default : (s : ℕ) → s < states → slice_index_or t.default s 0 < length a.rows
   pub base : (s : ℕ) → s < states → slice_index_or t.base s 0 + 255 < length t.next
@@ -70,7 +70,10 @@ pub record IsPacked (a : Automaton) (t : Table) (taken : Taken) (states : ℕ) :
   pub owned : (s b : ℕ) → s < states → b < 256 → slice_index_or t.check (slice_index_or t.base s 0 + b) 0 ≡ s →
       slice_index_or t.next (slice_index_or t.base s 0 + b) 0 ≡ target a (source a s) b
   pub unowned : (s b : ℕ) → s < states → b < 256 → slice_index_or t.check (slice_index_or t.base s 0 + b) 0 ≢ s →
-      without_cell t s b ≡ target a (source a s) b
+      without_cell a (default_of t s) (depth_of t s) b ≡ target a (source a s) b
+  pub depth : (s : ℕ) → s < states → depth_of t s ≤ t.depth_bound
+  pub chain : (s : ℕ) → s < states → (depth_of t s ≡ 0)
+      ⊎ ((default_of t s < s) × (depth_of t (default_of t s) < depth_of t s))
   pub checks : (c : ℕ) → c < length t.check → (slice_index_or t.check c 0 ≡ free)
       ⊎ ((slice_index_or t.check c 0 < states) × (is_taken taken c ≡ true))
   pub within : (c : ℕ) → is_taken taken c ≡ true → c < length t.next
@@ -87,6 +90,17 @@ pub record HasCells (next check : List ℕ) (taken : Taken) (new_next new_check 
   pub check_kept : (c : ℕ) → c < length next → slice_index_or new_check c 0 ≡ slice_index_or check c 0
   pub check_free : (c : ℕ) → length next ≤ c → c < length new_next → slice_index_or new_check c 0 ≡ free
   pub taken_kept : (c : ℕ) → is_taken new_taken c ≡ is_taken taken c
+
+-- The row of a state is placed at the base: its cells were free, and are written.
+pub record IsPlaced (next check : List ℕ) (taken : Taken) (new_next new_check : List ℕ) (new_taken : Taken) (targets bytes : List ℕ)
+    (state base : ℕ) : Type 0 where
+  pub low : base ≤ 256 * state
+  pub free : is_blocked taken bytes base ≡ false
+  pub made_next : List ℕ
+  pub made_check : List ℕ
+  pub made_taken : Taken
+  pub made : HasCells next check taken made_next made_check made_taken (base + 256)
+  pub written : IsWritten made_next made_check made_taken new_next new_check new_taken targets bytes base state
 
 -- a row from a byte on, whose targets are below a bound
 abbrev pub IsWalk : List TargetRange → ℕ → ℕ → Type 0

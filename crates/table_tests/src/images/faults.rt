@@ -62,6 +62,12 @@ fn faults(rt: HostRuntime) -> Result<(), Fail> {
                 "the next of cell 16777215 is no state",
             ),
             (ImageFault::NoMemory, 11, None, "no memory"),
+            (
+                ImageFault::Depth { state: 12 },
+                12,
+                Some(12),
+                "the depth of state 12 is over the bound, or not over that of its default",
+            ),
         ],
     )
 }

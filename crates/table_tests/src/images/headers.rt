@@ -124,16 +124,22 @@ fn expect_headers(
     Ok(())
 }
 
-const HEADERS: [Header<'static>; 32] = [
+const HEADERS: [Header<'static>; 37] = [
     (0, b"p", ImageFault::Magic),
     (1, b"t", ImageFault::Magic),
     (2, b"\0", ImageFault::Magic),
     (3, b"\xff", ImageFault::Magic),
     (0, b"BATP", ImageFault::Magic),
     (4, b"\0", ImageFault::Version),
-    (4, b"\x02", ImageFault::Version),
+    (4, b"\x03", ImageFault::Version),
     (4, b"\0\x01", ImageFault::Version),
     (4, b"\x01\x01", ImageFault::Version),
+    (4, b"\x02\x01", ImageFault::Version),
+    (4, b"\xff\xff", ImageFault::Version),
+    // An image of version 2 is longer, and has the bound of depths where version 1 has reserved bytes.
+    (4, b"\x02", ImageFault::Length),
+    (4, b"\x02\0\x01", ImageFault::Length),
+    (4, b"\x02\0\xff\xff", ImageFault::Length),
     (6, b"\x01", ImageFault::Reserved),
     (6, b"\0\x01", ImageFault::Reserved),
     (6, b"\xff\xff", ImageFault::Reserved),
@@ -155,10 +161,10 @@ const HEADERS: [Header<'static>; 32] = [
     (16, b"\0\0\x01\0", ImageFault::Length),
     (8, b"\0\0\x01\0\0\0\0\x01\0\0\x01\0", ImageFault::Length),
     // Of two faults the earlier one.
-    (3, b"b\x02", ImageFault::Magic),
-    (4, b"\x02\0\x01", ImageFault::Version),
+    (3, b"b\x03", ImageFault::Magic),
+    (4, b"\x03\0\x01", ImageFault::Version),
     (7, b"\x01\x01\0\0\0", ImageFault::Reserved),
-    (0, b"ptab\x02\0\x01\0\0\0\0\0", ImageFault::Magic),
+    (0, b"ptab\x03\0\x01\0\0\0\0\0", ImageFault::Magic),
     (8, b"\0\0\x01\0\0\0\0\x01\0\0\0\0", ImageFault::Counts),
 ];
 
@@ -172,7 +178,7 @@ fn headers(rt: HostRuntime) -> Result<(), Fail> {
 // The lengths that headers give, the greatest counts among them.
 #[test]
 fn lengths_by_headers(rt: HostRuntime) {
-    let rows: [(&[u8], usize); 4] = [
+    let rows: [(&[u8], usize); 7] = [
         (b"PTAB\x01\0\0\0\x02\0\0\0\0\x01\0\0\x01\0\0\0", 2_112),
         (b"PTAB\x01\0\0\0\x0d\0\0\0\x02\x01\0\0\x02\0\0\0", 2_280),
         (
@@ -180,6 +186,12 @@ fn lengths_by_headers(rt: HostRuntime) {
             2_112,
         ),
         (b"PTAB\x01\0\0\0\0\0\x01\0\0\0\0\x01\0\0\x01\0", 136_314_900),
+        (b"PTAB\x02\0\0\0\x02\0\0\0\0\x01\0\0\x01\0\0\0", 2_124),
+        (b"PTAB\x02\0\x01\0\x03\0\0\0\0\x01\0\0\x01\0\0\0", 2_140),
+        (
+            b"PTAB\x02\0\xff\xff\0\0\x01\0\0\0\0\x01\0\0\x01\0",
+            136_839_188,
+        ),
     ];
     for (header, length) in &rows {
         assert!(rt; settled(header) == Some(Ok(*length)), "{length}");
@@ -204,7 +216,7 @@ fn short_bytes(rt: HostRuntime) -> Result<(), Fail> {
             (b"", ImageFault::Short),
             (b"p", ImageFault::Short),
             (b"PTAC", ImageFault::Short),
-            (b"PTAB\x02\0", ImageFault::Short),
+            (b"PTAB\x03\0", ImageFault::Short),
             (b"PTAB\x01\0\0\0\x01\0\0\0\0\0\0\0\0\0\0", ImageFault::Short),
             (
                 b"PTAB\x01\0\0\0\x02\0\0\0\0\x01\0\0\x01\0\0\0",

@@ -35,7 +35,16 @@ fn reading(rule: u16) -> Record {
     Record::none().with_hits(Permission::Read, hits)
 }
 
-// What is wanted of the tables of a profile.
+// Whether these are the stored records of some hits, with those of write for append.
+fn are_stored(records: &[StoredRecord], hits: &[Record]) -> bool {
+    records
+        .iter()
+        .map(|stored| stored.hits)
+        .eq(hits.iter().copied())
+        && records.iter().all(|stored| stored.append == stored.hits.of(Permission::Write))
+}
+
+// What is wanted of the tables of a profile: no state has a depth.
 #[derive(Clone, Copy)]
 struct Layout<'a> {
     default: &'a [u32],
@@ -58,7 +67,9 @@ fn expect_layout(
         && table.next == cells.next
         && table.check == cells.check
         && table.accept.as_slice() == want.accept
-        && table.records.as_slice() == want.records;
+        && are_stored(&table.records, want.records)
+        && table.depth_bound == 0
+        && table.depth == Vec::from_elem(alloc, 0u32, want.default.len())?;
     assert!(rt; is_as_wanted);
     Ok(())
 }

@@ -1,4 +1,4 @@
-//! Where the numbers of an image are, and in which order of bytes.
+//! Where the numbers of an image of version 1 are, and in which order of bytes.
 use super::*;
 use names::Permission;
 use verdicts::{LeastHits, Record};
@@ -60,7 +60,7 @@ const fn hits(allow: u16, deny: u16) -> LeastHits {
 
 fn expect_record(rt: &impl Abort, alloc: Global, image: &[u8], want: Record) -> Result<(), Fail> {
     let table = tables_and_back(rt, alloc, image)?;
-    assert!(rt; table.records.as_slice() == [want].as_slice());
+    assert!(rt; table.records.as_slice() == [StoredRecord::of(want)].as_slice());
     Ok(())
 }
 

@@ -1,6 +1,6 @@
 //! Many names side by side, next to each name by itself.
 use super::*;
-use table_runner::{are_offsets, run_names, run_names_by_image};
+use table_batches::{are_offsets, run_names, run_names_by_image};
 use table_verifier::{State, verify_image};
 
 // Names in one text, each from an offset to the next.
@@ -65,18 +65,30 @@ fn expect_same(
     let mut states = stale(alloc, count)?;
     let mut by_image = stale(alloc, count)?;
     assert!(rt; are_offsets(text, offsets, states.len()));
-    let mut steps = Steps::new();
-    run_names(compiled.table(), text, offsets, &mut states, &mut steps);
-    assert_eq!(rt; steps.count(), text.len() as u64);
-    let image = to_bytes(alloc, &table_of(alloc, compiled.profile())?)?;
+    let table = compiled.table();
+    assert_eq!(rt; table.depth_bound(), 0);
+    let (mut steps, mut lookups) = (Steps::new(), LookUps::new());
+    run_names(table, text, offsets, &mut states, &mut steps, &mut lookups);
+    let counts = (text.len() as u64, text.len() as u128);
+    assert_eq!(rt; (steps.count(), lookups.count()), counts);
+    let image = to_bytes_v1(alloc, &table_of(alloc, compiled.profile())?)?;
     let image = verify_image(&image)?;
     assert!(rt; are_offsets(text, offsets, by_image.len()));
-    let mut steps = Steps::new();
-    run_names_by_image(&image, text, offsets, &mut by_image, &mut steps);
-    assert_eq!(rt; steps.count(), text.len() as u64);
+    assert_eq!(rt; image.depth_bound(), 0);
+    let (mut steps, mut lookups) = (Steps::new(), LookUps::new());
+    run_names_by_image(
+        &image,
+        text,
+        offsets,
+        &mut by_image,
+        &mut steps,
+        &mut lookups,
+    );
+    assert_eq!(rt; (steps.count(), lookups.count()), counts);
     assert!(rt; states == by_image);
     for i in 0..count {
-        let state = run(compiled.table(), name_at(&names, i)?, &mut Steps::new());
+        let name = name_at(&names, i)?;
+        let state = run(table, name, &mut Steps::new(), &mut LookUps::new());
         assert_eq!(rt; states.get(i), Some(&state), "{count} names, {i}");
     }
     Ok(())

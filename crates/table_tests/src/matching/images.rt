@@ -172,6 +172,6 @@ fn first_faults(rt: HostRuntime) -> Result<(), Fail> {
     image.push(0)?;
     expect_fault(&rt, alloc, &image, ImageFault::Length);
     // The version.
-    with_fault(&rt, alloc, image, 4, b"\x02", ImageFault::Version)?;
+    with_fault(&rt, alloc, image, 4, b"\x03", ImageFault::Version)?;
     Ok(())
 }

@@ -76,19 +76,21 @@ fn worked_verdicts(rt: HostRuntime) -> Result<(), Fail> {
     )
 }
 
-// A name, the state in which its run ends, and how many steps that takes.
+// A name, the state in which its run ends, and how many steps that takes. Each is one look-up, since no state has a depth.
 type Run<'a> = (&'a [u8], u32, u64);
 
 fn expect_runs(rt: &impl Abort, table: &VerifiedTable, runs: &[Run<'_>]) {
+    assert_eq!(rt; table.depth_bound(), 0);
     for (name, state, count) in runs {
-        let mut steps = Steps::new();
-        let end = run(table, name, &mut steps);
+        let (mut steps, mut lookups) = (Steps::new(), LookUps::new());
+        let end = run(table, name, &mut steps, &mut lookups);
         assert!(rt; end == *state && steps.count() == *count, "{name:?}");
+        assert!(rt; lookups.count() == u128::from(*count), "{name:?}");
     }
 }
 
 #[test]
-fn one_step_for_each_byte(rt: HostRuntime) -> Result<(), Fail> {
+fn one_step_and_one_look_up_for_each_byte(rt: HostRuntime) -> Result<(), Fail> {
     let compiled = compiled_of(rt.alloc(), PASSWD)?;
     // State 12 is that of the whole name, and state 0 is dead.
     expect_runs(

@@ -8,6 +8,7 @@ fn fault_at(list: List, place: u32) -> Option<ImageFault> {
         List::Base => Some(ImageFault::Base { state: place }),
         List::Accept => Some(ImageFault::Accept { state: place }),
         List::Next => Some(ImageFault::Next { cell: place }),
+        List::Depth => Some(ImageFault::Depth { state: place }),
         List::Check => None,
     }
 }
@@ -109,6 +110,8 @@ fn numbers_out_of_bounds(rt: HostRuntime) -> Result<(), Fail> {
             (List::Base, 1),
             (List::Accept, 1),
             (List::Next, 2),
+            // No depth may be over the bound, which is 0.
+            (List::Depth, 1),
         ],
     )?;
     let long = two_rows(rt.alloc())?;
@@ -120,6 +123,7 @@ fn numbers_out_of_bounds(rt: HostRuntime) -> Result<(), Fail> {
             (List::Base, 257),
             (List::Accept, 1),
             (List::Next, 3),
+            (List::Depth, 1),
         ],
     )
 }
@@ -169,13 +173,16 @@ fn first_faults(rt: HostRuntime) -> Result<(), Fail> {
             (List::Default, 1, List::Base, 0),
             (List::Base, 1, List::Accept, 0),
             (List::Accept, 1, List::Next, 0),
+            (List::Next, 255, List::Depth, 0),
             (List::Default, 1, List::Next, 0),
+            (List::Default, 1, List::Depth, 0),
             // One kind twice.
             (List::Default, 0, List::Default, 1),
             (List::Base, 0, List::Base, 1),
             (List::Accept, 0, List::Accept, 1),
             (List::Next, 7, List::Next, 255),
             (List::Next, 254, List::Next, 255),
+            (List::Depth, 0, List::Depth, 1),
         ],
     )
 }

@@ -1,9 +1,9 @@
 //! Strangers' images whose defaults lead from state to state: up and down in a chain, in a circle, into a circle, in pairs, and each
-//! to itself. For one byte a default is followed once, however the defaults go on from there.
+//! to itself. No state has a depth: for one byte a default is followed once, however the defaults go on from there.
 use super::*;
+use table_batches::{are_offsets, run_names, run_names_by_image};
 use table_image::from_bytes;
-use table_runner::{are_offsets, run, run_image, run_names, run_names_by_image};
-use table_verifier::{VerifiedImage, verify_image};
+use table_verifier::{VerifiedImage, run, run_image, verify_image};
 
 // How the defaults of the states follow one another.
 #[derive(Clone, Copy, Debug)]
@@ -120,7 +120,8 @@ fn long_name(alloc: Global) -> Result<Vec<u8>, Fail> {
     Ok(name)
 }
 
-// A name leads through the table and through the image to the state that it leads to by hand, in as many steps as it has bytes.
+// A name leads through the table and through the image to the state that it leads to by hand, in as many steps and look-ups as it
+// has bytes.
 fn expect_state(
     rt: &impl Abort,
     table: &VerifiedTable,
@@ -128,12 +129,14 @@ fn expect_state(
     name: &[u8],
     want: State,
 ) {
-    let mut steps = Steps::new();
-    let found = run(table, name, &mut steps);
-    assert_eq!(rt; (found, steps.count()), (want, name.len() as u64));
-    let mut steps = Steps::new();
-    let found = run_image(image, name, &mut steps);
-    assert_eq!(rt; (found, steps.count()), (want, name.len() as u64));
+    let want = (want, name.len() as u64, name.len() as u128);
+    assert_eq!(rt; (table.depth_bound(), image.depth_bound()), (0, 0));
+    let (mut steps, mut lookups) = (Steps::new(), LookUps::new());
+    let found = run(table, name, &mut steps, &mut lookups);
+    assert_eq!(rt; (found, steps.count(), lookups.count()), want);
+    let (mut steps, mut lookups) = (Steps::new(), LookUps::new());
+    let found = run_image(image, name, &mut steps, &mut lookups);
+    assert_eq!(rt; (found, steps.count(), lookups.count()), want);
 }
 
 // The same of three names side by side: the two parts of a text, and one of no bytes.
@@ -145,16 +148,18 @@ fn expect_states(
     want: [State; 3],
 ) {
     let offsets = [0, text.len() / 3, text.len(), text.len()];
+    let want = (want, text.len() as u64, text.len() as u128);
+    assert_eq!(rt; (table.depth_bound(), image.depth_bound()), (0, 0));
     let mut states = [9; 3];
     assert!(rt; are_offsets(text, &offsets, states.len()));
-    let mut steps = Steps::new();
-    run_names(table, text, &offsets, &mut states, &mut steps);
-    assert_eq!(rt; (states, steps.count()), (want, text.len() as u64));
+    let (mut steps, mut lookups) = (Steps::new(), LookUps::new());
+    run_names(table, text, &offsets, &mut states, &mut steps, &mut lookups);
+    assert_eq!(rt; (states, steps.count(), lookups.count()), want);
     let mut states = [9; 3];
     assert!(rt; are_offsets(text, &offsets, states.len()));
-    let mut steps = Steps::new();
-    run_names_by_image(image, text, &offsets, &mut states, &mut steps);
-    assert_eq!(rt; (states, steps.count()), (want, text.len() as u64));
+    let (mut steps, mut lookups) = (Steps::new(), LookUps::new());
+    run_names_by_image(image, text, &offsets, &mut states, &mut steps, &mut lookups);
+    assert_eq!(rt; (states, steps.count(), lookups.count()), want);
 }
 
 // The image is accepted, and names of several lengths run through it.

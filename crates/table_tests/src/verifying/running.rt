@@ -1,4 +1,7 @@
 //! Look-ups in strangers' tables, against rows computed by hand.
+ghost use Rattle.std.specs.Prelude.{◌≡◌, ◌+◌, ◌^◌, ◌<◌};
+ghost use Rattle.tables.specs.Tables.{state_count};
+
 use super::*;
 use names::Permission;
 use verdicts::LeastHits;
@@ -16,9 +19,7 @@ fn shared(alloc: Global) -> Result<RawTable, Fail> {
         &[(97, 1), (255, 1), (98, 1), (0, 0), (99, 1)],
     );
     let hits = LeastHits { allow: 3, deny: 5 };
-    table
-        .records
-        .push(Record::none().with_hits(Permission::Write, hits))?;
+    table.records.push(StoredRecord::of(Record::none().with_hits(Permission::Write, hits)))?;
     Ok(table)
 }
 
@@ -27,6 +28,26 @@ fn verified(table: RawTable) -> Result<VerifiedTable, Fail> {
         Ok(verified) => Ok(verified),
         Err((fault, _)) => Err(Fail::from(fault)),
     }
+}
+
+// The state after a state and a byte, in a table whose states have no depth: one step, of one look-up.
+fn look_up(
+    rt: &impl Abort,
+    table: &VerifiedTable,
+    state: State,
+    byte: u8,
+    steps: &mut Steps,
+) -> State
+    requires state { state < state_count table.now }
+    requires steps { steps.old + 1 < 2 ^ 64 }
+    ensures there { result < state_count table.now }
+    ensures steps { steps.new ≡ steps.old + 1 }
+{
+    assert_eq!(rt; table.depth_bound(), 0);
+    let mut lookups = LookUps::new();
+    let next = table.look_up(state, byte, steps, &mut lookups);
+    assert_eq!(rt; lookups.count(), 1);
+    next
 }
 
 // The targets of state 0 in the shared row.
@@ -48,10 +69,10 @@ fn from_one(byte: u8) -> State {
 // One step by a byte from state 1, one to state 0, and one by the byte from there.
 fn expect_shared(rt: &impl Abort, table: &VerifiedTable, byte: u8) {
     let mut steps = Steps::new();
-    let one = table.look_up(table.start(), byte, &mut steps);
+    let one = look_up(rt, table, table.start(), byte, &mut steps);
     let is_one_step = steps.count() == 1;
-    let dead = table.look_up(table.start(), b'c', &mut steps);
-    let zero = table.look_up(dead, byte, &mut steps);
+    let dead = look_up(rt, table, table.start(), b'c', &mut steps);
+    let zero = look_up(rt, table, dead, byte, &mut steps);
     let is_right = one == from_one(byte) && dead == 0 && zero == from_zero(byte);
     assert!(rt; is_right && is_one_step && steps.count() == 3, "{byte}");
 }
@@ -70,7 +91,7 @@ fn shared_row(rt: HostRuntime) -> Result<(), Fail> {
 fn records(rt: HostRuntime) -> Result<(), Fail> {
     let table = verified(shared(rt.alloc())?)?;
     let mut steps = Steps::new();
-    let zero = table.look_up(table.start(), b'b', &mut steps);
+    let zero = look_up(&rt, &table, table.start(), b'b', &mut steps);
     assert_eq!(rt; table.record_of(zero), Record::none());
     let record = table.record_of(table.start());
     assert_eq!(rt;
@@ -84,8 +105,8 @@ fn records(rt: HostRuntime) -> Result<(), Fail> {
 // Two steps by a byte lead from state 1 to itself.
 fn expect_to_itself(rt: &impl Abort, table: &VerifiedTable, byte: u8) {
     let mut steps = Steps::new();
-    let one = table.look_up(table.start(), byte, &mut steps);
-    let again = table.look_up(one, byte, &mut steps);
+    let one = look_up(rt, table, table.start(), byte, &mut steps);
+    let again = look_up(rt, table, one, byte, &mut steps);
     assert!(rt; one == 1 && again == 1 && steps.count() == 2, "{byte}");
 }
 
@@ -117,13 +138,13 @@ fn overlapping(alloc: Global) -> Result<RawTable, Fail> {
 fn overlapping_rows(rt: HostRuntime) -> Result<(), Fail> {
     let table = verified(overlapping(rt.alloc())?)?;
     let mut steps = Steps::new();
-    let two = table.look_up(table.start(), b'b', &mut steps);
+    let two = look_up(&rt, &table, table.start(), b'b', &mut steps);
     // The cell of `a` in the row of state 2 is state 1's, and its own cell is that of `b`.
     let found = [
-        table.look_up(two, b'a', &mut steps),
-        table.look_up(two, b'b', &mut steps),
-        table.look_up(two, 255, &mut steps),
-        table.look_up(table.start(), b'c', &mut steps),
+        look_up(&rt, &table, two, b'a', &mut steps),
+        look_up(&rt, &table, two, b'b', &mut steps),
+        look_up(&rt, &table, two, 255, &mut steps),
+        look_up(&rt, &table, table.start(), b'c', &mut steps),
     ];
     assert!(rt; two == 2 && found == [1, 0, 1, 0] && steps.count() == 5);
     Ok(())
@@ -135,7 +156,7 @@ fn tables_run(rt: HostRuntime) -> Result<(), Fail> {
     let table = verified(smallest(rt.alloc())?)?;
     let mut steps = Steps::new();
     assert_eq!(rt; steps.count(), 0);
-    let _ = table.look_up(table.start(), 0, &mut steps);
+    let _ = look_up(&rt, &table, table.start(), 0, &mut steps);
     assert_eq!(rt; steps.count(), 1);
     Ok(())
 }

@@ -41,6 +41,9 @@ fn unequal_lengths(rt: HostRuntime) -> Result<(), Fail> {
             (List::Check, 257, ImageFault::Length),
             (List::Check, 255, ImageFault::Length),
             (List::Check, 0, ImageFault::Length),
+            (List::Depth, 3, ImageFault::Length),
+            (List::Depth, 1, ImageFault::Length),
+            (List::Depth, 0, ImageFault::Length),
         ],
     )
 }
@@ -55,6 +58,8 @@ fn no_lists(rt: HostRuntime) -> Result<(), Fail> {
         next: Vec::new(alloc),
         check: Vec::new(alloc),
         records: Vec::new(alloc),
+        depth_bound: 0,
+        depth: Vec::new(alloc),
     };
     assert_eq!(rt; fault_of(table), Some(ImageFault::Counts));
     let mut table = smallest(alloc)?;
@@ -109,20 +114,12 @@ fn order(rt: HostRuntime) -> Result<(), Fail> {
     Ok(())
 }
 
-fn are_equal(one: &RawTable, other: &RawTable) -> bool {
-    one.default == other.default
-        && one.base == other.base
-        && one.accept == other.accept
-        && one.next == other.next
-        && one.check == other.check
-        && one.records == other.records
-}
-
 // What can be seen of an accepted table besides what it does. That it is the table that was passed in is in the contract.
 fn has_counts_of(verified: &VerifiedTable, table: &RawTable) -> bool {
     verified.states() as usize == table.default.len()
         && verified.cells() as usize == table.next.len()
         && verified.records() as usize == table.records.len()
+        && verified.depth_bound() == table.depth_bound
 }
 
 // Whether a refused table comes back as it was, or an accepted one has its counts.
@@ -167,6 +164,8 @@ fn tables_come_back(rt: HostRuntime) -> Result<(), Fail> {
             (List::Default, 1),
             (List::Next, 1),
             (List::Check, 1),
+            (List::Depth, 1),
+            (List::Depth, 0),
         ],
     )
 }

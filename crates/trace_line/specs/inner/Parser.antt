@@ -1,6 +1,6 @@
 -- The program as its parser knows it, and what the parser finds.
-use Rattle.std.specs.Prelude.{◌≡◌, ℕ, Bool, true, false, List, [], ◌∷◌, map, fold, Option, Some, None, codes, option_and_then, option_map}
-use Rattle.std.specs.Prelude.{pos, unwrap_or, is_some, ⊤, if◌then◌else◌}
+use Rattle.std.specs.Prelude.{◌≡◌, ◌≤◌, ℕ, Bool, true, false, List, [], ◌∷◌, map, fold, Option, Some, None, codes, option_and_then}
+use Rattle.std.specs.Prelude.{option_map, pos, unwrap_or, is_some, ⊤, if◌then◌else◌}
 use Rattle.std.specs.Str.{bytes_eq}
 use Rattle.std.specs.Str.Parse.{digits_value, without_leading_plus}
 use Rattle.clap.specs.ValueTests.{is_unsigned_in}
@@ -97,10 +97,10 @@ small_number text = if is_unsigned_in 0 4294967295 text then Some (digits_value 
 abbrev pub number_read : List ℕ → List Row → Option ℕ
 number_read name rows = option_and_then small_number (one_of name rows)
 
--- the numbers that are found for the options are these
+-- the numbers that are found for the options are these, and none is over the greatest that its option takes
 abbrev pub HasNumbers : List NumberOption → List Row → (NumberOption → ℕ) → Type 0
 HasNumbers options rows number = (option : NumberOption) → option_named (map number_form options) option.name ≡ Some (number_form option)
-    → number_read option.name rows ≡ Some (number option)
+    → (number_read option.name rows ≡ Some (number option)) × (number option ≤ option.most)
 
 -- the three numbers of a storm are found
 abbrev pub IsStormOf : List Row → LineValue → Type 0

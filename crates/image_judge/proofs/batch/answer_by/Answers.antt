@@ -1,7 +1,7 @@
 -- One name more has its answer.
 use Rattle.std.proofs.Common.{◌∙◌, ◌+◌, ◌-◌, ◌<◌, ℕ, get_or, length, length-set, slice_set, sym, subst, arith}
 use Rattle.std.proofs.lemmas.Option.{slice_get-get_or}
-use Rattle.table_runner.specs.Batches.{name_at as part_name_at, IsAfter}
+use Rattle.table_batches.specs.Batches.{name_at as part_name_at, IsAfter}
 use Rattle.image_judge.specs.inner.Parts.{AreToldTo, IsToldAt}
 use Rattle.image_judge.proofs.Parts.{part_long, told_by, told_more}
 use Rattle.image_judge.proofs.batch.answer_by.Goals as goal

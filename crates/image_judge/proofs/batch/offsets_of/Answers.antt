@@ -1,6 +1,6 @@
 -- Each of the names is that of the part.
 use Rattle.std.proofs.Common.{rules, ◌≡◌, ◌+◌, ◌-◌, arith}
-use Rattle.table_runner.specs.Batches.{AreOffsets}
+use Rattle.table_batches.specs.Batches.{AreOffsets}
 use Rattle.image_judge.proofs.Parts.{name_of}
 use Rattle.image_judge.proofs.batch.offsets_of.Goals as goal
 

@@ -1,4 +1,4 @@
--- The states so far are those of their names, and one look-up was made for each byte of these.
+-- The states so far are those of their names, and one step was taken for each byte of these.
 use Rattle.std.proofs.Common.{◌≡◌, ◌+◌, ◌*◌, ◌<◌, ℕ, length, Some, slice_get}
 use Rattle.tables.specs.Tables.{state_after}
 use Rattle.loop_bench.specs.Walks.{name_at, name_length}

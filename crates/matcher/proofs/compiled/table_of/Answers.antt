@@ -7,7 +7,7 @@ pub returns-clause-rules : goal.returns-clause-rules
 returns-clause-rules c =
     let rules = (profile_value c.args.profile.now).rules in
     let automaton = c.in_ok-dfa.ensures.ok in
-    let made = c.in_ok-pack.ensures in
+    let made = c.in_ok-pack.ensures.table in
     record {
       dead = (made.dead, made.dead_record ∙ automaton.hits_nothing);
       least = tells_least c.names_have_one_least_record.ensures.one rules c.in_ok-dfa.dfa _ automaton made;

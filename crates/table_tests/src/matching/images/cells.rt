@@ -54,11 +54,13 @@ fn with_check(table: &RawTable, cell: u32, number: u32) -> Result<RawTable, Fail
     Ok(other)
 }
 
-// Whether a name is run through a table in as many steps as it has bytes.
+// Whether a name is run through a table of depth 0 in as many steps, of one look-up each, as it has bytes.
 fn runs(table: &VerifiedTable, name: &[u8]) -> bool {
-    let mut steps = Steps::new();
-    let state = run(table, name, &mut steps);
-    steps.count() == name.len() as u64 && state < table.states()
+    let is_flat = table.depth_bound() == 0;
+    let (mut steps, mut lookups) = (Steps::new(), LookUps::new());
+    let state = run(table, name, &mut steps, &mut lookups);
+    let counts = (steps.count(), lookups.count());
+    is_flat && counts == (name.len() as u64, name.len() as u128) && state < table.states()
 }
 
 // Whether a table is accepted, and runs all these names.

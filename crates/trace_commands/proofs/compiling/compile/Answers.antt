@@ -9,7 +9,7 @@ returns-in-Ok g c =
     let bytes = c.deref.result.now in (
       read.0,
       read.1,
-      one_given _ (IsCompileOutput read.0) (whole_answer bytes) c.write_answer.result (compile_arguments read.0)
+      one_given _ (IsCompileOutput c.args.depth read.0) (whole_answer bytes) c.write_answer.result (compile_arguments _ read.0)
           (rw c.deref.ensures.value read.2) c.write_answer.ensures,
     )
 

@@ -7,5 +7,5 @@ pub returns-in_err-text : goal.returns-in_err-text
 returns-in_err-text g c =
     let text = text_of (g.R.Read.remaining c.args.input.now) in
     let told : c.from_residual.result ≡ Err c.in_err-text.field-0.0 = search rules in
-    let why = unread_one _ c.in_err-text.field-0.0 (compile_arguments text.0) c.in_err-text.ensures in
+    let why = unread_one _ c.in_err-text.field-0.0 (compile_arguments c.args.depth text.0) c.in_err-text.ensures in
     (text.0, text.1, rw told why)

@@ -12,6 +12,10 @@ returns-in_err-verified-clause-output c =
     (λ output h. inr h) c.in_err-verified.ensures.err in
     rw told why
 
+pub returns-in-Err-clause-memory : goal.returns-in-Err-clause-memory
+returns-in-Err-clause-memory c told =
+    c.images_are_whole.ensures c.args.image.now c.in_ok-verified.verified c.in_ok-verified.ensures.ok.0
+
 pub returns-in_err-verified-clause-memory : goal.returns-in_err-verified-clause-memory
 returns-in_err-verified-clause-memory c =
     let told : c.from_residual.result ≡ Err (fault_of_image c.in_err-verified.field-0.0) = search rules in

@@ -1,6 +1,7 @@
-use Rattle.std.proofs.Common.{codes, refl, sym, [], ◌∙◌}
-use Rattle.trace_line.specs.CommandLine.{check, compile, explain, judge, match_name, run, steps, test}
-use Rattle.trace_line.proofs.CommandLine.{capacity_asked, capacity_line, changes_asked, import_fault, import_flag, import_line}
+use Rattle.std.proofs.Common.{arith, codes, refl, sym, [], ◌∙◌}
+use Rattle.trace_line.specs.CommandLine.{check, explain, judge, match_name, run, steps, test}
+use Rattle.trace_line.proofs.CommandLine.{capacity_asked, capacity_line, changes_asked, depth_asked, depth_line, depth_low}
+use Rattle.trace_line.proofs.CommandLine.{import_fault, import_flag, import_line}
 use Rattle.trace_line.proofs.CommandLine.{known_command, numbers_line, opened_line, opens_asked, pair_first, pair_line, pair_second}
 use Rattle.trace_line.proofs.CommandLine.{sessions_asked, storm_line}
 use Rattle.trace_line.proofs.line.command_line.Goals as goal
@@ -83,10 +84,21 @@ returns-in-steps-clause-ok g c =
     let line = opened_line _ _ _ _ c.in_ok-matches.ensures.ok c.unwrap.ensures c.subcommand.ensures.name c.subcommand.ensures.rows in
     capacity_line _ _ _ line (codes "steps") steps c.in-steps.is refl c.number_in-in-steps.result c.number_in-in-steps.ensures
 
+pub number_in-requires-in-compile : goal.number_in-requires-in-compile
+number_in-requires-in-compile g c =
+    let line = opened_line _ _ _ _ c.in_ok-matches.ensures.ok c.unwrap.ensures c.subcommand.ensures.name c.subcommand.ensures.rows in
+    depth_asked _ _ _ line c.in-compile.is
+
+pub overflow_cast-result : goal.overflow_cast-result
+overflow_cast-result g c =
+    let line = opened_line _ _ _ _ c.in_ok-matches.ensures.ok c.unwrap.ensures c.subcommand.ensures.name c.subcommand.ensures.rows in
+    let low = depth_low _ _ _ line c.in-compile.is c.number_in-in-compile.result c.number_in-in-compile.ensures in
+    omega (arith, low)
+
 pub returns-in-compile-clause-ok : goal.returns-in-compile-clause-ok
 returns-in-compile-clause-ok g c =
     let line = opened_line _ _ _ _ c.in_ok-matches.ensures.ok c.unwrap.ensures c.subcommand.ensures.name c.subcommand.ensures.rows in
-    (numbers_line _ _ _ line (codes "compile") [] (λ number. compile) c.in-compile.is refl).2
+    depth_line _ _ _ line c.in-compile.is c.number_in-in-compile.result c.number_in-in-compile.ensures
 
 pub returns-in-check-clause-ok : goal.returns-in-check-clause-ok
 returns-in-check-clause-ok g c =

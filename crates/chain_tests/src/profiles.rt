@@ -1,0 +1,66 @@
+//! Profiles with their automata and tables.
+ghost use Rattle.std.specs.Prelude.{◌≡◌, ◌≤◌, IfOk};
+ghost use Rattle.tables.specs.Bounds.{InBounds};
+ghost use Rattle.tables.specs.Images.{FitsVersion1};
+ghost use Rattle.tables.specs.Tables.{table_value};
+
+use glob_automaton::{Dfa, compile};
+use rule_text::read;
+use std::alloc::Global;
+use std::test::Fail;
+use table_image::{RawTable, pack_chained};
+use table_verifier::{VerifiedTable, verify};
+
+pub(crate) const TEXTS: [&[u8]; 11] = [
+    b"profile p { }",
+    b"profile p { /etc/passwd r, }",
+    b"profile p { /** r, }",
+    b"profile p { /**a??? r, }",
+    b"profile p { /**a????? r, deny /**b rw, }",
+    b"profile p { /{usr/,}lib{,32,64}/**.so* rm, deny /usr/lib/*/secret r, }",
+    b"profile p { /[a-m]*/x w, /[^a-m]?/** r, /[0-9]* k, }",
+    b"profile p { /a{,b,bc,bcd} k, /abcde l, /abc** w, }",
+    b"profile p { /*/*/* r, /a/** w, /**/b m, deny /*/c** rwlkm, }",
+    b"profile p { /[^a] r, /[^a][^b] w, /[^ac][^bd][^ef] k, /?????? m, }",
+    b"profile p { /[a-h]0 r, /[b-h]1 r, /[c-h]2 r, /[d-h]3 r, /[e-h]4 r, /[f-h]5 r, /[gh]6 r, /h7 r, }",
+];
+
+/// A profile with this number of rules, 127 at most. After a slash and a byte from 128 on, each byte from 128 up to that one leads
+/// to a state of its own: so the row of each of these states has one target more than that of the state before.
+pub(crate) fn staircase(alloc: Global, rules: u8) -> Result<Vec<u8>, Fail> {
+    let mut text = b"profile p {".to_vec(alloc)?;
+    for rule in 0..rules {
+        let byte = 128u8.saturating_add(rule);
+        text.extend_from_slice(b" /[")?;
+        text.push(byte)?;
+        text.extend_from_slice(b"-\xff]")?;
+        text.push(byte)?;
+        text.extend_from_slice(b" r,")?;
+    }
+    text.extend_from_slice(b" }")?;
+    Ok(text)
+}
+
+/// The automaton of a profile's text.
+pub(crate) fn automaton_of(alloc: Global, text: &[u8]) -> Result<Dfa, Fail> {
+    let profile = read(alloc, text)?;
+    Ok(compile(alloc, &profile)?)
+}
+
+/// The tables of a profile's text, whose depths are at most this great.
+pub(crate) fn chained_of(alloc: Global, text: &[u8], most_depth: u16) -> Result<RawTable, Fail>
+    ensures bounds { IfOk result (λ table. InBounds (table_value table)) }
+    ensures depth { IfOk result (λ table. table.depth_bound ≤ most_depth) }
+    ensures fits { IfOk result (λ table. most_depth ≡ 0 → FitsVersion1 (table_value table)) }
+{
+    let dfa = automaton_of(alloc, text)?;
+    Ok(pack_chained(alloc, &dfa, most_depth)?)
+}
+
+/// The table, verified.
+pub(crate) fn verified(table: RawTable) -> Result<VerifiedTable, Fail> {
+    match verify(table) {
+        Ok(verified) => Ok(verified),
+        Err((fault, _)) => Err(Fail::from(fault)),
+    }
+}
