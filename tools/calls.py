@@ -342,8 +342,8 @@ def compare_profile(room, path, pool):
 
 def compare_drawn(room, pool):
     """Compares answers on images that no profile has; on those with chains also with the answers on the image without chains that leads
-    each name to the same state."""
-    draw, count = random.Random(1), 0
+    each name to the same state. Returns how many there are, and how many with `match`."""
+    draw, count, found = random.Random(1), 0, 0
     for number in range(120):
         image = drawn_image(draw, drawn_depths(draw) if number % 2 else None)
         names = {b"/" + draw.randbytes(draw.randrange(80)) for _ in range(150)} | {draw.choice(COMMON) for _ in range(20)}
@@ -353,8 +353,9 @@ def compare_drawn(room, pool):
             same(answers[query], tables.judge(*query), query)
         if tables.bound:
             same(room.judge(tables.without_chains(), queries), answers, "the image without chains")
-        count += matched(room, image, [it for it in queries if is_argument(it[0])], answers, pool)
-    return count
+        count += len(queries)
+        found += matched(room, image, [it for it in queries if is_argument(it[0])], answers, pool)
+    return count, found
 
 
 def with_part(image, at, part):
@@ -481,7 +482,8 @@ def main():
             print(f"bad calls, {version}:", said, "have the answers that the header tells")
             print(f"images turned, {version}:", compare_faults(room, image), "are accepted or refused as `check` does")
             compare_threads(room, image)
-        print("images drawn:", compare_drawn(room, pool), "answers are those of their tables and of `match`")
+        count, found = compare_drawn(room, pool)
+        print(f"images drawn: {count} answers are those of their tables, and {found} of them were compared with match")
         total = [0, 0, 0, 0]
         for path in sorted(glob.glob("examples/*.profile", root_dir=TOP) + glob.glob("examples/profiles/*.profile", root_dir=TOP)):
             total = [one + other for one, other in zip(total, compare_profile(room, path, pool))]

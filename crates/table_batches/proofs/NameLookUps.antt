@@ -15,7 +15,8 @@ AreBounded t = (s : ℕ) (bytes : List ℕ) → s < state_count t → are_bytes 
 pub part_bytes : (text : List ℕ) (begin long : ℕ) → are_bytes text → are_bytes (take long (drop begin text))
 part_bytes text begin long fits = All-take (λ (c : ℕ). c < 256) long (drop begin text) (All-drop (λ (c : ℕ). c < 256) begin text fits)
 
-pub no_fewer : (t : Table) (text offsets : List ℕ) (i j : ℕ) → look_ups_of_names t text offsets i ≤ look_ups_of_names t text offsets (i + j)
+pub no_fewer : (t : Table) (text offsets : List ℕ) (i j : ℕ)
+    → look_ups_of_names t text offsets i ≤ look_ups_of_names t text offsets (i + j)
 no_fewer t text offsets i zero =
     let at : i + 0 ≡ i = omega arith in
     omega (arith, ap (look_ups_of_names t text offsets) at)

@@ -4,4 +4,7 @@ use Rattle.table_image.specs.inner.Choosing.{IsChoice}
 use Rattle.table_image.proofs.choosing.choose.Given as goal
 
 abbrev pub invariant-loop-near : goal.invariant-loop-near
-invariant-loop-near l = record { long : length l.counts ≡ length l.fn.counts; choice : IsChoice l.dfa l.depths l.state l.most_depth l.best }
+invariant-loop-near l = record {
+  long : length l.counts ≡ length l.fn.counts;
+  choice : IsChoice l.dfa l.depths l.state l.most_depth l.best;
+}
