@@ -79,7 +79,8 @@ _aa_trace() {
         return
     fi
     # The text of an option is nothing to complete.
-    [[ $command == @(run|test|steps|storm|compile|import) && ($previous == --@(capacity|depth|sessions|opens|changes|profile|define) || $previous == = || $cur == =) ]] && return
+    [[ $command == @(run|test|steps|storm|compile|import) &&
+        ($previous == --@(capacity|depth|sessions|opens|changes|profile|define) || $previous == = || $cur == =) ]] && return
     if [[ -z $literal && $cur == -* ]]; then
         local options='-h --help'
         case $command in
