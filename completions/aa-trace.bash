@@ -27,9 +27,9 @@ _aa_trace_read_words() {
 # The letters so far, and each letter that isn't among them put behind them.
 _aa_trace_letters() {
     local so_far=$1 letter
-    [[ $so_far == *[!rwlkm]* ]] && return
+    [[ $so_far == *[!rwlkma]* ]] && return
     [[ -n $so_far ]] && COMPREPLY=("$so_far")
-    for letter in r w l k m; do
+    for letter in r w l k m a; do
         [[ $so_far == *"$letter"* ]] || COMPREPLY+=("$so_far$letter")
     done
 }

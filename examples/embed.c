@@ -5,7 +5,7 @@
 
 #include <stdio.h>
 
-static const char letters[] = "rwlkm";
+static const char letters[] = "rwlkma";
 
 static size_t read_image(const char *path, uint8_t *image, size_t room) {
     FILE *file = fopen(path, "rb");

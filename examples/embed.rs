@@ -32,7 +32,7 @@ unsafe extern "C" {
 pub struct Permissions(pub u32);
 
 impl Permissions {
-    pub const LETTERS: &str = "rwlkm";
+    pub const LETTERS: &str = "rwlkma";
 
     /// The permissions with these letters; none if another letter is among them, or there is no letter.
     pub fn read(text: &str) -> Option<Permissions> {

@@ -26,6 +26,10 @@
 
 #define COQETWAL_VERSION "0.1.0"
 
+/* The number of this interface: it grows when a number gets a meaning that it hadn't. 2 has COQETWAL_APPEND, before which no number
+ * was defined. */
+#define COQETWAL_INTERFACE 2
+
 #ifdef __cplusplus
 extern "C" {
 #endif
@@ -36,7 +40,10 @@ enum coqetwal_permission {
     COQETWAL_WRITE = 2,
     COQETWAL_LINK = 4,
     COQETWAL_LOCK = 8,
-    COQETWAL_MAP = 16
+    COQETWAL_MAP = 16,
+    /* Writing at the end of a file. A rule that gives or denies writing gives or denies this, too. An image of version 1 says
+     * nothing else about it than about writing, so it has the answers of COQETWAL_WRITE. */
+    COQETWAL_APPEND = 32
 };
 
 /* Verdicts. Cleared memory reads as COQETWAL_NO_ANSWER. */
@@ -115,7 +122,7 @@ struct coqetwal_counts {
 /* The first fault of an image; 0 if it is accepted. Then no name leads out of its tables, whoever made it. */
 struct coqetwal_fault coqetwal_image_verify(const uint8_t *image, size_t image_length);
 
-/* What an image says about a name. `asked` is a sum of permissions, 1 to 31; any other number has no answer. All of *answer is
+/* What an image says about a name. `asked` is a sum of permissions, 1 to 63; any other number has no answer. All of *answer is
  * written, whatever it was before. */
 void coqetwal_image_judge(const uint8_t *image, size_t image_length, const uint8_t *name, size_t name_length, uint32_t asked,
                           struct coqetwal_answer *answer);
@@ -182,7 +189,7 @@ static inline void coqetwal_free(coqetwal_table *table) {
     free(table);
 }
 
-/* Judges a name. `asked` is a sum of permissions, 1 to 31; any other number has no answer. All of *answer is written, and its
+/* Judges a name. `asked` is a sum of permissions, 1 to 63; any other number has no answer. All of *answer is written, and its
  * verdict is also the result. Allocates no memory. */
 static inline int coqetwal_judge(const coqetwal_table *table, const void *name, size_t length, uint32_t asked,
                                  struct coqetwal_answer *answer) {

@@ -13,7 +13,7 @@
 #include <stdio.h>
 #include <sys/mman.h>
 
-enum { THREADS = 8, ROUNDS = 25, PAGE = 4096, PERMISSION_SETS = 32 };
+enum { THREADS = 8, ROUNDS = 25, PAGE = 4096, PERMISSION_SETS = 64 };
 
 struct text {
     uint8_t *bytes;
@@ -207,7 +207,7 @@ static struct coqetwal_answer judged(const coqetwal_table *table, const void *na
 }
 
 static void ask_badly(const coqetwal_table *table) {
-    static const uint32_t bad[] = {0, 32, 33, 63, 64, 0x10001, 0x80000000, 0xffffffff};
+    static const uint32_t bad[] = {0, 64, 65, 127, 128, 0x10001, 0x80000000, 0xffffffff};
     for (size_t i = 0; i < sizeof bad / sizeof *bad; i++)
         expect(is_none(judged(table, "/etc/passwd", 11, bad[i])), "an answer, though no permissions are asked");
     for (uint32_t asked = 1; asked < PERMISSION_SETS; asked++) {

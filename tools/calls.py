@@ -5,8 +5,8 @@ Names are drawn at random, always the same ones: from the rules of each profile 
 and with bytes changed. What a script can open is compared with `./aa-trace run`, which compiles the profile by itself; part of
 what can be an argument with `match`, which also counts the steps, and with `judge`, which uses no image. All names, including
 those that ./aa-trace can't be given, and images that no profile has are compared with the few lines below that run an image as
-docs/RULES.md says ("Tables", "Images"). By an image with chains of defaults (version 2) each answer must be that by the image of
-version 1 that leads each name to the same state.
+docs/RULES.md says ("Tables", "Images"). By an image with chains of defaults (version 2) each answer must be that by the image
+without chains that leads each name to the same state, and by one of version 1 if append isn't asked.
 """
 import glob
 import os
@@ -21,13 +21,19 @@ TOP = os.path.dirname(os.path.dirname(os.path.abspath(__file__)))
 LIBRARY = "crates/coqetwal/out/libcoqetwal.a"
 C = ["-std=c99", "-D_DEFAULT_SOURCE", "-Wall", "-Wextra", "-Werror", "-pedantic", "-O2", "-Iinclude", "-pthread"]
 CPP = ["-std=c++11", "-Wall", "-Wextra", "-Werror", "-pedantic", "-O2", "-Iinclude"]
-LETTERS = "rwlkm"
+LETTERS = "rwlkma"
+WRITE, LINK, APPEND = (LETTERS.index(letter) for letter in "wla")
+# The sums of permissions are the numbers from 1 to this one, which is no sum.
+SUMS = 1 << len(LETTERS)
 # How many names are drawn for each profile, how often each is asked about, and how many entries a script makes.
 NAMES, ASKED, ENTRIES = 4000, 4, 16000
 # How many single runs of ./aa-trace there are for each profile: those of `match` read at most about MATCHED_BYTES.
 MATCHES, MATCHED_BYTES, JUDGES = 2500, 3 << 30, 400
 # The same of `match` on the profile's image with chains, of this depth at most.
 CHAIN_MATCHES, CHAIN_DEPTH = 400, "4"
+# A profile that says something else about append than about write, so that its image without chains has version 2.
+APPENDING = b"""profile appending { /var/log/** a, /var/log/*.log w, /home/*/.config/** rw, deny /home/*/.config/*.log a, deny /dev/** w,
+/dev/** a, /tmp/** wk, }"""
 COMMON = b"""/ /etc/passwd /etc/shadow /etc/ld.so.cache /etc/ssl/certs/ca.pem /usr/lib/libc.so.6 /usr/lib/x86_64-linux-gnu/libm.so
 /usr/bin/ /usr/share/zoneinfo/UTC /usr/share/fonts/a.ttf /dev/null /dev/urandom /proc/1/status /proc/self/maps /sys/devices/
 /run/user/1000/bus /var/log/messages /var/lib/ /tmp/ /tmp/x /home/ann/ /home/ann/.ssh/id_rsa /home/ann/.config/a.ini
@@ -138,7 +144,9 @@ class Image:
             count = cells if name in ("next", "check") else states
             setattr(self, name, words[at : at + count])
             at += count
-        self.records, self.record_length = 4 * at, 24 if version == 2 else 20
+        # Version 1 has no hits for append: those of write stand for it.
+        self.pairs = [*range(len(LETTERS))] if version == 2 else [*range(APPEND), WRITE]
+        self.records, self.record_length = 4 * at, 4 * (max(self.pairs) + 1)
 
     def step(self, state, byte):
         """The next state, and the number of look-ups."""
@@ -158,31 +166,33 @@ class Image:
             look_ups += more
         return state, look_ups
 
-    def record_at(self, state):
-        """The ten numbers of the record of a state."""
+    def hits_at(self, state):
+        """The least allow and the least deny rule of each permission in the record of a state."""
         at = self.records + self.record_length * self.accept[state]
-        return memoryview(self.image[at : at + 20]).cast("H")
+        record = memoryview(self.image[at : at + self.record_length]).cast("H")
+        return [(record[2 * pair], record[2 * pair + 1]) for pair in self.pairs]
 
     def judge(self, name, asked):
         """The line that tools/calls.c prints."""
-        if not 0 < asked < 32:
+        if not 0 < asked < SUMS:
             return 0, 0, 0, 0
-        record, chosen = self.record_at(self.run(name)[0]), [at for at in range(5) if asked >> at & 1]
-        denied = [record[2 * at + 1] for at in chosen if record[2 * at + 1]]
-        missing = sum(1 << at for at in chosen if not record[2 * at])
+        chosen = [(at, hits) for at, hits in enumerate(self.hits_at(self.run(name)[0])) if asked >> at & 1]
+        denied = [deny for _, (_, deny) in chosen if deny]
+        missing = sum(1 << at for at, (allow, _) in chosen if not allow)
         if denied:
             return 2, min(denied), 0, len(name)
         return (3, 0, missing, len(name)) if missing else (1, 0, 0, len(name))
 
-    def without_chains(self):
-        """An image of version 1 that leads each name to the same state: each state owns a cell for each byte."""
+    def without_chains(self, version):
+        """From an image of version 2, one of either version that leads each name to the same state: each state owns a cell for each
+        byte. One of version 1 lacks the hits of append."""
         states, records = len(self.default), (len(self.image) - self.records) // self.record_length
         targets = [self.step(state, byte)[0] for state in range(states) for byte in range(256)]
-        parts = [b"PTAB", numbers(1, 0, size=2), numbers(states, 256 * states, records), numbers(*self.default)]
-        parts += [numbers(*range(0, 256 * states, 256)), numbers(*self.accept), numbers(*targets)]
-        parts += [numbers(*(cell // 256 for cell in range(256 * states)))]
+        parts = [b"PTAB", numbers(version, 0, size=2), numbers(states, 256 * states, records), numbers(*self.default)]
+        parts += [numbers(*range(0, 256 * states, 256)), numbers(*self.accept), numbers(*[0] * states) if version == 2 else b""]
+        parts += [numbers(*targets), numbers(*(cell // 256 for cell in range(256 * states)))]
         ends = (self.records + self.record_length * record for record in range(records))
-        return b"".join([*parts, *(self.image[at : at + 20] for at in ends)])
+        return b"".join([*parts, *(self.image[at : at + (24 if version == 2 else 20)] for at in ends)])
 
     def first_too_deep(self):
         """The first state whose depth is over the bound, or over 0 and not over that of its default; None if there is none."""
@@ -280,11 +290,16 @@ def script_of(names):
     return lines, sorted(made)
 
 
+def is_of_open(asked):
+    """Whether an open can ask for this sum: the permissions of a file's opener, so not that to link."""
+    return 0 < asked < SUMS and not asked >> LINK & 1
+
+
 def compare_run(profile, answers, queries, lines):
     """Compares each answer with that of an open in a script."""
     text = b"policy\n" + profile.rstrip(b"\n") + b"\n.\n"
     label = re.match(rb"policy (\S+) version 1\n", trace("run", given=text))[1]
-    opened = [(name, asked) for name, asked in queries if 0 < asked < 32 and not asked & 4]
+    opened = [(name, asked) for name, asked in queries if is_of_open(asked)]
     opens = [b"open %s %s %s\n" % (label, name, letters_of(asked).encode()) for name, asked in opened]
     found = trace("run", "--capacity", "16384", given=b"".join([text, *lines, *opens])).split(b"\n")[1:-1]
     same(len(found), len(lines) + len(opens), "the count of lines")
@@ -315,22 +330,20 @@ def matched(room, image, queries, answers, pool):
     return len(queries)
 
 
-def compare_profile(room, path, pool):
+def compare_profile(room, name, profile, pool):
     """Compares all answers on one profile; returns how many with run, match, judge and the tables as this file runs them."""
-    draw = random.Random(path)
-    with open(f"{TOP}/{path}", "rb") as it:
-        profile = it.read()
+    draw = random.Random(name)
     image, chained = trace("compile", given=profile), trace("compile", "--depth", CHAIN_DEPTH, given=profile)
     names = names_of(profile, draw)
     lines, standing = script_of(names)
-    queries = [(name, asked) for name in standing for asked in draw.sample([it for it in range(1, 32) if not it & 4], ASKED)]
-    queries = list(dict.fromkeys(queries + [(name, draw.choice([*range(1, 32), 0, 32, 1 << 31])) for name in names]))
+    queries = [(it, asked) for it in standing for asked in draw.sample([*filter(is_of_open, range(SUMS))], ASKED)]
+    queries = list(dict.fromkeys(queries + [(it, draw.choice([*range(1, SUMS), 0, SUMS, 1 << 31])) for it in names]))
     answers = room.judge(image, queries)
     tables = Image(image)
     for query in queries:
         same(answers[query], tables.judge(*query), query)
-    same(room.judge(chained, queries), answers, f"{path}, with chains")
-    single = [it for it in queries if 0 < it[1] < 32 and is_argument(it[0])]
+    same(room.judge(chained, queries), answers, f"{name}, with chains")
+    single = [it for it in queries if 0 < it[1] < SUMS and is_argument(it[0])]
     some = lambda most, data: draw.sample(single, min(len(single), most, MATCHED_BYTES // len(data)))
     found = matched(room, image, some(MATCHES, image), answers, pool) + matched(room, chained, some(CHAIN_MATCHES, chained), answers, pool)
     judged = draw.sample(single, min(len(single), JUDGES))
@@ -347,12 +360,14 @@ def compare_drawn(room, pool):
     for number in range(120):
         image = drawn_image(draw, drawn_depths(draw) if number % 2 else None)
         names = {b"/" + draw.randbytes(draw.randrange(80)) for _ in range(150)} | {draw.choice(COMMON) for _ in range(20)}
-        queries = [(name, draw.randrange(1, 32)) for name in sorted(names)]
+        queries = [(name, draw.randrange(1, SUMS)) for name in sorted(names)]
         answers, tables = room.judge(image, queries), Image(image)
         for query in queries:
             same(answers[query], tables.judge(*query), query)
         if tables.bound:
-            same(room.judge(tables.without_chains(), queries), answers, "the image without chains")
+            same(room.judge(tables.without_chains(2), queries), answers, "the image without chains")
+            others = [it for it in queries if not it[1] >> APPEND & 1]
+            same(room.judge(tables.without_chains(1), others), {it: answers[it] for it in others}, "the same of version 1")
         count += len(queries)
         found += matched(room, image, [it for it in queries if is_argument(it[0])], answers, pool)
     return count, found
@@ -444,7 +459,7 @@ def compare_threads(room, image):
     draw = random.Random(3)
     with open(f"{TOP}/examples/home.profile", "rb") as it:
         names = names_of(it.read(), draw)
-    paths = room.file(image), room.file(queries_of((it, draw.randrange(1, 32)) for it in names))
+    paths = room.file(image), room.file(queries_of((it, draw.randrange(1, SUMS)) for it in names))
     print("eight threads:", run(room.calls, "threads", *paths).decode().strip(), "answers are those of one thread")
     sanitized = f"{room.folder}/sanitized"
     built = [os.environ.get("CC", "cc"), *C, "-g", "-fsanitize=thread", "-o", sanitized]
@@ -466,6 +481,15 @@ def build_library():
         sys.exit((done.stdout + done.stderr).decode(errors="replace"))
 
 
+def profiles():
+    """The names and texts of the profiles in examples/, and of one for append."""
+    same(trace("compile", given=APPENDING)[4], 2, "the version of an image that has hits of append")
+    yield "appending", APPENDING
+    for path in sorted(glob.glob("examples/*.profile", root_dir=TOP) + glob.glob("examples/profiles/*.profile", root_dir=TOP)):
+        with open(f"{TOP}/{path}", "rb") as it:
+            yield path, it.read()
+
+
 def main():
     if not os.access(f"{TOP}/aa-trace", os.X_OK):
         sys.exit("./aa-trace is missing: run make")
@@ -485,8 +509,8 @@ def main():
         count, found = compare_drawn(room, pool)
         print(f"images drawn: {count} answers are those of their tables, and {found} of them were compared with match")
         total = [0, 0, 0, 0]
-        for path in sorted(glob.glob("examples/*.profile", root_dir=TOP) + glob.glob("examples/profiles/*.profile", root_dir=TOP)):
-            total = [one + other for one, other in zip(total, compare_profile(room, path, pool))]
+        for name, text in profiles():
+            total = [one + other for one, other in zip(total, compare_profile(room, name, text, pool))]
         opened, found, judged, all_of_them = total
         print(f"answers on profiles: {all_of_them} are those of the tables, with chains and without; of these {opened} were compared"
               f" with run, {found} with match and {judged} with judge")

@@ -36,7 +36,7 @@ compare() {
 answers=0
 for profile in examples/*.profile examples/profiles/*.profile; do
     ./aa-trace compile <"$profile" >"$work/image"
-    for letters in r w rw rwlkm m wr; do
+    for letters in r w rw rwlkma m wr a wa; do
         set -- / /etc/passwd /home/me/.ssh/id_rsa /home/me/notes '/home/me/Pictures/Summer 26/sea.png' /tmp/ /tmp/x /srv/
         compare "$work/image" "$letters" "$@"
         ./embed "$work/image" "$letters" "$@" >"$work/found"

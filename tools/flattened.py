@@ -91,13 +91,13 @@ class Statement:
         return self.whole or self.path is not None
 
     def letters(self):
-        """The letters of r w l k m that it has, except the l of a pair of names."""
+        """The letters of r w l k m a that it has, except the l of a pair of names."""
         if self.whole:
             return set("rwlkm")
         if self.perms is None:
             return set()
         modes = [one for one in cut(self.perms.text) if one[-1:] in b"xX"]
-        letters = {one.lower().decode() for one in cut(self.perms.text) if one.lower() in (b"r", b"w", b"l", b"k", b"m")}
+        letters = {one.lower().decode() for one in cut(self.perms.text) if one.lower() in (b"r", b"w", b"l", b"k", b"m", b"a")}
         if any(b"i" in mode.lower() for mode in modes):
             letters.add("m")
         if self.is_pair():

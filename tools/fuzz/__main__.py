@@ -1,6 +1,6 @@
 """Puts drawn and mutated texts, images and scripts to the program, and to a second implementation, written from docs/RULES.md.
 
-    python3 tools/fuzz [--cases N] [--seed S] [--jobs N] [--only COMMAND] [--program PATH] [--folder PATH]
+    python3 tools/fuzz [--cases N] [--seed S] [--jobs N] [--only COMMAND] [--program PATH] [--folder PATH] [--base PATH]
     python3 tools/fuzz --answer COMMAND ARGUMENT..
 
 The cases of tools/fuzz-corpus come first, then N drawn ones; case K of a seed is always the same. What is written to both streams and
@@ -11,6 +11,9 @@ with chains must lead them through the same states as the program's image withou
 A case that both answer differently is made smaller, written to the folder, and shown with both answers; the status is then 1. The last
 line says how many cases got the same answers, and how many didn't. A case whose answer the rules leave open isn't counted: in `steps`,
 how many words a walk reads.
+
+With --base, the program is compared with an older one that doesn't know the permission `a`, on cases without it: all answers must be
+the same, except that what is wider by `w` is wider by `wa` now.
 
 With --answer, the second implementation answers a command, whose input it reads from standard input.
 """
@@ -81,12 +84,14 @@ def corpus():
     return cases
 
 
-def compare(program, case):
+def compare(program, base, case):
     """The command with what kind of answer it got, if both are the same; else the difference, made smaller."""
-    second = comparing.second_outcome(case)
+    other = functools.partial(comparing.older_outcome, base) if base else comparing.second_outcome
+    case = comparing.without_append(case) if base else case
+    second = other(case)
     found = comparing.difference(program, case, second)
     if found is not None:
-        return None, comparing.Shrinking(program, found).shrink()
+        return None, comparing.Shrinking(program, other, found).shrink()
     return (case.words[0], kind_of(case, second)), None
 
 
@@ -102,10 +107,10 @@ def kind_of(case, second):
 
 def compare_batch(asked):
     """The counts and the differences of a batch of cases."""
-    program, cases = asked
+    program, base, cases = asked
     counts, differences = collections.Counter(), []
     for case in cases:
-        count, found = compare(program, draw_case(*case) if isinstance(case, tuple) else case)
+        count, found = compare(program, base, draw_case(*case) if isinstance(case, tuple) else case)
         counts.update([count] if count else [])
         differences += [found] if found else []
     return counts, differences
@@ -114,10 +119,10 @@ def compare_batch(asked):
 def batches(asked):
     """The corpus and then the drawn cases, which each process draws by itself."""
     kept = corpus() if asked.only is None else []
-    yield from ((asked.program, kept[first:first + BATCH]) for first in range(0, len(kept), BATCH))
+    yield from ((asked.program, asked.base, kept[first:first + BATCH]) for first in range(0, len(kept), BATCH))
     for first in range(0, asked.cases, BATCH):
         numbers = range(first, min(first + BATCH, asked.cases))
-        yield asked.program, [(asked.seed, number, asked.only) for number in numbers]
+        yield asked.program, asked.base, [(asked.seed, number, asked.only) for number in numbers]
 
 
 class Report:
@@ -139,7 +144,7 @@ class Report:
             file.write(found.case.written())
         if self.differences <= 20:
             print(f"{self.folder}/{name}\n  case    {found.case.words} {found.case.text[:300]!r}\n  program {found.program}\n"
-                  f"  rules   {found.second}"[:3000], flush=True)
+                  f"  wanted  {found.second}"[:3000], flush=True)
 
     def end(self):
         for command in sorted({command for command, _ in self.counts}):
@@ -158,6 +163,7 @@ def arguments():
     parser.add_argument("--only", choices=list(WEIGHTS))
     parser.add_argument("--program", default=f"{TOP}/aa-trace")
     parser.add_argument("--folder", default=f"{TOP}/fuzz-differences")
+    parser.add_argument("--base")
     parser.add_argument("--answer", nargs=argparse.REMAINDER)
     return parser.parse_args()
 
@@ -175,8 +181,9 @@ def main():
     asked = arguments()
     if asked.answer:
         return print_answer(asked.answer)
-    if not os.access(asked.program, os.X_OK):
-        sys.exit(f"{asked.program} is missing: run make")
+    for program in (asked.program, asked.base):
+        if program and not os.access(program, os.X_OK):
+            sys.exit(f"{program} is missing: run make")
     report = Report(asked.folder)
     with multiprocessing.Pool(asked.jobs) as pool:
         for counts, differences in pool.imap_unordered(compare_batch, batches(asked)):

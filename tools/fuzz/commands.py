@@ -6,7 +6,7 @@ import images
 import scripts
 from flat_text import ImportFault
 from importing import Options, import_text, refusal
-from texts import SENTENCES, Fault, canonical_rule, is_permissions, read_profile
+from texts import PERMISSIONS, SENTENCES, Fault, canonical_rule, is_permissions, read_profile
 from verdicts import Automaton, Places, TooManyStates, verdict
 
 CAPACITY = 1024
@@ -64,7 +64,7 @@ def explain(asked, name, text):
     except Fault as fault:
         return refused(read_refusal(fault) + "\n" + shown_fault(fault, text))
     record = Places(profile).hits(name)
-    reasons = [reason(profile, text, letter, *record[2 * index:2 * index + 2]) for index, letter in enumerate(b"rwlkm")
+    reasons = [reason(profile, text, letter, *record[2 * index:2 * index + 2]) for index, letter in enumerate(PERMISSIONS)
                if letter in asked]
     return Outcome(0, b"".join(line + b"\n" for line in [verdict(record, asked), *reasons]))
 
@@ -107,7 +107,8 @@ def compile_text(arguments, text):
     if depth is None:
         return Outcome(2)
     try:
-        return Outcome(0, images.write_image(images.make_table(Automaton(read_profile(text)), depth), 2 if depth else 1))
+        table = images.make_table(Automaton(read_profile(text)), depth)
+        return Outcome(0, images.write_image(table, 1 if depth == 0 and images.fits_version_1(table) else 2))
     except Fault as fault:
         return refused(read_refusal(fault))
     except TooManyStates:
@@ -134,7 +135,7 @@ def match(asked, name, image):
     except images.ImageFault as fault:
         return image_refusal(fault)
     states, look_ups = table.run(name)
-    lines = [verdict(table.hits_at(states[-1]), asked), b"steps %d" % len(name), *([b"lookups %d" % look_ups] if table.bound else [])]
+    lines = [verdict(table.record_at(states[-1]), asked), b"steps %d" % len(name), *([b"lookups %d" % look_ups] if table.bound else [])]
     return Outcome(0, b"".join(line + b"\n" for line in lines))
 
 

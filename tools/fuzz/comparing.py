@@ -2,6 +2,7 @@
 import ast
 import dataclasses
 import random
+import re
 import shlex
 import subprocess
 import zlib
@@ -16,6 +17,10 @@ from verdicts import Places
 SECONDS = 600
 NO_END = -1000
 MOST_RUNS = 3000
+# A word with append that may be permissions, in any text: before one there is a blank, a brace, a comma, a quote or a number.
+APPEND = re.compile(rb"(?<![A-Za-z_/\[^-])[rwlkmxipcu]*a[rwlkmaxipcu]*(?![A-Za-z0-9_])", re.IGNORECASE)
+APPEND_TO_MAP = bytes.maketrans(b"aA", b"mM")
+WIDER = re.compile(rb"(?<!expected )(wider by r?wk?m?)(?= /)")
 
 
 @dataclasses.dataclass(frozen=True)
@@ -40,6 +45,18 @@ class Case:
         return cls(tuple(shlex.split(words)), ast.literal_eval(text))
 
 
+def without_append(case):
+    """The case with `m` in place of `a` wherever that may be a permission."""
+    def changed(text):
+        return APPEND.sub(lambda word: word.group().translate(APPEND_TO_MAP), text)
+
+    command, *words = case.words
+    is_question, is_image = command in ("judge", "explain", "match"), command in ("check", "match")
+    named = words[1:] if is_question else []
+    words = [changed(word.encode()).decode() for word in words[:len(words) - len(named)]]
+    return Case((command, *words, *named), case.text if is_image else changed(case.text))
+
+
 def program_outcome(program, case):
     """What the program answers; a status below 0 if a signal ended it, or nothing did in time."""
     try:
@@ -59,6 +76,16 @@ def second_outcome(case):
         return f"{type(error).__name__}: {error}"
 
 
+def older_outcome(base, case):
+    """What a program answers that doesn't know append, with the append that write holds now; None if the case has that permission."""
+    if case != without_append(case):
+        return None
+    found = program_outcome(base, case)
+    if found.status == 2 and not found.err.startswith(b"bad "):
+        return commands.Outcome(2)
+    return dataclasses.replace(found, out=WIDER.sub(rb"\1a", found.out))
+
+
 def is_same(program, second):
     """Whether both answers are the same. The words about a bad command line may change, so they aren't compared."""
     if isinstance(second, commands.Outcome) and second.status == 2 and not second.err:
@@ -74,7 +101,7 @@ class Difference:
 
 
 def difference(program, case, second):
-    """How the two answers to a case differ, or None. `second` is what the rules answer."""
+    """How the two answers to a case differ, or None. `second` is what the rules answer, or the older program."""
     if second is None:
         return None
     found = program_outcome(program, case)
@@ -106,12 +133,13 @@ def wrong_name(program, case, found):
 class Shrinking:
     """Drops parts of a case as long as the two answers differ."""
 
-    def __init__(self, program, found):
-        self.program, self.found, self.runs = program, found, 0
+    def __init__(self, program, other, found):
+        """`other` gives what a case's answer is compared with."""
+        self.program, self.other, self.found, self.runs = program, other, found, 0
 
     def differs(self, case):
         self.runs += 1
-        found = difference(self.program, case, second_outcome(case)) if self.runs < MOST_RUNS else None
+        found = difference(self.program, case, self.other(case)) if self.runs < MOST_RUNS else None
         self.found = found or self.found
         return found is not None
 

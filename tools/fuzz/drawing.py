@@ -1,5 +1,5 @@
 """Draws profile texts, names and questions, and mutates them."""
-from texts import Byte, Class, Fault, Group, One, Run, read_profile
+from texts import APPEND, Byte, Class, Fault, Group, One, Run, read_profile
 from verdicts import ALL, taken_by
 
 PARTS = ["a", "b", "ab", "lib", "home", ".ssh", "id_", "...", "x-1", "é", "#", r"a\ b", r"\,", "=", ",c", ":", "@", "@x", "]", "a]",
@@ -7,10 +7,12 @@ PARTS = ["a", "b", "ab", "lib", "home", ".ssh", "id_", "...", "x-1", "é", "#", 
 CLASSES = ["[a-c]", "[^a]", "[^/]", "[ab]", "[-a]", "[a-]", "[a--]", "[+--z]", "[a-c--e]", "[a-c-]", "[\\]\\-]", "[/a]", "[^-b-d]",
            "[^^]", "[*?{,@]", "[!-~]"]
 BAD_CLASSES = ["[]", "[^]", "[c-a]", "[a", "[a-", "[--a]", "[a-c---e]", "[\\--z]", "[\\^-a]", "[a\\b]", "[\"]", "[ ]"]
-TOKENS = [b"{", b"}", b",", b"\"", b"\\", b"\n", b" ", b"\t", b"\r", b"#", b"#include <a>", b"#include", b"@{A}", b"@", b"^", b"$", b"->",
-          b"-", b"deny ", b"allow ", b"owner ", b"audit ", b"r", b"rwlkm", b"rix", b"ux", b"a", b"file", b"[", b"]", b"[^", b"*", b"**",
-          b"***", b"?", b"/", b"//", b"/**", b"profile ", b"flags=(complain)", b"xattrs=(a)", b"(", b":", b"\\a", b"\\/", b"\\\n", b"\0",
-          b"\x80", b"\xff", b"{,}", b"/{a,b}/", b"\"/a b\"", b" r,", b",,", b"x", b"_", b"7"]
+TOKENS = [b"{", b"}", b",", b"\"", b"\\", b"\n", b" ", b"\t", b"\r", b"#", b"#include <a>", b"#include", b"@{A}", b"@", b"^", b"$",
+          b"->", b"-", b"deny ", b"allow ", b"owner ", b"audit ", b"r", b"rwlkm", b"rix", b"ux", b"a", b"wa", b"all ", b"file", b"[",
+          b"]", b"[^", b"*", b"**", b"***", b"?", b"/", b"//", b"/**", b"profile ", b"flags=(complain)", b"xattrs=(a)", b"(", b":",
+          b"\\a", b"\\/", b"\\\n", b"\x00", b"\x80", b"\xff", b"{,}", b"/{a,b}/", b"\"/a b\"", b" r,", b" a,", b",,", b"x", b"_", b"7"]
+# Words that conflict, that are left out at some place, or that look like one of these.
+ODD_LETTERS = ["wa", "aw", "rwa", "wkaw", "all", "all", "al", "lal", "wax", "ax", "alx"]
 
 
 def chance(draw, share):
@@ -35,9 +37,15 @@ def draw_path(draw, depth=0):
     return "".join(parts)
 
 
-def draw_rule(draw):
-    letters = "".join(draw.choice("rwlkm") for _ in range(draw.randint(1, 3)))
-    path = "/" + draw_path(draw)
+def draw_letters(draw):
+    if chance(draw, 0.02):
+        return draw.choice(ODD_LETTERS)
+    known = draw.choice(["rwlkm", "rlkmaa"])
+    return "".join(draw.choice(known) for _ in range(draw.randint(1, 3)))
+
+
+def draw_rule(draw, path):
+    letters = draw_letters(draw)
     path = f'"{path}"' if chance(draw, 0.25) else path
     gap = draw.choice([" ", " ", "  ", "\t", "\n", " # c\n", "\r\n"])
     rule = letters + gap + path if chance(draw, 0.2) else path + gap + letters
@@ -48,7 +56,9 @@ def draw_text(draw, most_rules=8):
     """A profile text as bytes, most often one without a fault."""
     head = draw.choice(["profile p", "profile p", "/bin/p", '"/bin/p q"', 'profile "p q"', "profile p /bin/p", 'profile p "/b"',
                         "# c\nprofile p", "profile p\\,", "profile a//b"])
-    rules = [draw_rule(draw) for _ in range(draw.randint(0, most_rules))]
+    # With few paths, rules that hold different permissions match the same names.
+    paths = ["/" + draw_path(draw) for _ in range(draw.choice([1, 2, 16, 16, 16]))]
+    rules = [draw_rule(draw, draw.choice(paths)) for _ in range(draw.randint(0, most_rules))]
     separator = draw.choice(["\n  ", "\n", " ", "\n # x\n", ""])
     return (head + " {" + separator + separator.join(rules) + separator + "}" + draw.choice(["", "\n", "\n# end"])).encode()
 
@@ -59,7 +69,8 @@ def draw_wide_text(draw):
     kind = draw.randrange(6)
     if kind == 0:
         rules = "".join(f"/{draw.choice('abc')}{number % 7} r,\n" for number in range(1024 + near))
-        return b"profile p {\n" + rules.encode() + draw.choice([b"}", b"", b"owner /a r,}", b"@{A} r,}", b"\"", b"r}", b"\xff"])
+        return b"profile p {\n" + rules.encode() + draw.choice([b"}", b"", b"owner /a r,}", b"@{A} r,}", b"\"", b"r}", b"\xff", b"wa /a,}",
+                                                                b"all /a,}", b"al /a,}", b"deny all /a,}", b"al"])
     if kind == 1:
         path = "/" + draw.choice(["a", "?", "[ab]", "{,}", "\\,", "\\é"]) * (1023 + near)
         path = path[:draw.choice([len(path), 1025 + near])] + draw.choice(["", "*", "@{", "}", "{", "[", "\\"])
@@ -74,7 +85,7 @@ def draw_wide_text(draw):
     if kind == 4:
         stars = 9 + near
         return f"profile p {{ /**a{'?' * stars} r, /b/*/**/c{'{,d,[^e]}' * 3} w, deny /**b{'?' * (near + 2)} m, }}".encode()
-    return b"profile p {\n" + b"\n".join(draw_rule(draw).encode() for _ in range(40)) + b"\n}"
+    return b"profile p {\n" + b"\n".join(draw_rule(draw, "/" + draw_path(draw)).encode() for _ in range(40)) + b"\n}"
 
 
 def mutate(draw, text, tokens=None):
@@ -163,10 +174,11 @@ def draw_question(draw, text):
     rule = draw.choice(rules) if rules else None
     name = draw_name(draw, [rule] if rule else []).replace(b"\0", b"").decode("utf-8", "replace")
     if rule and chance(draw, 0.6):
-        return draw.choice([rule.permissions, rule.permissions[:1]]).decode(), name
+        both = ["a", "w", "wa"] if rule.holds(APPEND) else []
+        return draw.choice([rule.permissions.decode(), chr(rule.permissions[0]), *both]), name
     if chance(draw, 0.03):
-        return draw.choice(["", "x", "ra", "R", "r w", "rr", "é"]), name
-    return "".join(draw.sample("rwlkm", draw.randint(1, 5))), name
+        return draw.choice(["", "x", "rx", "R", "A", "r w", "rr", "awa", "é"]), name
+    return "".join(draw.sample("rwlkma", draw.randint(1, 6))), name
 
 
 def draw_any_text(draw):

@@ -20,8 +20,8 @@ def draw_image(draw):
         automaton = Automaton(read_profile(draw_text(draw, 3)))
     except (Fault, TooManyStates):
         return draw_small_image(draw)
-    most = draw.choice([0, 0, 0, 1, 2, 4, 64])
-    image = images.write_image(images.make_table(automaton, most), 2 if most else draw.choice([1, 1, 2]))
+    table = images.make_table(automaton, draw.choice([0, 0, 0, 1, 2, 4, 64]))
+    image = images.write_image(table, draw.choice([1, 1, 2]) if images.fits_version_1(table) else 2)
     return image if chance(draw, 0.1) else mutate_image(draw, image)
 
 

@@ -37,7 +37,8 @@ class Drawing:
         text = draw_text(self.draw, 4).replace(b"\n.\n", b"\n")
         if chance(self.draw, 0.5):
             rules = self.draw.choice([b"/** rwkm", b"/a/** rwlkm, /b/** r", b"/** rl, deny /b/** w", b"/{a,b}/* rwl, /** rl, /** rw",
-                                      b"/** rlk, /a/** m, deny /b/** k", b"/{a,c}** lm, /** l, /b** rlk"])
+                                      b"/** rlk, /a/** m, deny /b/** k", b"/{a,c}** lm, /** l, /b** rlk", b"/** rl, /a** w, /b** a",
+                                      b"/** rwl, deny /a** a", b"/** la, /{a,c}** w, deny /b** w"])
             text = b"profile %s { %s, }" % (self.draw.choice([b"p", b"q"]), rules)
         text = mutate(self.draw, text) if chance(self.draw, 0.1) else text
         lines = [line for line in text.split(b"\n") if line != b"."]
@@ -66,7 +67,7 @@ class Drawing:
         return b" ".join([kind, self.path()] + [self.path() for _ in range(kind in (b"link", b"rename"))])
 
     def open(self):
-        asked = b"".join(bytes((self.draw.choice(b"rwkm" if chance(self.draw, 0.95) else b"rl"),)) for _ in range(self.draw.randint(1, 3)))
+        asked = bytes(self.draw.choice(b"rwkma" if chance(self.draw, 0.95) else b"rl") for _ in range(self.draw.randint(1, 3)))
         return b" ".join([self.draw.choice([b"p", b"p", b"q", b"/bin/p"]), self.path(), asked])
 
     def chain(self):

@@ -4,13 +4,13 @@ import itertools
 import operator
 import struct
 
-from texts import PERMISSIONS
+from texts import APPEND, PERMISSIONS, WRITE
 
 HEADER = struct.Struct("<4sHHIII")
 FREE = 2**32 - 1
-# A record as version 1 stores it, and as version 2 does, with two more numbers: the hits of append.
+# A record as version 1 stores it, without the hits of append, and as version 2 does.
 RECORDS = {1: struct.Struct("<10H"), 2: struct.Struct("<12H")}
-WRITE = 2 * PERMISSIONS.index(b"w")
+OF_WRITE, OF_APPEND = (slice(2 * index, 2 * index + 2) for index in map(PERMISSIONS.index, (WRITE, APPEND)))
 # How many states before a state its default may be, if the state has a depth.
 REACH = 64
 
@@ -21,14 +21,9 @@ class ImageFault(Exception):
         self.number, self.index = number, index
 
 
-def with_append(hits):
-    """A record with the hits of append, which are those of write."""
-    return hits + hits[WRITE:WRITE + 2]
-
-
 @dataclasses.dataclass
 class Table:
-    """The records are as version 2 stores them. In version 1 the bound is 0, and so is each depth."""
+    """In version 1 the bound is 0, and so is each depth, and append has the hits of write."""
     default: list
     base: list
     accept: list
@@ -57,12 +52,11 @@ class Table:
             look_ups += more
         return states, look_ups
 
-    def hits_at(self, state):
-        """The least hits of the permissions in the record of a state."""
-        return self.records[self.accept[state]][:2 * len(PERMISSIONS)]
+    def record_at(self, state):
+        return self.records[self.accept[state]]
 
     def record(self, name):
-        return self.hits_at(self.run(name)[0][-1])
+        return self.record_at(self.run(name)[0][-1])
 
 
 @dataclasses.dataclass
@@ -131,14 +125,18 @@ def make_table(automaton, most=0):
         for byte, target in choice.cells.items():
             table.next[bases[number] + byte] = target
             table.check[bases[number] + byte] = number
-    table.records = list(dict.fromkeys(with_append(state.record) for state in automaton.states))
+    table.records = list(dict.fromkeys(state.record for state in automaton.states))
     numbers = {record: number for number, record in enumerate(table.records)}
-    table.accept = [numbers[with_append(state.record)] for state in automaton.states]
+    table.accept = [numbers[state.record] for state in automaton.states]
     return table
 
 
+def fits_version_1(table):
+    return table.bound == 0 and all(record[OF_APPEND] == record[OF_WRITE] for record in table.records)
+
+
 def write_image(table, version=1):
-    """The image of a table in a version. One whose states have a depth has none in version 1."""
+    """The image of a table in a version, which must fit it."""
     numbers = table.default + table.base + table.accept + (table.depth if version == 2 else []) + table.next + table.check
     stored = RECORDS[version]
     return (HEADER.pack(b"PTAB", version, table.bound if version == 2 else 0, len(table.default), len(table.next), len(table.records))
@@ -182,5 +180,5 @@ def table_of(image, version, bound, n, m, words):
     following, check = taken(m), taken(m)
     records = list(RECORDS[version].iter_unpack(image[HEADER.size + 4 * words:]))
     if version == 1:
-        records = [with_append(record) for record in records]
+        records = [record + record[OF_WRITE] for record in records]
     return Table(default, base, accept, following, check, records, bound, depth)

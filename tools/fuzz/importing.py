@@ -359,12 +359,11 @@ class Import:
         if rule.permissions is None:
             return (b"" if rule.is_pair else b"rwlkm"), []
         written = MODE.findall(rule.permissions.text)
-        letters = {mode.lower() for mode in written if len(mode) == 1} - {b"a", b"x", b"l" if rule.is_pair else b""}
+        letters = {mode.lower() for mode in written if len(mode) == 1} - {b"x", b"l" if rule.is_pair else b""}
         execs = [mode for mode in written if mode[-1:] in b"xX"]
         if any(b"i" in mode.lower() for mode in execs):
             letters.add(b"m")
         words = [b"exec"] if execs else []
-        words += [b"append"] if any(mode in b"aA" for mode in written) else []
         words += [b"capitals"] if any(mode in b"RWALKM" for mode in written) else []
         return in_order(b"".join(letters)), words
 

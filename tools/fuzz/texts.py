@@ -3,7 +3,8 @@ import dataclasses
 import enum
 import re
 
-PERMISSIONS = b"rwlkm"
+PERMISSIONS = b"rwlkma"
+WRITE, APPEND = b"wa"
 MODES = b"rwlkmaxipcuPCU"
 MOST_RULES = 1024
 MOST_ITEMS = 1024
@@ -29,6 +30,7 @@ class Kind(enum.IntEnum):
     DEPTH = 8
     TOO_MANY_RULES = 9
     TOO_MANY_ITEMS = 10
+    CONFLICT = 12
 
 
 SENTENCES = {
@@ -42,6 +44,7 @@ SENTENCES = {
     Kind.DEPTH: "groups nested too deep at byte {at}",
     Kind.TOO_MANY_RULES: "too many rules at byte {at}",
     Kind.TOO_MANY_ITEMS: "too many items at byte {at}",
+    Kind.CONFLICT: "append and write conflict at byte {at}",
 }
 
 
@@ -88,6 +91,9 @@ class Rule:
     path: tuple
     permissions: bytes
     start: int = 0
+
+    def holds(self, letter):
+        return letter in self.permissions or letter == APPEND and WRITE in self.permissions
 
 
 @dataclasses.dataclass(frozen=True)
@@ -233,6 +239,8 @@ def in_order(letters):
 def read_rule(cursor, before):
     start = cursor.at
     word = cursor.word()
+    if word == b"all":
+        raise Fault(Kind.LEFT_OUT, start, len(word))
     if word not in (b"allow", b"deny"):
         test_rule_begins(cursor)
     if before == MOST_RULES:
@@ -265,9 +273,15 @@ def test_arrow(cursor):
         raise Fault(Kind.LEFT_OUT, cursor.at, 2)
 
 
+def take_permissions(cursor, word):
+    if WRITE in word and APPEND in word:
+        raise Fault(Kind.CONFLICT, cursor.at)
+    cursor.at += len(word)
+    return word
+
+
 def read_permissions_and_path(cursor):
-    letters = cursor.word()
-    cursor.at += len(letters)
+    letters = take_permissions(cursor, cursor.word())
     cursor.gap()
     return read_path(cursor), letters
 
@@ -286,8 +300,7 @@ def read_path_and_permissions(cursor):
     if not is_permissions(word):
         is_modes = all(letter in MODES for letter in word)
         raise Fault(Kind.LEFT_OUT if is_modes else Kind.PERMISSION, cursor.at, len(word))
-    cursor.at += len(word)
-    return path, word
+    return path, take_permissions(cursor, word)
 
 
 @dataclasses.dataclass

@@ -71,8 +71,9 @@ class Places:
         least = list(NO_HITS)
         for number in sorted(ended, reverse=True):
             rule = self.rules[number - 1]
-            for letter in rule.permissions:
-                least[2 * PERMISSIONS.index(letter) + rule.is_deny] = number
+            for index in range(len(PERMISSIONS)):
+                if rule.holds(PERMISSIONS[index]):
+                    least[2 * index + rule.is_deny] = number
         return tuple(least)
 
     def hits(self, name):
@@ -163,5 +164,5 @@ def link_verdict(old, new):
     for_link = verdict(new, b"l")
     if for_link != b"allowed":
         return for_link
-    wider = bytes(letter for letter in b"rwkm" if letter in allowed(new) and letter not in allowed(old))
+    wider = bytes(letter for letter in b"rwkma" if letter in allowed(new) and letter not in allowed(old))
     return b"wider by " + wider if wider else b"fine"

@@ -7,11 +7,10 @@ ghost use Rattle.answer_trail.specs.inner.Ends.{IsEndIn, IsFailure, IsFileOf};
 
 use matcher::AnyProfile;
 use mediation::{judge_name, reach_file};
-use names::{Errno, NoMemory, Perms};
+use names::{Errno, NoMemory, Perms, Verdict};
 use path_lookup::{NAME_ROOM, Scratch, WalkFault};
 use plain_tree::PlainTree;
 use std::alloc::Global;
-use verdicts::Verdict;
 
 /// The outcome of an open in one tree.
 #[derive(Drop)]

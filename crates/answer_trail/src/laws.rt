@@ -6,7 +6,7 @@ ghost use Rattle.justification.specs.declared.answer.Answer.TheVariants.{Busy, F
 ghost use Rattle.mediation.specs.Deeds.{Deed};
 ghost use Rattle.names.specs.declared.errors.Errno.{Errno};
 ghost use Rattle.names.specs.declared.permissions.Perms.{Perms};
-ghost use Rattle.verdicts.specs.declared.verdict.Verdict.{Verdict};
+ghost use Rattle.names.specs.declared.verdict.Verdict.{Verdict};
 
 /// No answer is justified at a version past the last change, no busy one where both counts are the same even number, and at one
 /// version there is at most one failure, and either a profile or none.

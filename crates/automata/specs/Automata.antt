@@ -1,6 +1,6 @@
 -- An automaton as tables: a row of 256 targets and a record for each state.
 use Rattle.std.specs.Prelude.{◌≡◌, ◌⊎◌, ℕ, ◌<◌, ◌≤◌, List, [], ◌∷◌, length, slice_index_or}
-use Rattle.verdicts.specs.declared.record.Record.{Record}
+use Rattle.names.specs.declared.record.Record.{Record}
 
 pub record Automaton : Type 0 where
   pub rows : List (List ℕ)

@@ -1,13 +1,13 @@
 //! An automaton as tables.
 ghost use Rattle.std.specs.Prelude.{◌≡◌, ◌<◌, ◌≤◌, ℕ, drop, IfOk, length, slice_get, slice_index_or, Some};
 ghost use Rattle.automata.specs.Automata.{IsWhole, target, state_after};
-ghost use Rattle.verdicts.specs.Hits.{no_hits};
+ghost use Rattle.names.specs.Hits.{no_hits};
 ghost use Rattle.automata.specs.Rows.{AreRows, IsRowFrom, rows_of, target_in};
 
 use crate::range::{TargetRange, head, rest_after};
+use names::Record;
 use std::alloc::{AllocError, Global};
 use std::marker::Model;
-use verdicts::Record;
 
 /// The most states of an automaton, that of the empty set among them.
 pub const MOST_SETS: usize = 16384;

@@ -1,10 +1,10 @@
 -- Two automata run at once.
 use Rattle.std.specs.Prelude.{◌≡◌, ◌⊎◌, ℕ, ◌<◌, ◌≤◌, List, ◌++◌, length, Some, slice_get}
 use Rattle.names.specs.Bytes.{are_bytes}
-use Rattle.verdicts.specs.declared.record.Record.{Record}
-use Rattle.verdicts.specs.declared.record.LeastHits.{LeastHits}
-use Rattle.verdicts.specs.Hits.{first_number}
-use Rattle.verdicts.specs.Least.{hits_of, record_of}
+use Rattle.names.specs.declared.record.Record.{Record}
+use Rattle.names.specs.declared.record.LeastHits.{LeastHits}
+use Rattle.names.specs.Hits.{first_number}
+use Rattle.names.specs.Least.{hits_of, record_of}
 use Rattle.automata.specs.declared.fault.CompileFault.{CompileFault}
 use Rattle.automata.specs.declared.fault.CompileFault.TheVariants.{TooManyStates, NoMemory}
 use Rattle.automata.specs.Automata.{Automaton, IsWhole, target, state_after, most_sets}

@@ -9,8 +9,8 @@ ghost use Rattle.automaton_products.specs.Joining.{AreStates, IsJoinedRow};
 use crate::joining::joined;
 use crate::pairs::{Pair, Pairs, number_of};
 use automata::{CompileFault, Dfa, MOST_SETS, TargetRange, head, rest_after};
+use names::Record;
 use std::alloc::{AllocError, Global};
-use verdicts::Record;
 
 /// The rows and records of the pairs that have been processed.
 #[derive(Drop)]

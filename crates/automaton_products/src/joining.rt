@@ -1,10 +1,9 @@
 //! Records of two automata, joined.
 ghost use Rattle.std.specs.Prelude.{◌≡◌};
 ghost use Rattle.automaton_products.specs.Products.{joined, joined_hits};
-ghost use Rattle.verdicts.specs.Hits.{first_number};
+ghost use Rattle.names.specs.Hits.{first_number};
 
-use names::{Permission, permissions_are_numbered};
-use verdicts::{LeastHits, Record, records_are_their_hits};
+use names::{LeastHits, Permission, Record, permissions_are_numbered, records_are_their_hits};
 
 // The first number, or the other one if the first is 0.
 fn first_number(one: u16, other: u16) -> u16

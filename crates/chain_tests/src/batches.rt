@@ -164,7 +164,7 @@ fn expect_all_answers(rt: &impl Abort, alloc: Global, image: &[u8]) -> Result<()
 {
     for count in [1, 8, 300] {
         expect_answers(rt, alloc, image, &names_of(alloc, count)?, 1)?;
-        expect_answers(rt, alloc, image, &equally_long(alloc, count)?, 31)?;
+        expect_answers(rt, alloc, image, &equally_long(alloc, count)?, 63)?;
     }
     Ok(())
 }

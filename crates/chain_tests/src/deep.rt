@@ -1,14 +1,14 @@
 //! Long chains of defaults: how many look-ups a byte takes, up to one more than the greatest bound.
 use crate::profiles::verified;
 use crate::versions::written;
+use names::Record;
 use std::alloc::Global;
 use std::process::Abort;
 use std::test::Fail;
-use table_image::{ImageFault, RawTable, StoredRecord};
+use table_image::{ImageFault, RawTable};
 use table_verifier::{
     LookUps, State, Steps, VerifiedImage, VerifiedTable, run, run_image, verify, verify_image,
 };
-use verdicts::Record;
 
 // A chain from state 1 to the last one: each has the next one for its default, and one depth more than that. The last has no depth,
 // and leads to state 0, which is dead. All share one row, in which each owns the cell of the byte with its number, if there is one,
@@ -53,7 +53,7 @@ impl Chain {
             accept: Vec::from_elem(alloc, 0, states)?,
             next: Vec::new(alloc),
             check: Vec::new(alloc),
-            records: Vec::from_elem(alloc, StoredRecord::of(Record::none()), 1)?,
+            records: Vec::from_elem(alloc, Record::none(), 1)?,
             depth_bound: self.bound,
             depth: Vec::new(alloc),
         };

@@ -1,7 +1,6 @@
 //! Profiles with their automata and tables.
-ghost use Rattle.std.specs.Prelude.{◌≡◌, ◌≤◌, IfOk};
+ghost use Rattle.std.specs.Prelude.{◌≤◌, IfOk};
 ghost use Rattle.tables.specs.Bounds.{InBounds};
-ghost use Rattle.tables.specs.Images.{FitsVersion1};
 ghost use Rattle.tables.specs.Tables.{table_value};
 
 use glob_automaton::{Dfa, compile};
@@ -11,7 +10,8 @@ use std::test::Fail;
 use table_image::{RawTable, pack_chained};
 use table_verifier::{VerifiedTable, verify};
 
-pub(crate) const TEXTS: [&[u8]; 11] = [
+// Version 1 of images can hold the tables of all but the last.
+pub(crate) const TEXTS: [&[u8]; 12] = [
     b"profile p { }",
     b"profile p { /etc/passwd r, }",
     b"profile p { /** r, }",
@@ -23,6 +23,7 @@ pub(crate) const TEXTS: [&[u8]; 11] = [
     b"profile p { /*/*/* r, /a/** w, /**/b m, deny /*/c** rwlkm, }",
     b"profile p { /[^a] r, /[^a][^b] w, /[^ac][^bd][^ef] k, /?????? m, }",
     b"profile p { /[a-h]0 r, /[b-h]1 r, /[c-h]2 r, /[d-h]3 r, /[e-h]4 r, /[f-h]5 r, /[gh]6 r, /h7 r, }",
+    b"profile p { /** a, /*a w, deny /*b* a, deny /**c w, }",
 ];
 
 /// A profile with this number of rules, 127 at most. After a slash and a byte from 128 on, each byte from 128 up to that one leads
@@ -51,7 +52,6 @@ pub(crate) fn automaton_of(alloc: Global, text: &[u8]) -> Result<Dfa, Fail> {
 pub(crate) fn chained_of(alloc: Global, text: &[u8], most_depth: u16) -> Result<RawTable, Fail>
     ensures bounds { IfOk result (λ table. InBounds (table_value table)) }
     ensures depth { IfOk result (λ table. table.depth_bound ≤ most_depth) }
-    ensures fits { IfOk result (λ table. most_depth ≡ 0 → FitsVersion1 (table_value table)) }
 {
     let dfa = automaton_of(alloc, text)?;
     Ok(pack_chained(alloc, &dfa, most_depth)?)

@@ -1,4 +1,7 @@
 //! Verdicts of chained tables, next to those of tables without depths and of the plain judge.
+ghost use Rattle.tables.specs.Bounds.{InBounds};
+ghost use Rattle.tables.specs.Tables.{table_value};
+
 use crate::profiles::{TEXTS, chained_of};
 use matcher::{chained_table_of, table_of};
 use names::{Permission, Perms};
@@ -6,10 +9,10 @@ use rule_text::{Profile, judge_slow, read};
 use std::alloc::Global;
 use std::process::Abort;
 use std::test::Fail;
-use table_image::{to_bytes, to_bytes_v1};
+use table_image::{RawTable, to_bytes, to_bytes_v1};
 use table_verifier::{LoadedProfile, LookUps, Steps, VerifiedTable, judge, record_of_name};
 
-// A profile, and its tables from images: without depths in version 1, and chained in version 2.
+// A profile, and its tables from images: without depths in version 1 if that can hold them, and chained in version 2.
 #[derive(Drop)]
 struct Tables {
     profile: Profile,
@@ -17,10 +20,19 @@ struct Tables {
     chained: LoadedProfile,
 }
 
+fn flat_image(alloc: Global, table: &RawTable) -> Result<Vec<u8>, Fail>
+    requires { InBounds (table_value table.now) }
+{
+    if table.fits_version_1() {
+        return Ok(to_bytes_v1(alloc, table)?);
+    }
+    Ok(to_bytes(alloc, table)?)
+}
+
 fn tables_of(alloc: Global, text: &[u8], most: u16) -> Result<Tables, Fail> {
     let profile = read(alloc, text)?;
     let flat = table_of(alloc, &profile)?;
-    let flat = to_bytes_v1(alloc, &flat)?;
+    let flat = flat_image(alloc, &flat)?;
     let chained = chained_table_of(alloc, &profile, most)?;
     let chained = to_bytes(alloc, &chained)?;
     Ok(Tables {
@@ -57,7 +69,7 @@ impl Tables {
 
     // Whether the plain judge gives the verdicts of both tables, for every set of permissions but the empty one.
     fn agree(&self, name: &[u8]) -> bool {
-        for number in 1..32 {
+        for number in 1..64 {
             let ask = perms_of(number);
             let want = judge_slow(&self.profile, name, ask);
             let is_flat = judge(self.flat.table(), name, ask) == want;

@@ -1,13 +1,12 @@
 //! Images of both versions, next to those of a writer that puts number after number.
 use crate::profiles::{TEXTS, chained_of};
 use crate::worked;
-use names::Permission;
+use names::{LeastHits, Permission, Perms, Record, Verdict};
 use std::alloc::Global;
 use std::process::Abort;
 use std::test::Fail;
-use table_image::{ImageFault, RawTable, StoredRecord, from_bytes, to_bytes, to_bytes_v1};
-use table_verifier::LoadedProfile;
-use verdicts::{LeastHits, Record};
+use table_image::{ImageFault, RawTable, from_bytes, to_bytes, to_bytes_v1};
+use table_verifier::{LoadedProfile, judge};
 
 /// The image of a table in a version.
 pub(crate) fn written(alloc: Global, table: &RawTable, version: u16) -> Result<Vec<u8>, Fail> {
@@ -47,19 +46,19 @@ fn push_hits(image: &mut Vec<u8>, hits: LeastHits) -> Result<(), Fail> {
     Ok(())
 }
 
-fn push_record(image: &mut Vec<u8>, record: &Record) -> Result<(), Fail> {
+// Version 1 has no hits for append.
+fn push_record(image: &mut Vec<u8>, record: &Record, version: u16) -> Result<(), Fail> {
     for permission in &Permission::ALL {
-        push_hits(image, record.of(*permission))?;
+        if version == 2 || *permission != Permission::Append {
+            push_hits(image, record.of(*permission))?;
+        }
     }
     Ok(())
 }
 
-fn push_records(image: &mut Vec<u8>, records: &[StoredRecord], version: u16) -> Result<(), Fail> {
-    for stored in records {
-        push_record(image, &stored.hits)?;
-        if version == 2 {
-            push_hits(image, stored.append)?;
-        }
+fn push_records(image: &mut Vec<u8>, records: &[Record], version: u16) -> Result<(), Fail> {
+    for record in records {
+        push_record(image, record, version)?;
     }
     Ok(())
 }
@@ -87,20 +86,24 @@ fn expect_written(rt: &impl Abort, alloc: Global, text: &[u8], most: u16) -> Res
     Ok(())
 }
 
-// The same in version 1, which has no depths.
-fn expect_written_first(rt: &impl Abort, alloc: Global, text: &[u8]) -> Result<(), Fail> {
+// The same in version 1, which has no depths, if that can hold the tables. Returns whether it can.
+fn expect_written_first(rt: &impl Abort, alloc: Global, text: &[u8]) -> Result<bool, Fail> {
     let table = chained_of(alloc, text, 0)?;
+    if !table.fits_version_1() {
+        return Ok(false);
+    }
     let image = to_bytes_v1(alloc, &table)?;
     assert!(rt; image == written(alloc, &table, 1)?, "{text:?}");
     assert!(rt; are_equal(&from_bytes(alloc, &image)?, &table), "{text:?}");
-    Ok(())
+    Ok(true)
 }
 
 #[test]
 fn images_of_profiles(rt: HostRuntime) -> Result<(), Fail> {
     let alloc = rt.alloc();
-    for text in &TEXTS {
-        expect_written_first(&rt, alloc, text)?;
+    for (i, text) in TEXTS.iter().enumerate() {
+        let fits = expect_written_first(&rt, alloc, text)?;
+        assert_eq!(rt; fits, i < 11);
         expect_written(&rt, alloc, text, 0)?;
         expect_written(&rt, alloc, text, 64)?;
     }
@@ -227,25 +230,27 @@ fn places_of_depths_and_of_append(rt: HostRuntime) -> Result<(), Fail> {
         allow: 0x0c0b,
         deny: 0x0e0d,
     };
-    let hits = Record::none().with_hits(Permission::Map, map);
-    let want = StoredRecord { hits, append };
+    let want = Record::none()
+        .with_hits(Permission::Map, map)
+        .with_hits(Permission::Append, append);
     assert!(rt; table.records.as_slice() == [want].as_slice());
     assert!(rt; to_bytes(alloc, &table)? == image);
     Ok(())
 }
 
-// Version 1 has the hits of write for append, and so has version 2 as it is written here.
+// By rules without `a`, append has the hits of write, in images of both versions.
 #[test]
 fn append_has_the_hits_of_write(rt: HostRuntime) -> Result<(), Fail> {
     let alloc = rt.alloc();
     let text = b"profile p { /a rw, deny /a wl, /a lkm, /b w, }";
     let table = chained_of(alloc, text, 0)?;
+    assert!(rt; table.fits_version_1());
     let image = to_bytes_v1(alloc, &table)?;
     let first = from_bytes(alloc, &image)?;
     let mut written = 0u32;
-    for stored in &first.records {
-        let write = stored.hits.of(Permission::Write);
-        assert!(rt; stored.append == write);
+    for record in &first.records {
+        let write = record.of(Permission::Write);
+        assert!(rt; record.of(Permission::Append) == write);
         if write != LeastHits::NONE {
             written = written.saturating_add(1);
         }
@@ -254,5 +259,47 @@ fn append_has_the_hits_of_write(rt: HostRuntime) -> Result<(), Fail> {
     let image = to_bytes(alloc, &table)?;
     // The last record is that of `/b`.
     assert!(rt; image.ends_with(b"\0\0\0\0\x04\0\0\0\0\0\0\0\0\0\0\0\0\0\0\0\x04\0\0\0"));
+    Ok(())
+}
+
+// What an image says of a name for the permissions with these letters.
+fn told(alloc: Global, image: &[u8], name: &[u8], letters: &[u8]) -> Result<Verdict, Fail> {
+    let loaded = LoadedProfile::make(alloc, image)?;
+    let ask = Perms::from_letters(letters).ok_or("letters")?;
+    Ok(judge(loaded.table(), name, ask))
+}
+
+// An image of version 1 was written when no profile could tell append from write: who may write may append.
+#[test]
+fn append_by_version_one(rt: HostRuntime) -> Result<(), Fail> {
+    let alloc = rt.alloc();
+    let table = chained_of(alloc, b"profile p { /log w, deny /log/x w, }", 0)?;
+    assert!(rt; table.fits_version_1());
+    let image = to_bytes_v1(alloc, &table)?;
+    for letters in [b"a".as_slice(), b"w", b"wa"] {
+        assert_eq!(rt; told(alloc, &image, b"/log", letters)?, Verdict::Allowed);
+        let denied = Verdict::Denied { rule: 2 };
+        assert_eq!(rt; told(alloc, &image, b"/log/x", letters)?, denied);
+    }
+    let missing = Perms::NONE.with(Permission::Append);
+    let want = Verdict::NoRule { missing };
+    assert_eq!(rt; told(alloc, &image, b"/", b"a")?, want);
+    Ok(())
+}
+
+// Append alone: version 1 can't hold the tables, and version 2 keeps its hits, with chains and without.
+#[test]
+fn append_by_version_two(rt: HostRuntime) -> Result<(), Fail> {
+    let alloc = rt.alloc();
+    for most in [0, 4] {
+        let table = chained_of(alloc, b"profile p { /log a, }", most)?;
+        assert!(rt; !table.fits_version_1());
+        let image = to_bytes(alloc, &table)?;
+        assert_eq!(rt; told(alloc, &image, b"/log", b"a")?, Verdict::Allowed);
+        let missing = Perms::NONE.with(Permission::Write);
+        let want = Verdict::NoRule { missing };
+        assert_eq!(rt; told(alloc, &image, b"/log", b"w")?, want);
+        assert_eq!(rt; told(alloc, &image, b"/log", b"wa")?, want);
+    }
     Ok(())
 }

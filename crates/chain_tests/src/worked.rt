@@ -3,16 +3,15 @@ ghost use Rattle.std.specs.Prelude.{IsTrue};
 ghost use Rattle.image_judge.specs.Answers.{IsNoneOrLoaded};
 
 use image_judge::{Answer, Fault};
-use names::{Permission, Perms};
+use names::{Permission, Perms, Record, Verdict};
 use std::alloc::Global;
 use std::process::Abort;
 use std::test::Fail;
-use table_image::{ImageFault, RawTable, StoredRecord, from_bytes, to_bytes};
+use table_image::{ImageFault, RawTable, from_bytes, to_bytes};
 use table_verifier::{
     LoadedProfile, LookUps, State, Steps, VerifiedImage, VerifiedTable, judge, judge_image, run,
     run_image, verify, verify_image,
 };
-use verdicts::{Record, Verdict};
 
 // The magic, version 2, a bound of 1, and 3 states, 256 cells and 1 record.
 const HEADER: &[u8] = b"PTAB\x02\0\x01\0\x03\0\0\0\0\x01\0\0\x01\0\0\0";
@@ -52,7 +51,7 @@ fn read(rt: HostRuntime) -> Result<(), Fail> {
     assert!(rt; table.depth.as_slice() == [0, 1, 0].as_slice() && table.depth_bound == 1);
     assert!(rt; table.next == Vec::from_elem(alloc, 0u32, 256)?);
     assert!(rt; table.check == Vec::from_elem(alloc, u32::MAX, 256)?);
-    assert!(rt; table.records.as_slice() == [StoredRecord::of(Record::none())].as_slice());
+    assert!(rt; table.records.as_slice() == [Record::none()].as_slice());
     Ok(())
 }
 

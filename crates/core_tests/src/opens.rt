@@ -3,10 +3,10 @@ use crate::scene::{begin, make, open_for, path, perms, policy, rename, scene, se
 use directory_tree::Change;
 use interleaving_core::{Answer, Core, Event, EventMachine, run};
 use matcher::PolicyChange;
+use names::Verdict;
 use std::alloc::Global;
 use std::process::Abort;
 use std::test::Fail;
-use verdicts::Verdict;
 
 fn judged(verdict: Verdict, tree_version: u64) -> Answer {
     Answer::Judged {

@@ -8,7 +8,7 @@ use Rattle.directory_tree.specs.Tree.{Tree}
 use Rattle.mediation.specs.Deeds.{Deed, published}
 use Rattle.mediation.specs.Judge.{by_rules}
 use Rattle.mediation.specs.Opening.{Reached, reached}
-use Rattle.verdicts.specs.declared.verdict.Verdict.TheVariants.{NoRule}
+use Rattle.names.specs.declared.verdict.Verdict.TheVariants.{NoRule}
 use Rattle.rule_globs.specs.PlainVerdict.{verdict}
 use Rattle.justification.specs.declared.answer.Answer.{Answer}
 use Rattle.justification.specs.declared.answer.Answer.TheVariants.{Judged, Failed, NoProfile}

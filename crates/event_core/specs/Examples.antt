@@ -1,7 +1,9 @@
 -- Worked runs: the calls of session 1 in the root. Nobody else does anything, except that the keeper opens a change in some of
 -- them.
-use Rattle.std.specs.Prelude.{true, false, List, [], ◌∷◌}
+use Rattle.std.specs.Prelude.{false, List, [], ◌∷◌}
+use Rattle.names.specs.declared.permissions.Permission.TheVariants.{Read}
 use Rattle.names.specs.declared.permissions.Perms.{Perms}
+use Rattle.names.specs.Permissions.{only, set_of}
 use Rattle.directory_tree.specs.declared.change.Change.{Change}
 use Rattle.directory_tree.specs.declared.change.Change.TheVariants.{Mkdir}
 use Rattle.mediation.specs.Deeds.{published}
@@ -10,10 +12,10 @@ use Rattle.event_core.specs.Machine.{Call, Event}
 use Rattle.event_core.specs.Machine.Event.{begin, read_policy, read_count, check_count, answer, open_change, publish}
 
 abbrev pub to_read : Perms
-to_read = record { read = true; write = false; link = false; lock = false; map = false }
+to_read = only Read
 
 abbrev pub nothing : Perms
-nothing = record { read = false; write = false; link = false; lock = false; map = false }
+nothing = set_of (λ p. false)
 
 -- the profile `p` opens `/`
 abbrev pub root_for : Perms → Call

@@ -14,7 +14,7 @@ ghost use Rattle.event_core.specs.Lawful.{IsLawful, TakesMemory};
 ghost use Rattle.directory_tree.specs.declared.change.Change.{Change};
 ghost use Rattle.mediation.specs.Deeds.{Deed};
 ghost use Rattle.names.specs.declared.errors.Errno.TheVariants.{EINVAL};
-ghost use Rattle.verdicts.specs.declared.verdict.Verdict.TheVariants.{NoRule};
+ghost use Rattle.names.specs.declared.verdict.Verdict.TheVariants.{NoRule};
 ghost use Rattle.justification.specs.declared.answer.Answer.TheVariants.{Judged, Failed, NoProfile, Busy};
 ghost use Rattle.event_core.specs.Examples.{to_read, nothing, unpublished_call, whole_call, busy_call, overtaken_call};
 ghost use Rattle.event_core.specs.Deeds.{opened_by, closed_by, published_by};

@@ -5,8 +5,8 @@ use Rattle.std.specs.List.{flat_map, list_all}
 use Rattle.std.proofs.lemmas.Bool.{and_parts}
 use Rattle.rule_globs.specs.Each.{Each}
 use Rattle.names.specs.Permissions.{letters}
-use Rattle.verdicts.specs.declared.kind.RuleKind.{RuleKind}
-use Rattle.verdicts.specs.declared.kind.RuleKind.TheVariants.{Allow, Deny}
+use Rattle.names.specs.declared.kind.RuleKind.{RuleKind}
+use Rattle.names.specs.declared.kind.RuleKind.TheVariants.{Allow, Deny}
 use Rattle.rule_profile.specs.Profile.{RuleValue, ProfileValue}
 use Rattle.rule_profile.specs.Readable.{is_rule, is_profile}
 use Rattle.rule_reader.specs.TextBytes.{begins, opens_blank}

@@ -1,13 +1,13 @@
 -- A rule as it is written in a canonical text, and what it is read as.
 use Rattle.std.proofs.Common.{◌≡◌, ℕ, Bool, true, false, List, [], ◌∷◌, ◌++◌, length, Ok, refl, ap, append_assoc, ◌==◌, arith}
-use Rattle.std.specs.Prelude.{codes}
+use Rattle.std.specs.Prelude.{◌&&◌, codes, not}
 use Rattle.std.specs.List.{list_any}
-use Rattle.std.proofs.lemmas.Bool.{and_parts, ne_eqb, eqb-true}
+use Rattle.std.proofs.lemmas.Bool.{and_parts, ne_eqb, eqb-true, not-true}
 use Rattle.names.specs.declared.permissions.Perms.{Perms}
-use Rattle.names.specs.Permissions.{has, letters, all_permissions}
+use Rattle.names.specs.Permissions.{conflicts, has, letters, all_permissions}
 use Rattle.rule_globs.specs.Tokens.{Token, byte, any_byte, bracket, stars, opening, between, closing}
-use Rattle.verdicts.specs.declared.kind.RuleKind.{RuleKind}
-use Rattle.verdicts.specs.declared.kind.RuleKind.TheVariants.{Allow, Deny}
+use Rattle.names.specs.declared.kind.RuleKind.{RuleKind}
+use Rattle.names.specs.declared.kind.RuleKind.TheVariants.{Allow, Deny}
 use Rattle.rule_profile.specs.Profile.{RuleValue}
 use Rattle.rule_profile.specs.Readable as readable
 use Rattle.rule_reader.specs.ReadWords.{word}
@@ -59,17 +59,20 @@ letters_word s rest = grind arith
 letters_begin : (s : Perms) (rest : List ℕ) → begins opens_blank (letters s ++ 44 ∷ rest) ≡ false
 letters_begin s rest = grind arith
 
-some_letters : (s : Perms) → list_any (has s) all_permissions ≡ true → (length (letters s) == 0) ≡ false
-some_letters s h = let n = (perms_word s h).0 in ne_eqb (length (letters s)) 0 (λ e. absurd (omega (arith, n, e)))
+some_letters : (s : Perms) → list_any (has s) all_permissions ≡ true → not (conflicts s) ≡ true → (length (letters s) == 0) ≡ false
+some_letters s h fits =
+    let n = (perms_word s h (not-true (conflicts s) fits)).0 in ne_eqb (length (letters s)) 0 (λ e. absurd (omega (arith, n, e)))
 
 reads_permissions : (denies : Bool) (unknown : Stop) (s : Perms) (rest : List ℕ) → list_any (has s) all_permissions ≡ true
-    → rules.permissions_word denies unknown (letters s ++ 44 ∷ rest) ≡ Ok (plain_letters s)
-reads_permissions denies unknown s rest h = rw (letters_word s rest, some_letters s h, letters_read s) refl
+    → not (conflicts s) ≡ true → rules.permissions_word denies unknown (letters s ++ 44 ∷ rest) ≡ Ok (plain_letters s)
+reads_permissions denies unknown s rest h fits = rw (letters_word s rest, some_letters s h fits, letters_read s, fits) refl
 
 takes_permissions : (read : List PartValue) (s : Perms) (rest : List ℕ) → list_any (has s) all_permissions ≡ true
+    → not (conflicts s) ≡ true
     → rules.permissions_part (reading read (letters s ++ 44 ∷ rest)) ≡ reading (read ++ (part_of parts.Permissions (letters s) ∷ []))
     (44 ∷ rest)
-takes_permissions read s rest h = rw (letters_word s rest) (takes_front parts.Permissions read (letters s) (44 ∷ rest) (some_letters s h))
+takes_permissions read s rest h fits =
+    rw (letters_word s rest) (takes_front parts.Permissions read (letters s) (44 ∷ rest) (some_letters s h fits))
 
 -- ---- the rule
 
@@ -93,7 +96,8 @@ reads_body : (denies : Bool) (read : List PartValue) (r : RuleValue) (rest : Lis
     → rules.path_first denies (reading read (body_text r rest)) ≡ Ok (reading (read ++ body_parts r) rest)
 unfolding rules.path_first
 reads_body denies read r rest h plain =
-    let p = and_parts (list_any (has r.perms) all_permissions) (readable.is_path r.items) h in
+    let p = and_parts (list_any (has r.perms) all_permissions && not (conflicts r.perms)) (readable.is_path r.items) h in
+    let some = and_parts (list_any (has r.perms) all_permissions) (not (conflicts r.perms)) p.0 in
     let path = part_of parts.Path (in_quotes (path_text r.items)) in
     let blank = part_of parts.Blank (codes " ") in
     let perms = part_of parts.Permissions (letters r.perms) in
@@ -103,8 +107,8 @@ reads_body denies read r rest h plain =
     rw (
       reads_path read r.items (32 ∷ behind) p.1 plain,
       reads_blank (read ++ (path ∷ [])) 32 [] behind refl (letters_begin r.perms rest),
-      reads_permissions denies (record { kind = permissions; left = length behind }) r.perms rest p.0,
-      takes_permissions ((read ++ (path ∷ [])) ++ (blank ∷ [])) r.perms rest p.0,
+      reads_permissions denies (record { kind = permissions; left = length behind }) r.perms rest some.0 some.1,
+      takes_permissions ((read ++ (path ∷ [])) ++ (blank ∷ [])) r.perms rest some.0 some.1,
       reads_end three rest,
     ) (ap (λ (x : List PartValue). Ok (reading x rest)) parted)
 

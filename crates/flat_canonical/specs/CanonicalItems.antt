@@ -5,8 +5,8 @@ use Rattle.names.specs.declared.permissions.Perms.{Perms}
 use Rattle.names.specs.Permissions.{letters}
 use Rattle.rule_globs.specs.Each.{Each}
 use Rattle.rule_globs.specs.Tokens.{Token}
-use Rattle.verdicts.specs.declared.kind.RuleKind.{RuleKind}
-use Rattle.verdicts.specs.declared.kind.RuleKind.TheVariants.{Allow, Deny}
+use Rattle.names.specs.declared.kind.RuleKind.{RuleKind}
+use Rattle.names.specs.declared.kind.RuleKind.TheVariants.{Allow, Deny}
 use Rattle.rule_profile.specs.Profile.{RuleValue, ProfileValue}
 use Rattle.rule_writer.specs.Canonical.{token_text}
 use Rattle.flat_words.specs.declared.letters.Letters.{Letters}
@@ -75,6 +75,6 @@ pub record WordsEndPlainly (p : ProfileValue) : Type 0 where
 
 -- ---- letters
 
--- what letters stand for that give these permissions and no more: no append, no exec mode, nothing in upper case
+-- what letters stand for that give these permissions and no more: no exec mode, nothing in upper case
 abbrev pub plain_letters : Perms → Letters
-plain_letters perms = record { perms = perms; append = false; exec = None; two_modes = false; capitals = false }
+plain_letters perms = record { perms = perms; exec = None; two_modes = false; capitals = false }

@@ -1,5 +1,5 @@
 -- What an account says about the parts of a file rule (our choice of words).
-use Rattle.std.specs.Prelude.{ℕ, List, [], ◌∷◌, ◌++◌, Option, Some, None, is_some, Bool, true, false, not, ◌&&◌, if◌then◌else◌}
+use Rattle.std.specs.Prelude.{ℕ, List, [], ◌∷◌, ◌++◌, Option, Some, None, is_some, Bool, false, not, ◌&&◌, if◌then◌else◌}
 use Rattle.std.specs.List.{flat_map}
 use Rattle.std.specs.Str.{bytes_eq}
 use Rattle.flat_text.specs.declared.part.PartKind.{PartKind}
@@ -45,8 +45,7 @@ part_whats m kinds.Unsafe = whats.Unsafe ∷ []
 part_whats m kinds.Link = whats.Link ∷ []
 part_whats m kinds.Subset = whats.Subset ∷ []
 part_whats m kinds.Path = if_so m.slashes whats.Slashes ++ if_so m.pattern whats.Pattern
-part_whats m kinds.Permissions =
-    if_so (is_some m.letters.exec) whats.Exec ++ (if_so m.letters.append whats.Append ++ if_so m.letters.capitals whats.Capitals)
+part_whats m kinds.Permissions = if_so (is_some m.letters.exec) whats.Exec ++ if_so m.letters.capitals whats.Capitals
 part_whats m kinds.Arrow = if_so (not m.link && m.binds) whats.Link ++ if_so (not m.link && not m.binds) whats.Target
 part_whats m _ = []
 

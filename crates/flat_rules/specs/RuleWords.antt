@@ -6,8 +6,8 @@ use Rattle.names.specs.declared.permissions.Permission.TheVariants.{Link}
 use Rattle.names.specs.declared.permissions.Perms.{Perms}
 use Rattle.names.specs.Permissions.{has, only, set_of}
 use Rattle.rule_reader.specs.TextBytes.{begins, is_white, is_hash, is_quote}
-use Rattle.verdicts.specs.declared.kind.RuleKind.{RuleKind}
-use Rattle.verdicts.specs.declared.kind.RuleKind.TheVariants.{Allow, Deny}
+use Rattle.names.specs.declared.kind.RuleKind.{RuleKind}
+use Rattle.names.specs.declared.kind.RuleKind.TheVariants.{Allow, Deny}
 use Rattle.flat_words.specs.declared.letters.Letters.{Letters}
 use Rattle.flat_words.specs.Letters.{no_letters, letters_of}
 use Rattle.flat_rules.specs.Priorities.{priority_of_text}

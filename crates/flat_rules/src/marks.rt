@@ -87,7 +87,6 @@ impl Marks {
             }
             PartKind::Permissions => {
                 push_if(whats, self.letters.exec.is_some(), What::Exec)?;
-                push_if(whats, self.letters.append, What::Append)?;
                 push_if(whats, self.letters.capitals, What::Capitals)
             }
             PartKind::Arrow => {

@@ -9,9 +9,8 @@ ghost use Rattle.subject_rules.specs.Restating.{has_priority};
 use crate::priority::is_zero;
 use flat_text::{Part, PartKind};
 use flat_words::{Letters, letters_of};
-use names::{Permission, Perms};
+use names::{Permission, Perms, RuleKind};
 use subject_rules::AppliesTo;
-use verdicts::RuleKind;
 
 /// A word without its quotes.
 pub fn content(bytes: &[u8]) -> &[u8]
@@ -28,7 +27,7 @@ pub fn content(bytes: &[u8]) -> &[u8]
 pub struct RuleWords<'t> {
     pub kind: RuleKind,
     pub applies_to: AppliesTo,
-    /// Which of r, w, l, k and m it has.
+    /// The permissions of its letters.
     pub perms: Perms,
     /// The letters that are written.
     pub letters: Letters,
@@ -217,9 +216,10 @@ fn all_perms() -> Perms
         .with(Permission::Link)
         .with(Permission::Lock)
         .with(Permission::Map)
+        .with(Permission::Append)
 }
 
-/// Which of r, w, l, k and m a rule has: its letters; if none are written, `l` after the word `link`, and all after `file`.
+/// The permissions of a rule's letters; if none are written, `l` after the word `link`, and all after `file`.
 fn perms_of(parts: &[Part<'_>], letters: Letters) -> Perms
     requires { letters ≡ letters_in parts.now }
     ensures { result ≡ perms_of_rule parts.now }

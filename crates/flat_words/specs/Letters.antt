@@ -1,10 +1,10 @@
 -- The letters of a rule's permissions (apparmor.d(5), "Access Modes"): r w a l k m in either case, and exec modes.
 use Rattle.std.specs.Prelude.{ℕ, List, [], ◌∷◌, Option, Some, None, Bool, true, false, not, ◌&&◌, ◌||◌, ◌==◌, if◌then◌else◌, option_map}
 use Rattle.std.specs.Char.{to_ascii_lowercase}
+use Rattle.names.specs.declared.permissions.Permission.{Permission}
 use Rattle.names.specs.declared.permissions.Perms.{Perms}
 use Rattle.names.specs.declared.permissions.Permission.TheVariants.{Map}
-use Rattle.names.specs.Permissions.{permission_of, with_permission, set_of, has}
-use Rattle.names.specs.declared.permissions.Permission.TheVariants as permissions
+use Rattle.names.specs.Permissions.{permission_of, with_permission, set_of, conflicts}
 use Rattle.flat_words.specs.declared.letters.ExecMode.{ExecMode}
 use Rattle.flat_words.specs.declared.letters.Letters.{Letters}
 
@@ -58,38 +58,28 @@ abbrev pub no_perms : Perms
 no_perms = set_of (λ p. false)
 
 abbrev pub no_letters : Letters
-no_letters = record { perms = no_perms; append = false; exec = None; two_modes = false; capitals = false }
+no_letters = record { perms = no_perms; exec = None; two_modes = false; capitals = false }
 
 abbrev pub with_mode : Letters → ExecMode → Letters
 with_mode l m = record {
   perms = if inherits m then with_permission l.perms Map else l.perms;
-  append = l.append;
   exec = Some m;
   two_modes = l.two_modes || differs_from m l.exec;
   capitals = l.capitals;
 }
 
+-- a permission, whose letter is a capital or not
+abbrev pub with_one : Letters → Bool → Permission → Letters
+with_one l capital p = record {
+  perms = with_permission l.perms p;
+  exec = l.exec;
+  two_modes = l.two_modes;
+  capitals = l.capitals || capital;
+}
+
 -- a letter that is in lower case or not
 abbrev pub with_letter : Letters → ℕ → Option Letters
-with_letter l b =
-    if to_ascii_lowercase b == 97
-    then Some (record {
-      perms = l.perms;
-      append = true;
-      exec = l.exec;
-      two_modes = l.two_modes;
-      capitals =
-          l.capitals || not (b == to_ascii_lowercase b);
-    })
-    else option_map (λ p. record {
-      perms = with_permission l.perms p;
-      append = l.append;
-      exec = l.exec;
-      two_modes = l.two_modes;
-      capitals =
-          l.capitals || not (b == to_ascii_lowercase b);
-    })
-    (permission_of (to_ascii_lowercase b))
+with_letter l b = option_map (with_one l (not (b == to_ascii_lowercase b))) (permission_of (to_ascii_lowercase b))
 
 -- What was read after one more letter: what the letters stand for, and the exec mode whose letters began. None if the letter
 -- can't follow them.
@@ -117,6 +107,6 @@ abbrev pub mode_fits : Bool → Option ExecMode → Bool
 mode_fits denies None = true
 mode_fits denies (Some m) = if is_bare m then denies else not denies
 
--- no append together with write, and at most one exec mode, which fits
+-- no two permissions that conflict, and at most one exec mode, which fits
 abbrev pub are_fitting : Bool → Letters → Bool
-are_fitting denies l = not (l.append && has l.perms permissions.Write) && not l.two_modes && mode_fits denies l.exec
+are_fitting denies l = not (conflicts l.perms) && not l.two_modes && mode_fits denies l.exec

@@ -18,15 +18,13 @@ pub struct ExecMode {
 /// What the letters of a rule's permissions stand for.
 #[derive(Clone, Copy, Debug, PartialEq, Eq)]
 pub struct Letters {
-    /// Those of r, w, l, k and m; a mode with `i` also counts as `m`.
+    /// Those that stand for permissions; a mode with `i` also counts as `m`.
     pub perms: Perms,
-    /// The letter `a`.
-    pub append: bool,
     /// The last exec mode.
     pub exec: Option<ExecMode>,
     /// There are two exec modes that differ.
     pub two_modes: bool,
-    /// Any of r, w, a, l, k and m is written in upper case.
+    /// The letter of a permission is written in upper case.
     pub capitals: bool,
 }
 
@@ -98,7 +96,6 @@ impl Letters {
     {
         Letters {
             perms: Perms::NONE,
-            append: false,
             exec: None,
             two_modes: false,
             capitals: false,
@@ -127,18 +124,10 @@ impl Letters {
         ensures { result ≡ with_letter self byte }
     {
         let lower = byte.to_ascii_lowercase();
-        let capitals = self.capitals || byte != lower;
-        if lower == b'a' {
-            return Some(Letters {
-                append: true,
-                capitals,
-                ..self
-            });
-        }
         let permission = Permission::from_letter(lower)?;
         Some(Letters {
             perms: self.perms.with(permission),
-            capitals,
+            capitals: self.capitals || byte != lower,
             ..self
         })
     }
@@ -153,14 +142,12 @@ impl Letters {
         }
     }
 
-    /// Whether a rule that denies or not may have these letters: no append together with write, and at most one exec mode, which
+    /// Whether a rule that denies or not may have these letters: no two permissions that conflict, and at most one exec mode, which
     /// fits.
     pub fn are_fitting(self, denies: bool) -> bool
         ensures { result ≡ are_fitting denies self }
     {
-        !(self.append && self.perms.contains(Permission::Write))
-            && !self.two_modes
-            && self.mode_fits(denies)
+        !self.perms.conflict() && !self.two_modes && self.mode_fits(denies)
     }
 }
 

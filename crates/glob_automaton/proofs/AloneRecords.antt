@@ -4,11 +4,11 @@ use Rattle.std.proofs.lemmas.Bool.{cases_Bool}
 use Rattle.names.specs.declared.permissions.Permission.{Permission}
 use Rattle.names.specs.declared.permissions.Perms.{Perms}
 use Rattle.names.specs.Permissions.{has}
-use Rattle.verdicts.specs.declared.kind.RuleKind.{RuleKind}
-use Rattle.verdicts.specs.declared.kind.RuleKind.TheVariants.{Allow, Deny}
-use Rattle.verdicts.specs.declared.record.LeastHits.{LeastHits}
-use Rattle.verdicts.specs.Hits.{no_hits, hits_after, hits_with, record_with}
-use Rattle.verdicts.specs.Least.{IsLeastOrNone, hits_of, no_hit, record_of}
+use Rattle.names.specs.declared.kind.RuleKind.{RuleKind}
+use Rattle.names.specs.declared.kind.RuleKind.TheVariants.{Allow, Deny}
+use Rattle.names.specs.declared.record.LeastHits.{LeastHits}
+use Rattle.names.specs.Hits.{no_hits, hits_after, hits_with, record_with}
+use Rattle.names.specs.Least.{IsLeastOrNone, hits_of, no_hit, record_of}
 
 -- `S kind p` is the set of the numbers of rules of a kind that hit with a permission
 module _ (made : (hits : Permission → LeastHits) (p : Permission) → hits_of (record_of hits) p ≡ hits p)

@@ -4,6 +4,7 @@ use Rattle.std.proofs.Common.{◌∙◌, subst, arith, Some}
 use Rattle.std.specs.List.{slice_get}
 use Rattle.std.proofs.lemmas.List.{length-append}
 use Rattle.std.proofs.lemmas.Bool.{cases_lt}
+use Rattle.names.specs.Permissions.{held}
 use Rattle.rule_globs.specs.Glob.{places}
 use Rattle.rule_globs.specs.Follow.{Starts, TakesAt, Goes}
 use Rattle.rule_globs.specs.Rules.{RuleValue, pattern}
@@ -72,7 +73,7 @@ more_rules old new at (r ∷ rules) (x ∷ ds) rule d kept is has count h =
 
 -- the rule that was drawn is in the chart
 pub new_rule : (s0 s2 s3 : Chart) (all : Vec ChartRule Global) (rule : RuleValue) (d : ChartRule) (last : ℕ) →
-    s2.places.items ≡ s0.places.items ++ end_place ∷ [] → d.end ≡ length s0.places.items → d.kind ≡ rule.kind → d.perms ≡ rule.perms →
+    s2.places.items ≡ s0.places.items ++ end_place ∷ [] → d.end ≡ length s0.places.items → d.kind ≡ rule.kind → d.perms ≡ held rule.perms →
     ((q : ℕ) → IsIn s2.entries.items last q ↔ (q ≡ d.end)) → IsDrawn s2 s3 (pattern rule) last d.start → HasRule (with_rules s3 all) rule d
 new_rule s0 s2 s3 all rule d last pushed is kind perms at_last dr =
     let base : length s2.places.items ≡ d.end + 1 =
@@ -120,7 +121,7 @@ new_rule s0 s2 s3 all rule d last pushed is kind perms at_last dr =
 -- the whole chart, with one rule more
 pub chart_more : (s0 s2 s3 : Chart) (all : Vec ChartRule Global) (rules : List RuleValue) (rule : RuleValue) (d : ChartRule) (last : ℕ) →
     IsChartOf rules s0 →
-    s2.places.items ≡ s0.places.items ++ end_place ∷ [] → d.end ≡ length s0.places.items → d.kind ≡ rule.kind → d.perms ≡ rule.perms →
+    s2.places.items ≡ s0.places.items ++ end_place ∷ [] → d.end ≡ length s0.places.items → d.kind ≡ rule.kind → d.perms ≡ held rule.perms →
     last ≡ length s0.entries.items → s2.entries.items ≡ s0.entries.items ++ entry.Place d.end ∷ [] →
     s2.classes ≡ s0.classes → IsDrawn s2 s3 (pattern rule) last d.start → all.items ≡ s0.rules.items ++ d ∷ [] →
     IsChartOf (rules ++ rule ∷ []) (with_rules s3 all)

@@ -8,22 +8,22 @@ use Rattle.rule_globs.proofs.Behind.{iff_trans}
 use Rattle.rule_globs.specs.Glob.{Glob, places}
 use Rattle.rule_profile.specs.Profile.{RuleValue, pattern}
 use Rattle.rule_globs.specs.Verdict.{Hits, IsRuleAt}
-use Rattle.verdicts.specs.declared.kind.RuleKind.{RuleKind}
-use Rattle.verdicts.specs.declared.kind.RuleKind.TheVariants.{Allow, Deny}
+use Rattle.names.specs.declared.kind.RuleKind.{RuleKind}
+use Rattle.names.specs.declared.kind.RuleKind.TheVariants.{Allow, Deny}
 use Rattle.glob_automaton.specs.declared.chart.Chart.{Chart}
 use Rattle.glob_automaton.specs.declared.chart.ChartRule.{ChartRule}
 use Rattle.automata.specs.declared.fault.CompileFault.{CompileFault}
 use Rattle.automata.specs.declared.fault.CompileFault.TheVariants.{TooManyStates, NoMemory}
-use Rattle.verdicts.specs.declared.record.Record.{Record}
+use Rattle.names.specs.declared.record.Record.{Record}
 use Rattle.automata.specs.Automata.{Automaton, target, goes_to, state_after, most_sets}
 use Rattle.glob_automaton.specs.Automata.{IsCompileFault}
 use Rattle.glob_automaton.specs.inner.Building.{IsReached, begins, goes_on, EndsIn, IsRecordOf, IsBuilt, IsBuildFault}
 use Rattle.glob_automaton.specs.inner.Drawing.{HasRule, IsChartOf}
-use Rattle.verdicts.specs.Least.{hits_of, IsLeastOrNone}
+use Rattle.names.specs.Least.{hits_of, IsLeastOrNone}
 use Rattle.glob_automaton.specs.Parts.{SameIn, NoneIn, HitsIn, IsLeastIn, IsAutomatonOfPart}
 use Rattle.names.specs.Bytes.{are_bytes}
 use Rattle.glob_automaton.specs.Sets.{AreMoreThan}
-use Rattle.verdicts.specs.Hits.{no_hits}
+use Rattle.names.specs.Hits.{no_hits}
 use Rattle.glob_automaton.proofs.EmptySets.{empty_record}
 use Rattle.std.proofs.lemmas.List.Elements.{All-nil, All-push}
 use Rattle.std.proofs.lemmas.Option.{slice_get-get_or}

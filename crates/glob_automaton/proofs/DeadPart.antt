@@ -3,9 +3,9 @@ use Rattle.std.proofs.Common.{◌≡◌, inl, ℕ, List, length, Some, slice_get
 use Rattle.names.specs.Bytes.{are_bytes}
 use Rattle.names.specs.declared.permissions.Permission.{Permission}
 use Rattle.rule_profile.specs.Profile.{RuleValue}
-use Rattle.verdicts.specs.declared.record.LeastHits.{LeastHits}
-use Rattle.verdicts.specs.Least.{hits_of, record_of, no_hit}
-use Rattle.verdicts.specs.Hits.{no_hits}
+use Rattle.names.specs.declared.record.LeastHits.{LeastHits}
+use Rattle.names.specs.Least.{hits_of, record_of, no_hit}
+use Rattle.names.specs.Hits.{no_hits}
 use Rattle.automata.specs.Automata.{Automaton, IsWhole, state_after}
 use Rattle.automaton_products.proofs.PairLaws.{after_there}
 use Rattle.glob_automaton.specs.Parts.{IsAutomatonOfPart}

@@ -1,14 +1,15 @@
 -- The empty set: its record, and that nothing else is reached where nothing is live at first.
-use Rattle.std.proofs.Common.{◌≡◌, ⊎_elim, ℕ, List, [], refl, ap, ◌∙◌, subst}
+use Rattle.std.proofs.Common.{◌≡◌, ⊎_elim, ℕ, List, [], sym, ap, ◌∙◌, subst}
 use Rattle.names.specs.declared.permissions.Permission.{Permission}
-use Rattle.names.specs.declared.permissions.Permission.TheVariants.{Read, Write, Link, Lock, Map}
-use Rattle.verdicts.specs.declared.kind.RuleKind.{RuleKind}
-use Rattle.verdicts.specs.declared.kind.RuleKind.TheVariants.{Allow, Deny}
+use Rattle.names.specs.declared.kind.RuleKind.{RuleKind}
+use Rattle.names.specs.declared.kind.RuleKind.TheVariants.{Allow, Deny}
 use Rattle.glob_automaton.specs.declared.chart.Chart.{Chart}
-use Rattle.verdicts.specs.declared.record.Record.{Record}
+use Rattle.names.specs.declared.record.Record.{Record}
 use Rattle.glob_automaton.specs.inner.Building.{IsStartOf, IsStepOf, IsReached, begins, goes_on, EndsIn, IsRecordOf}
-use Rattle.verdicts.specs.Hits.{no_hits}
-use Rattle.verdicts.specs.Least.{hits_of, IsLeastOrNone}
+use Rattle.names.specs.Hits.{no_hits}
+use Rattle.names.specs.Least.{hits_of, no_hit, IsLeastOrNone}
+use Rattle.names.proofs.Positions.{place_below, stands_there}
+use Rattle.names.proofs.RecordLaws.{hits_made}
 use Rattle.glob_automaton.proofs.Ascending.{no_members, contains_none}
 use Rattle.glob_automaton.proofs.OneRecord.{AreTheirHits}
 use Rattle.glob_automaton.proofs.SetSteps.{step_empty}
@@ -21,12 +22,8 @@ none_ends chart kind p n least = ⊎_elim
     least
 
 -- no permission has hits
-none : (p : Permission) → record { allow = 0; deny = 0 } ≡ hits_of no_hits p
-none Read = refl
-none Write = refl
-none Link = refl
-none Lock = refl
-none Map = refl
+none : (p : Permission) → no_hit ≡ hits_of no_hits p
+none p = sym (hits_made place_below stands_there (λ q. no_hit) p)
 
 -- the empty set's record has no hits
 pub empty_record : AreTheirHits → (chart : Chart) (r : Record) → IsRecordOf chart [] r → r ≡ no_hits

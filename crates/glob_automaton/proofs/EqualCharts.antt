@@ -1,14 +1,19 @@
 -- What a comparison finds equal of two charts is the same.
 use Rattle.std.proofs.Common.{◌≡◌, ◌&&◌, Bool, true, false, not, nat_eq, refl, subst, List, rules}
 use Rattle.std.proofs.lemmas.Bool.{eqb-true}
+use Rattle.std.proofs.Math.Bool.{and-true}
 use Rattle.std.specs.Bool.{Decides}
 use Rattle.std.specs.Cmp.Lexicographic.{pointwise}
+use Rattle.std.specs.List.{list_all}
 use Rattle.std.specs.contracts.prelude.BoolPartialEq.TheImpl as bool_impl
 use Rattle.std.proofs.lemmas.Slice.Eq.{slice_eq-Decides}
 use Rattle.names.specs.declared.permissions.Perms.{Perms}
+use Rattle.names.specs.Permissions.{all_permissions, has}
+use Rattle.names.proofs.PermsLaws.{each_passes}
+use Rattle.names.proofs.PermsTests.{same_perms}
 use Rattle.names.specs.contracts.permissions.PermsPartialEq.TheImpl as perms_impl
-use Rattle.verdicts.specs.declared.kind.RuleKind.{RuleKind}
-use Rattle.verdicts.specs.contracts.kind.RuleKindPartialEq.TheImpl as kind_impl
+use Rattle.names.specs.declared.kind.RuleKind.{RuleKind}
+use Rattle.names.specs.contracts.kind.RuleKindPartialEq.TheImpl as kind_impl
 use Rattle.glob_automaton.specs.declared.chart.ChartPlace.{ChartPlace}
 use Rattle.glob_automaton.specs.declared.chart.ChartRule.{ChartRule}
 use Rattle.glob_automaton.specs.declared.chart.Entry.{Entry}
@@ -40,20 +45,12 @@ joined : (a b : Bool) → a ≡ true → b ≡ true → (a && b) ≡ true
 joined true b one other = other
 joined false b one other = absurd (cc one)
 
+-- a comparison of two sets says of each permission that both have it or neither has
 perms_decided : (a b : Perms) → Decides (perms_impl.eq-value.it a b) (a ≡ b)
 perms_decided a b = (
   λ e.
-      let all = both (bool_impl.ghosts.eq a.read b.read) _ e in
-      let but_read = both (bool_impl.ghosts.eq a.write b.write) _ all.1 in
-      let from_link = both (bool_impl.ghosts.eq a.link b.link) _ but_read.1 in
-      let last = both (bool_impl.ghosts.eq a.lock b.lock) _ from_link.1 in
-      λ i. record {
-        read = (bit_decided a.read b.read).0 all.0 i;
-        write = (bit_decided a.write b.write).0 but_read.0 i;
-        link = (bit_decided a.link b.link).0 from_link.0 i;
-        lock = (bit_decided a.lock b.lock).0 last.0 i;
-        map = (bit_decided a.map b.map).0 last.1 i;
-      },
+      let all : list_all (λ p. bool_impl.ghosts.eq (has a p) (has b p)) all_permissions ≡ true = simp and-true e in
+      same_perms a b (λ p. (bit_decided (has a p) (has b p)).0 (each_passes (λ q. bool_impl.ghosts.eq (has a q) (has b q)) all p)),
   λ e. search rules,
 )
 

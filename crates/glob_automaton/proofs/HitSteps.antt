@@ -4,18 +4,19 @@ use Rattle.std.proofs.Common.{get_or, refl, sym, ap, ◌∙◌, subst, arith, if
 use Rattle.std.proofs.lemmas.Bool.{cases_Bool, cases_lt, eqb-true}
 use Rattle.std.proofs.lemmas.List.{get_or_default}
 use Rattle.names.specs.declared.permissions.Permission.{Permission}
-use Rattle.names.specs.declared.permissions.Permission.TheVariants.{Read, Write, Link, Lock, Map}
 use Rattle.names.specs.declared.permissions.Perms.{Perms}
-use Rattle.names.specs.Permissions.{has}
+use Rattle.names.specs.Permissions.{held}
 use Rattle.rule_globs.specs.Glob.{Takes}
-use Rattle.rule_profile.specs.Profile.{RuleValue, pattern}
+use Rattle.rule_profile.specs.Profile.{RuleValue, holds, pattern}
 use Rattle.rule_globs.specs.Verdict.{IsRuleAt, Hits}
-use Rattle.verdicts.specs.declared.kind.RuleKind.{RuleKind}
-use Rattle.verdicts.specs.declared.kind.RuleKind.TheVariants.{Allow, Deny}
-use Rattle.verdicts.specs.declared.record.LeastHits.{LeastHits}
-use Rattle.verdicts.specs.declared.record.Record.{Record}
-use Rattle.verdicts.specs.Hits.{first_number, hits_with, hits_after, record_with, no_hits}
-use Rattle.verdicts.specs.Least.{hits_of, IsLeastOrNone}
+use Rattle.names.specs.declared.kind.RuleKind.{RuleKind}
+use Rattle.names.specs.declared.kind.RuleKind.TheVariants.{Allow, Deny}
+use Rattle.names.specs.declared.record.LeastHits.{LeastHits}
+use Rattle.names.specs.declared.record.Record.{Record}
+use Rattle.names.specs.Hits.{first_number, hits_with, hits_after, record_with, no_hits}
+use Rattle.names.specs.Least.{hits_of, no_hit, IsLeastOrNone}
+use Rattle.names.proofs.Positions.{place_below, stands_there}
+use Rattle.names.proofs.RecordLaws.{hits_made}
 use Rattle.glob_automaton.specs.Least.{IsLeastRecord}
 use Rattle.glob_automaton.proofs.LeastSteps.{least-same}
 
@@ -23,7 +24,7 @@ use Rattle.glob_automaton.proofs.LeastSteps.{least-same}
 abbrev pub record_over : (ℕ → Bool) → ℕ → Record → List RuleValue → Record
 record_over matches i r [] = r
 record_over matches i r (rule ∷ rules) =
-    record_over matches (i + 1) (if matches (i + 1) then record_with r rule.kind rule.perms (i + 1) else r) rules
+    record_over matches (i + 1) (if matches (i + 1) then record_with r rule.kind (held rule.perms) (i + 1) else r) rules
 
 -- the test says which rules take the name
 abbrev pub AreMatches : List RuleValue → List ℕ → (ℕ → Bool) → Type 0
@@ -80,24 +81,12 @@ after Deny Deny h n = inl (refl, refl)
 -- the record after one more rule has the hits after it
 pub hits_of-with : (r : Record) (kind : RuleKind) (perms : Perms) (n : ℕ) (p : Permission) → hits_of (record_with r kind perms n) p
     ≡ hits_after r kind perms n p
-hits_of-with r kind perms n Read = refl
-hits_of-with r kind perms n Write = refl
-hits_of-with r kind perms n Link = refl
-hits_of-with r kind perms n Lock = refl
-hits_of-with r kind perms n Map = refl
+hits_of-with r kind perms n p = hits_made place_below stands_there (hits_after r kind perms n) p
 
 -- no number is there where no rule hits
 pub none-of : (kind : RuleKind) (p : Permission) → number_of kind (hits_of no_hits p) ≡ 0
-none-of Allow Read = refl
-none-of Allow Write = refl
-none-of Allow Link = refl
-none-of Allow Lock = refl
-none-of Allow Map = refl
-none-of Deny Read = refl
-none-of Deny Write = refl
-none-of Deny Link = refl
-none-of Deny Lock = refl
-none-of Deny Map = refl
+none-of Allow p = ap (number_of Allow) (hits_made place_below stands_there (λ q. no_hit) p)
+none-of Deny p = ap (number_of Deny) (hits_made place_below stands_there (λ q. no_hit) p)
 
 -- a number has one rule
 same_rule : (rules : List RuleValue) (n : ℕ) (r s : RuleValue) → IsRuleAt rules n r → IsRuleAt rules n s → r ≡ s
@@ -105,9 +94,9 @@ same_rule rules n r s f g = f.2 ∙ get_or_default rules (n - 1) r s (omega (ari
 
 -- a hit of that rule is one of its own kind and permissions
 hit_of : (rules : List RuleValue) (kind : RuleKind) (p : Permission) (name : List ℕ) (n : ℕ) (r : RuleValue) → IsRuleAt rules n r →
-    Hits rules kind p name n → (r.kind ≡ kind) × IsTrue (has r.perms p) × Takes (pattern r) name
+    Hits rules kind p name n → (r.kind ≡ kind) × IsTrue (holds r p) × Takes (pattern r) name
 hit_of rules kind p name n r at h =
-    let P : RuleValue → Type 0 = λ z. (z.kind ≡ kind) × IsTrue (has z.perms p) × Takes (pattern z) name in
+    let P : RuleValue → Type 0 = λ z. (z.kind ≡ kind) × IsTrue (holds z p) × Takes (pattern z) name in
     subst P (same_rule rules n h.0 r h.1 at) (h.2, h.3, h.4)
 
 module _ (rules : List RuleValue) (name : List ℕ) where
@@ -146,27 +135,27 @@ module _ (rules : List RuleValue) (name : List ℕ) where
 
   -- a rule that takes the name is added
   adds : (i : ℕ) (r : Record) (rule : RuleValue) → IsRuleAt rules (i + 1) rule → Takes (pattern rule) name →
-      IsLeastUpTo rules name i r → IsLeastUpTo rules name (i + 1) (record_with r rule.kind rule.perms (i + 1))
+      IsLeastUpTo rules name i r → IsLeastUpTo rules name (i + 1) (record_with r rule.kind (held rule.perms) (i + 1))
   adds i r rule at takes least kind p =
       let old = hits_of r p in
-      let is = hits_of-with r rule.kind rule.perms (i + 1) p in
+      let is = hits_of-with r rule.kind (held rule.perms) (i + 1) p in
       let both : Bool → LeastHits = λ b. if b then hits_with old rule.kind (i + 1) else old in
       let Least : ℕ → Type 0 = IsLeastOrNone (HitsUpTo rules name (i + 1) kind p) in ⊎_elim
-      (λ held. let now : hits_of (record_with r rule.kind rule.perms (i + 1)) p ≡ hits_with old rule.kind (i + 1) =
-      is ∙ ap both held in ⊎_elim (λ same. subst Least (sym (ap (number_of kind) now ∙ same.1))
-      (enter kind p i (number_of kind old) (rule, at, same.0, held, takes) (least kind p)))
+      (λ yes. let now : hits_of (record_with r rule.kind (held rule.perms) (i + 1)) p ≡ hits_with old rule.kind (i + 1) =
+      is ∙ ap both yes in ⊎_elim (λ same. subst Least (sym (ap (number_of kind) now ∙ same.1))
+      (enter kind p i (number_of kind old) (rule, at, same.0, yes, takes) (least kind p)))
       (λ other. subst Least (sym (ap (number_of kind) now ∙ other.1))
       (skip kind p i (number_of kind old) (λ h. other.0 (hit_of rules kind p name (i + 1) rule at h).0) (least kind p)))
       (after kind rule.kind old (i + 1)))
-      (λ not_held. let now : hits_of (record_with r rule.kind rule.perms (i + 1)) p ≡ old = is ∙ ap both not_held in
+      (λ no. let now : hits_of (record_with r rule.kind (held rule.perms) (i + 1)) p ≡ old = is ∙ ap both no in
       subst Least (sym (ap (number_of kind) now))
       (skip kind p i (number_of kind old)
-      (λ h. true≢false (sym (hit_of rules kind p name (i + 1) rule at h).1 ∙ not_held)) (least kind p)))
-      (cases_Bool (has rule.perms p))
+      (λ h. true≢false (sym (hit_of rules kind p name (i + 1) rule at h).1 ∙ no)) (least kind p)))
+      (cases_Bool (holds rule p))
 
   -- the same, of a record that is made by the rule's kind and permissions under other names
   pub upto-takes : (i : ℕ) (r s : Record) (rule : RuleValue) (kind : RuleKind) (perms : Perms) → IsRuleAt rules (i + 1) rule →
-      Takes (pattern rule) name → kind ≡ rule.kind → perms ≡ rule.perms → s ≡ record_with r kind perms (i + 1) →
+      Takes (pattern rule) name → kind ≡ rule.kind → perms ≡ held rule.perms → s ≡ record_with r kind perms (i + 1) →
       IsLeastUpTo rules name i r → IsLeastUpTo rules name (i + 1) s
   upto-takes i r s rule kind perms at takes same_kind same_perms is least =
       let e = is ∙ ap (λ z. record_with r z perms (i + 1)) same_kind ∙ ap (λ z. record_with r rule.kind z (i + 1)) same_perms in
@@ -214,10 +203,10 @@ module _ (rules : List RuleValue) (name : List ℕ) where
   over matches are i r [] behind least = upto-all i r (omega (arith, behind.0)) least
   over matches are i r (rule ∷ rest) behind least =
       let at = first_of i rule rest behind in
-      let both : Bool → Record = λ b. if b then record_with r rule.kind rule.perms (i + 1) else r in
+      let both : Bool → Record = λ b. if b then record_with r rule.kind (held rule.perms) (i + 1) else r in
       let now = both (matches (i + 1)) in
       let step : IsLeastUpTo rules name (i + 1) now = ⊎_elim
-      (λ t. upto-takes i r now rule rule.kind rule.perms at ((are (i + 1) rule at).0 t) refl refl (ap both t) least)
+      (λ t. upto-takes i r now rule rule.kind (held rule.perms) at ((are (i + 1) rule at).0 t) refl refl (ap both t) least)
       (λ f. upto-skip i r now rule at (λ takes. true≢false (sym ((are (i + 1) rule at).1 takes) ∙ f)) (ap both f) least)
       (cases_Bool (matches (i + 1))) in
       over matches are (i + 1) now rest (rest_of i rule rest behind) step

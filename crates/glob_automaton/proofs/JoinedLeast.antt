@@ -3,12 +3,12 @@ use Rattle.std.proofs.Common.{◌≡◌, ◌==◌, ◌⊎◌, inl, inr, ⊎_elim
 use Rattle.std.proofs.lemmas.Bool.{cases_Bool, cases_lt, eqb-true, eqb-false}
 use Rattle.names.specs.declared.permissions.Permission.{Permission}
 use Rattle.rule_profile.specs.Profile.{RuleValue}
-use Rattle.verdicts.specs.declared.kind.RuleKind.{RuleKind}
-use Rattle.verdicts.specs.declared.kind.RuleKind.TheVariants.{Allow, Deny}
-use Rattle.verdicts.specs.declared.record.Record.{Record}
-use Rattle.verdicts.specs.declared.record.LeastHits.{LeastHits}
-use Rattle.verdicts.specs.Hits.{first_number}
-use Rattle.verdicts.specs.Least.{IsLeastOrNone, hits_of, record_of}
+use Rattle.names.specs.declared.kind.RuleKind.{RuleKind}
+use Rattle.names.specs.declared.kind.RuleKind.TheVariants.{Allow, Deny}
+use Rattle.names.specs.declared.record.Record.{Record}
+use Rattle.names.specs.declared.record.LeastHits.{LeastHits}
+use Rattle.names.specs.Hits.{first_number}
+use Rattle.names.specs.Least.{IsLeastOrNone, hits_of, record_of}
 use Rattle.automaton_products.specs.Products.{joined, joined_hits}
 use Rattle.glob_automaton.specs.Parts.{HitsIn, IsLeastIn}
 

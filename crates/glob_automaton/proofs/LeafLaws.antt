@@ -7,16 +7,17 @@ use Rattle.std.proofs.lemmas.Option.{same_Some}
 use Rattle.names.specs.Bytes.{are_bytes}
 use Rattle.names.specs.declared.permissions.Permission.{Permission}
 use Rattle.names.specs.declared.permissions.Permission.TheVariants.{Read}
+use Rattle.names.specs.Permissions.{held}
 use Rattle.rule_globs.specs.Verdict.{Hits, IsRuleAt}
 use Rattle.rule_globs.specs.Glob.{Takes}
 use Rattle.rule_globs.specs.LiveSteps.{IsLeftFirst}
 use Rattle.rule_profile.specs.Profile.{RuleValue, pattern, holds}
-use Rattle.verdicts.specs.declared.kind.RuleKind.{RuleKind}
-use Rattle.verdicts.specs.declared.kind.RuleKind.TheVariants.{Allow}
-use Rattle.verdicts.specs.declared.record.Record.{Record}
-use Rattle.verdicts.specs.declared.record.LeastHits.{LeastHits}
-use Rattle.verdicts.specs.Least.{IsLeastOrNone, hits_of, record_of, no_hit}
-use Rattle.verdicts.specs.Hits.{no_hits}
+use Rattle.names.specs.declared.kind.RuleKind.{RuleKind}
+use Rattle.names.specs.declared.kind.RuleKind.TheVariants.{Allow}
+use Rattle.names.specs.declared.record.Record.{Record}
+use Rattle.names.specs.declared.record.LeastHits.{LeastHits}
+use Rattle.names.specs.Least.{IsLeastOrNone, hits_of, record_of, no_hit}
+use Rattle.names.specs.Hits.{no_hits}
 use Rattle.automata.specs.declared.fault.CompileFault.{CompileFault}
 use Rattle.automata.specs.declared.fault.CompileFault.TheVariants.{TooManyStates, NoMemory}
 use Rattle.automata.specs.Automata.{Automaton, target, goes_to, state_after, most_sets}
@@ -135,7 +136,7 @@ module _ (rules : List RuleValue) (rule : RuleValue) (before : ℕ) (stands : sl
 
     -- the hits of the rule alone are its least ones, where its path matches
     least_alone : (x : List ℕ) → Takes (pattern rule) x → IsLeastIn rules before (before + 1) x hits
-    least_alone x takes = one_hits made (λ kind p n. HitsIn rules before (before + 1) kind p x n) rule.kind rule.perms (before + 1)
+    least_alone x takes = one_hits made (λ kind p n. HitsIn rules before (before + 1) kind p x n) rule.kind (held rule.perms) (before + 1)
         (λ kind p n h. let its = hit_of kind p x n h in (its.0, its.1, omega (arith, h.0)))
         (λ kind p is holds. hit_there kind p x is holds takes)
 

@@ -1,6 +1,6 @@
 -- The least of a set.
 use Rattle.std.proofs.Common.{ℕ, inl, inr, ⊎_elim}
-use Rattle.verdicts.specs.Least.{IsLeastOrNone}
+use Rattle.names.specs.Least.{IsLeastOrNone}
 
 -- the same members have the same least one
 pub least-same : (S T : ℕ → Type 0) (n : ℕ) → ((m : ℕ) → S m → T m) → ((m : ℕ) → T m → S m) → IsLeastOrNone S n → IsLeastOrNone T n

@@ -1,11 +1,11 @@
 -- Bytes that reach a set with a member are a front part of a name, where each rule's path begins with a slash.
 use Rattle.std.proofs.Common.{◌≡◌, ℕ, zero, suc, ◌+◌, ◌<◌, true, false, ◌&&◌, nat_le, List, [], ◌∷◌, ◌++◌, length, Some, slice_get, IsTrue}
-use Rattle.std.proofs.Common.{sym, ap, ◌∙◌, arith}
+use Rattle.std.proofs.Common.{not, sym, ap, ◌∙◌, arith}
 use Rattle.std.specs.List.{Contains, list_all, list_any}
 use Rattle.std.proofs.lemmas.Bool.{and_parts}
 use Rattle.std.proofs.lemmas.List.Elements.{All-nil, All-push}
 use Rattle.std.proofs.lemmas.Option.{none-some, same_Some}
-use Rattle.names.specs.Permissions.{has, all_permissions}
+use Rattle.names.specs.Permissions.{has, all_permissions, conflicts}
 use Rattle.rule_globs.specs.Glob.{LiveOrEnd}
 use Rattle.rule_profile.specs.Profile.{RuleValue, ProfileValue, pattern}
 use Rattle.rule_profile.specs.Readable.{begins_with_slash, are_tokens, is_path, is_rule, is_name, is_profile}
@@ -32,7 +32,8 @@ all_rules (r ∷ rules) h (suc i) rule e = all_rules rules (and_parts (is_rule r
 pub each_with_slash : (p : ProfileValue) → IsTrue (is_profile p) → EachWithSlash p.rules
 each_with_slash p h i rule e =
     let rules = (and_parts (is_name p.name && nat_le (length p.rules) 1024) (list_all is_rule p.rules) h).1 in
-    let path = (and_parts (list_any (has rule.perms) all_permissions) (is_path rule.items) (all_rules p.rules rules i rule e)).1 in
+    let path = (and_parts (list_any (has rule.perms) all_permissions && not (conflicts rule.perms)) (is_path rule.items)
+    (all_rules p.rules rules i rule e)).1 in
     let front = (and_parts (begins_with_slash rule.items && nat_le (length rule.items) 1024) (are_tokens false 0 rule.items) path).0 in
     (and_parts (begins_with_slash rule.items) (nat_le (length rule.items) 1024) front).0
 

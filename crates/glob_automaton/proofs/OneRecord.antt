@@ -4,11 +4,11 @@ use Rattle.names.specs.declared.permissions.Permission.{Permission}
 use Rattle.rule_globs.specs.PlainVerdict.{takes}
 use Rattle.rule_profile.specs.Profile.{RuleValue, pattern}
 use Rattle.rule_globs.specs.Verdict.{Hits}
-use Rattle.verdicts.specs.declared.kind.RuleKind.TheVariants.{Allow, Deny}
-use Rattle.verdicts.specs.declared.record.LeastHits.{LeastHits}
-use Rattle.verdicts.specs.declared.record.Record.{Record}
-use Rattle.verdicts.specs.Hits.{no_hits}
-use Rattle.verdicts.specs.Least.{hits_of, IsLeastOrNone}
+use Rattle.names.specs.declared.kind.RuleKind.TheVariants.{Allow, Deny}
+use Rattle.names.specs.declared.record.LeastHits.{LeastHits}
+use Rattle.names.specs.declared.record.Record.{Record}
+use Rattle.names.specs.Hits.{no_hits}
+use Rattle.names.specs.Least.{hits_of, IsLeastOrNone}
 use Rattle.glob_automaton.specs.Least.{IsLeastRecord}
 use Rattle.glob_automaton.proofs.HitSteps.{record_over, AreMatches, record_over_is_least}
 use Rattle.glob_automaton.proofs.LiveTests.{TakesByCuts}

@@ -6,10 +6,10 @@ use Rattle.std.proofs.lemmas.Option.{same_Some, slice_get-get_or}
 use Rattle.names.specs.Bytes.{are_bytes}
 use Rattle.names.specs.declared.permissions.Permission.{Permission}
 use Rattle.rule_profile.specs.Profile.{RuleValue}
-use Rattle.verdicts.specs.declared.record.Record.{Record}
-use Rattle.verdicts.specs.declared.record.LeastHits.{LeastHits}
-use Rattle.verdicts.specs.Least.{hits_of, record_of, no_hit}
-use Rattle.verdicts.specs.Hits.{no_hits, first_number}
+use Rattle.names.specs.declared.record.Record.{Record}
+use Rattle.names.specs.declared.record.LeastHits.{LeastHits}
+use Rattle.names.specs.Least.{hits_of, record_of, no_hit}
+use Rattle.names.specs.Hits.{no_hits, first_number}
 use Rattle.automata.specs.Automata.{Automaton, target, goes_to, state_after}
 use Rattle.automaton_products.specs.declared.pairs.Pair.{Pair}
 use Rattle.automaton_products.specs.Products.{pair, dead_pair, IsProduct, joined}

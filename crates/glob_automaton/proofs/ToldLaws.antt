@@ -4,14 +4,14 @@ use Rattle.names.specs.declared.permissions.Permission.{Permission}
 use Rattle.names.specs.declared.permissions.Perms.{Perms}
 use Rattle.rule_profile.specs.Profile.{RuleValue}
 use Rattle.rule_globs.specs.Verdict.{Hits, Denies, IsMissing, IsVerdict}
-use Rattle.verdicts.specs.declared.kind.RuleKind.TheVariants.{Allow, Deny}
-use Rattle.verdicts.specs.declared.verdict.Verdict.{Verdict}
-use Rattle.verdicts.specs.declared.verdict.Verdict.TheVariants.{Denied, NoRule, Allowed}
-use Rattle.verdicts.specs.declared.record.Record.{Record}
-use Rattle.verdicts.proofs.LeastNumbers.{least_there, least_none, least_some, none_least}
-use Rattle.verdicts.specs.Least.{hits_of}
+use Rattle.names.specs.declared.kind.RuleKind.TheVariants.{Allow, Deny}
+use Rattle.names.specs.declared.verdict.Verdict.{Verdict}
+use Rattle.names.specs.declared.verdict.Verdict.TheVariants.{Denied, NoRule, Allowed}
+use Rattle.names.specs.declared.record.Record.{Record}
+use Rattle.names.proofs.LeastNumbers.{least_there, least_none, least_some, none_least}
+use Rattle.names.specs.Least.{hits_of}
 use Rattle.glob_automaton.specs.Least.{IsLeastRecord}
-use Rattle.verdicts.specs.Records.{IsTold, ToldDenied, ToldMissing, NothingToldDenied}
+use Rattle.names.specs.Records.{IsTold, ToldDenied, ToldMissing, NothingToldDenied}
 
 module _ (rules : List RuleValue) (name : List ℕ) (r : Record) (ask : Perms) (least : IsLeastRecord rules name r) where
   -- a rule that denies has no number 0

@@ -1,7 +1,7 @@
 -- Other records for the same states.
 use Rattle.std.proofs.Common.{◌≤◌, ℕ, List, length, refl, arith}
 use Rattle.std.proofs.lemmas.Option.{slice_get_within}
-use Rattle.verdicts.specs.declared.record.Record.{Record}
+use Rattle.names.specs.declared.record.Record.{Record}
 use Rattle.automata.specs.Automata.{Automaton, IsWhole}
 use Rattle.glob_automaton.specs.inner.Leaves.{AreWithHits, IsWithHits}
 

@@ -2,11 +2,11 @@
 use Rattle.std.specs.Prelude.{◌≡◌, ◌↔◌, ℕ, Bool, IsTrue, List, length, Some, slice_get}
 use Rattle.names.specs.Bytes.{are_bytes}
 use Rattle.rule_profile.specs.Profile.{RuleValue}
-use Rattle.verdicts.specs.declared.record.Record.{Record}
+use Rattle.names.specs.declared.record.Record.{Record}
 use Rattle.automata.specs.declared.fault.CompileFault.{CompileFault}
 use Rattle.automata.specs.declared.fault.CompileFault.TheVariants.{TooManyStates, NoMemory}
 pub use Rattle.automata.specs.Automata.{Automaton, IsWhole, target, goes_to, state_after, most_sets}
-use Rattle.verdicts.specs.Hits.{no_hits}
+use Rattle.names.specs.Hits.{no_hits}
 use Rattle.glob_automaton.specs.Least.{IsLeastRecord}
 use Rattle.glob_automaton.specs.Sets.{SameSet, NoneLive, IsCount, AreMoreThan}
 

@@ -3,9 +3,9 @@ use Rattle.std.specs.Prelude.{ℕ, List}
 use Rattle.names.specs.declared.permissions.Permission.{Permission}
 use Rattle.rule_profile.specs.Profile.{RuleValue}
 use Rattle.rule_globs.specs.Verdict.{Hits}
-use Rattle.verdicts.specs.Least.{IsLeastOrNone, hits_of}
-use Rattle.verdicts.specs.declared.kind.RuleKind.TheVariants.{Allow, Deny}
-use Rattle.verdicts.specs.declared.record.Record.{Record}
+use Rattle.names.specs.Least.{IsLeastOrNone, hits_of}
+use Rattle.names.specs.declared.kind.RuleKind.TheVariants.{Allow, Deny}
+use Rattle.names.specs.declared.record.Record.{Record}
 
 -- each number of the record is the least of its hits of the name
 abbrev pub IsLeastRecord : List RuleValue → List ℕ → Record → Type 0

@@ -5,11 +5,11 @@ use Rattle.names.specs.declared.permissions.Permission.{Permission}
 use Rattle.rule_profile.specs.Profile.{RuleValue}
 use Rattle.rule_profile.specs.Readable.{begins_with_slash}
 use Rattle.rule_globs.specs.Verdict.{Hits}
-use Rattle.verdicts.specs.declared.kind.RuleKind.{RuleKind}
-use Rattle.verdicts.specs.declared.kind.RuleKind.TheVariants.{Allow, Deny}
-use Rattle.verdicts.specs.declared.record.Record.{Record}
-use Rattle.verdicts.specs.Least.{IsLeastOrNone, hits_of}
-use Rattle.verdicts.specs.Hits.{no_hits}
+use Rattle.names.specs.declared.kind.RuleKind.{RuleKind}
+use Rattle.names.specs.declared.kind.RuleKind.TheVariants.{Allow, Deny}
+use Rattle.names.specs.declared.record.Record.{Record}
+use Rattle.names.specs.Least.{IsLeastOrNone, hits_of}
+use Rattle.names.specs.Hits.{no_hits}
 use Rattle.automata.specs.Automata.{Automaton, IsWhole, state_after}
 use Rattle.glob_automaton.specs.Sets.{IsLive, IsPrefixOfName}
 

@@ -16,8 +16,8 @@ use crate::marks::Marks;
 use crate::sets::Gathering;
 use automata::{CompileFault, Dfa, MOST_SETS, TargetRange};
 use indexmap::IndexSet;
+use names::{Record, records_are_their_hits};
 use std::alloc::{AllocError, Global};
-use verdicts::{Record, records_are_their_hits};
 
 /// The sets so far, each with its number.
 #[derive(Drop)]

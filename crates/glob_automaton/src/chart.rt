@@ -8,11 +8,10 @@ ghost use Rattle.glob_automaton.specs.inner.Chart.{takes_byte};
 ghost use Rattle.glob_automaton.specs.inner.Leaves.{reading};
 ghost use Rattle.glob_automaton.specs.inner.Drawing.{IsReady, IsDrawn, IsPartOfChart, HasOneMore, IsChartOf, IsKnown, TakesSet, AreSame};
 
-use names::{Permission, Perms};
+use names::{Permission, Perms, RuleKind};
 use rule_globs::{Class, Item, Stars};
 use rule_profile::Rule;
 use std::alloc::{AllocError, Global};
-use verdicts::RuleKind;
 
 /// Which bytes a place takes. No place takes byte 0.
 #[derive(Clone, Copy, PartialEq, Eq)]

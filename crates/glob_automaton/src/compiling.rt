@@ -9,9 +9,9 @@ use crate::leaf::Leaves;
 use crate::parts::{parts_are_no_more, parts_make_a_part, whole_parts_are_automata};
 use automata::{CompileFault, Dfa};
 use automaton_products::product;
+use names::records_are_their_hits;
 use rule_profile::{Profile, Rule};
 use std::alloc::Global;
-use verdicts::records_are_their_hits;
 
 /// Compiles a profile's rules (apparmor.d(5), "Globbing" and "Rule Qualifiers"). The automaton has one state for each set of places
 /// that is live after a prefix of a name, and state 0 for the empty set, whether or not a prefix has it. It is refused exactly if

@@ -3,15 +3,15 @@ ghost use Rattle.std.specs.Prelude.{◌≡◌, ◌↔◌, ◌<◌, List, ℕ};
 ghost use Rattle.names.specs.declared.permissions.Perms.{Perms};
 ghost use Rattle.rule_profile.specs.Profile.{RuleValue};
 ghost use Rattle.rule_globs.specs.Verdict.{IsVerdict};
-ghost use Rattle.verdicts.specs.declared.verdict.Verdict.{Verdict};
-ghost use Rattle.verdicts.specs.declared.record.Record.{Record};
+ghost use Rattle.names.specs.declared.verdict.Verdict.{Verdict};
+ghost use Rattle.names.specs.declared.record.Record.{Record};
 ghost use Rattle.glob_automaton.specs.Automata.{StateLimit};
 ghost use Rattle.glob_automaton.specs.Least.{IsLeastRecord};
-ghost use Rattle.verdicts.specs.Records.{IsTold};
+ghost use Rattle.names.specs.Records.{IsTold};
 ghost use Rattle.glob_automaton.specs.Sets.{IsCount, AreMoreThan};
 
+use names::records_are_their_hits;
 use rule_globs::{live_is_left_first, live_places_go_on, takes_by_cuts};
-use verdicts::records_are_their_hits;
 
 /// A record of least hits determines the verdict of the rules.
 pub fn least_hits_tell_the_verdict()

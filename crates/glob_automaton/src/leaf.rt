@@ -6,16 +6,15 @@ ghost use Rattle.glob_automaton.specs.Automata.{IsCompileFault};
 ghost use Rattle.glob_automaton.specs.Parts.{IsAutomatonOfPart};
 ghost use Rattle.glob_automaton.specs.inner.Building.{IsBuilt};
 ghost use Rattle.glob_automaton.specs.inner.Drawing.{AreSame};
-ghost use Rattle.glob_automaton.specs.inner.Leaves.{where_read, AreBuilt, IsWithHits};
+ghost use Rattle.glob_automaton.specs.inner.Leaves.{hits_alone, where_read, AreBuilt, IsWithHits};
 
 use crate::building::{build, keep};
 use crate::chart::Chart;
 use automata::{CompileFault, Dfa};
-use names::Permission;
+use names::{Permission, Record, records_are_their_hits};
 use rule_globs::{live_is_left_first, live_places_go_on};
 use rule_profile::Rule;
 use std::alloc::{AllocError, Global};
-use verdicts::{Record, records_are_their_hits};
 
 /// The automaton of a path, next to the chart that it was built from.
 #[derive(Drop)]
@@ -62,7 +61,7 @@ impl Leaves {
         live_places_go_on();
         live_is_left_first();
         records_are_their_hits();
-        let hits = Record::none().with_rule(rule.kind(), rule.perms(), number);
+        let hits = hits_alone(rule, number);
         let chart = Chart::of_path(self.alloc, rule)?;
         if let Some(path) = self.find(&chart) {
             return Ok(with_hits(self.alloc, &path.dfa, &hits)?);
@@ -103,6 +102,13 @@ impl Leaves {
         }
         None
     }
+}
+
+// What the rule with this number hits, where its path matches: it holds what its letters give, with w append as well.
+fn hits_alone(rule: &Rule, number: u16) -> Record
+    ensures { result ≡ hits_alone (rule_value rule.now) number }
+{
+    Record::none().with_rule(rule.kind(), rule.perms().held(), number)
 }
 
 // The same automaton, with these hits where reading is allowed.

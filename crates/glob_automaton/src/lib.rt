@@ -25,5 +25,5 @@ pub use laws::{
     least_hits_tell_the_verdict, names_have_one_least_record, rules_have_one_count,
     too_many_states_can_be_told,
 };
+pub use names::{LeastHits, Record, told};
 pub use parts::{parts_are_no_more, parts_make_a_part, whole_parts_are_automata};
-pub use verdicts::{LeastHits, Record, told};

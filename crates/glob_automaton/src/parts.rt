@@ -8,8 +8,8 @@ ghost use Rattle.automaton_products.specs.Products.{IsProduct, IsProductFault};
 ghost use Rattle.glob_automaton.specs.Parts.{IsAutomatonOfPart, BeginWithSlashes, AreMoreThanIn};
 ghost use Rattle.glob_automaton.specs.Sets.{AreMoreThan};
 
+use names::records_are_their_hits;
 use rule_globs::{live_is_left_first, live_places_go_on};
-use verdicts::records_are_their_hits;
 
 /// The product of the automata of two adjacent parts of the rules is the automaton of both parts together.
 pub fn parts_make_a_part()

@@ -4,7 +4,7 @@ ghost use Rattle.std.specs.Prelude.{◌≡◌};
 use crate::testing::{allowed, create, keeper, path, publish, publish_as, session, to_read};
 use dentry_cache::Keeper;
 use directory_tree::Change;
-use names::Errno;
+use names::{Errno, Verdict};
 use path_guard::{Answer, Guard, Row, Session};
 use profile_registry::Publisher;
 use std::alloc::Global;
@@ -12,7 +12,6 @@ use std::marker::Brand;
 use std::process::Abort;
 use std::sync::Wait;
 use std::test::Fail;
-use verdicts::Verdict;
 
 fn expect_open<M: Row>(
     rt: &(impl Abort + Wait),

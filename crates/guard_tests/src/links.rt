@@ -32,7 +32,7 @@ fn expect_unmade<M: Row>(rt: &(impl Abort + Wait), guard: &Guard<M>, session: &m
 {
     let wider = LinkAnswer::NotAllowed {
         verdict: LinkVerdict::Wider {
-            extra: Perms::NONE.with(Permission::Write),
+            extra: Perms::NONE.with(Permission::Write).with(Permission::Append),
         },
         node: 2,
         tree_version: 2,

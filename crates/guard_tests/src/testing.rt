@@ -4,13 +4,12 @@ ghost use Rattle.std.specs.Prelude.{◌≡◌, IfOk};
 use dentry_cache::Keeper;
 use directory_tree::Change;
 use matcher::{AnyProfile, CompiledProfile};
-use names::{Path, Permission, Perms};
+use names::{Path, Permission, Perms, Verdict};
 use path_guard::{Answer, Guard, Row, Session};
 use rule_text::read;
 use std::alloc::Global;
 use std::sync::{Arc, Wait};
 use std::test::Fail;
-use verdicts::Verdict;
 
 pub(crate) fn to_read() -> Perms {
     Perms::NONE.with(Permission::Read)

@@ -9,9 +9,9 @@ use Rattle.std.proofs.lemmas.List.{get_or-drop, get_or-set_other, get_or-take, l
 use Rattle.std.proofs.lemmas.Option.{get_or_from_slice_get, slice_get-get_or}
 use Rattle.names.specs.declared.permissions.Perms.{Perms}
 use Rattle.tables.specs.Tables.{Table, record_of, state_after}
-use Rattle.verdicts.specs.Records.{IsTold}
-use Rattle.verdicts.specs.declared.record.Record.{Record}
-use Rattle.verdicts.specs.declared.verdict.Verdict.{Verdict}
+use Rattle.names.specs.Records.{IsTold}
+use Rattle.names.specs.declared.record.Record.{Record}
+use Rattle.names.specs.declared.verdict.Verdict.{Verdict}
 use Rattle.table_batches.specs.Batches.{name_at as part_name_at}
 use Rattle.image_judge.specs.Answers.{IsAnswerOf, IsToldByTable, answer_of, no_answer}
 use Rattle.image_judge.specs.declared.answer.Answer.{Answer}

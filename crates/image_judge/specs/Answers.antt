@@ -1,10 +1,10 @@
 -- Answers in numbers.
 use Rattle.std.specs.Prelude.{◌≡◌, ◌⊎◌, ℕ, List, Option, Some, None, length}
 use Rattle.names.specs.declared.permissions.Perms.{Perms}
-use Rattle.verdicts.specs.Records.{IsTold}
-use Rattle.verdicts.specs.declared.record.Record.{Record}
-use Rattle.verdicts.specs.declared.verdict.Verdict.{Verdict}
-use Rattle.verdicts.specs.declared.verdict.Verdict.TheVariants.{Denied, NoRule, Allowed}
+use Rattle.names.specs.Records.{IsTold}
+use Rattle.names.specs.declared.record.Record.{Record}
+use Rattle.names.specs.declared.verdict.Verdict.{Verdict}
+use Rattle.names.specs.declared.verdict.Verdict.TheVariants.{Denied, NoRule, Allowed}
 use Rattle.tables.specs.Bounds.{fault_number, fault_place}
 use Rattle.tables.specs.Tables.{Table, cell_count, record_after, record_count, state_count}
 use Rattle.tables.specs.declared.fault.ImageFault.{ImageFault}

@@ -1,11 +1,11 @@
 //! Answers in numbers.
 ghost use Rattle.std.specs.Prelude.{◌≡◌, ◌==◌, if◌then◌else◌};
-ghost use Rattle.verdicts.specs.Grounds.{IsVerdictOn};
-ghost use Rattle.verdicts.specs.declared.verdict.Verdict.{Verdict};
+ghost use Rattle.names.specs.Grounds.{IsVerdictOn};
+ghost use Rattle.names.specs.declared.verdict.Verdict.{Verdict};
 ghost use Rattle.image_judge.specs.Answers.{answer_of, no_answer};
 
 use crate::permissions::number_of;
-use verdicts::Grounds;
+use names::Grounds;
 
 // Nothing was judged. It is 0, so that memory that C has cleared holds no verdict.
 const NO_ANSWER: u16 = 0;

@@ -10,10 +10,9 @@ ghost use Rattle.image_judge.specs.inner.Parts.{AreToldTo, ArePartsNames, IsTold
 use crate::answer::{Answer, answer_on, no_answer};
 use crate::judging::judge_by;
 use crate::permissions::set_of_number;
-use names::Perms;
+use names::{Perms, grounds_of};
 use table_batches::{are_offsets, run_names_by_image};
 use table_verifier::{LookUps, State, Steps, VerifiedImage};
-use verdicts::grounds_of;
 
 /// The most names that are run side by side before their answers are written: their states are on the stack.
 const MOST: usize = 128;

@@ -4,9 +4,8 @@ ghost use Rattle.image_judge.specs.Sets.{set_of_number};
 
 use crate::answer::{Answer, answer_on, no_answer};
 use crate::permissions::set_of_number;
-use names::Perms;
+use names::{Perms, grounds_of};
 use table_verifier::{LookUps, Steps, VerifiedImage, record_by_image};
-use verdicts::grounds_of;
 
 /// What an image that was accepted says about a name, for permissions that are asked by the sum of their numbers.
 // The answer is returned through a pointer: a result would be put together on the stack, and read again in larger parts than it was

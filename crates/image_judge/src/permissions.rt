@@ -1,6 +1,6 @@
 //! Sets of permissions in numbers.
 ghost use Rattle.std.specs.Prelude.{◌≡◌};
-ghost use Rattle.image_judge.specs.Sets.{number_if, number_of, set_of_number};
+ghost use Rattle.image_judge.specs.Sets.{number_in, number_of, set_of_number};
 
 use names::{Permission, Perms, permissions_are_numbered};
 
@@ -25,15 +25,20 @@ pub(crate) fn set_of_number(number: u32) -> Option<Perms>
 pub(crate) fn number_of(perms: Perms) -> u16
     ensures { result ≡ number_of perms }
 {
-    number_if(perms.contains(Permission::Read), 1)
-        + number_if(perms.contains(Permission::Write), 2)
-        + number_if(perms.contains(Permission::Link), 4)
-        + number_if(perms.contains(Permission::Lock), 8)
-        + number_if(perms.contains(Permission::Map), 16)
+    let mut number = 0;
+    for permission in &Permission::ALL {
+        number += number_in(perms, *permission);
+    }
+    number
 }
 
-fn number_if(is_there: bool, number: u16) -> u16
-    ensures { result ≡ number_if is_there number }
+// What a permission adds to the number of a set.
+fn number_in(perms: Perms, permission: Permission) -> u16
+    ensures { result ≡ number_in perms permission }
 {
-    if is_there { number } else { 0 }
+    if perms.contains(permission) {
+        1 << permission.index()
+    } else {
+        0
+    }
 }

@@ -21,8 +21,6 @@ pub enum What {
     Target,
     /// An exec mode.
     Exec,
-    /// The letter `a`.
-    Append,
     /// Letters of permissions in upper case.
     Capitals,
     /// A run of slashes that counts as one.
@@ -100,7 +98,6 @@ impl What {
             What::Link => b"link",
             What::Target => b"target",
             What::Exec => b"exec",
-            What::Append => b"append",
             What::Capitals => b"capitals",
             What::Slashes => b"slashes",
             What::Pattern => b"pattern",

@@ -6,8 +6,9 @@ use Rattle.std.proofs.lemmas.Bool.{and_right}
 use Rattle.std.proofs.lemmas.List.{append-nil}
 use Rattle.rule_globs.specs.Each.{Each}
 use Rattle.rule_globs.specs.Rules.{RuleValue, ProfileValue}
-use Rattle.verdicts.specs.declared.kind.RuleKind.{RuleKind}
-use Rattle.verdicts.specs.declared.kind.RuleKind.TheVariants.{Allow, Deny}
+use Rattle.names.specs.declared.permissions.Perms.{Perms}
+use Rattle.names.specs.declared.kind.RuleKind.{RuleKind}
+use Rattle.names.specs.declared.kind.RuleKind.TheVariants.{Allow, Deny}
 use Rattle.flat_text.specs.declared.part.ItemKind.TheVariants as items
 use Rattle.flat_text.specs.Parts.{PartValue, ItemValue}
 use Rattle.flat_canonical.specs.CanonicalItems.{blank_item, head_item, rule_item, close_item, inner_items, canonical_items}
@@ -26,6 +27,7 @@ use Rattle.import_cut.specs.PartSpans.{head_kind, rule_kind}
 use Rattle.profile_variables.specs.Variables.{Variable}
 use Rattle.subject_rules.specs.declared.subject.Subject.{Subject}
 use Rattle.subject_rules.specs.Restating.{has_some, with_path}
+use Rattle.subject_rules.proofs.RestatedPerms.{already_fitting}
 use Rattle.subject_rules.specs.SubjectRules.{SubjectRule}
 use Rattle.profile_import.specs.AddedRules.{added_rules}
 use Rattle.profile_import.specs.FileRules.{PlacedRule, subject_rule, item_reading, rules_at, rules_in}
@@ -241,6 +243,7 @@ module _ (variables : List Variable) (chosen : Subject) where
   itself place r others h =
       ap (λ (b : Bool). map (λ (v : PlacedValue). v.value) (map (λ value. record { place = place; value = value })
       (if b then map (with_path (plain_rule r)) (r.items ∷ []) else []) ++ restated_rules chosen others)) h.perms
+      ∙ ap (λ (perms : Perms). record { kind = r.kind; perms = perms; items = r.items } ∷ values others) (already_fitting r.perms h.fit)
 
   inner_rules : (rules : List RuleValue) (s : CutState) → Each IsImported rules → IsCut chosen Chosen 1 s →
       values (rules_in variables chosen (inner_items rules) s) ≡ rules

@@ -6,6 +6,7 @@ use Rattle.std.specs.List.{list_all}
 use Rattle.std.proofs.lemmas.Bool.{and_parts}
 use Rattle.std.proofs.lemmas.Option.{slice_get_cases}
 use Rattle.std.proofs.lemmas.List.{length-map}
+use Rattle.names.specs.Permissions.{conflicts}
 use Rattle.rule_globs.specs.Each.{Each}
 use Rattle.rule_globs.specs.Rules.{RuleValue, ProfileValue}
 use Rattle.rule_globs.specs.Tokens.{Token}
@@ -30,6 +31,7 @@ use Rattle.subject_rules.specs.Restating.{can_be_said as can_be_restated, has_so
 use Rattle.subject_rules.specs.Restating.{with_path}
 use Rattle.subject_rules.specs.SubjectRules.{SubjectRule, read, unread}
 use Rattle.subject_rules.specs.Subjects.{applies_to}
+use Rattle.subject_rules.proofs.RestatedPerms.{fitting, some_fitting}
 use Rattle.profile_import.specs.declared.options.ImportOptions.{ImportOptions}
 use Rattle.profile_import.specs.AddedRules.{queries, change_of_profile, change_of_hat, added_rules}
 use Rattle.profile_import.specs.Faults.{which, too_many_rules, not_exact}
@@ -40,9 +42,10 @@ use Rattle.profile_import.specs.Restated.{PlacedValue, cut_for, all_rules, resta
 use Rattle.import_again.proofs.Lists.{each_append, each_made, each_mapped}
 use Rattle.import_again.proofs.Names.{all_named, named_at}
 
--- a rule as an import gives it: it has some permission, and its path can be read and is settled
+-- a rule as an import gives it: it has some permission, no two that conflict, and its path can be read and is settled
 pub record IsImported (r : RuleValue) : Type 0 where
   pub perms : has_some r.perms ≡ true
+  pub fit : conflicts r.perms ≡ false
   pub path : is_path r.items ≡ true
   pub settled : is_settled r.items ≡ true
 
@@ -74,7 +77,10 @@ with_each place rule [] some h = tt
 with_each place rule (path ∷ paths) some h =
     let p = and_parts (is_path path) (list_all is_path paths) h.path in
     let s = and_parts (is_settled path) (list_all is_settled paths) h.settled in
-    (record { perms = some; path = p.0; settled = s.0 }, with_each place rule paths some (record { path = p.1; settled = s.1 }))
+    let perms = restated_perms rule.perms (shape_of rule).has_target in (
+      record { perms = some_fitting perms some; fit = fitting perms; path = p.0; settled = s.0 },
+      with_each place rule paths some (record { path = p.1; settled = s.1 }),
+    )
 
 if_restated : (chosen : Subject) (r : PlacedRule) → HasPaths r → Each (λ (v : PlacedValue). IsImported v.value) (restated_at chosen r)
 if_restated chosen r h = at (is_restated chosen (shape_of r.rule)) refl

@@ -1,13 +1,13 @@
 -- What was imported is imported as itself.
 use Rattle.std.proofs.Common.{◌≡◌, ◌⊎◌, ◌≤◌, ℕ, Bool, true, false, ◌&&◌, List, [], ◌∷◌, map, length, Ok, Option, Some, None, refl, sym, ap}
 use Rattle.std.proofs.Common.{◌∙◌, subst, inl, inr, if◌then◌else◌}
-use Rattle.std.specs.Prelude.{nat_le, bytes_eq, option_map}
+use Rattle.std.specs.Prelude.{nat_le, bytes_eq, not, option_map}
 use Rattle.std.specs.List.{list_all, list_any}
 use Rattle.std.proofs.lemmas.Bool.{and_parts, and_from, le-leb}
 use Rattle.std.proofs.lemmas.List.{length-map}
 use Rattle.std.proofs.lemmas.Option.{slice_get_past}
 use Rattle.std.proofs.lemmas.Slice.Eq.{bytes_eq-Decides}
-use Rattle.names.specs.Permissions.{has, all_permissions}
+use Rattle.names.specs.Permissions.{has, all_permissions, conflicts}
 use Rattle.rule_globs.specs.Each.{Each}
 use Rattle.rule_globs.specs.Rules.{RuleValue, ProfileValue}
 use Rattle.rule_profile.specs.Limits.{max_rules}
@@ -36,7 +36,9 @@ use Rattle.import_again.proofs.ScopesAgain.{head_of, outside, faultless, all_beh
 rules_readable : (rules : List RuleValue) → Each IsImported rules → list_all is_rule rules ≡ true
 rules_readable [] h = refl
 rules_readable (r ∷ rules) h =
-    and_from (is_rule r) (list_all is_rule rules) (and_from (list_any (has r.perms) all_permissions) (is_path r.items) h.0.perms h.0.path)
+    and_from (is_rule r) (list_all is_rule rules)
+    (and_from (list_any (has r.perms) all_permissions && not (conflicts r.perms)) (is_path r.items)
+    (and_from (list_any (has r.perms) all_permissions) (not (conflicts r.perms)) h.0.perms (ap not h.0.fit)) h.0.path)
     (rules_readable rules h.1)
 
 readable : (p : ProfileValue) → IsImportedProfile p → is_profile p ≡ true

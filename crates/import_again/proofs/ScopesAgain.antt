@@ -3,8 +3,8 @@ use Rattle.std.proofs.Common.{◌≡◌, ◌≤◌, ℕ, ◌+◌, ◌*◌, Bool,
 use Rattle.std.proofs.Common.{◌∙◌, subst, if◌then◌else◌, arith}
 use Rattle.rule_globs.specs.Each.{Each}
 use Rattle.rule_globs.specs.Rules.{RuleValue, ProfileValue}
-use Rattle.verdicts.specs.declared.kind.RuleKind.{RuleKind}
-use Rattle.verdicts.specs.declared.kind.RuleKind.TheVariants.{Allow, Deny}
+use Rattle.names.specs.declared.kind.RuleKind.{RuleKind}
+use Rattle.names.specs.declared.kind.RuleKind.TheVariants.{Allow, Deny}
 use Rattle.rule_profile.specs.Limits.{max_rules}
 use Rattle.profile_variables.specs.Variables.{most_bytes}
 use Rattle.flat_text.specs.Parts.{ItemValue, bytes_of_parts}

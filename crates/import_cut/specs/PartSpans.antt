@@ -4,7 +4,7 @@ use Rattle.std.specs.List.{flat_map, list_any}
 use Rattle.names.specs.declared.permissions.Permission.TheVariants.{Write}
 use Rattle.names.specs.Permissions.{only}
 use Rattle.rule_reader.specs.ReadWords.{word}
-use Rattle.verdicts.specs.declared.kind.RuleKind.TheVariants.{Allow}
+use Rattle.names.specs.declared.kind.RuleKind.TheVariants.{Allow}
 use Rattle.flat_text.specs.declared.part.PartKind.{PartKind}
 use Rattle.flat_text.specs.declared.part.PartKind.TheVariants as kinds
 use Rattle.flat_text.specs.Parts.{PartValue}
@@ -30,7 +30,7 @@ told all effect = Told (record { whats = all; effect = effect })
 -- ---- what AppArmor adds
 
 -- To a profile with hats, or with a rule change_profile, apparmor_parser adds rules by which owners may write some files in
--- /proc. They are restated like those of the text.
+-- /proc. They are restated like those of the text, with w, which holds append, too (our choice: the parser adds write alone).
 abbrev pub added_rule : RuleShape
 added_rule = record { kind = Allow; applies_to = Owners; perms = only Write; has_target = false; is_read = true; has_priority = false }
 

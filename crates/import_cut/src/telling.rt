@@ -13,10 +13,9 @@ use flat_rules::part_effect;
 use flat_text::{Part, PartKind};
 use flat_words::letter_word;
 use import_account::What;
-use names::{NoMemory, Permission, Perms};
+use names::{NoMemory, Permission, Perms, RuleKind};
 use std::alloc::Global;
 use subject_rules::{AppliesTo, Change, Effect, RuleShape, Subject};
-use verdicts::RuleKind;
 
 /// How each part of an item is reported.
 #[derive(Clone, Copy)]

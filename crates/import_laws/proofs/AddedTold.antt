@@ -23,7 +23,7 @@ use Rattle.subject_rules.specs.declared.subject.Subject.{Subject}
 use Rattle.subject_rules.specs.Changes.{change, effect, gained, lost}
 use Rattle.subject_rules.specs.Restating.{has_some, is_restated, shape_of}
 use Rattle.subject_rules.specs.Subjects.{applies_to}
-use Rattle.verdicts.specs.declared.kind.RuleKind.TheVariants.{Allow}
+use Rattle.names.specs.declared.kind.RuleKind.TheVariants.{Allow}
 use Rattle.import_cut.specs.declared.cut.Phase.{Phase}
 use Rattle.import_cut.specs.declared.cut.Phase.TheVariants.{Outer, Skipping, Chosen}
 use Rattle.import_cut.specs.declared.cut.Run.{Run}

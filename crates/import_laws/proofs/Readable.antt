@@ -5,15 +5,18 @@ use Rattle.std.specs.Prelude.{slice_get, nat_eq, codes, IsTrue}
 use Rattle.std.specs.List.{list_all, ends_with}
 use Rattle.std.proofs.lemmas.Bool.{and_parts, and_from}
 use Rattle.std.proofs.lemmas.List.Folds.{list_all-append}
+use Rattle.names.specs.declared.permissions.Perms.{Perms}
+use Rattle.names.specs.Permissions.{conflicts}
 use Rattle.rule_globs.specs.Each.{Each}
 use Rattle.rule_globs.specs.Tokens.{Token}
 use Rattle.rule_profile.specs.Readable.{is_name, is_path, is_rule}
 use Rattle.flat_text.specs.Parts.{ItemValue}
 use Rattle.subject_rules.specs.declared.subject.Subject.{Subject}
 use Rattle.subject_rules.specs.Restating.{has_some, is_restated, restated, restated_all, restated_paths, restated_perms, shape_of}
-use Rattle.subject_rules.specs.Restating.{can_be_said as can_be_restated, with_path}
+use Rattle.subject_rules.specs.Restating.{can_be_said as can_be_restated, fitting_letters, with_path}
 use Rattle.subject_rules.specs.SubjectRules.{SubjectPath, SubjectRule, read, unread}
 use Rattle.subject_rules.specs.Subjects.{applies_to}
+use Rattle.subject_rules.proofs.RestatedPerms.{fitting, some_fitting}
 use Rattle.import_cut.specs.CutStates.{CutState}
 use Rattle.import_cut.specs.Cutting.{cut_item, is_chosen_rule}
 use Rattle.import_paths.specs.ImportedPaths.{imported_paths}
@@ -100,6 +103,13 @@ module _ (readable : (text : List ℕ) → list_all is_path (imported_paths text
       each_of_both (λ r. IsGood r.rule.path) (rules_in variables chosen items s) (added_rules change hat)
       (rules_good variables chosen items s) (of_each_added (λ r. IsGood r.rule.path) (λ place perms path some. readable path) change hat)
 
+letters_pass : (perms : Perms) (path : List Token) → has_some perms ≡ true → is_path path ≡ true →
+    (has_some (fitting_letters perms) && not (conflicts (fitting_letters perms)) && is_path path) ≡ true
+letters_pass perms path some good =
+    and_from (has_some (fitting_letters perms) && not (conflicts (fitting_letters perms))) (is_path path)
+    (and_from (has_some (fitting_letters perms)) (not (conflicts (fitting_letters perms))) (some_fitting perms some)
+    (ap not (fitting perms))) good
+
 paths_pass : (rule : SubjectRule) (paths : List (List Token)) → has_some (restated_perms rule.perms (shape_of rule).has_target) ≡ true →
     list_all is_path paths ≡ true
     → list_all is_rule (map (with_path rule) paths) ≡ true
@@ -107,7 +117,7 @@ paths_pass rule [] some h = refl
 paths_pass rule (path ∷ paths) some h =
     let both = and_parts (is_path path) (list_all is_path paths) h in
     and_from (is_rule (with_path rule path)) (list_all is_rule (map (with_path rule) paths))
-    (and_from (has_some (restated_perms rule.perms (shape_of rule).has_target)) (is_path path) some both.0)
+    (letters_pass (restated_perms rule.perms (shape_of rule).has_target) path some both.0)
     (paths_pass rule paths some both.1)
 
 good_paths : (path : SubjectPath) → IsGood path → list_all is_path (restated_paths path) ≡ true

@@ -20,7 +20,7 @@ ghost use Rattle.subject_rules.specs.declared.mode.Mode.{Mode};
 ghost use Rattle.subject_rules.specs.Judging.{IsAllowedTo};
 ghost use Rattle.subject_rules.specs.Restating.{restated_all, shape_of};
 ghost use Rattle.subject_rules.specs.SubjectRules.{SubjectRule, Unknown};
-ghost use Rattle.verdicts.specs.declared.verdict.Verdict.TheVariants.{Allowed};
+ghost use Rattle.names.specs.declared.verdict.Verdict.TheVariants.{Allowed};
 ghost use Rattle.import_laws.specs.Imported.{variables_of, IsImported};
 ghost use Rattle.import_laws.specs.RulesInside.{rules_inside};
 

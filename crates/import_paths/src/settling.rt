@@ -6,14 +6,13 @@ ghost use Rattle.import_paths.specs.Groups.{groups_choose};
 ghost use Rattle.import_paths.specs.Settled.{path_text, is_settled_text, is_settled};
 
 use crate::one_way::is_read_one_way;
-use names::{NoMemory, Perms};
+use names::{NoMemory, Perms, RuleKind};
 use path_leads::groups_have_alternatives;
 use profile_variables::{MOST_BYTES, one_slash};
 use rule_globs::{Item, RulePath};
 use rule_profile::Rule;
 use rule_writer::write_rule;
 use std::alloc::Global;
-use verdicts::RuleKind;
 
 /// Whether each group has two alternatives or more.
 #[tactic(auto, using(crate::proofs::GroupLaws::same_choice))]

@@ -1,6 +1,6 @@
 //! How opens were answered.
 use interleaving_core::Answer;
-use verdicts::Verdict;
+use names::Verdict;
 
 /// How many orders there were, how many answers of each kind, and how many of all those weren't right.
 #[derive(Clone, Copy, Debug, PartialEq, Eq)]

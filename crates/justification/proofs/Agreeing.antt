@@ -6,7 +6,7 @@ use Rattle.directory_tree.specs.declared.change.Change.{Change}
 use Rattle.directory_tree.specs.Tree.{Tree}
 use Rattle.names.specs.declared.errors.Errno.{Errno}
 use Rattle.names.specs.declared.permissions.Perms.{Perms}
-use Rattle.verdicts.specs.declared.verdict.Verdict.{Verdict}
+use Rattle.names.specs.declared.verdict.Verdict.{Verdict}
 use Rattle.mediation.specs.Deeds.{Deed}
 use Rattle.mediation.specs.Judge.{verdict_by}
 use Rattle.mediation.specs.Opening.{Reached, reached}

@@ -4,7 +4,7 @@ use Rattle.std.proofs.Math.Seq.{take-length}
 use Rattle.std.specs.Prelude.{Result, Ok, Err}
 use Rattle.names.specs.declared.errors.Errno.{Errno}
 use Rattle.names.specs.declared.permissions.Perms.{Perms}
-use Rattle.verdicts.specs.declared.verdict.Verdict.{Verdict}
+use Rattle.names.specs.declared.verdict.Verdict.{Verdict}
 use Rattle.directory_tree.specs.Plain.{tree_of}
 use Rattle.directory_tree.specs.Tree.{Tree}
 use Rattle.directory_tree.specs.Apply.{and_then}

@@ -1,5 +1,4 @@
-use names::Errno;
-use verdicts::Verdict;
+use names::{Errno, Verdict};
 
 /// The answer to an open where the tree and the policy may change meanwhile.
 #[derive(Clone, Copy, Debug, PartialEq, Eq)]

@@ -13,10 +13,9 @@ use crate::reaching::{Reach, reach_at};
 use directory_tree::Change;
 use matcher::{AnyProfile, PolicyChange};
 use mediation::judge_name;
-use names::{Errno, NoMemory, Perms};
+use names::{Errno, NoMemory, Perms, Verdict};
 use path_lookup::NAME_ROOM;
 use std::alloc::Global;
-use verdicts::Verdict;
 
 /// Whether an answer to an open is justified by the tree and the policy after the first changes of these lists, as many as the
 /// answer's versions say. The tree is built anew, with room for an entry of each change.

@@ -10,7 +10,7 @@ ghost use Rattle.mediation.specs.History.{History, open_answer};
 ghost use Rattle.mediation.specs.Opening.{Reached, judged, reached};
 ghost use Rattle.names.specs.declared.errors.Errno.{Errno};
 ghost use Rattle.names.specs.declared.permissions.Perms.{Perms};
-ghost use Rattle.verdicts.specs.declared.verdict.Verdict.{Verdict};
+ghost use Rattle.names.specs.declared.verdict.Verdict.{Verdict};
 ghost use Rattle.justification.specs.Justified.{Justified};
 ghost use Rattle.justification.specs.Versions.{IsTreeAt};
 ghost use Rattle.justification.specs.declared.answer.Answer.{Answer};

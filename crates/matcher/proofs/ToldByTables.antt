@@ -2,15 +2,15 @@
 use Rattle.std.proofs.Common.{◌≡◌, ℕ, List, sym, ◌∙◌, ap, subst, Some}
 use Rattle.std.proofs.lemmas.Option.{same_Some}
 use Rattle.names.specs.declared.permissions.Perms.{Perms}
-use Rattle.verdicts.specs.declared.record.Record.{Record}
+use Rattle.names.specs.declared.record.Record.{Record}
 use Rattle.glob_automaton.specs.Automata.{Automaton, IsAutomatonOf}
 use Rattle.glob_automaton.specs.Least.{IsLeastRecord}
-use Rattle.verdicts.specs.Records.{IsTold}
+use Rattle.names.specs.Records.{IsTold}
 use Rattle.matcher.specs.Telling.{TellsLeastHits, TellsVerdicts}
 use Rattle.rule_globs.specs.PlainVerdict.{verdict}
 use Rattle.rule_profile.specs.Profile.{RuleValue}
 use Rattle.rule_globs.specs.Verdict.{IsVerdict}
-use Rattle.verdicts.specs.declared.verdict.Verdict.{Verdict}
+use Rattle.names.specs.declared.verdict.Verdict.{Verdict}
 use Rattle.table_image.specs.Packing.{IsTableOf}
 use Rattle.tables.specs.Tables.{Table}
 

@@ -1,14 +1,14 @@
 -- Tables of rules, and what they say.
 use Rattle.std.specs.Prelude.{◌≡◌, List, Some, ℕ}
-use Rattle.verdicts.specs.Hits.{no_hits}
+use Rattle.names.specs.Hits.{no_hits}
 use Rattle.glob_automaton.specs.Least.{IsLeastRecord}
-use Rattle.verdicts.specs.Records.{IsTold}
+use Rattle.names.specs.Records.{IsTold}
 use Rattle.names.specs.Bytes.{are_bytes}
-use Rattle.verdicts.specs.declared.record.Record.{Record}
+use Rattle.names.specs.declared.record.Record.{Record}
 use Rattle.names.specs.declared.permissions.Perms.{Perms}
 use Rattle.rule_globs.specs.PlainVerdict.{verdict}
 use Rattle.rule_profile.specs.Profile.{RuleValue}
-use Rattle.verdicts.specs.declared.verdict.Verdict.{Verdict}
+use Rattle.names.specs.declared.verdict.Verdict.{Verdict}
 use Rattle.tables.specs.Tables.{StaysDead, Table, record_after, record_of}
 
 -- state 0 is left by no byte, and has no hits

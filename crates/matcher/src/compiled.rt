@@ -3,12 +3,11 @@ ghost use Rattle.std.specs.Prelude.{◌≡◌, ◌≤◌, IfOk, IfErr};
 ghost use Rattle.std.specs.Coded.{codes};
 ghost use Rattle.glob_automaton.specs.Automata.{most_sets};
 ghost use Rattle.glob_automaton.specs.Sets.{AreMoreThan};
-ghost use Rattle.verdicts.specs.contracts.record.Record as record_code;
+ghost use Rattle.names.specs.contracts.record.Record as record_code;
 ghost use Rattle.matcher.specs.Making.{IsMakeFault};
 ghost use Rattle.matcher.specs.Telling.{IsDeadAtZero, IsTableOfRules, TellsLeastHits};
 ghost use Rattle.rule_profile.specs.Profile.{profile_value};
 ghost use Rattle.tables.specs.Bounds.{InBounds};
-ghost use Rattle.tables.specs.Images.{FitsVersion1};
 ghost use Rattle.tables.specs.Tables.{table_value};
 
 use crate::fault::MakeFault;
@@ -20,10 +19,10 @@ use table_verifier::{VerifiedTable, verify};
 use tables::RawTable;
 
 /// A table of a profile's rules, in bounds, if they haven't too many states. No state has a depth, so version 1 of images can hold
-/// it.
+/// it if in each record append has the hits of write.
 pub fn table_of(alloc: Global, profile: &Profile) -> Result<RawTable, MakeFault>
     ensures bounds { IfOk result (λ table. InBounds (table_value table)) }
-    ensures fits { IfOk result (λ table. FitsVersion1 (table_value table)) }
+    ensures flat { IfOk result (λ table. table.depth_bound ≡ 0) }
     ensures rules { IfOk result (λ table. IsTableOfRules (profile_value profile.now).rules (table_value table)) }
     ensures few { IfOk result (λ _. ¬ (AreMoreThan most_sets (profile_value profile.now).rules)) }
     ensures err { IfErr result (IsMakeFault (profile_value profile.now).rules) }

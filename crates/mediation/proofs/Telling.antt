@@ -5,18 +5,18 @@ use Rattle.std.proofs.lemmas.List.{get_or_default}
 use Rattle.names.specs.declared.permissions.Permission.{Permission}
 use Rattle.names.specs.declared.permissions.Perms.{Perms}
 use Rattle.names.specs.Permissions.{only}
-use Rattle.verdicts.specs.Hits.{no_hits}
-use Rattle.verdicts.specs.Records.{IsTold}
+use Rattle.names.specs.Hits.{no_hits}
+use Rattle.names.specs.Records.{IsTold}
 use Rattle.names.specs.Bytes.{are_bytes}
-use Rattle.verdicts.specs.declared.record.Record.{Record}
+use Rattle.names.specs.declared.record.Record.{Record}
 use Rattle.matcher.specs.Telling.{TellsVerdicts}
 use Rattle.mediation.specs.Judge.{Judge, by_rules, by_table, verdict_by}
 use Rattle.mediation.specs.Told.{told}
 use Rattle.mediation.specs.inner.Telling.{Tells}
 use Rattle.rule_judge.specs.Linking.{is_allowed}
 use Rattle.rule_profile.specs.Profile.{RuleValue}
-use Rattle.verdicts.specs.declared.verdict.Verdict.{Verdict}
-use Rattle.verdicts.specs.declared.verdict.Verdict.TheVariants.{Denied, NoRule, Allowed}
+use Rattle.names.specs.declared.verdict.Verdict.{Verdict}
+use Rattle.names.specs.declared.verdict.Verdict.TheVariants.{Denied, NoRule, Allowed}
 use Rattle.tables.specs.Tables.{Table, record_after}
 
 -- each element of a slice of bytes fits

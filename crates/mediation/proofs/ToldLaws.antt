@@ -1,19 +1,18 @@
 -- The verdict computed from a record is one that `IsTold` allows.
 use Rattle.std.proofs.Common.{◌≡◌, ◌≢◌, ◌==◌, ◌&&◌, ◌||◌, ◌↔◌, ◌⊎◌, ⊎_elim, inl, inr, ℕ, ◌≤◌, nat_lt, Bool, true, false, List, [], ◌∷◌}
-use Rattle.std.proofs.Common.{IsTrue, refl, sym, ap, ◌∙◌, subst, arith, eq-eqb, true≢false}
+use Rattle.std.proofs.Common.{IsTrue, refl, sym, ap, ◌∙◌, subst, arith, eq-eqb, rules, true≢false}
 use Rattle.std.specs.Prelude.{if◌then◌else◌}
 use Rattle.std.specs.List.{list_any}
 use Rattle.std.proofs.lemmas.Bool.{and_parts, and_from, eqb-true, ltb-true, ltb-false}
-use Rattle.verdicts.specs.Least.{hits_of}
-use Rattle.verdicts.specs.Records.{IsTold, ToldDenied, ToldMissing, NothingToldDenied}
-use Rattle.verdicts.specs.declared.record.Record.{Record}
+use Rattle.names.specs.Least.{hits_of}
+use Rattle.names.specs.Records.{IsTold, ToldDenied, ToldMissing, NothingToldDenied}
+use Rattle.names.specs.declared.record.Record.{Record}
 use Rattle.names.proofs.PermsLaws.{has-set_of, none_found, one_found}
 use Rattle.mediation.specs.Told.{lesser, least_deny, missing_in, told}
 use Rattle.names.specs.Permissions.{has, all_permissions}
 use Rattle.names.specs.declared.permissions.Permission.{Permission}
-use Rattle.names.specs.declared.permissions.Permission.TheVariants.{Read, Write, Link, Lock, Map}
 use Rattle.names.specs.declared.permissions.Perms.{Perms}
-use Rattle.verdicts.specs.declared.verdict.Verdict.TheVariants.{Denied, NoRule, Allowed}
+use Rattle.names.specs.declared.verdict.Verdict.TheVariants.{Denied, NoRule, Allowed}
 
 -- the lesser of two numbers is one of them, and no nonzero one is below it
 record IsLesser (one other least : ℕ) : Type 0 where
@@ -45,11 +44,7 @@ IsOf p [] = ⊥
 IsOf p (q ∷ qs) = (p ≡ q) ⊎ IsOf p qs
 
 is_of_all : (p : Permission) → IsOf p all_permissions
-is_of_all Read = inl refl
-is_of_all Write = inr (inl refl)
-is_of_all Link = inr (inr (inl refl))
-is_of_all Lock = inr (inr (inr (inl refl)))
-is_of_all Map = inr (inr (inr (inr (inl refl))))
+is_of_all = search (rules)
 
 module _ (r : Record) (ask : Perms) where
   abbrev deny : Permission → ℕ

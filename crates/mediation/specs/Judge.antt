@@ -1,10 +1,10 @@
 -- What a published profile says about names.
 use Rattle.std.specs.Prelude.{ℕ, List, unwrap_or}
-use Rattle.verdicts.specs.Hits.{no_hits}
+use Rattle.names.specs.Hits.{no_hits}
 use Rattle.names.specs.declared.permissions.Perms.{Perms}
 use Rattle.rule_globs.specs.PlainVerdict.{verdict}
 use Rattle.rule_profile.specs.Profile.{RuleValue}
-use Rattle.verdicts.specs.declared.verdict.Verdict.{Verdict}
+use Rattle.names.specs.declared.verdict.Verdict.{Verdict}
 use Rattle.tables.specs.Tables.{Table, record_after}
 use Rattle.mediation.specs.Told.{told}
 

@@ -13,7 +13,7 @@ use Rattle.directory_tree.specs.Walk.{Spot, walk}
 use Rattle.directory_tree.specs.Name.{judged_name}
 use Rattle.directory_tree.specs.Apply.{and_then}
 use Rattle.directory_tree.specs.Spots.{node_at}
-use Rattle.verdicts.specs.declared.verdict.Verdict.{Verdict}
+use Rattle.names.specs.declared.verdict.Verdict.{Verdict}
 use Rattle.mediation.specs.Judge.{Judge, verdict_by}
 
 -- a file that was reached: its name and its node

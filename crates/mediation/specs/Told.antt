@@ -2,13 +2,13 @@
 -- allowed (apparmor.d(5), "Rule Qualifiers"). A law says that it is the one verdict that `IsTold` allows.
 use Rattle.std.specs.Prelude.{ℕ, ◌==◌, ◌&&◌, ◌||◌, nat_lt, List, [], ◌∷◌, if◌then◌else◌}
 use Rattle.std.specs.List.{list_any}
-use Rattle.verdicts.specs.Least.{hits_of}
-use Rattle.verdicts.specs.declared.record.Record.{Record}
+use Rattle.names.specs.Least.{hits_of}
+use Rattle.names.specs.declared.record.Record.{Record}
 use Rattle.names.specs.Permissions.{has, set_of, all_permissions}
 use Rattle.names.specs.declared.permissions.Permission.{Permission}
 use Rattle.names.specs.declared.permissions.Perms.{Perms}
-use Rattle.verdicts.specs.declared.verdict.Verdict.{Verdict}
-use Rattle.verdicts.specs.declared.verdict.Verdict.TheVariants.{Denied, NoRule, Allowed}
+use Rattle.names.specs.declared.verdict.Verdict.{Verdict}
+use Rattle.names.specs.declared.verdict.Verdict.TheVariants.{Denied, NoRule, Allowed}
 
 -- the lesser of two rule numbers, where 0 means no rule
 abbrev pub lesser : ℕ → ℕ → ℕ

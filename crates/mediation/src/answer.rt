@@ -1,8 +1,7 @@
 //! The answers to opens and judged links.
 
-use names::Errno;
+use names::{Errno, Verdict};
 use rule_judge::LinkVerdict;
-use verdicts::Verdict;
 
 /// The outcome of an open. The one who answers keeps the name that was judged.
 #[derive(Clone, Copy, Debug, PartialEq, Eq)]

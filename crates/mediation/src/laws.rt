@@ -1,19 +1,19 @@
 //! Laws that show that the definitions of `specs/` are sane. The functions do nothing: each exists only for its contract.
 ghost use Rattle.std.specs.Prelude.{◌≡◌, ℕ, List};
-ghost use Rattle.verdicts.specs.Records.{IsTold};
+ghost use Rattle.names.specs.Records.{IsTold};
 ghost use Rattle.names.specs.Bytes.{are_bytes};
-ghost use Rattle.verdicts.specs.declared.record.Record.{Record};
+ghost use Rattle.names.specs.declared.record.Record.{Record};
 ghost use Rattle.matcher.specs.Telling.{TellsLeastHits};
 ghost use Rattle.mediation.specs.Judge.{by_rules, by_table, verdict_by};
 ghost use Rattle.mediation.specs.Told.{told};
 ghost use Rattle.names.specs.declared.permissions.Perms.{Perms};
 ghost use Rattle.rule_profile.specs.Profile.{RuleValue};
-ghost use Rattle.verdicts.specs.declared.verdict.Verdict.{Verdict};
+ghost use Rattle.names.specs.declared.verdict.Verdict.{Verdict};
 ghost use Rattle.tables.specs.Tables.{Table};
 
 use glob_automaton::names_have_one_least_record;
 use matcher::tables_of_rules_tell_their_verdicts;
-use verdicts::records_tell_one_verdict;
+use names::records_tell_one_verdict;
 
 /// The verdict computed from a record is one that `IsTold` allows, and the only one.
 pub fn told_is_the_one_verdict()

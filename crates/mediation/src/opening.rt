@@ -9,9 +9,8 @@ ghost use Rattle.path_lookup.specs.World.{World, Narrows};
 use crate::profiles::judge_name;
 use directory_tree::Last;
 use matcher::AnyProfile;
-use names::{Errno, Path, Permission, Perms};
+use names::{Errno, Path, Permission, Perms, Verdict};
 use path_lookup::{Look, NAME_ROOM, Scratch, WalkFault, reach};
-use verdicts::Verdict;
 
 /// The node of a file that was reached, and the length of its name.
 #[derive(Clone, Copy, Debug, PartialEq, Eq)]

@@ -1,20 +1,19 @@
 //! What published profiles say about names. No memory is taken.
 ghost use Rattle.std.specs.Prelude.{◌≡◌, Some};
-ghost use Rattle.verdicts.specs.Records.{IsTold};
+ghost use Rattle.names.specs.Records.{IsTold};
 ghost use Rattle.mediation.specs.Judge.{verdict_by};
 ghost use Rattle.mediation.specs.Linking.{allowed_by};
 ghost use Rattle.mediation.specs.Profiles.{judge_of};
 ghost use Rattle.mediation.specs.inner.Telling.{Tells};
 ghost use Rattle.names.specs.Permissions.{only};
 ghost use Rattle.rule_judge.specs.Linking.{is_allowed};
-ghost use Rattle.verdicts.specs.declared.verdict.Verdict.{Verdict};
+ghost use Rattle.names.specs.declared.verdict.Verdict.{Verdict};
 ghost use Rattle.tables.specs.Tables.{record_after};
 
 use crate::laws::told_is_the_one_verdict;
 use matcher::{AnyProfile, record_of_name, tables_of_rules_tell_their_verdicts};
-use names::{Permission, Perms, permissions_are_numbered};
+use names::{Permission, Perms, Record, Verdict, permissions_are_numbered, told};
 use table_verifier::{LookUps, Steps, VerifiedTable};
-use verdicts::{Record, Verdict, told};
 
 /// A profile's verdict on a name (apparmor.d(5), "Rule Qualifiers"): by its rules if it was compiled, else by its table. No
 /// memory is taken.

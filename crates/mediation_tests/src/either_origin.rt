@@ -26,7 +26,11 @@ fn loaded(alloc: Global, image: &[u8]) -> Result<AnyProfile, Fail> {
 
 // The image of the rules in version 1.
 fn first_image(alloc: Global) -> Result<Vec<u8>, Fail> {
-    Ok(to_bytes_v1(alloc, &table_of(alloc, &rules(alloc)?)?)?)
+    let table = table_of(alloc, &rules(alloc)?)?;
+    if !table.fits_version_1() {
+        return Err(Fail::from("append isn't write"));
+    }
+    Ok(to_bytes_v1(alloc, &table)?)
 }
 
 // Their image in version 2, with chains of defaults up to a depth.
@@ -63,7 +67,8 @@ fn opens(rt: &impl Abort, alloc: Global, profile: &AnyProfile) -> Result<(), Fai
     let mut tree = tree(alloc)?;
     let mut scratch = Scratch::new();
     let mut room = [0; 4096];
-    let write = Perms::from_letters(b"w").ok_or("letters")?;
+    // Who may write may append.
+    let write = Perms::from_letters(b"wa").ok_or("letters")?;
     let cases: [(&[u8], &[u8], Opened<'_>); 5] = [
         (b"/l/f", b"r", Ok((Verdict::Allowed, b"/d/f"))),
         (
@@ -95,7 +100,8 @@ fn links(rt: &impl Abort, alloc: Global, profile: &AnyProfile) -> Result<(), Fai
     let mut scratch = Scratch::new();
     let mut room = [0; 4096];
     let link = Perms::from_letters(b"l").ok_or("letters")?;
-    let write = Perms::from_letters(b"w").ok_or("letters")?;
+    // Who may write may append.
+    let write = Perms::from_letters(b"wa").ok_or("letters")?;
     let cases: [(&[u8], LinkVerdict); 3] = [
         (b"/m", LinkVerdict::Fine),
         (b"/n", LinkVerdict::Wider { extra: write }),

@@ -1,27 +1,20 @@
 -- Sets of permissions, member by member.
-use Rattle.std.proofs.Common.{◌≡◌, Bool, true, false, ◌&&◌, ◌==◌, ◌↔◌, ⊎_elim, IsTrue, Some, refl, sym, ap, ◌∙◌, arith, eq-eqb}
-use Rattle.std.specs.List.{list_any}
+use Rattle.std.proofs.Common.{◌≡◌, Bool, true, false, ◌&&◌, ◌==◌, ◌↔◌, ⊎_elim, IsTrue, Some, refl, sym, ap, ◌∙◌}
+use Rattle.std.proofs.Common.{arith, eq-eqb, rules, true≢false}
+use Rattle.std.specs.List.{list_all, list_any}
 use Rattle.std.proofs.lemmas.Bool.{cases_Bool, eqb-true, and_parts, and_from}
-use Rattle.std.proofs.lemmas.List.Folds.{Any-from_list_any, list_any_at}
+use Rattle.std.proofs.lemmas.List.Folds.{Any-from_list_any, list_all_at, list_any_at}
 use Rattle.names.specs.declared.permissions.Permission.{Permission}
-use Rattle.names.specs.declared.permissions.Permission.TheVariants.{Read, Write, Link, Lock, Map}
 use Rattle.names.specs.declared.permissions.Perms.{Perms}
-use Rattle.names.specs.Permissions.{letter, has, set_of, permission_of, all_permissions, Shares, only}
+use Rattle.names.specs.Permissions.{letter, has, set_of, permission_of, all_permissions, index, Shares, only}
+use Rattle.names.proofs.Positions.{place_below, stands_there}
 
 pub has-set_of : (test : Permission → Bool) (p : Permission) → has (set_of test) p ≡ test p
-has-set_of test Read = refl
-has-set_of test Write = refl
-has-set_of test Link = refl
-has-set_of test Lock = refl
-has-set_of test Map = refl
+has-set_of = search (rules, arith)
 
 -- what passes the test is found among all permissions
 pub found : (test : Permission → Bool) (p : Permission) → test p ≡ true → list_any test all_permissions ≡ true
-found test Read h = list_any_at test all_permissions 0 Read (omega arith) h
-found test Write h = list_any_at test all_permissions 1 Read (omega arith) h
-found test Link h = list_any_at test all_permissions 2 Read (omega arith) h
-found test Lock h = list_any_at test all_permissions 3 Read (omega arith) h
-found test Map h = list_any_at test all_permissions 4 Read (omega arith) h
+found test p h = list_any_at test all_permissions (index p) p (place_below p) (ap test (stands_there p p) ∙ h)
 
 -- what is found passes the test
 pub one_found : (test : Permission → Bool) → list_any test all_permissions ≡ true → (p : Permission) × (test p ≡ true)
@@ -50,11 +43,7 @@ some_member s not_empty = ⊎_elim
     (cases_Bool (list_any (has s) all_permissions))
 
 letter_again : (p : Permission) → permission_of (letter p) ≡ Some p
-letter_again Read = refl
-letter_again Write = refl
-letter_again Link = refl
-letter_again Lock = refl
-letter_again Map = refl
+letter_again = search (rules, arith)
 
 pub same_letter : (p q : Permission) → letter p ≡ letter q → p ≡ q
 same_letter p q h =
@@ -66,3 +55,13 @@ has-only p = has-set_of (λ q. letter q == letter p) p ∙ eq-eqb (letter p) (le
 
 pub only_one : (p q : Permission) → IsTrue (has (only p) q) → q ≡ p
 only_one p q h = same_letter q p (eqb-true (letter q) (letter p) (sym (has-set_of (λ r. letter r == letter p) q) ∙ h))
+
+-- each permission passes a test just where all of them do
+pub all_pass : (test : Permission → Bool) → ((p : Permission) → test p ≡ true) → list_all test all_permissions ≡ true
+all_pass test h = search (rules, h)
+
+pub each_passes : (test : Permission → Bool) → list_all test all_permissions ≡ true → (p : Permission) → test p ≡ true
+each_passes test h p = ⊎_elim
+    (λ t. t)
+    (λ f. absurd (true≢false (sym h ∙ list_all_at test all_permissions (index p) p (place_below p) (ap test (stands_there p p) ∙ f))))
+    (cases_Bool (test p))

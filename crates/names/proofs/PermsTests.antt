@@ -3,16 +3,13 @@ use Rattle.std.proofs.Common.{◌≡◌, ◌≢◌, ◌+◌, ◌<◌, ◌≤◌,
 use Rattle.std.proofs.Common.{refl, sym, ap, ◌∙◌, subst, arith, eq-eqb}
 use Rattle.std.proofs.lemmas.Bool.{cases_Bool, eqb-true, ltb-true, ltb-false}
 use Rattle.names.specs.declared.permissions.Permission.{Permission}
-use Rattle.names.specs.declared.permissions.Permission.TheVariants.{Read, Write, Link, Lock, Map}
 use Rattle.names.specs.declared.permissions.Perms.{Perms}
 use Rattle.names.specs.Permissions.{all_permissions, has, index, letter, permission_count, set_of, with_permission}
 use Rattle.names.proofs.PermsLaws.{has-set_of, same_letter}
 
 -- sets with the same members are the same
 pub same_perms : (s t : Perms) → ((p : Permission) → has s p ≡ has t p) → s ≡ t
-same_perms s t h =
-    let a = h Read in let b = h Write in let c = h Link in let d = h Lock in let e = h Map in
-    λ i. record { read = a i; write = b i; link = c i; lock = d i; map = e i }
+same_perms s t h = λ i. set_of (λ p. h p i)
 
 -- one more permission is in the set, and no other
 with_itself : (s : Perms) (q : Permission) → has (with_permission s q) q ≡ true

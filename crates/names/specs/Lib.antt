@@ -2,3 +2,8 @@ pub mod Permissions
 pub mod Errors
 pub mod Paths
 pub mod Bytes
+pub mod Least
+pub mod Hits
+pub mod Records
+pub mod VerdictText
+pub mod Grounds

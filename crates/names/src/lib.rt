@@ -1,22 +1,32 @@
-//! What all the crates name alike: the permissions of file rules, the error numbers of path calls, and checked paths.
+//! What all the crates name alike: the permissions of file rules, verdicts and the records that determine them, the error
+//! numbers of path calls, and checked paths.
 //!
-//! Nothing here takes memory.
+//! Nothing here allocates memory.
 //!
 //! The definitions to believe are those in `specs/`.
 #![tactic(auto)]
 
 mod errors;
+mod judging;
+mod kind;
 mod laws;
 mod paths;
 mod permissions;
+mod record;
+mod verdict;
 
 pub use errors::{Errno, NoMemory};
+pub use judging::{Grounds, grounds_of, told};
+pub use kind::RuleKind;
 pub use laws::{
-    components_are_parts, components_of_joined, components_of_paths, letters_read_again,
-    one_letter_each, paths_are_names, permissions_are_numbered,
+    components_are_parts, components_of_joined, components_of_paths, equal_records_are_one,
+    grounds_have_one_verdict, letters_read_again, one_letter_each, paths_are_names,
+    permissions_are_numbered, records_are_their_hits, records_tell_one_verdict, who_writes_appends,
 };
 pub use paths::{
     Components, LONGEST_COMPONENT, LONGEST_PATH, Path, has_long_component, split_at_slash,
     split_component,
 };
 pub use permissions::{Permission, Perms};
+pub use record::{LeastHits, Record};
+pub use verdict::Verdict;

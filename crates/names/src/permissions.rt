@@ -1,7 +1,7 @@
 ghost use Rattle.std.specs.Prelude.{◌≡◌, ◌<◌, ◌↔◌, ◌&&◌, ◌∷◌, [], not, false, Some, IsTrue};
 ghost use Rattle.names.specs.declared.permissions.Permission.{Permission};
 ghost use Rattle.names.specs.Permissions.{letter, index, permission_count, permission_of, has, set_of, with_permission, perms_of, letters};
-ghost use Rattle.names.specs.Permissions.{Shares};
+ghost use Rattle.names.specs.Permissions.{Shares, conflicts, held};
 
 use std::fmt;
 
@@ -13,19 +13,21 @@ pub enum Permission {
     Link,
     Lock,
     Map,
+    Append,
 }
 
 impl Permission {
     /// How many permissions there are.
-    pub const COUNT: usize = 5;
+    pub const COUNT: usize = 6;
 
-    /// Every permission, in the order in which a set of them is printed: r w l k m.
+    /// Every permission, in the order in which a set of them is printed: r w l k m a.
     pub const ALL: [Permission; Permission::COUNT] = [
         Permission::Read,
         Permission::Write,
         Permission::Link,
         Permission::Lock,
         Permission::Map,
+        Permission::Append,
     ];
 
     /// The place of the permission in [`Permission::ALL`].
@@ -46,6 +48,7 @@ impl Permission {
             Permission::Link => b'l',
             Permission::Lock => b'k',
             Permission::Map => b'm',
+            Permission::Append => b'a',
         }
     }
 
@@ -59,6 +62,7 @@ impl Permission {
             b'l' => Some(Permission::Link),
             b'k' => Some(Permission::Lock),
             b'm' => Some(Permission::Map),
+            b'a' => Some(Permission::Append),
             _ => None,
         }
     }
@@ -80,6 +84,7 @@ pub struct Perms {
     link: bool,
     lock: bool,
     map: bool,
+    append: bool,
 }
 
 impl Perms {
@@ -90,6 +95,7 @@ impl Perms {
         link: false,
         lock: false,
         map: false,
+        append: false,
     };
 
     /// Whether the permission is in the set.
@@ -102,6 +108,7 @@ impl Perms {
             Permission::Link => self.link,
             Permission::Lock => self.lock,
             Permission::Map => self.map,
+            Permission::Append => self.append,
         }
     }
 
@@ -125,6 +132,10 @@ impl Perms {
             Permission::Link => Perms { link: true, ..self },
             Permission::Lock => Perms { lock: true, ..self },
             Permission::Map => Perms { map: true, ..self },
+            Permission::Append => Perms {
+                append: true,
+                ..self
+            },
         }
     }
 
@@ -147,7 +158,26 @@ impl Perms {
             link: self.link && !other.link,
             lock: self.lock && !other.lock,
             map: self.map && !other.map,
+            append: self.append && !other.append,
         }
+    }
+
+    /// What a rule with these letters holds: their permissions, and append if write is among them, since who may write may
+    /// append (apparmor.d(5), "Access Modes Details", on append as a limited write access; apparmor_parser gives `w` both).
+    pub fn held(self) -> Perms
+        ensures { result ≡ held self }
+    {
+        Perms {
+            append: self.append || self.write,
+            ..self
+        }
+    }
+
+    /// Whether no rule may have these letters: append and write conflict (apparmor.d(5), "Access Modes").
+    pub fn conflict(self) -> bool
+        ensures { result ≡ conflicts self }
+    {
+        self.write && self.append
     }
 
     /// The set that a word of letters stands for, in any order, a repeated letter counting once.

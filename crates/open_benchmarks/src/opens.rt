@@ -1,11 +1,10 @@
 //! The opens of sessions, in a thread each.
-use names::{Errno, Permission, Perms};
+use names::{Errno, Permission, Perms, Verdict};
 use path_session::{Answer, Session};
 use std::io;
 use std::rt::Clock;
 use std::thread::{Threads, map_vec};
 use std::time::{Duration, Instant};
-use verdicts::Verdict;
 
 /// The outcome of some opens.
 #[derive(Clone, Copy)]

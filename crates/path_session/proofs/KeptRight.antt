@@ -16,7 +16,7 @@ use Rattle.justification.specs.Versions.{IsTreeAt}
 use Rattle.profile_registry.proofs.Prefixes.{prefix_self}
 use Rattle.profile_registry.specs.Views.{Reading}
 use Rattle.names.specs.declared.permissions.Perms.{Perms}
-use Rattle.verdicts.specs.declared.verdict.Verdict.{Verdict}
+use Rattle.names.specs.declared.verdict.Verdict.{Verdict}
 use Rattle.verdict_cache.specs.Questions.{Asked, Kept}
 use Rattle.row_rule.specs.declared.count.Busy.{Busy}
 use Rattle.row_rule.specs.declared.view.WalkerView.{WalkerView}

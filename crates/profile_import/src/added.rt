@@ -5,10 +5,9 @@ ghost use Rattle.profile_import.specs.Restated.{restated_at, restated_rules};
 
 use crate::placed::{PlacedRule, push_restated};
 use import_paths::{imported_paths, imported_paths_can_be_read};
-use names::{NoMemory, Permission, Perms};
+use names::{NoMemory, Permission, Perms, RuleKind};
 use std::alloc::Global;
 use subject_rules::{AppliesTo, RuleShape, Subject};
-use verdicts::RuleKind;
 
 /// Adds what one of these rules is restated as.
 fn push_added(

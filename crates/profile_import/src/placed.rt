@@ -3,12 +3,11 @@ ghost use Rattle.std.specs.Prelude.{◌≡◌, ◌++◌, ◌∷◌, [], IfOk, Al
 ghost use Rattle.rule_profile.specs.Readable.{is_path};
 ghost use Rattle.profile_import.specs.inner.Gathering.{one_too_many, restated_values};
 
-use names::{NoMemory, Perms};
+use names::{NoMemory, Perms, RuleKind};
 use rule_globs::RulePath;
 use rule_profile::Rule;
 use std::marker::Model;
-use subject_rules::{RuleShape, Subject, restated_perms};
-use verdicts::RuleKind;
+use subject_rules::{RuleShape, Subject, fitting_letters, restated_perms};
 
 /// The maximum number of rules of a profile.
 const MAX_RULES: usize = 1024;
@@ -37,17 +36,17 @@ impl PlacedRule {
     ghost use Rattle.std.specs.Prelude.{◌≡◌, true, IsTrue};
     ghost use Rattle.rule_profile.specs.Readable.{is_path, is_rule};
     ghost use Rattle.rule_profile.specs.Profile.{rule_value};
-    ghost use Rattle.subject_rules.specs.Restating.{has_some};
+    ghost use Rattle.subject_rules.specs.Restating.{fitting_letters, has_some};
 
-    /// Returns the rule of this kind with these permissions and this path.
+    /// Returns the rule of this kind and this path that holds what a rule with these permissions holds.
     fn new(place: usize, kind: RuleKind, perms: Perms, path: RulePath) -> PlacedRule
         requires some { has_some perms ≡ true }
         requires readable { IsTrue (is_path path) }
-        ensures { result ≡ record { place = place; value = record { kind = kind; perms = perms; items = path } } }
+        ensures { result ≡ record { place = place; value = record { kind = kind; perms = fitting_letters perms; items = path } } }
     {
         PlacedRule {
             place,
-            rule: Rule::new(kind, perms, path),
+            rule: Rule::new(kind, fitting_letters(perms), path),
         }
     }
 

@@ -58,11 +58,11 @@ fn has_some(perms: Perms) -> bool
     Permission::ALL.iter().any(|p| perms.contains(*p))
 }
 
-/// Whether the rule could be read: it has some permission, and a path that could be read.
+/// Whether the rule could be read: it has some permission and no two that conflict, and a path that could be read.
 fn is_rule(rule: &Rule) -> bool
     ensures { result ≡ is_rule (rule_value rule.now) }
 {
-    has_some(rule.perms()) && is_path(rule.items())
+    has_some(rule.perms()) && !rule.perms().conflict() && is_path(rule.items())
 }
 
 fn are_rules(rules: &[Rule]) -> bool
@@ -77,7 +77,7 @@ fn are_rules(rules: &[Rule]) -> bool
 }
 
 /// The profile of this name and these rules, if some text is read as it: the name is one, there are at most 1,024 rules, and
-/// each has a permission and a path that could be read. Then its canonical text is read as it.
+/// each has a permission, no two that conflict, and a path that could be read. Then its canonical text is read as it.
 pub fn profile_of(name: Vec<u8>, rules: Vec<Rule>) -> Option<Profile>
     ensures some { MatchOption result (is_profile (record { name = name.items; rules = map rule_value rules.items }) ≡ false)
         (λ p. profile_value p ≡ record { name = name.items; rules = map rule_value rules.items }) }

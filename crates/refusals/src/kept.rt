@@ -1,5 +1,5 @@
 //! Verdicts kept in a small cache, and looked for.
-use names::{LONGEST_PATH, NoMemory, Permission, Perms};
+use names::{LONGEST_PATH, NoMemory, Permission, Perms, Verdict};
 use path_lookup::NAME_ROOM;
 use refusal_parts::{Call, Difference, How, Stop, again, expect, expect_ok};
 use std::alloc::Global;
@@ -7,7 +7,6 @@ use std::fmt;
 use std::io::Print;
 use std::num::NonZeroUsize;
 use verdict_cache::{Question, VerdictCache};
-use verdicts::Verdict;
 
 /// The paths of the questions: more than the cache has room for.
 const PATHS: [&[u8]; 4] = [b"/a", b"/a/path/with/more/components", b"/b", b"/c/d"];

@@ -1,7 +1,6 @@
 //! A text read, written, compiled, packed and made images of, and the images loaded.
 ghost use Rattle.std.specs.Prelude.{IfOk};
 ghost use Rattle.tables.specs.Bounds.{InBounds};
-ghost use Rattle.tables.specs.Images.{FitsVersion1};
 ghost use Rattle.tables.specs.Tables.{table_value};
 
 use glob_automaton::{CompileFault, Dfa, compile};
@@ -82,8 +81,7 @@ fn show_chained<R: Print>(rt: &R, alloc: Global, dfa: &Dfa) -> Result<(), Stop> 
 }
 
 fn packed(alloc: Global, dfa: &Dfa) -> Result<RawTable, Difference>
-    ensures bounds { IfOk result (λ table. InBounds (table_value table)) }
-    ensures fits { IfOk result (λ table. FitsVersion1 (table_value table)) }
+    ensures { IfOk result (λ table. InBounds (table_value table)) }
 {
     again(Call::Pack, NoMemory, || pack(alloc, dfa))
 }
@@ -98,10 +96,13 @@ fn packed_chained(alloc: Global, dfa: &Dfa) -> Result<RawTable, Difference>
     )
 }
 
+// No rule of the text has append alone, so version 1 can hold its tables.
 fn first_image_of(alloc: Global, table: &RawTable) -> Result<Vec<u8>, Difference>
-    requires bounds { InBounds (table_value table.now) }
-    requires fits { FitsVersion1 (table_value table.now) }
+    requires { InBounds (table_value table.now) }
 {
+    if !table.fits_version_1() {
+        return Err(Difference::new(Call::Pack, How::Answers));
+    }
     again(Call::ToBytesV1, NoMemory, || to_bytes_v1(alloc, table))
 }
 

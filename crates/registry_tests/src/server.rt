@@ -1,14 +1,13 @@
 //! What a server does: it has one publisher, and a reader for each thread.
 use crate::testing::{compiled, new_publisher};
 use matcher::{AnyProfile, judge};
-use names::{NoMemory, Permission, Perms};
+use names::{NoMemory, Permission, Perms, Verdict};
 use profile_registry::{NoSeat, PolicyReader, Publisher};
 use std::alloc::Global;
 use std::process::Abort;
 use std::sync::{Arc, Mutex, MutexGuard, Wait};
 use std::test::Fail;
 use std::thread::{Threads, join};
-use verdicts::Verdict;
 
 // The answer to a request.
 #[derive(Clone, Copy, Debug, PartialEq, Eq)]

@@ -9,7 +9,7 @@ use Rattle.names.specs.Permissions.{set_of}
 use Rattle.rule_globs.specs.Rules.{RuleValue}
 use Rattle.rule_profile.specs.declared.profile.Rule.{Rule}
 use Rattle.rule_profile.specs.Profile.{rule_value}
-use Rattle.verdicts.specs.declared.kind.RuleKind.TheVariants.{Allow}
+use Rattle.names.specs.declared.kind.RuleKind.TheVariants.{Allow}
 
 -- a rule that says nothing, used where there is none
 abbrev pub nothing : RuleValue

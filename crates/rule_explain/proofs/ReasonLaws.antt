@@ -13,8 +13,8 @@ use Rattle.rule_globs.specs.PlainVerdict.{takes}
 use Rattle.rule_globs.specs.Rules.{RuleValue, pattern, holds}
 use Rattle.rule_globs.specs.Verdict.{Hits, IsLeast, IsRuleAt}
 use Rattle.rule_globs.proofs.Cuts.{by_cuts}
-use Rattle.verdicts.specs.declared.kind.RuleKind.{RuleKind}
-use Rattle.verdicts.specs.declared.kind.RuleKind.TheVariants.{Allow, Deny}
+use Rattle.names.specs.declared.kind.RuleKind.{RuleKind}
+use Rattle.names.specs.declared.kind.RuleKind.TheVariants.{Allow, Deny}
 use Rattle.rule_explain.specs.declared.reason.Reason.{Reason}
 use Rattle.rule_explain.specs.declared.reason.Reason.TheVariants.{Allowed, Denied, NoRule}
 use Rattle.rule_explain.specs.Reasons.{NoHit, IsReason, is_kind, hits, first_hit, reason_by, reason}

@@ -5,9 +5,9 @@ use Rattle.names.specs.declared.permissions.Perms.{Perms}
 use Rattle.names.specs.Permissions.{has}
 use Rattle.rule_globs.specs.Rules.{RuleValue}
 use Rattle.rule_globs.specs.Verdict.{IsLeast, IsVerdict, Hits, Denies}
-use Rattle.verdicts.specs.declared.kind.RuleKind.TheVariants.{Allow}
-use Rattle.verdicts.specs.declared.verdict.Verdict.{Verdict}
-use Rattle.verdicts.specs.declared.verdict.Verdict.TheVariants as verdicts
+use Rattle.names.specs.declared.kind.RuleKind.TheVariants.{Allow}
+use Rattle.names.specs.declared.verdict.Verdict.{Verdict}
+use Rattle.names.specs.declared.verdict.Verdict.TheVariants as verdicts
 use Rattle.rule_explain.specs.declared.reason.Reason.{Reason}
 use Rattle.rule_explain.specs.declared.reason.Reason.TheVariants.{Allowed, Denied, NoRule}
 use Rattle.rule_explain.specs.Reasons.{IsReason, reason}

@@ -8,7 +8,7 @@ use Rattle.rule_globs.specs.PlainVerdict.{verdict}
 use Rattle.rule_profile.specs.declared.profile.Span.{Span}
 use Rattle.rule_profile.specs.Profile.{RuleValue}
 use Rattle.rule_writer.specs.Canonical.{rule_text}
-use Rattle.verdicts.specs.VerdictText.{verdict_text}
+use Rattle.names.specs.VerdictText.{verdict_text}
 use Rattle.rule_explain.specs.declared.reason.Reason.{Reason}
 use Rattle.rule_explain.specs.declared.reason.Reason.TheVariants.{Allowed, Denied, NoRule}
 use Rattle.rule_explain.specs.Places.{place_at}

@@ -5,8 +5,8 @@ use Rattle.names.specs.declared.permissions.Perms.{Perms}
 use Rattle.names.specs.Permissions.{has}
 use Rattle.rule_globs.specs.Rules.{RuleValue}
 use Rattle.rule_globs.specs.Verdict.{IsLeast}
-use Rattle.verdicts.specs.declared.verdict.Verdict.{Verdict}
-use Rattle.verdicts.specs.declared.verdict.Verdict.TheVariants as verdicts
+use Rattle.names.specs.declared.verdict.Verdict.{Verdict}
+use Rattle.names.specs.declared.verdict.Verdict.TheVariants as verdicts
 use Rattle.rule_explain.specs.declared.reason.Reason.{Reason}
 use Rattle.rule_explain.specs.declared.reason.Reason.TheVariants.{Allowed, Denied, NoRule}
 use Rattle.rule_explain.specs.Reasons.{reason}

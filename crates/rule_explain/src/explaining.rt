@@ -5,17 +5,16 @@ ghost use Rattle.rule_explain.specs.Explanations.{explanation, reason_text, rule
 ghost use Rattle.rule_explain.specs.inner.Numbers.{TellsRuleOf};
 ghost use Rattle.rule_profile.specs.Profile.{rule_value, profile_value};
 ghost use Rattle.rule_profile.specs.RuleSpans.{profile_spans, rule_span};
-ghost use Rattle.verdicts.specs.VerdictText.{verdict_text};
+ghost use Rattle.names.specs.VerdictText.{verdict_text};
 
 use crate::hits::firsts_of;
 use crate::place::place_at;
 use crate::reason::Reason;
-use names::{NoMemory, Permission, Perms};
+use names::{NoMemory, Permission, Perms, Verdict};
 use rule_judge::judge_slow;
 use rule_profile::{Profile, Rule};
 use rule_writer::write_rule;
 use std::alloc::Global;
-use verdicts::Verdict;
 
 /// Says what a profile makes of a name and of the permissions that are asked for it, and why: a line with the verdict, and for each
 /// permission that is asked a line with the least rule that denies it, or otherwise the least that allows it, by its number, its

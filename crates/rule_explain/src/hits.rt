@@ -1,7 +1,7 @@
 //! The reasons of all permissions, in one pass over the rules.
 ghost use Rattle.std.specs.Prelude.{◌≡◌, ◌↔◌, IsTrue, None};
 ghost use Rattle.names.specs.declared.permissions.Permission.{Permission as SomePermission};
-ghost use Rattle.names.specs.Permissions.{has, Shares};
+ghost use Rattle.names.specs.Permissions.{has, held, Shares};
 ghost use Rattle.rule_globs.specs.PlainVerdict.{takes};
 ghost use Rattle.rule_globs.specs.Rules.{pattern};
 ghost use Rattle.rule_profile.specs.Profile.{rule_value, profile_value};
@@ -9,10 +9,9 @@ ghost use Rattle.rule_explain.specs.Reasons.{reason, reason_by};
 ghost use Rattle.rule_explain.specs.inner.Firsts.{with_first, with_hit, hits_of};
 
 use crate::reason::Reason;
-use names::{Permission, Perms};
+use names::{Permission, Perms, RuleKind};
 use rule_globs::takes_by_cuts;
 use rule_profile::{Profile, Rule};
-use verdicts::RuleKind;
 
 /// The first deny rule so far, and the first allow rule, that hold a permission and take the name.
 #[derive(Clone, Copy)]
@@ -77,6 +76,7 @@ pub(crate) struct Firsts {
     link: FirstHits,
     lock: FirstHits,
     map: FirstHits,
+    append: FirstHits,
 }
 
 impl Firsts {
@@ -90,6 +90,7 @@ impl Firsts {
             link: FirstHits::NONE,
             lock: FirstHits::NONE,
             map: FirstHits::NONE,
+            append: FirstHits::NONE,
         }
     }
 
@@ -105,6 +106,9 @@ impl Firsts {
             link: self.link.with(perms.contains(Permission::Link), kind, rule),
             lock: self.lock.with(perms.contains(Permission::Lock), kind, rule),
             map: self.map.with(perms.contains(Permission::Map), kind, rule),
+            append: self
+                .append
+                .with(perms.contains(Permission::Append), kind, rule),
         }
     }
 
@@ -118,6 +122,7 @@ impl Firsts {
             Permission::Link => self.link,
             Permission::Lock => self.lock,
             Permission::Map => self.map,
+            Permission::Append => self.append,
         }
     }
 
@@ -131,10 +136,10 @@ impl Firsts {
 
 /// Whether a rule holds something that is asked and takes the name.
 fn concerns(rule: &Rule, name: &[u8], ask: Perms) -> bool
-    ensures { IsTrue result ↔ (Shares ask (rule_value rule.now).perms × IsTrue (takes (pattern (rule_value rule.now)) name.now)) }
+    ensures { IsTrue result ↔ (Shares ask (held (rule_value rule.now).perms) × IsTrue (takes (pattern (rule_value rule.now)) name.now)) }
 {
     takes_by_cuts();
-    ask.intersects(rule.perms()) && rule.path().takes(name)
+    ask.intersects(rule.perms().held()) && rule.path().takes(name)
 }
 
 /// The first rules of the permissions that are asked, by one pass over all rules.
@@ -145,7 +150,7 @@ pub(crate) fn firsts_of(profile: &Profile, name: &[u8], ask: Perms) -> Firsts
     let mut firsts = Firsts::none();
     for (i, rule) in profile.rules().iter().enumerate() {
         if concerns(rule, name, ask) {
-            firsts = firsts.with(rule.perms(), rule.kind(), i as u16 + 1);
+            firsts = firsts.with(rule.perms().held(), rule.kind(), i as u16 + 1);
         }
     }
     firsts

@@ -1,13 +1,13 @@
 //! Why a permission is allowed to a name, or not.
 ghost use Rattle.std.specs.Prelude.{◌≡◌, List, option_map, position, map};
+ghost use Rattle.rule_globs.specs.Rules.{holds};
 ghost use Rattle.rule_profile.specs.Profile.{rule_value, profile_value};
 ghost use Rattle.rule_explain.specs.Reasons.{first_hit, hits, reason, IsReason};
 
 use crate::laws::reasons_are_right;
-use names::Permission;
+use names::{Permission, RuleKind};
 use rule_globs::takes_by_cuts;
 use rule_profile::{Profile, Rule};
-use verdicts::RuleKind;
 
 /// Why a permission is allowed to a name or not, by the rules that hold it and take the name. Rules are counted from 1 in the
 /// order of the text.
@@ -21,12 +21,19 @@ pub enum Reason {
     NoRule,
 }
 
+/// Whether a rule holds the permission.
+fn holds(rule: &Rule, permission: Permission) -> bool
+    ensures { result ≡ holds (rule_value rule.now) permission }
+{
+    rule.perms().held().contains(permission)
+}
+
 /// Whether a rule is of this kind, holds the permission and takes the name.
 fn hits(rule: &Rule, kind: RuleKind, permission: Permission, name: &[u8]) -> bool
     ensures { result ≡ hits kind permission name.now (rule_value rule.now) }
 {
     takes_by_cuts();
-    rule.kind() == kind && rule.perms().contains(permission) && rule.path().takes(name)
+    rule.kind() == kind && holds(rule, permission) && rule.path().takes(name)
 }
 
 /// The number of the first rule that does.

@@ -1,24 +1,19 @@
 -- At most one verdict is right.
 use Rattle.std.proofs.Common.{◌≡◌, ℕ, Bool, true, false, ◌↔◌, List, IsTrue, refl, sym, ap, arith}
 use Rattle.names.specs.declared.permissions.Permission.{Permission}
-use Rattle.names.specs.declared.permissions.Permission.TheVariants.{Read, Write, Link, Lock, Map}
 use Rattle.names.specs.declared.permissions.Perms.{Perms}
 use Rattle.names.specs.Permissions.{has}
+use Rattle.names.proofs.PermsTests.{same_perms}
 use Rattle.rule_globs.specs.Rules.{RuleValue}
 use Rattle.rule_globs.specs.Verdict.{IsVerdict}
-use Rattle.verdicts.specs.declared.verdict.Verdict.{Verdict}
-use Rattle.verdicts.specs.declared.verdict.Verdict.TheVariants.{Denied, NoRule, Allowed}
+use Rattle.names.specs.declared.verdict.Verdict.{Verdict}
+use Rattle.names.specs.declared.verdict.Verdict.TheVariants.{Denied, NoRule, Allowed}
 
 same_test : (a b : Bool) {A : Type 0} → (IsTrue a ↔ A) → (IsTrue b ↔ A) → a ≡ b
 same_test true true f g = refl
 same_test true false f g = sym (g.1 (f.0 refl))
 same_test false true f g = f.1 (g.0 refl)
 same_test false false f g = refl
-
-same_perms : (s t : Perms) → ((p : Permission) → has s p ≡ has t p) → s ≡ t
-same_perms s t h =
-    let a = h Read in let b = h Write in let c = h Link in let d = h Lock in let e = h Map in
-    λ i. record { read = a i; write = b i; link = c i; lock = d i; map = e i }
 
 pub one_verdict : (rules : List RuleValue) (name : List ℕ) (ask : Perms) (v w : Verdict) →
     IsVerdict rules name ask v → IsVerdict rules name ask w → v ≡ w

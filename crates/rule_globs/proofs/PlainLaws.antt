@@ -9,15 +9,15 @@ use Rattle.std.proofs.lemmas.List.Quantifiers.{position-Some}
 use Rattle.std.proofs.lemmas.List.Sums.{fails_before_first}
 use Rattle.names.specs.declared.permissions.Permission.{Permission}
 use Rattle.names.specs.declared.permissions.Perms.{Perms}
-use Rattle.names.specs.Permissions.{has, set_of, all_permissions}
+use Rattle.names.specs.Permissions.{has, held, set_of, all_permissions}
 use Rattle.rule_globs.specs.Glob.{Takes}
-use Rattle.rule_globs.specs.Rules.{RuleValue, pattern}
+use Rattle.rule_globs.specs.Rules.{RuleValue, holds, pattern}
 use Rattle.rule_globs.specs.Verdict.{IsRuleAt, Hits, Denies, IsLeast, IsMissing, IsVerdict, IsAllowed}
 use Rattle.rule_globs.specs.inner.RuleHits.{HitsSome}
 use Rattle.rule_globs.specs.PlainVerdict.{is_deny, denies, allows, missing, verdict, takes}
-use Rattle.verdicts.specs.declared.kind.RuleKind.{RuleKind}
-use Rattle.verdicts.specs.declared.kind.RuleKind.TheVariants.{Allow, Deny}
-use Rattle.verdicts.specs.declared.verdict.Verdict.TheVariants.{Denied, NoRule, Allowed}
+use Rattle.names.specs.declared.kind.RuleKind.{RuleKind}
+use Rattle.names.specs.declared.kind.RuleKind.TheVariants.{Allow, Deny}
+use Rattle.names.specs.declared.verdict.Verdict.TheVariants.{Denied, NoRule, Allowed}
 use Rattle.rule_globs.proofs.Cuts.{by_cuts}
 use Rattle.names.proofs.PermsLaws.{has-set_of, shares_by_any, found, one_found, has-only, only_one}
 
@@ -33,24 +33,24 @@ allow_kind Deny h = let e : ⊥ = cc (h) in absurd e
 denies_says : (name : List ℕ) (ask : Perms) (rule : RuleValue) →
     IsTrue (denies name ask rule) ↔ ((rule.kind ≡ Deny) × HitsSome rule name ask)
 denies_says name ask rule = (
-  λ h. let outer = and_parts (is_deny rule.kind && list_any (λ p. has ask p && has rule.perms p) all_permissions)
+  λ h. let outer = and_parts (is_deny rule.kind && list_any (λ p. has ask p && holds rule p) all_permissions)
       (takes (pattern rule) name) h in
-      let inner = and_parts (is_deny rule.kind) (list_any (λ p. has ask p && has rule.perms p) all_permissions) outer.0 in
-      (deny_kind rule.kind inner.0, ((shares_by_any ask rule.perms).0 inner.1, (by_cuts (pattern rule) name).0 outer.1)),
-  λ h. and_from (is_deny rule.kind && list_any (λ p. has ask p && has rule.perms p) all_permissions) (takes (pattern rule) name)
-      (and_from (is_deny rule.kind) (list_any (λ p. has ask p && has rule.perms p) all_permissions) (ap is_deny h.0)
-      ((shares_by_any ask rule.perms).1 h.1.0))
+      let inner = and_parts (is_deny rule.kind) (list_any (λ p. has ask p && holds rule p) all_permissions) outer.0 in
+      (deny_kind rule.kind inner.0, ((shares_by_any ask (held rule.perms)).0 inner.1, (by_cuts (pattern rule) name).0 outer.1)),
+  λ h. and_from (is_deny rule.kind && list_any (λ p. has ask p && holds rule p) all_permissions) (takes (pattern rule) name)
+      (and_from (is_deny rule.kind) (list_any (λ p. has ask p && holds rule p) all_permissions) (ap is_deny h.0)
+      ((shares_by_any ask (held rule.perms)).1 h.1.0))
       ((by_cuts (pattern rule) name).1 h.1.1),
 )
 
 allows_says : (name : List ℕ) (p : Permission) (rule : RuleValue) →
-    IsTrue (allows name p rule) ↔ ((rule.kind ≡ Allow) × IsTrue (has rule.perms p) × Takes (pattern rule) name)
+    IsTrue (allows name p rule) ↔ ((rule.kind ≡ Allow) × IsTrue (holds rule p) × Takes (pattern rule) name)
 allows_says name p rule = (
-  λ h. let outer = and_parts (not (is_deny rule.kind) && has rule.perms p) (takes (pattern rule) name) h in
-      let inner = and_parts (not (is_deny rule.kind)) (has rule.perms p) outer.0 in
+  λ h. let outer = and_parts (not (is_deny rule.kind) && holds rule p) (takes (pattern rule) name) h in
+      let inner = and_parts (not (is_deny rule.kind)) (holds rule p) outer.0 in
       (allow_kind rule.kind inner.0, inner.1, (by_cuts (pattern rule) name).0 outer.1),
-  λ h. and_from (not (is_deny rule.kind) && has rule.perms p) (takes (pattern rule) name)
-      (and_from (not (is_deny rule.kind)) (has rule.perms p) (ap (λ k. not (is_deny k)) h.0) h.1)
+  λ h. and_from (not (is_deny rule.kind) && holds rule p) (takes (pattern rule) name)
+      (and_from (not (is_deny rule.kind)) (holds rule p) (ap (λ k. not (is_deny k)) h.0) h.1)
       ((by_cuts (pattern rule) name).1 h.2),
 )
 

@@ -6,10 +6,10 @@ use Rattle.names.specs.declared.permissions.Perms.{Perms}
 use Rattle.names.specs.Permissions.{has, set_of, all_permissions}
 use Rattle.rule_globs.specs.Glob.{Glob, empty, one, run, cat, none, alt, fits}
 use Rattle.rule_globs.specs.Rules.{RuleValue, pattern, holds}
-use Rattle.verdicts.specs.declared.kind.RuleKind.{RuleKind}
-use Rattle.verdicts.specs.declared.kind.RuleKind.TheVariants.{Allow, Deny}
-use Rattle.verdicts.specs.declared.verdict.Verdict.{Verdict}
-use Rattle.verdicts.specs.declared.verdict.Verdict.TheVariants.{Denied, NoRule, Allowed}
+use Rattle.names.specs.declared.kind.RuleKind.{RuleKind}
+use Rattle.names.specs.declared.kind.RuleKind.TheVariants.{Allow, Deny}
+use Rattle.names.specs.declared.verdict.Verdict.{Verdict}
+use Rattle.names.specs.declared.verdict.Verdict.TheVariants.{Denied, NoRule, Allowed}
 
 -- each way to cut a list in two
 abbrev pub cuts : List ℕ → List (List ℕ × List ℕ)

@@ -2,10 +2,10 @@
 use Rattle.std.specs.Prelude.{ℕ, Bool, List}
 use Rattle.names.specs.declared.permissions.Permission.{Permission}
 use Rattle.names.specs.declared.permissions.Perms.{Perms}
-use Rattle.names.specs.Permissions.{has}
+use Rattle.names.specs.Permissions.{has, held}
 use Rattle.rule_globs.specs.Glob.{Glob}
 use Rattle.rule_globs.specs.Tokens.{Token, pattern_of}
-use Rattle.verdicts.specs.declared.kind.RuleKind.{RuleKind}
+use Rattle.names.specs.declared.kind.RuleKind.{RuleKind}
 
 pub record RuleValue : Type 0 where
   pub kind : RuleKind
@@ -17,9 +17,9 @@ pub record RuleValue : Type 0 where
 abbrev pub pattern : RuleValue → Glob
 pattern rule = pattern_of rule.items
 
--- the rule holds the permission: it is among its letters
+-- the rule holds the permission: it is among its letters, or it is append and write is among them
 abbrev pub holds : RuleValue → Permission → Bool
-holds rule p = has rule.perms p
+holds rule p = has (held rule.perms) p
 
 pub record ProfileValue : Type 0 where
   pub name : List ℕ

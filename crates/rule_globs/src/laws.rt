@@ -8,8 +8,8 @@ ghost use Rattle.rule_globs.specs.Follow.{Starts, TakesAt, Goes};
 ghost use Rattle.rule_globs.specs.PlainVerdict.{takes, verdict};
 ghost use Rattle.rule_globs.specs.Rules.{RuleValue};
 ghost use Rattle.rule_globs.specs.Verdict.{IsVerdict, IsAllowed, Hits};
-ghost use Rattle.verdicts.specs.declared.kind.RuleKind.TheVariants.{Allow, Deny};
-ghost use Rattle.verdicts.specs.declared.verdict.Verdict.{Verdict};
+ghost use Rattle.names.specs.declared.kind.RuleKind.TheVariants.{Allow, Deny};
+ghost use Rattle.names.specs.declared.verdict.Verdict.{Verdict};
 
 /// A pattern takes bytes exactly where its end is live after them.
 pub fn end_is_live()

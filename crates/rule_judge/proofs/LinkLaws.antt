@@ -1,21 +1,22 @@
 -- Links, by what their names are allowed.
-use Rattle.std.proofs.Common.{subst, ◌≡◌, ◌≢◌, Bool, true, false, ◌&&◌, ◌||◌, ◌==◌, ◌↔◌, ℕ, List, IsTrue, refl, sym, ap, ◌∙◌, true≢false}
+use Rattle.std.proofs.Common.{subst, ◌≡◌, ◌≢◌, Bool, true, false, ◌&&◌, ◌||◌, ◌==◌, ◌↔◌, ℕ, List, IsTrue, refl, sym, ap, ◌∙◌}
+use Rattle.std.proofs.Common.{eq-eqb, true≢false}
 use Rattle.std.specs.Prelude.{not, if◌then◌else◌}
 use Rattle.std.specs.List.{list_any}
-use Rattle.std.proofs.lemmas.Bool.{cases_Bool}
+use Rattle.std.proofs.lemmas.Bool.{cases_Bool, eqb-true}
 use mathlib.Core.Logic.{⊎_elim}
 use Rattle.names.specs.declared.permissions.Permission.{Permission}
-use Rattle.names.specs.declared.permissions.Permission.TheVariants.{Read, Write, Link, Lock, Map}
+use Rattle.names.specs.declared.permissions.Permission.TheVariants.{Link}
 use Rattle.names.specs.declared.permissions.Perms.{Perms}
 use Rattle.names.specs.Permissions.{has, only, letter, with_permission, all_permissions}
 use Rattle.rule_judge.specs.Linking.{is_allowed, allowed, extra, widening, link_verdict, IsSubset}
 use Rattle.rule_judge.specs.declared.linking.LinkVerdict.TheVariants.{Refused, Wider, Fine}
-use Rattle.verdicts.specs.declared.verdict.Verdict.{Verdict}
-use Rattle.verdicts.specs.declared.verdict.Verdict.TheVariants.{Denied, NoRule, Allowed}
+use Rattle.names.specs.declared.verdict.Verdict.{Verdict}
+use Rattle.names.specs.declared.verdict.Verdict.TheVariants.{Denied, NoRule, Allowed}
 use Rattle.rule_profile.specs.Profile.{RuleValue}
 use Rattle.rule_globs.specs.PlainVerdict.{verdict}
 use Rattle.rule_globs.specs.Verdict.{IsVerdict, IsAllowed}
-use Rattle.names.proofs.PermsLaws.{has-set_of, found, one_found}
+use Rattle.names.proofs.PermsLaws.{has-set_of, found, one_found, same_letter}
 
 -- a set without members widens nothing
 pub widening_nothing : (s : Perms) → ((p : Permission) → has s p ≡ false) → Fine ≡ widening s
@@ -40,11 +41,8 @@ extra_of old new p =
     ∙ ap (λ (b : Bool). has new p && not b) (has-set_of (λ q. has old q || (letter q == letter Link)) p)
 
 link_letter : (p : Permission) → p ≢ Link → (letter p == letter Link) ≡ false
-link_letter Read other = refl
-link_letter Write other = refl
-link_letter Link other = absurd (other refl)
-link_letter Lock other = refl
-link_letter Map other = refl
+link_letter p other = ⊎_elim (λ is. absurd (other (same_letter p Link (eqb-true (letter p) (letter Link) is)))) (λ f. f)
+    (cases_Bool (letter p == letter Link))
 
 held : (a b : Bool) → a ≡ true → (a && not (b || false)) ≡ false → b ≡ true
 held true true is none = refl
@@ -73,12 +71,16 @@ not_link old new p subset other =
     ∙ ap (λ (b : Bool). has new p && not (has old p || b)) (link_letter p other)
     ∙ none_extra (has new p) (has old p) (subset p other)
 
+-- link itself is never extra
+link_is_none : (old new : Perms) (p : Permission) → (letter p == letter Link) ≡ true → has (extra old new) p ≡ false
+link_is_none old new p is =
+    extra_of old new p ∙ ap (λ (b : Bool). has new p && not (has old p || b)) is ∙ linked (has new p) (has old p)
+
 pub nothing_extra : (old new : Perms) → IsSubset old new → (p : Permission) → has (extra old new) p ≡ false
-nothing_extra old new subset Read = not_link old new Read subset (λ e. absurd (cc e))
-nothing_extra old new subset Write = not_link old new Write subset (λ e. absurd (cc e))
-nothing_extra old new subset Link = extra_of old new Link ∙ linked (has new Link) (has old Link)
-nothing_extra old new subset Lock = not_link old new Lock subset (λ e. absurd (cc e))
-nothing_extra old new subset Map = not_link old new Map subset (λ e. absurd (cc e))
+nothing_extra old new subset p = ⊎_elim
+    (λ is. link_is_none old new p is)
+    (λ f. not_link old new p subset (λ is. true≢false (sym (eq-eqb (letter p) (letter Link) (ap letter is)) ∙ f)))
+    (cases_Bool (letter p == letter Link))
 
 wider_is_fine : (s : Perms) → Wider s ≡ Fine → ⊥
 wider_is_fine s e = absurd (cc e)

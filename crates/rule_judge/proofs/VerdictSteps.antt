@@ -8,11 +8,12 @@ use Rattle.names.specs.declared.permissions.Perms.{Perms}
 use Rattle.names.specs.Permissions.{has, set_of}
 use Rattle.rule_globs.specs.Glob.{Takes}
 use Rattle.rule_profile.specs.Profile.{RuleValue, pattern, rule_value}
+use Rattle.rule_globs.specs.Rules.{holds}
 use Rattle.rule_globs.specs.Verdict.{IsRuleAt, Hits, Denies, IsLeast, IsMissing}
 use Rattle.rule_globs.specs.inner.RuleHits.{HitsSome}
 use Rattle.rule_profile.specs.declared.profile.Rule.{Rule}
-use Rattle.verdicts.specs.declared.kind.RuleKind.{RuleKind}
-use Rattle.verdicts.specs.declared.kind.RuleKind.TheVariants.{Allow, Deny}
+use Rattle.names.specs.declared.kind.RuleKind.{RuleKind}
+use Rattle.names.specs.declared.kind.RuleKind.TheVariants.{Allow, Deny}
 use Rattle.names.proofs.PermsLaws.{has-set_of}
 
 -- what is missing by the rules up to this number
@@ -37,9 +38,9 @@ rule_at rules values i r lt e same =
 
 -- a hit of that rule is one of its own permissions, asked or not
 hit_of : (rules : List RuleValue) (kind : RuleKind) (p : Permission) (name : List ℕ) (n : ℕ) (r : RuleValue) → IsRuleAt rules n r →
-    Hits rules kind p name n → (r.kind ≡ kind) × IsTrue (has r.perms p) × Takes (pattern r) name
+    Hits rules kind p name n → (r.kind ≡ kind) × IsTrue (holds r p) × Takes (pattern r) name
 hit_of rules kind p name n r at h =
-    let P : RuleValue → Type 0 = λ z. (z.kind ≡ kind) × IsTrue (has z.perms p) × Takes (pattern z) name in
+    let P : RuleValue → Type 0 = λ z. (z.kind ≡ kind) × IsTrue (holds z p) × Takes (pattern z) name in
     subst P (same_rule rules n h.0 r h.1 at) (h.2, h.3, h.4)
 
 module _ (rules : List RuleValue) (name : List ℕ) (ask : Perms) where
@@ -79,25 +80,25 @@ module _ (rules : List RuleValue) (name : List ℕ) (ask : Perms) where
   )
 
   pub missing-allow : (i : ℕ) (r : RuleValue) (s t : Perms) (p : Permission) → IsRuleAt rules (i + 1) r → r.kind ≡ Allow →
-      HitsSome r name ask → t ≡ set_of (λ q. has s q && not (has r.perms q)) → (IsTrue (has s p) ↔ IsMissingAfter rules name ask i p) →
+      HitsSome r name ask → t ≡ set_of (λ q. has s q && not (holds r q)) → (IsTrue (has s p) ↔ IsMissingAfter rules name ask i p) →
       IsTrue (has t p) ↔ IsMissingAfter rules name ask (i + 1) p
   missing-allow i r s t p at allow some less now =
-      let is : has t p ≡ (has s p && not (has r.perms p)) = ap (λ z. has z p) less
-      ∙ has-set_of (λ q. has s q && not (has r.perms q)) p in (
-        λ h. let both = and_parts (has s p) (not (has r.perms p)) (sym is ∙ h) in let w = now.0 both.0 in (
+      let is : has t p ≡ (has s p && not (holds r p)) = ap (λ z. has z p) less
+      ∙ has-set_of (λ q. has s q && not (holds r q)) p in (
+        λ h. let both = and_parts (has s p) (not (holds r p)) (sym is ∙ h) in let w = now.0 both.0 in (
           w.0,
           λ n le hit. ⊎_elim
               (λ t. w.1 n t hit)
               (λ t. let own = hit_of rules Allow p name (i + 1) r at (subst (λ z. Hits rules Allow p name z) t hit) in
-              true≢false (sym own.1 ∙ not-true (has r.perms p) both.1))
+              true≢false (sym own.1 ∙ not-true (holds r p) both.1))
               (upto i n le),
         ),
-        λ h. is ∙ and_from (has s p) (not (has r.perms p))
+        λ h. is ∙ and_from (has s p) (not (holds r p))
             (now.1 (h.0, λ n le hit. h.1 n (omega arith) hit))
             (⊎_elim
             (λ t. absurd (h.1 (i + 1) (omega arith) (r, at, allow, t, some.1)))
-            (λ t. not_from_false (has r.perms p) t)
-            (cases_Bool (has r.perms p))),
+            (λ t. not_from_false (holds r p) t)
+            (cases_Bool (holds r p))),
       )
 
   pub denied : (i : ℕ) (r : RuleValue) → IsRuleAt rules (i + 1) r → r.kind ≡ Deny → HitsSome r name ask → IsQuiet i →

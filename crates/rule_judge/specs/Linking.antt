@@ -8,11 +8,11 @@ use Rattle.names.specs.declared.permissions.Perms.{Perms}
 use Rattle.names.specs.Permissions.{has, set_of, only, with_permission, all_permissions, letters}
 use Rattle.rule_profile.specs.Profile.{RuleValue}
 use Rattle.rule_globs.specs.PlainVerdict.{verdict}
-use Rattle.verdicts.specs.VerdictText.{verdict_text}
+use Rattle.names.specs.VerdictText.{verdict_text}
 use Rattle.rule_judge.specs.declared.linking.LinkVerdict.{LinkVerdict}
 use Rattle.rule_judge.specs.declared.linking.LinkVerdict.TheVariants.{Refused, Wider, Fine}
-use Rattle.verdicts.specs.declared.verdict.Verdict.{Verdict}
-use Rattle.verdicts.specs.declared.verdict.Verdict.TheVariants.{Denied, NoRule, Allowed}
+use Rattle.names.specs.declared.verdict.Verdict.{Verdict}
+use Rattle.names.specs.declared.verdict.Verdict.TheVariants.{Denied, NoRule, Allowed}
 
 abbrev pub is_allowed : Verdict → Bool
 is_allowed Allowed = true

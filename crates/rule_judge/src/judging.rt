@@ -4,16 +4,15 @@ ghost use Rattle.rule_globs.specs.inner.RuleHits.{HitsSome};
 ghost use Rattle.rule_globs.specs.Verdict.{IsVerdict};
 ghost use Rattle.rule_globs.specs.PlainVerdict.{verdict};
 
-use names::Perms;
+use names::{Perms, RuleKind, Verdict};
 use rule_globs::one_verdict_is_right;
 use rule_profile::{Profile, Rule};
-use verdicts::{RuleKind, Verdict};
 
 /// Whether the rule matches the name and holds something that is asked.
 fn hits(rule: &Rule, name: &[u8], ask: Perms) -> bool
     ensures { IsTrue result ↔ HitsSome (rule_value rule.now) name.now ask }
 {
-    ask.intersects(rule.perms()) && rule.path().takes(name)
+    ask.intersects(rule.perms().held()) && rule.path().takes(name)
 }
 
 /// Judges a name by each rule in turn: what the profile says of the permissions that are asked for it
@@ -35,7 +34,7 @@ pub fn judge_slow(profile: &Profile, name: &[u8], ask: Perms) -> Verdict
                 RuleKind::Deny => {
                     return Verdict::Denied { rule: i as u16 + 1 };
                 }
-                RuleKind::Allow => missing = missing.without(rule.perms()),
+                RuleKind::Allow => missing = missing.without(rule.perms().held()),
             }
         }
     }

@@ -7,15 +7,14 @@ ghost use Rattle.rule_judge.specs.Linking.{allowed, is_allowed, widening, link_v
 ghost use Rattle.rule_globs.specs.PlainVerdict.{verdict};
 ghost use Rattle.rule_profile.specs.Profile.{RuleValue, profile_value};
 ghost use Rattle.rule_globs.specs.Verdict.{IsAllowed};
-ghost use Rattle.verdicts.specs.declared.verdict.Verdict.{Verdict};
-ghost use Rattle.verdicts.specs.declared.verdict.Verdict.TheVariants.{Allowed};
+ghost use Rattle.names.specs.declared.verdict.Verdict.{Verdict};
+ghost use Rattle.names.specs.declared.verdict.Verdict.TheVariants.{Allowed};
 
 use crate::judging::judge_slow;
-use names::{Permission, Perms, permissions_are_numbered};
+use names::{Permission, Perms, Verdict, permissions_are_numbered};
 use rule_globs::one_verdict_is_right;
 use rule_profile::Profile;
 use std::fmt;
-use verdicts::Verdict;
 
 /// What the rules say of a hard link (apparmor.d(5), "Access Modes", link mode). It is printed as the verdict on the new
 /// name, as `wider by X`, or as `allowed`.

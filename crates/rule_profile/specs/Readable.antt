@@ -1,7 +1,7 @@
 -- The profiles that some text is read as.
 use Rattle.std.specs.Prelude.{ℕ, List, [], ◌∷◌, length, Bool, true, false, not, ◌&&◌, ◌||◌, ◌==◌, nat_lt, nat_le}
 use Rattle.std.specs.List.{list_all, list_any}
-use Rattle.names.specs.Permissions.{has, all_permissions}
+use Rattle.names.specs.Permissions.{has, all_permissions, conflicts}
 use Rattle.rule_globs.specs.declared.items.ByteRange.{ByteRange}
 use Rattle.rule_globs.specs.Rules.{RuleValue, ProfileValue}
 use Rattle.rule_profile.specs.Limits.{max_items, max_rules, max_depth, max_name}
@@ -67,9 +67,9 @@ begins_with_slash (t ∷ tokens) = is_plain_slash t
 abbrev pub is_path : List Token → Bool
 is_path tokens = begins_with_slash tokens && nat_le (length tokens) max_items && are_tokens false 0 tokens
 
--- some permission, and a path
+-- some permission, no two that conflict, and a path
 abbrev pub is_rule : RuleValue → Bool
-is_rule r = list_any (has r.perms) all_permissions && is_path r.items
+is_rule r = list_any (has r.perms) all_permissions && not (conflicts r.perms) && is_path r.items
 
 -- no more rules than fit
 abbrev pub is_profile : ProfileValue → Bool

@@ -3,9 +3,8 @@ ghost use Rattle.rule_profile.specs.Limits.{max_rules};
 ghost use Rattle.rule_profile.specs.Rules.{rule_value};
 ghost use Rattle.rule_profile.specs.Readable.{is_profile};
 
-use names::Perms;
+use names::{Perms, RuleKind};
 use rule_globs::{Item, RulePath};
-use verdicts::RuleKind;
 
 /// The most rules of a profile.
 pub const MAX_RULES: usize = 1024;
@@ -67,7 +66,7 @@ impl Rule {
         self.kind
     }
 
-    /// The permissions that the rule holds.
+    /// The permissions of the rule's letters. It holds append also if write is among them ([`Perms::held`]).
     pub fn perms(&self) -> Perms
         ensures { result ≡ (rule_value self.now).perms }
     {

@@ -1,28 +1,31 @@
 -- Rules that are written are read back.
-use Rattle.std.proofs.Common.{◌≡◌, ℕ, zero, suc, ◌≤◌, Bool, true, false, eqb, List, [], ◌∷◌, ◌++◌, length, Some, None, Ok, refl, sym, ap}
-use Rattle.std.proofs.Common.{subst, ◌∙◌, append_assoc, inl, inr, ◌==◌, arith}
+use Rattle.std.proofs.Common.{◌≡◌, ◌≢◌, ℕ, zero, suc, ◌≤◌, Bool, true, false, eqb, List, [], ◌∷◌, ◌++◌, length, Some, None, Ok, refl}
+use Rattle.std.proofs.Common.{sym, ap, subst, ◌∙◌, append_assoc, inl, inr, ◌==◌, arith, rules}
 use Rattle.std.specs.Prelude.{◌||◌, codes, if◌then◌else◌}
 use Rattle.std.specs.List.{list_all, list_any}
 use Rattle.std.specs.Str.{bytes_eq}
-use Rattle.std.proofs.lemmas.Bool.{or_cases, or_right, and_parts, eqb-true, ne_eqb}
+use Rattle.std.proofs.lemmas.Bool.{or_right, and_parts, eqb-true, ne_eqb, false_from_ne_true}
 use Rattle.std.proofs.lemmas.Slice.Eq.{bytes_eq-Decides}
+use Rattle.names.specs.declared.permissions.Permission.{Permission}
 use Rattle.names.specs.declared.permissions.Perms.{Perms}
-use Rattle.names.specs.Permissions.{is_letter, perms_of, set_of, letter}
-use Rattle.verdicts.specs.declared.kind.RuleKind.{RuleKind}
-use Rattle.verdicts.specs.declared.kind.RuleKind.TheVariants.{Allow, Deny}
+use Rattle.names.specs.Permissions.{is_letter, perms_of, set_of, letter, conflicts}
+use Rattle.names.specs.declared.kind.RuleKind.{RuleKind}
+use Rattle.names.specs.declared.kind.RuleKind.TheVariants.{Allow, Deny}
 use Rattle.rule_globs.specs.Glob.{is_slash}
 use Rattle.rule_profile.specs.Profile.{RuleValue}
 use Rattle.rule_reader.specs.ReadWords.{blank, gap, word, after_word}
 use Rattle.rule_reader.specs.ReadPaths.{comma_ends, path_at}
-use Rattle.rule_reader.specs.Reading.{perms_at, perms_behind, qualifier_at, start_at, comma_at, body_at, rule_at, rules_at}
+use Rattle.rule_reader.specs.Reading.{perms_at, perms_behind, first_word_at, qualifier_at, start_at, comma_at, body_at}
+use Rattle.rule_reader.specs.Reading.{rule_at, rules_at}
 use Rattle.rule_reader.specs.TextBytes.{begins, opens_blank, is_quote, is_comma, is_arrow, is_close_brace, is_letter_byte, is_word_byte}
 use Rattle.rule_reader.specs.TextBytes.{ends_behind_comma}
 use Rattle.rule_globs.specs.Tokens.{Token}
 use Rattle.rule_reader.specs.GrammarWords.{Piece, white, comment, print_blank, IsBlank, IsGap, Stands}
 use Rattle.rule_reader.specs.GrammarPaths.{WrittenPath, print_path, IsPath, path_means}
 use Rattle.rule_reader.specs.Grammar.{Qualifier, none, allow, deny, print_qualifier, IsQualifier, kind_of, IsWord, WrittenRule, print_body}
-use Rattle.rule_reader.specs.Grammar.{print_rule, CommaEnds, PathStands, IsRule, rule_means, print_rules, behind_rule, AreRules}
-use Rattle.rule_reader.specs.Grammar.{rules_mean}
+use Rattle.rule_reader.specs.Grammar.{print_rule, CommaEnds, PathStands, BeginsNoAll, IsRule, rule_means, print_rules, behind_rule}
+use Rattle.rule_reader.specs.Grammar.{AreRules, rules_mean}
+use Rattle.names.proofs.PermsLaws.{one_found}
 use Rattle.rule_reader.proofs.ReadSteps.{chosen, none_some}
 use Rattle.rule_reader.proofs.ReadRuns.{Passes}
 use Rattle.rule_reader.proofs.AgainWords.{blank_again, gap_again, gap_stops, word_again, after_word_again}
@@ -30,24 +33,36 @@ use Rattle.rule_reader.proofs.AgainPaths.{PathEnds, path_again, path_begins}
 
 -- ---- letters of permissions
 
--- a letter answers a test as the five letters do
-letter_is : (test : ℕ → Bool) (v : Bool) (b : ℕ) → test 114 ≡ v → test 119 ≡ v → test 108 ≡ v → test 107 ≡ v → test 109 ≡ v →
-    is_letter b ≡ true → test b ≡ v
-letter_is test v b h1 h2 h3 h4 h5 h =
-    let P : ℕ → Type 0 = λ x. test x ≡ v in
-    elim (or_cases (114 == b) _ h) [
-      | inl e ↦ subst P (eqb-true 114 b e) h1
-      | inr h ↦ elim (or_cases (119 == b) _ h) [
-        | inl e ↦ subst P (eqb-true 119 b e) h2
-        | inr h ↦ elim (or_cases (108 == b) _ h) [
-          | inl e ↦ subst P (eqb-true 108 b e) h3
-          | inr h ↦ elim (or_cases (107 == b) _ h) [
-            | inl e ↦ subst P (eqb-true 107 b e) h4
-            | inr h ↦ elim (or_cases (109 == b) false h) [ inl e ↦ subst P (eqb-true 109 b e) h5 | inr e ↦ absurd cc ]
-          ]
-        ]
-      ]
-    ]
+-- each letter answers a test so
+abbrev LettersAre : (ℕ → Bool) → Bool → Type 0
+LettersAre test v = (p : Permission) → test (letter p) ≡ v
+
+letter_is : (test : ℕ → Bool) (v : Bool) (b : ℕ) → LettersAre test v → is_letter b ≡ true → test b ≡ v
+letter_is test v b each h =
+    let one = one_found (λ p. letter p == b) h in
+    subst (λ (x : ℕ). test x ≡ v) (eqb-true (letter one.0) b one.1) (each one.0)
+
+-- letters are bytes of words, and begin nothing else
+word_bytes : LettersAre is_word_byte true
+word_bytes = search (rules, arith)
+
+letter_bytes : LettersAre is_letter_byte true
+letter_bytes = search (rules, arith)
+
+no_commas : LettersAre is_comma false
+no_commas = search (rules, arith)
+
+no_dashes : LettersAre (λ x. 45 == x) false
+no_dashes = search (rules, arith)
+
+no_blanks : LettersAre opens_blank false
+no_blanks = search (rules, arith)
+
+no_paths : LettersAre (λ b. is_slash b || is_quote b) false
+no_paths = search (rules, arith)
+
+no_braces : LettersAre is_close_brace false
+no_braces = search (rules, arith)
 
 all_letters : (letters : List ℕ) (perms : Perms) → perms_of letters ≡ Some perms → list_all is_letter letters ≡ true
 all_letters letters perms e =
@@ -60,21 +75,21 @@ letters_pass : (letters : List ℕ) → list_all is_letter letters ≡ true → 
 letters_pass [] h = tt
 letters_pass (b ∷ letters) h =
     let p = and_parts (is_letter b) (list_all is_letter letters) h in
-    (letter_is is_word_byte true b refl refl refl refl refl p.0, letters_pass letters p.1)
+    (letter_is is_word_byte true b word_bytes p.0, letters_pass letters p.1)
 
--- the first letter answers a test as the five letters do
-letters_begin : (test : ℕ → Bool) (v : Bool) (letters : List ℕ) (perms : Perms) (rest : List ℕ) → test 114 ≡ v → test 119 ≡ v →
-    test 108 ≡ v → test 107 ≡ v → test 109 ≡ v → IsWord letters perms → begins test (letters ++ rest) ≡ v
-letters_begin test v [] perms rest h1 h2 h3 h4 h5 h = absurd (omega (arith, h.0))
-letters_begin test v (b ∷ letters) perms rest h1 h2 h3 h4 h5 h =
-    letter_is test v b h1 h2 h3 h4 h5 (and_parts (is_letter b) (list_all is_letter letters) (all_letters (b ∷ letters) perms h.1)).0
+-- the first letter of a word answers a test as each letter does
+letters_begin : (test : ℕ → Bool) (v : Bool) (letters : List ℕ) (perms : Perms) (rest : List ℕ) → LettersAre test v →
+    IsWord letters perms → begins test (letters ++ rest) ≡ v
+letters_begin test v [] perms rest each h = absurd (omega (arith, h.0))
+letters_begin test v (b ∷ letters) perms rest each h =
+    letter_is test v b each (and_parts (is_letter b) (list_all is_letter letters) (all_letters (b ∷ letters) perms h.1)).0
 
 some_letters : (letters : List ℕ) (perms : Perms) → IsWord letters perms → eqb (length letters) 0 ≡ false
 some_letters letters perms h = ne_eqb (length letters) 0 (λ e. omega (arith, h.0))
 
 letters_start : (letters : List ℕ) (perms : Perms) → IsWord letters perms → begins is_letter_byte letters ≡ true
 letters_start [] perms h = absurd (omega (arith, h.0))
-letters_start (b ∷ letters) perms h = letters_begin is_letter_byte true (b ∷ letters) perms [] refl refl refl refl refl h
+letters_start (b ∷ letters) perms h = letters_begin is_letter_byte true (b ∷ letters) perms [] letter_bytes h
 
 letters_word : (letters : List ℕ) (perms : Perms) (rest : List ℕ) → IsWord letters perms → begins is_word_byte rest ≡ false →
     word (letters ++ rest) ≡ letters
@@ -85,15 +100,13 @@ letters_past : (letters : List ℕ) (perms : Perms) (rest : List ℕ) → IsWord
     after_word (letters ++ rest) ≡ rest
 letters_past letters perms rest h s = after_word_again letters rest (letters_pass letters (all_letters letters perms h.1)) s
 
+other_word : (letters w : List ℕ) → letters ≢ w → bytes_eq letters w ≡ false
+other_word letters w other = false_from_ne_true (bytes_eq letters w) (λ e. other ((bytes_eq-Decides letters w).0 e))
+
 -- letters are none of the qualifiers
 no_such_word : (letters w : List ℕ) (perms : Perms) → perms_of letters ≡ Some perms → perms_of w ≡ None → bytes_eq letters w ≡ false
 no_such_word letters w perms h g =
-    let P : (t : Bool) → bytes_eq letters w ≡ t → t ≡ false = λ t. elim t as (λ t. bytes_eq letters w ≡ t → t ≡ false) [
-      | true ↦ λ e. let same : letters ≡ w = (bytes_eq-Decides letters w).0 e in
-          absurd (none_some perms (sym g ∙ ap perms_of (sym same) ∙ h))
-      | false ↦ λ e. refl
-    ] in
-    P (bytes_eq letters w) refl
+    other_word letters w (λ same. none_some perms (sym g ∙ ap perms_of (sym same) ∙ h))
 
 -- ---- permissions
 
@@ -102,16 +115,17 @@ arrow_stops [] s = refl
 arrow_stops (b ∷ bytes) s = rw s refl
 
 perms_steps : (bytes w rest : List ℕ) (perms : Perms) → begins is_comma bytes ≡ false → is_arrow bytes ≡ false → word bytes ≡ w →
-    eqb (length w) 0 ≡ false → perms_of w ≡ Some perms → after_word bytes ≡ rest → perms_at bytes ≡ Ok (perms, rest)
+    eqb (length w) 0 ≡ false → perms_of w ≡ Some perms → conflicts perms ≡ false → after_word bytes ≡ rest → perms_at bytes
+    ≡ Ok (perms, rest)
 unfolding perms_at
-perms_steps bytes w rest perms e1 e2 e3 e4 e5 e6 = rw (e1, e2, e3, e4, e5, e6) refl
+perms_steps bytes w rest perms e1 e2 e3 e4 e5 e6 e7 = rw (e1, e2, e3, e4, e5, e6, e7) refl
 
 perms_again : (letters : List ℕ) (perms : Perms) (rest : List ℕ) → IsWord letters perms → begins is_word_byte rest ≡ false →
     perms_at (letters ++ rest) ≡ Ok (perms, rest)
 perms_again letters perms rest h s =
-    perms_steps (letters ++ rest) letters rest perms (letters_begin is_comma false letters perms rest refl refl refl refl refl h)
-    (arrow_stops (letters ++ rest) (letters_begin (λ x. 45 == x) false letters perms rest refl refl refl refl refl h))
-    (letters_word letters perms rest h s) (some_letters letters perms h) h.1 (letters_past letters perms rest h s)
+    perms_steps (letters ++ rest) letters rest perms (letters_begin is_comma false letters perms rest no_commas h)
+    (arrow_stops (letters ++ rest) (letters_begin (λ x. 45 == x) false letters perms rest no_dashes h))
+    (letters_word letters perms rest h s) (some_letters letters perms h) h.1 h.2 (letters_past letters perms rest h s)
 
 behind_again : (pieces : List Piece) (letters : List ℕ) (perms : Perms) (rest : List ℕ) → IsGap pieces → IsWord letters perms →
     begins is_word_byte rest ≡ false → perms_behind (print_blank pieces ++ (letters ++ rest)) ≡ Ok (perms, rest)
@@ -120,8 +134,7 @@ behind_again pieces letters perms rest g h s =
     let tail : List ℕ = letters ++ rest in
     rw (
       gap_stops is_comma pieces tail refl refl refl refl refl g,
-      gap_again pieces tail g
-          (letters_begin opens_blank false letters perms rest refl refl refl refl refl h),
+      gap_again pieces tail g (letters_begin opens_blank false letters perms rest no_blanks h),
     ) (perms_again letters perms rest h s)
 
 -- ---- what begins a rule
@@ -137,7 +150,7 @@ slash_or_quote p rest h = both_tests is_slash is_quote (print_path p ++ rest) �
 no_slash_or_quote : (letters : List ℕ) (perms : Perms) (rest : List ℕ) → IsWord letters perms →
     (begins is_slash (letters ++ rest) || begins is_quote (letters ++ rest)) ≡ false
 no_slash_or_quote letters perms rest h = both_tests is_slash is_quote (letters ++ rest) ∙ letters_begin (λ b. is_slash b || is_quote b)
-    false letters perms rest refl refl refl refl refl h
+    false letters perms rest no_paths h
 
 start_path_steps : (bytes : List ℕ) → (begins is_slash bytes || begins is_quote bytes) ≡ true → start_at bytes ≡ Ok None
 unfolding start_at
@@ -187,9 +200,9 @@ unfolding body_at
 body_path_steps bytes behind rest path perms e1 e2 e3 = rw (e1, e2, e3) refl
 
 body_perms_steps : (bytes behind from rest : List ℕ) (path : List Token) (perms : Perms) → start_at bytes ≡ Ok (Some (perms, behind)) →
-    gap behind ≡ Ok from → path_at from ≡ Ok (path, rest) → body_at bytes ≡ Ok ((perms, path), rest)
+    conflicts perms ≡ false → gap behind ≡ Ok from → path_at from ≡ Ok (path, rest) → body_at bytes ≡ Ok ((perms, path), rest)
 unfolding body_at
-body_perms_steps bytes behind from rest path perms e1 e2 e3 = rw (e1, e2, e3) refl
+body_perms_steps bytes behind from rest path perms e1 e2 e3 e4 = rw (e1, e2, e3, e4) refl
 
 parts_regrouped : (a b c d : List ℕ) → (a ++ (b ++ c)) ++ d ≡ a ++ (b ++ (c ++ d))
 parts_regrouped a b c d = simp append_assoc
@@ -223,59 +236,58 @@ body_again false r behind more p g w b s =
     ap body_at (parts_regrouped r.letters (print_blank r.gap) (print_path r.path) rest)
     ∙ body_perms_steps (r.letters ++ t1) t1 t2 rest (path_means r.path) r.perms
     (start_perms_steps (r.letters ++ t1) r.letters t1 r.perms (no_slash_or_quote r.letters r.perms t1 w)
-    (letters_word r.letters r.perms t1 w stops) (some_letters r.letters r.perms w) w.1 (letters_past r.letters r.perms t1 w stops))
+    (letters_word r.letters r.perms t1 w stops) (some_letters r.letters r.perms w) w.1 (letters_past r.letters r.perms t1 w stops)) w.2
     (gap_again r.gap t2 g (path_begins r.path rest opens_blank p refl))
     (path_again r.path rest p (rule_ends r.path.quoted r.before_comma behind more b s.0 s.1))
 
 -- the first byte of a body answers a test as a quote, a slash and the letters do
-body_begins : (test : ℕ → Bool) (v : Bool) (first : Bool) (r : WrittenRule) (rest : List ℕ) → test 34 ≡ v → test 47 ≡ v → test 114 ≡ v →
-    test 119 ≡ v → test 108 ≡ v → test 107 ≡ v → test 109 ≡ v → IsPath r.path → IsWord r.letters r.perms
-    → begins test (body_bytes first r ++ rest) ≡ v
-body_begins test v true r rest q s h1 h2 h3 h4 h5 p w =
+body_begins : (test : ℕ → Bool) (v : Bool) (first : Bool) (r : WrittenRule) (rest : List ℕ) → test 34 ≡ v → test 47 ≡ v →
+    LettersAre test v → IsPath r.path → IsWord r.letters r.perms → begins test (body_bytes first r ++ rest) ≡ v
+body_begins test v true r rest q s each p w =
     ap (begins test) (append_assoc (print_path r.path) (print_blank r.gap ++ r.letters) rest) ∙ path_begins r.path
     ((print_blank r.gap ++ r.letters) ++ rest) test p (q ∙ sym s) ∙ s
-body_begins test v false r rest q s h1 h2 h3 h4 h5 p w =
+body_begins test v false r rest q s each p w =
     ap (begins test) (append_assoc r.letters (print_blank r.gap ++ print_path r.path) rest) ∙ letters_begin test v r.letters r.perms
-    ((print_blank r.gap ++ print_path r.path) ++ rest) h1 h2 h3 h4 h5 w
+    ((print_blank r.gap ++ print_path r.path) ++ rest) each w
 
 -- ---- qualifiers
 
 no_qualifier : (bytes w : List ℕ) → word bytes ≡ w → bytes_eq w (codes "allow") ≡ false → bytes_eq w (codes "deny") ≡ false →
-    qualifier_at bytes ≡ Ok (Allow, bytes)
-unfolding qualifier_at
-no_qualifier bytes w e1 e2 e3 = rw (e1, e2, e3) refl
+    bytes_eq w (codes "all") ≡ false → qualifier_at bytes ≡ Ok (Allow, bytes)
+unfolding qualifier_at first_word_at
+no_qualifier bytes w e1 e2 e3 e4 = rw (e1, e2, e3, e4) refl
 
 allow_steps : (bytes from : List ℕ) → word bytes ≡ codes "allow" → gap (after_word bytes) ≡ Ok from → qualifier_at bytes ≡ Ok (Allow, from)
-unfolding qualifier_at
+unfolding qualifier_at first_word_at
 allow_steps bytes from e1 e2 = rw (e1, e2) refl
 
 deny_steps : (bytes from : List ℕ) → word bytes ≡ codes "deny" → gap (after_word bytes) ≡ Ok from → qualifier_at bytes ≡ Ok (Deny, from)
-unfolding qualifier_at
+unfolding qualifier_at first_word_at
 deny_steps bytes from e1 e2 = rw (e1, e2) refl
 
 no_word : (bytes : List ℕ) → begins is_letter_byte bytes ≡ false → word bytes ≡ []
 no_word bytes s = rw s refl
 
 bare_again : (first : Bool) (r : WrittenRule) (rest : List ℕ) → IsPath r.path → IsGap r.gap → IsWord r.letters r.perms →
-    qualifier_at (body_bytes first r ++ rest) ≡ Ok (Allow, body_bytes first r ++ rest)
-bare_again true r rest p g w =
+    BeginsNoAll none first r.letters → qualifier_at (body_bytes first r ++ rest) ≡ Ok (Allow, body_bytes first r ++ rest)
+bare_again true r rest p g w other =
     let s : begins is_letter_byte (body_bytes true r ++ rest) ≡ false =
     ap (begins is_letter_byte) (append_assoc (print_path r.path) (print_blank r.gap ++ r.letters) rest) ∙ path_begins r.path
     ((print_blank r.gap ++ r.letters) ++ rest) is_letter_byte p refl in
-    no_qualifier (body_bytes true r ++ rest) [] (no_word (body_bytes true r ++ rest) s) refl refl
-bare_again false r rest p g w =
+    no_qualifier (body_bytes true r ++ rest) [] (no_word (body_bytes true r ++ rest) s) refl refl refl
+bare_again false r rest p g w other =
     let t : List ℕ = print_blank r.gap ++ (print_path r.path ++ rest) in
     let s : begins is_word_byte t ≡ false = gap_stops is_word_byte r.gap (print_path r.path ++ rest) refl refl refl refl refl g in
     let e : word (body_bytes false r ++ rest) ≡ r.letters =
     ap word (parts_regrouped r.letters (print_blank r.gap) (print_path r.path) rest) ∙ letters_word r.letters r.perms t w s in
     no_qualifier (body_bytes false r ++ rest) r.letters e (no_such_word r.letters (codes "allow") r.perms w.1 refl)
-    (no_such_word r.letters (codes "deny") r.perms w.1 refl)
+    (no_such_word r.letters (codes "deny") r.perms w.1 refl) (other_word r.letters (codes "all") other)
 
 qualifier_again : (q : Qualifier) (first : Bool) (r : WrittenRule) (rest : List ℕ) → IsQualifier q → IsPath r.path → IsGap r.gap →
-    IsWord r.letters r.perms
+    IsWord r.letters r.perms → BeginsNoAll q first r.letters
     → qualifier_at (print_qualifier q ++ (body_bytes first r ++ rest)) ≡ Ok (kind_of q, body_bytes first r ++ rest)
-qualifier_again none first r rest h p g w = bare_again first r rest p g w
-qualifier_again (allow pieces) first r rest h p g w =
+qualifier_again none first r rest h p g w other = bare_again first r rest p g w other
+qualifier_again (allow pieces) first r rest h p g w other =
     let body : List ℕ = body_bytes first r ++ rest in
     let s : begins is_word_byte (print_blank pieces ++ body) ≡ false = gap_stops is_word_byte pieces body refl refl refl refl refl h in
     let e1 : word (codes "allow" ++ (print_blank pieces ++ body)) ≡ codes "allow" = word_again (codes "allow") (print_blank pieces ++ body)
@@ -283,10 +295,10 @@ qualifier_again (allow pieces) first r rest h p g w =
     let e2 : after_word (codes "allow" ++ (print_blank pieces ++ body)) ≡ print_blank pieces ++ body = after_word_again (codes "allow")
     (print_blank pieces ++ body) (refl, (refl, (refl, (refl, (refl, tt))))) s in
     let e3 : gap (print_blank pieces ++ body) ≡ Ok body =
-    gap_again pieces body h (body_begins opens_blank false first r rest refl refl refl refl refl refl refl p w) in
+    gap_again pieces body h (body_begins opens_blank false first r rest refl refl no_blanks p w) in
     ap qualifier_at (append_assoc (codes "allow") (print_blank pieces) body) ∙ allow_steps (codes "allow" ++ (print_blank pieces ++ body))
     body e1 (ap gap e2 ∙ e3)
-qualifier_again (deny pieces) first r rest h p g w =
+qualifier_again (deny pieces) first r rest h p g w other =
     let body : List ℕ = body_bytes first r ++ rest in
     let s : begins is_word_byte (print_blank pieces ++ body) ≡ false = gap_stops is_word_byte pieces body refl refl refl refl refl h in
     let e1 : word (codes "deny" ++ (print_blank pieces ++ body)) ≡ codes "deny" = word_again (codes "deny") (print_blank pieces ++ body)
@@ -294,7 +306,7 @@ qualifier_again (deny pieces) first r rest h p g w =
     let e2 : after_word (codes "deny" ++ (print_blank pieces ++ body)) ≡ print_blank pieces ++ body = after_word_again (codes "deny")
     (print_blank pieces ++ body) (refl, (refl, (refl, (refl, tt)))) s in
     let e3 : gap (print_blank pieces ++ body) ≡ Ok body =
-    gap_again pieces body h (body_begins opens_blank false first r rest refl refl refl refl refl refl refl p w) in
+    gap_again pieces body h (body_begins opens_blank false first r rest refl refl no_blanks p w) in
     ap qualifier_at (append_assoc (codes "deny") (print_blank pieces) body) ∙ deny_steps (codes "deny" ++ (print_blank pieces ++ body))
     body e1 (ap gap e2 ∙ e3)
 
@@ -315,7 +327,7 @@ rule_again r behind more h =
     let t : List ℕ = past_body r (behind ++ more) in
     ap rule_at (rule_regrouped (print_qualifier r.qualifier) (print_body r) (print_blank r.before_comma) (behind ++ more))
     ∙ rule_steps (print_qualifier r.qualifier ++ (print_body r ++ t)) (print_body r ++ t) t (behind ++ more) (kind_of r.qualifier) r.perms
-    (path_means r.path) (qualifier_again r.qualifier r.path_first r t h.qualifier h.path h.gap h.word)
+    (path_means r.path) (qualifier_again r.qualifier r.path_first r t h.qualifier h.path h.gap h.word h.first_word)
     (body_again r.path_first r behind more h.path h.gap h.word h.before_comma h.stands)
     (comma_again r.before_comma (behind ++ more) h.before_comma)
 
@@ -327,12 +339,11 @@ qualifier_stops test (allow pieces) rest a d h = a
 qualifier_stops test (deny pieces) rest a d h = d
 
 rule_stops : (test : ℕ → Bool) (r : WrittenRule) (behind rest : List ℕ) → test 97 ≡ false → test 100 ≡ false → test 34 ≡ false →
-    test 47 ≡ false → test 114 ≡ false → test 119 ≡ false → test 108 ≡ false → test 107 ≡ false → test 109 ≡ false → IsRule behind r
-    → begins test (print_rule r ++ rest) ≡ false
-rule_stops test r behind rest a d q s h1 h2 h3 h4 h5 h =
+    test 47 ≡ false → LettersAre test false → IsRule behind r → begins test (print_rule r ++ rest) ≡ false
+rule_stops test r behind rest a d q s each h =
     ap (begins test) (rule_regrouped (print_qualifier r.qualifier) (print_body r) (print_blank r.before_comma) rest)
     ∙ qualifier_stops test r.qualifier (print_body r ++ past_body r rest) a d (body_begins test false r.path_first r (past_body r rest) q s
-    h1 h2 h3 h4 h5 h.path h.word)
+    each h.path h.word)
 
 -- ---- rules
 
@@ -345,8 +356,8 @@ pub rules_no_blank : (rules : List WrittenRule) (rest : List ℕ) → AreRules r
 rules_no_blank [] rest h = refl
 rules_no_blank (r ∷ rules) rest h =
     ap (begins opens_blank) (append_assoc (print_rule r) (print_blank r.past ++ print_rules rules) (125 ∷ rest))
-    ∙ rule_stops opens_blank r (behind_rule r rules) ((print_blank r.past ++ print_rules rules) ++ 125 ∷ rest) refl refl refl refl refl
-    refl refl refl refl h.0
+    ∙ rule_stops opens_blank r (behind_rule r rules) ((print_blank r.past ++ print_rules rules) ++ 125 ∷ rest)
+    refl refl refl refl no_blanks h.0
 
 rules_steps : (room : ℕ) (bytes behind from rest : List ℕ) (first : RuleValue) (others : List RuleValue) → begins is_close_brace bytes
     ≡ false → rule_at bytes ≡ Ok (first, behind) → blank behind ≡ Ok from → rules_at room from ≡ Ok (others, rest)
@@ -369,5 +380,5 @@ rules_again (suc room) (r ∷ rules) rest h few =
     (rule_again r (behind_rule r rules) rest h.0) in
     ap (rules_at (suc room)) (parts_regrouped (print_rule r) (print_blank r.past) (print_rules rules) (125 ∷ rest))
     ∙ rules_steps room (print_rule r ++ behind) behind tail rest (rule_means r) (rules_mean rules)
-    (rule_stops is_close_brace r (behind_rule r rules) behind refl refl refl refl refl refl refl refl refl h.0) first
+    (rule_stops is_close_brace r (behind_rule r rules) behind refl refl refl refl no_braces h.0) first
     (blank_again r.past tail h.0.past (rules_no_blank rules rest h.1)) (rules_again room rules rest h.1 (omega arith))

@@ -7,7 +7,7 @@ use Rattle.std.specs.List.{list_all, list_any}
 use Rattle.std.proofs.lemmas.Bool.{and_parts, and_from, or_parts, eqb-true, ne_eqb, not-true, not_from_false, lt-ltb, le-leb, ltb-false}
 use Rattle.std.proofs.lemmas.Bool.{or_left, eq-eqb}
 use Rattle.names.specs.declared.permissions.Perms.{Perms}
-use Rattle.names.specs.Permissions.{letter, has, set_of, is_letter, all_permissions}
+use Rattle.names.specs.Permissions.{letter, has, set_of, is_letter, all_permissions, conflicts}
 use Rattle.rule_globs.specs.declared.items.ByteRange.{ByteRange}
 use Rattle.rule_reader.specs.Grammar.{IsWord, WrittenRule, IsRule, rule_means, AreRules, rules_mean, behind_rule, WrittenHeader, named}
 use Rattle.rule_reader.specs.Grammar.{by_path, IsHeader, header_means, WrittenText, IsText, text_means, ReadsAs}
@@ -274,8 +274,9 @@ word_some (b ∷ letters) perms h =
     ]
 
 rule_is_rule : (behind : List ℕ) (r : WrittenRule) → IsRule behind r → is_rule (rule_means r) ≡ true
-rule_is_rule behind r h = and_from (list_any (has r.perms) all_permissions) (is_path (path_means r.path))
-    (word_some r.letters r.perms h.word) (path_is_path r.path h.path)
+rule_is_rule behind r h = and_from (list_any (has r.perms) all_permissions && not (conflicts r.perms)) (is_path (path_means r.path))
+    (and_from (list_any (has r.perms) all_permissions) (not (conflicts r.perms)) (word_some r.letters r.perms h.word)
+    (not_from_false (conflicts r.perms) h.word.2)) (path_is_path r.path h.path)
 
 rules_are_rules : (rules : List WrittenRule) → AreRules rules → list_all is_rule (rules_mean rules) ≡ true
 rules_are_rules [] h = refl

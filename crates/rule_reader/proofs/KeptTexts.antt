@@ -5,10 +5,10 @@ use Rattle.std.specs.Prelude.{◌||◌, codes, drop, if◌then◌else◌}
 use Rattle.std.specs.List.{list_all}
 use Rattle.std.proofs.lemmas.Bool.{ne_eqb, eqb-true, not-false}
 use Rattle.names.specs.declared.permissions.Perms.{Perms}
-use Rattle.names.specs.Permissions.{perms_of}
+use Rattle.names.specs.Permissions.{perms_of, conflicts}
 use Rattle.rule_reader.specs.declared.fault.ReadFault.{ReadFault}
-use Rattle.verdicts.specs.declared.kind.RuleKind.{RuleKind}
-use Rattle.verdicts.specs.declared.kind.RuleKind.TheVariants.{Allow, Deny}
+use Rattle.names.specs.declared.kind.RuleKind.{RuleKind}
+use Rattle.names.specs.declared.kind.RuleKind.TheVariants.{Allow, Deny}
 use Rattle.rule_reader.specs.declared.reading.local_fault.FaultKind.TheVariants as kinds
 use Rattle.rule_reader.specs.declared.reading.local_fault.LocalFault.{LocalFault}
 use Rattle.rule_globs.specs.Glob.{is_slash}
@@ -16,9 +16,9 @@ use Rattle.rule_profile.specs.Profile.{RuleValue, ProfileValue}
 use Rattle.rule_reader.specs.ReadFaults.{Refused, IsSettled}
 use Rattle.rule_reader.specs.ReadHeader.{header_at}
 use Rattle.rule_reader.specs.ReadPaths.{path_at, path_in}
-use Rattle.rule_reader.specs.Reading.{is_mode, perms_at, perms_behind, qualifier_at, start_at, comma_at, body_at, rule_at, rule_begins}
-use Rattle.rule_reader.specs.Reading.{rules_at, end_at, text_at, outcome_of}
-use Rattle.rule_reader.specs.ReadSteps.{◌>>=◌, goes_on, fault_here, syntax, fault_of}
+use Rattle.rule_reader.specs.Reading.{is_mode, perms_at, perms_behind, first_word_at, qualifier_at, start_at, comma_at}
+use Rattle.rule_reader.specs.Reading.{body_at, rule_at, rule_begins, rules_at, end_at, text_at, outcome_of}
+use Rattle.rule_reader.specs.ReadSteps.{◌>>=◌, goes_on, fault_here, fault_with_left, syntax, fault_of}
 use Rattle.rule_reader.specs.ReadWords.{blank, gap, word, after_word, is_word, fault_of_word, word_left_out}
 use Rattle.rule_reader.specs.TextBytes.{begins, is_quote, is_comma, is_close_brace, is_arrow, is_letter_byte}
 use Rattle.rule_globs.specs.Tokens.{Token}
@@ -38,9 +38,11 @@ no_dash b h = ne_eqb 45 b (λ e. let same : is_letter_byte 45 ≡ is_letter_byte
 -- permissions, or a fault of the word, where the end ends the word
 open_perms : (bytes : List ℕ) (perms : Option Perms) (t : Bool) → after_word bytes ≡ []
     → claims (λ (x : Perms × List ℕ). goes_on x.1)
-    (elim perms [ Some p ↦ Ok (p, after_word bytes) | None ↦ cond t (word_left_out bytes) (fault_of_word kinds.Permission bytes) ])
-    ≡ false
-open_perms bytes (Some p) t e = rw e refl
+    (elim perms [
+      | Some p ↦ cond (conflicts p) (fault_of_word kinds.Conflict bytes) (Ok (p, after_word bytes))
+      | None ↦ cond t (word_left_out bytes) (fault_of_word kinds.Permission bytes)
+    ]) ≡ false
+open_perms bytes (Some p) t e = by_test (conflicts p) (λ c. rw (c, e) refl) (λ c. rw (c, e) refl)
 open_perms bytes None true e = rw e refl
 open_perms bytes None false e = rw e refl
 
@@ -56,7 +58,8 @@ perms_kept (b ∷ bytes) more =
     let arrow = no_dash b letter in
     rw (same, arrow) (kept_if (length (word here) == 0) (λ _. stays) (λ _.
     kept_option _ _ (perms_of (word here)) (faults (fault_if (list_all is_mode (word here)) stop_is stop_is)
-    (fault_if (list_all is_mode (word (here ++ more))) stop_is stop_is)) (λ perms. known (λ _. ap (with_rest perms) past)))))
+    (fault_if (list_all is_mode (word (here ++ more))) stop_is stop_is)) (λ perms.
+    kept_if (conflicts perms) (λ _. stays) (λ _. known (λ _. ap (with_rest perms) past))))))
     (λ letter past some.
     let arrow = no_dash b letter in
     nothing (rw (arrow, some) (open_perms here (perms_of (word here)) (list_all is_mode (word here)) past))))
@@ -80,29 +83,55 @@ abbrev word_over : List ℕ → Bool
 word_over [] = false
 word_over (b ∷ bytes) = cond (is_letter_byte b) (goes_on (after_word (b ∷ bytes))) true
 
-open_qualifier : (b : ℕ) (bytes : List ℕ) (s t : Bool) → is_letter_byte b ≡ true → after_word (b ∷ bytes) ≡ []
-    → claims (λ (x : RuleKind × List ℕ). word_over x.1) (cond s (gap (after_word (b ∷ bytes)) >>= λ from. Ok (Allow, from))
-    (cond t (gap (after_word (b ∷ bytes)) >>= λ from. Ok (Deny, from)) (Ok (Allow, b ∷ bytes)))) ≡ false
-open_qualifier b bytes true t letter past = rw past refl
-open_qualifier b bytes false true letter past = rw past refl
-open_qualifier b bytes false false letter past = rw (letter, past) refl
+-- the same value if there is one, with more left over
+abbrev option_more : {V : Type 0} → List ℕ → Option (V × List ℕ) → Option (V × List ℕ)
+option_more more None = None
+option_more more (Some x) = Some (then_more more x)
 
-qualifier_kept : (bytes more : List ℕ) → Kept (then_more more) (λ x. word_over x.1) (qualifier_at bytes) (qualifier_at (bytes ++ more))
-unfolding qualifier_at
-qualifier_kept [] more = nothing refl
-qualifier_kept (b ∷ bytes) more =
+abbrev first_over : List ℕ → Option (RuleKind × List ℕ) → Bool
+first_over bytes None = word_over bytes
+first_over bytes (Some x) = goes_on x.1
+
+-- a first word that ends at the text's end, by whether it is allow, deny or all
+open_first : (b : ℕ) (bytes : List ℕ) (s t u : Bool) → is_letter_byte b ≡ true → after_word (b ∷ bytes) ≡ []
+    → claims (first_over (b ∷ bytes)) (cond s (Ok (Some (Allow, after_word (b ∷ bytes))))
+    (cond t (Ok (Some (Deny, after_word (b ∷ bytes)))) (cond u (word_left_out (b ∷ bytes)) (Ok None)))) ≡ false
+open_first b bytes true t u letter past = rw past refl
+open_first b bytes false true u letter past = rw past refl
+open_first b bytes false false true letter past = rw past refl
+open_first b bytes false false false letter past = rw (letter, past) refl
+
+first_kept : (bytes more : List ℕ) → Kept (option_more more) (first_over bytes) (first_word_at bytes) (first_word_at (bytes ++ more))
+unfolding first_word_at
+first_kept [] more = nothing refl
+first_kept (b ∷ bytes) more =
     let here : List ℕ = b ∷ bytes in
     word_cases b bytes more
     (λ other. rw other (known (λ _. refl)))
     (λ letter same past. rw (same, past) (
-    kept_if (is_word (codes "allow") here) (λ _. after_bytes _ _ (gap_kept (after_word here) more) (λ from. known (λ _. refl)) refl) (λ _.
-    kept_if (is_word (codes "deny") here) (λ _. after_bytes _ _ (gap_kept (after_word here) more) (λ from. known (λ _. refl)) refl) (λ _.
-    known (λ _. refl)))))
-    (λ letter past some. nothing (open_qualifier b bytes (is_word (codes "allow") here) (is_word (codes "deny") here) letter past))
+    kept_if (is_word (codes "allow") here) (λ _. known (λ _. refl)) (λ _.
+    kept_if (is_word (codes "deny") here) (λ _. known (λ _. refl)) (λ _.
+    kept_if (is_word (codes "all") here) (λ _. stays) (λ _. known (λ _. refl))))))
+    (λ letter past some. nothing
+    (open_first b bytes (is_word (codes "allow") here) (is_word (codes "deny") here) (is_word (codes "all") here) letter past))
 
-abbrev start_more : List ℕ → Option (Perms × List ℕ) → Option (Perms × List ℕ)
-start_more more None = None
-start_more more (Some x) = Some (then_more more x)
+abbrev by_first : List ℕ → Option (RuleKind × List ℕ) → Result (RuleKind × List ℕ) LocalFault
+by_first bytes first = elim first [ Some qualifier ↦ gap qualifier.1 >>= λ from. Ok (qualifier.0, from) | None ↦ Ok (Allow, bytes) ]
+
+by_first_kept : (bytes more : List ℕ) (first : Option (RuleKind × List ℕ)) → Kept (then_more more) (λ x. word_over x.1)
+    (by_first bytes first) (by_first (bytes ++ more) (option_more more first))
+by_first_kept bytes more None = known (λ _. refl)
+by_first_kept bytes more (Some q) = after_bytes _ _ (gap_kept q.1 more) (λ from. known (λ _. refl)) refl
+
+by_first_none : (bytes : List ℕ) (first : Option (RuleKind × List ℕ)) → first_over bytes first ≡ false →
+    claims (λ x. word_over x.1) (by_first bytes first) ≡ false
+by_first_none bytes None e = e
+by_first_none bytes (Some q) e = ends_here (λ r. claims (λ x. word_over x.1) (by_first bytes (Some (q.0, r))) ≡ false) q.1 e refl
+
+qualifier_kept : (bytes more : List ℕ) → Kept (then_more more) (λ x. word_over x.1) (qualifier_at bytes) (qualifier_at (bytes ++ more))
+unfolding qualifier_at
+qualifier_kept bytes more = kept_bind (by_first bytes) (by_first (bytes ++ more)) (first_kept bytes more)
+    (λ first _. by_first_kept bytes more first) (by_first_none bytes)
 
 abbrev start_over : Option (Perms × List ℕ) → Bool
 start_over None = true
@@ -129,7 +158,7 @@ start_none (b ∷ bytes) h =
     rw (slash, quote, some) (open_start here (perms_of (word here)) past))
     (λ other. both (rw other at h))
 
-start_kept : (bytes more : List ℕ) → Kept (start_more more) start_over (start_at bytes) (start_at (bytes ++ more))
+start_kept : (bytes more : List ℕ) → Kept (option_more more) start_over (start_at bytes) (start_at (bytes ++ more))
 unfolding start_at
 start_kept [] more = nothing refl
 start_kept (b ∷ bytes) more =
@@ -182,17 +211,22 @@ perms_body_kept perms more =
     after_bytes _ _ (gap_kept perms.1 more) (λ from. kept_bind _ _ (path_kept from more) (λ path _. known (λ _. refl)) (λ path e. e)) refl
 
 abbrev rest_body : List ℕ → Option (Perms × List ℕ) → Result Body LocalFault
-rest_body bytes start = elim start [ None ↦ path_body bytes | Some perms ↦ perms_body perms ]
+rest_body bytes start = elim start [
+  | None ↦ path_body bytes
+  | Some perms ↦ cond (conflicts perms.0) (fault_with_left kinds.Conflict (length bytes) perms.1) (perms_body perms)
+]
 
 rest_body_kept : (bytes more : List ℕ) (start : Option (Perms × List ℕ)) → Kept (then_more more) body_over (rest_body bytes start)
-    (rest_body (bytes ++ more) (start_more more start))
+    (rest_body (bytes ++ more) (option_more more start))
 rest_body_kept bytes more None = path_body_kept bytes more
-rest_body_kept bytes more (Some perms) = perms_body_kept perms more
+rest_body_kept bytes more (Some perms) = kept_if (conflicts perms.0) (λ _. stays) (λ _. perms_body_kept perms more)
 
 rest_body_none : (bytes : List ℕ) (start : Option (Perms × List ℕ)) → start_over start ≡ false →
     claims body_over (rest_body bytes start) ≡ false
 rest_body_none bytes None e = both e
-rest_body_none bytes (Some perms) e = ends_here (λ r. claims body_over (perms_body (perms.0, r)) ≡ false) perms.1 e refl
+rest_body_none bytes (Some perms) e =
+    ends_here (λ r. claims body_over (rest_body bytes (Some (perms.0, r))) ≡ false) perms.1 e
+    (by_test (conflicts perms.0) (λ c. rw c refl) (λ c. rw c refl))
 
 body_kept : (bytes more : List ℕ) → Kept (then_more more) body_over (body_at bytes) (body_at (bytes ++ more))
 unfolding body_at
@@ -226,7 +260,7 @@ too_many bytes (Ok x) = stop_is
 too_many bytes (Err s) = stop_is
 
 rules_none : (room : ℕ) → claims some_over (rules_at room []) ≡ false
-unfolding rules_at rule_begins rule_at qualifier_at body_at start_at
+unfolding rules_at rule_begins rule_at first_word_at qualifier_at body_at start_at
 rules_none zero = refl
 rules_none (suc room) = refl
 

@@ -10,7 +10,6 @@ pub mod AgainTexts
 pub mod CanonTrees
 pub mod ReadCodeWords
 pub mod ReadLoops
-pub mod ReadCodeRules
 pub mod ReadCodePaths
 pub mod ReadCodeText
 pub mod TakeWords

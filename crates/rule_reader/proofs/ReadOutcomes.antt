@@ -94,6 +94,7 @@ told_not_memory kinds.Group offset e = cc
 told_not_memory kinds.Depth offset e = cc
 told_not_memory kinds.TooManyRules offset e = cc
 told_not_memory kinds.TooManyItems offset e = cc
+told_not_memory kinds.Conflict offset e = cc
 
 pub never_memory : (text : List ℕ) → FaultsAs text faults.NoMemory → ⊥
 unfolding outcome_of

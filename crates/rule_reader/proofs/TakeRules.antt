@@ -1,27 +1,28 @@
 -- Rules: what is read is in the grammar.
 use Rattle.std.proofs.Common.{◌≡◌, ℕ, zero, suc, ◌≤◌, ◌<◌, Bool, true, false, cond, List, [], ◌∷◌, ◌++◌, length, drop, Option, Some, None}
-use Rattle.std.proofs.Common.{Result, Ok, refl, sym, ap, subst, ◌∙◌, append_assoc, inl, inr, ◌==◌, arith}
+use Rattle.std.proofs.Common.{Result, Ok, refl, sym, ap, subst, ◌∙◌, append_assoc, inl, inr, ◌==◌, arith, true≢false}
 use Rattle.std.specs.Prelude.{◌||◌, codes, if◌then◌else◌}
 use Rattle.std.specs.List.{list_all}
 use Rattle.std.proofs.lemmas.Bool.{eqb-false}
 use Rattle.std.proofs.lemmas.List.{length-append}
+use Rattle.std.proofs.lemmas.Slice.Eq.{bytes_eq-Decides}
 use Rattle.names.specs.declared.permissions.Perms.{Perms}
-use Rattle.names.specs.Permissions.{perms_of}
-use Rattle.verdicts.specs.declared.kind.RuleKind.{RuleKind}
-use Rattle.verdicts.specs.declared.kind.RuleKind.TheVariants.{Allow, Deny}
+use Rattle.names.specs.Permissions.{perms_of, conflicts}
+use Rattle.names.specs.declared.kind.RuleKind.{RuleKind}
+use Rattle.names.specs.declared.kind.RuleKind.TheVariants.{Allow, Deny}
 use Rattle.rule_reader.specs.declared.reading.local_fault.LocalFault.{LocalFault}
 use Rattle.rule_reader.specs.declared.reading.local_fault.FaultKind.TheVariants as kinds
 use Rattle.rule_globs.specs.Glob.{is_slash}
 use Rattle.rule_reader.specs.Grammar.{Qualifier, none, allow, deny, print_qualifier, IsQualifier, kind_of, IsWord, WrittenRule, print_rule}
-use Rattle.rule_reader.specs.Grammar.{CommaEnds, PathStands, IsRule, rule_means, print_rules, AreRules, rules_mean}
+use Rattle.rule_reader.specs.Grammar.{CommaEnds, PathStands, BeginsNoAll, IsRule, rule_means, print_rules, AreRules, rules_mean}
 use Rattle.rule_reader.specs.GrammarPaths.{WrittenPath, print_path, IsPath, path_means}
 use Rattle.rule_reader.specs.GrammarWords.{Piece, print_blank, IsBlank, IsGap, Stands}
 use Rattle.rule_profile.specs.Profile.{RuleValue}
 use Rattle.rule_reader.specs.ReadPaths.{path_at, comma_ends}
 use Rattle.rule_reader.specs.ReadSteps.{◌>>=◌, goes_on, fault_here, fault_with_left, syntax}
 use Rattle.rule_reader.specs.ReadWords.{blank, gap, word, after_word, is_word, fault_of_word, word_left_out}
-use Rattle.rule_reader.specs.Reading.{is_mode, perms_at, perms_behind, qualifier_at, start_at, comma_at, body_at, rule_at, rule_begins}
-use Rattle.rule_reader.specs.Reading.{rules_at}
+use Rattle.rule_reader.specs.Reading.{is_mode, perms_at, perms_behind, first_word_at, qualifier_at, start_at, comma_at}
+use Rattle.rule_reader.specs.Reading.{body_at, rule_at, rule_begins, rules_at}
 use Rattle.rule_reader.specs.TextBytes.{begins, is_quote, is_comma, is_close_brace, is_arrow}
 use Rattle.rule_globs.specs.Tokens.{Token}
 use Rattle.rule_reader.proofs.ReadSteps.{bind_ok, chosen, ok_is, not_ok, some_is, none_some}
@@ -30,23 +31,35 @@ use Rattle.rule_reader.proofs.TakePaths.{PathEnds, path_no_hash, comma_behind, P
 
 -- ---- permissions
 
+-- the letters here and their set, in which two may conflict
+abbrev LettersTaken : List ℕ → Perms × List ℕ → Type 0
+LettersTaken bytes x = (0 < length (word bytes)) × (perms_of (word bytes) ≡ Some x.0) × (bytes ≡ word bytes ++ x.1)
+
+-- no two conflict
 abbrev WordTaken : List ℕ → Perms × List ℕ → Type 0
-WordTaken bytes x = (letters : List ℕ) × IsWord letters x.0 × (bytes ≡ letters ++ x.1)
+WordTaken bytes x = IsWord (word bytes) x.0 × (bytes ≡ word bytes ++ x.1)
 
 -- the word here, if it has a set
-word_so : (bytes : List ℕ) (perms : Perms) → (length (word bytes) == 0) ≡ false → perms_of (word bytes) ≡ Some perms →
-    WordTaken bytes (perms, after_word bytes)
-word_so bytes perms e h =
+letters_so : (bytes : List ℕ) (perms : Perms) → (length (word bytes) == 0) ≡ false → perms_of (word bytes) ≡ Some perms →
+    LettersTaken bytes (perms, after_word bytes)
+letters_so bytes perms e h =
     let none_left : length (word bytes) ≡ 0 → ⊥ = eqb-false (length (word bytes)) 0 e in
     let some : 0 < length (word bytes) = omega arith in
-    (word bytes, (some, h), word_takes bytes some)
+    (some, h, word_takes bytes some)
+
+word_so : (bytes : List ℕ) (x : Perms × List ℕ) → LettersTaken bytes x → conflicts x.0 ≡ false → WordTaken bytes x
+word_so bytes x taken fine = ((taken.0, taken.1, fine), taken.2)
 
 perms_take : (bytes : List ℕ) (x : Perms × List ℕ) → perms_at bytes ≡ Ok x → WordTaken bytes x
 unfolding perms_at
 perms_take bytes x e =
     let R : Type 0 = Result (Perms × List ℕ) LocalFault in
     let unknown : R = cond (list_all is_mode (word bytes)) (word_left_out bytes) (fault_of_word kinds.Permission bytes) in
-    let go : Option Perms → R = λ o. elim o [ Some perms ↦ Ok (perms, after_word bytes) | None ↦ unknown ] in
+    let conflict : R = fault_of_word kinds.Conflict bytes in
+    let go : Option Perms → R = λ o. elim o [
+      | Some perms ↦ cond (conflicts perms) conflict (Ok (perms, after_word bytes))
+      | None ↦ unknown
+    ] in
     let third : R = cond (length (word bytes) == 0) (syntax bytes) (go (perms_of (word bytes))) in
     let second : R = cond (is_arrow bytes) (fault_here (kinds.LeftOut 2) bytes) third in
     elim (chosen (begins is_comma bytes) (fault_here kinds.EmptyPermissions bytes) second (Ok x) e) [
@@ -58,7 +71,11 @@ perms_take bytes x e =
           | inr h ↦
               let P : (o : Option Perms) → perms_of (word bytes) ≡ o → go o ≡ Ok x → WordTaken bytes x =
               λ o. elim o as (λ o. perms_of (word bytes) ≡ o → go o ≡ Ok x → WordTaken bytes x) [
-                | Some perms ↦ λ a k. subst (WordTaken bytes) (ok_is (perms, after_word bytes) x k) (word_so bytes perms h.0 a)
+                | Some perms ↦ λ a k. elim (chosen (conflicts perms) conflict (Ok (perms, after_word bytes)) (Ok x) k) [
+                  | inl m ↦ absurd (not_ok _ x m.1)
+                  | inr m ↦ subst (WordTaken bytes) (ok_is (perms, after_word bytes) x m.1)
+                      (word_so bytes (perms, after_word bytes) (letters_so bytes perms h.0 a) m.0)
+                ]
                 | None ↦ λ a k. elim (chosen (list_all is_mode (word bytes)) (word_left_out bytes) (fault_of_word kinds.Permission bytes)
                     (Ok x) k) [ inl m ↦ absurd (not_ok _ x m.1) | inr m ↦ absurd (not_ok _ x m.1) ]
               ] in
@@ -87,49 +104,73 @@ perms_behind_take bytes x e =
 
 -- ---- what a rule begins with
 
+abbrev qualifier_word : RuleKind → List ℕ
+qualifier_word Allow = codes "allow"
+qualifier_word Deny = codes "deny"
+
+-- the word of a qualifier, or another one than all
+abbrev FirstTaken : List ℕ → Option (RuleKind × List ℕ) → Type 0
+FirstTaken bytes (Some x) = bytes ≡ qualifier_word x.0 ++ x.1
+FirstTaken bytes None = is_word (codes "all") bytes ≡ false
+
+first_takes : (bytes : List ℕ) (o : Option (RuleKind × List ℕ)) → first_word_at bytes ≡ Ok o → FirstTaken bytes o
+unfolding first_word_at
+first_takes bytes o e =
+    let R : Type 0 = Result (Option (RuleKind × List ℕ)) LocalFault in
+    let allowed : Option (RuleKind × List ℕ) = Some (Allow, after_word bytes) in
+    let denied : Option (RuleKind × List ℕ) = Some (Deny, after_word bytes) in
+    let third : R = cond (is_word (codes "all") bytes) (word_left_out bytes) (Ok None) in
+    let second : R = cond (is_word (codes "deny") bytes) (Ok denied) third in
+    elim (chosen (is_word (codes "allow") bytes) (Ok allowed) second (Ok o) e) [
+      | inl h ↦ subst (FirstTaken bytes) (ok_is allowed o h.1) (is_word_takes (codes "allow") bytes (omega arith) h.0)
+      | inr h1 ↦ elim (chosen (is_word (codes "deny") bytes) (Ok denied) third (Ok o) h1.1) [
+        | inl h ↦ subst (FirstTaken bytes) (ok_is denied o h.1) (is_word_takes (codes "deny") bytes (omega arith) h.0)
+        | inr h2 ↦ elim (chosen (is_word (codes "all") bytes) (word_left_out bytes) (Ok None) (Ok o) h2.1) [
+          | inl h ↦ absurd (not_ok _ o h.1)
+          | inr h ↦ subst (FirstTaken bytes) (ok_is None o h.1) h.0
+        ]
+      ]
+    ]
+
+-- a rule without qualifier doesn't begin with the word all
+abbrev NoAllHere : Qualifier → List ℕ → Type 0
+NoAllHere none bytes = is_word (codes "all") bytes ≡ false
+NoAllHere (allow gap) bytes = Unit {0}
+NoAllHere (deny gap) bytes = Unit {0}
+
 abbrev QualifierTaken : List ℕ → RuleKind × List ℕ → Type 0
-QualifierTaken bytes x = (w : Qualifier) × IsQualifier w × (bytes ≡ print_qualifier w ++ x.1) × (kind_of w ≡ x.0)
+QualifierTaken bytes x =
+    (w : Qualifier) × IsQualifier w × (bytes ≡ print_qualifier w ++ x.1) × (kind_of w ≡ x.0) × NoAllHere w x.1
 
 two_parts : (a w b g c : List ℕ) → a ≡ w ++ b → b ≡ g ++ c → a ≡ (w ++ g) ++ c
 two_parts a w b g c e1 e2 = rw (e1, e2) (simp append_assoc)
+
+-- a qualifier and the gap after it
+with_gap : (kind : RuleKind) (bytes past from : List ℕ) → bytes ≡ qualifier_word kind ++ past → GapTaken past from →
+    QualifierTaken bytes (kind, from)
+with_gap Allow bytes past from e g = (allow g.0, g.1, two_parts bytes (codes "allow") past (print_blank g.0) from e g.2, refl, tt)
+with_gap Deny bytes past from e g = (deny g.0, g.1, two_parts bytes (codes "deny") past (print_blank g.0) from e g.2, refl, tt)
 
 qualifier_takes : (bytes : List ℕ) (x : RuleKind × List ℕ) → qualifier_at bytes ≡ Ok x → goes_on x.1 ≡ true → QualifierTaken bytes x
 unfolding qualifier_at
 qualifier_takes bytes x e more =
     let R : Type 0 = Result (RuleKind × List ℕ) LocalFault in
     let put : RuleKind → List ℕ → R = λ kind from. Ok (kind, from) in
-    let first : R = gap (after_word bytes) >>= put Allow in
-    let second : R = gap (after_word bytes) >>= put Deny in
-    elim (chosen (is_word (codes "allow") bytes) first (cond (is_word (codes "deny") bytes) second (Ok (Allow, bytes))) (Ok x) e) [
-      | inl h ↦
-          let k = bind_ok (gap (after_word bytes)) (put Allow) x h.1 in
-          let same : (Allow, k.0) ≡ x = ok_is (Allow, k.0) x k.2 in
-          let g = gap_takes (after_word bytes) k.0 k.1 (ap (λ (y : RuleKind × List ℕ). goes_on y.1) same ∙ more) in
-          subst (QualifierTaken bytes) same (
-            allow g.0,
-            g.1,
-            two_parts bytes (codes "allow") (after_word bytes) (print_blank g.0) k.0
-                (is_word_takes (codes "allow") bytes (omega arith) h.0) g.2,
-            refl,
-          )
-      | inr h ↦ elim (chosen (is_word (codes "deny") bytes) second (Ok (Allow, bytes)) (Ok x) h.1) [
-        | inl h ↦
-            let k = bind_ok (gap (after_word bytes)) (put Deny) x h.1 in
-            let same : (Deny, k.0) ≡ x = ok_is (Deny, k.0) x k.2 in
-            let g = gap_takes (after_word bytes) k.0 k.1 (ap (λ (y : RuleKind × List ℕ). goes_on y.1) same ∙ more) in
-            subst (QualifierTaken bytes) same (
-              deny g.0,
-              g.1,
-              two_parts bytes (codes "deny") (after_word bytes) (print_blank g.0) k.0
-                  (is_word_takes (codes "deny") bytes (omega arith) h.0) g.2,
-              refl,
-            )
-        | inr h ↦ subst (QualifierTaken bytes) (ok_is (Allow, bytes) x h.1) (none, tt, refl, refl)
-      ]
-    ]
+    let go : Option (RuleKind × List ℕ) → R = λ first. elim first [ Some q ↦ gap q.1 >>= put q.0 | None ↦ Ok (Allow, bytes) ] in
+    let k = bind_ok (first_word_at bytes) go x e in
+    let P : (o : Option (RuleKind × List ℕ)) → FirstTaken bytes o → go o ≡ Ok x → QualifierTaken bytes x =
+    λ o. elim o as (λ o. FirstTaken bytes o → go o ≡ Ok x → QualifierTaken bytes x) [
+      | None ↦ λ other h. subst (QualifierTaken bytes) (ok_is (Allow, bytes) x h) (none, tt, refl, refl, other)
+      | Some q ↦ λ parts h.
+          let g = bind_ok (gap q.1) (put q.0) x h in
+          let same : (q.0, g.0) ≡ x = ok_is (q.0, g.0) x g.2 in
+          let taken = gap_takes q.1 g.0 g.1 (ap (λ (y : RuleKind × List ℕ). goes_on y.1) same ∙ more) in
+          subst (QualifierTaken bytes) same (with_gap q.0 bytes q.1 g.0 parts taken)
+    ] in
+    P k.0 (first_takes bytes k.0 k.1) k.2
 
--- the permissions before a path
-start_takes : (bytes : List ℕ) (x : Perms × List ℕ) → start_at bytes ≡ Ok (Some x) → WordTaken bytes x
+-- the permissions before a path, of which two may conflict
+start_takes : (bytes : List ℕ) (x : Perms × List ℕ) → start_at bytes ≡ Ok (Some x) → LettersTaken bytes x
 unfolding start_at
 start_takes bytes x e =
     let R : Type 0 = Result (Option (Perms × List ℕ)) LocalFault in
@@ -142,10 +183,10 @@ start_takes bytes x e =
         | inl h ↦ elim (chosen (begins (λ b. b == 64 || b == 94 || b == 36) bytes) (fault_here (kinds.LeftOut 1) bytes) (syntax bytes)
             (Ok (Some x)) h.1) [ inl m ↦ absurd (not_ok _ (Some x) m.1) | inr m ↦ absurd (not_ok _ (Some x) m.1) ]
         | inr h ↦
-            let P : (o : Option Perms) → perms_of (word bytes) ≡ o → go o ≡ Ok (Some x) → WordTaken bytes x =
-            λ o. elim o as (λ o. perms_of (word bytes) ≡ o → go o ≡ Ok (Some x) → WordTaken bytes x) [
-              | Some perms ↦ λ a k. subst (WordTaken bytes)
-                  (some_is (perms, after_word bytes) x (ok_is (Some (perms, after_word bytes)) (Some x) k)) (word_so bytes perms h.0 a)
+            let P : (o : Option Perms) → perms_of (word bytes) ≡ o → go o ≡ Ok (Some x) → LettersTaken bytes x =
+            λ o. elim o as (λ o. perms_of (word bytes) ≡ o → go o ≡ Ok (Some x) → LettersTaken bytes x) [
+              | Some perms ↦ λ a k. subst (LettersTaken bytes)
+                  (some_is (perms, after_word bytes) x (ok_is (Some (perms, after_word bytes)) (Some x) k)) (letters_so bytes perms h.0 a)
               | None ↦ λ a k. absurd (not_ok _ (Some x) k)
             ] in
             P (perms_of (word bytes)) refl h.1
@@ -159,6 +200,11 @@ abbrev BodyStands : Bool → Bool → List Piece → List ℕ → Type 0
 BodyStands true quoted gap rest = Stands quoted gap
 BodyStands false quoted gap rest = PathEnds quoted rest
 
+-- if the path is last, the letters are the first word
+abbrev BodyBegins : Bool → List ℕ → List ℕ → Type 0
+BodyBegins true letters bytes = Unit {0}
+BodyBegins false letters bytes = letters ≡ word bytes
+
 record BodyTaken (bytes : List ℕ) (x : (Perms × List Token) × List ℕ) : Type 0 where
   path_first : Bool
   path : WrittenPath
@@ -167,6 +213,7 @@ record BodyTaken (bytes : List ℕ) (x : (Perms × List Token) × List ℕ) : Ty
   is_path : IsPath path
   is_gap : IsGap between
   is_word : IsWord letters x.0.0
+  begins_so : BodyBegins path_first letters bytes
   means : path_means path ≡ x.0.1
   parts : bytes ≡ (if path_first then print_path path ++ (print_blank between ++ letters) else letters
       ++ (print_blank between ++ print_path path)) ++ x.1
@@ -184,12 +231,13 @@ path_is_first bytes path perms p h =
       path_first = true;
       path = p.written;
       between = g.0;
-      letters = w.0;
+      letters = word h.0;
       is_path = p.valid;
       is_gap = g.1;
-      is_word = w.1;
+      is_word = w.0;
+      begins_so = tt;
       means = p.means;
-      parts = three_parts bytes (print_path p.written) path.1 (print_blank g.0) h.0 w.0 perms.1 p.parts g.2 w.2;
+      parts = three_parts bytes (print_path p.written) path.1 (print_blank g.0) h.0 (word h.0) perms.1 p.parts g.2 w.1;
       stands = stands p.written.quoted g.0 path.1 h.0 (path_no_hash p.written.quoted path.1 p.ends) g.2;
     }
 
@@ -199,12 +247,13 @@ path_is_last bytes perms from path w g p = record {
   path_first = false;
   path = p.written;
   between = g.0;
-  letters = w.0;
+  letters = word bytes;
   is_path = p.valid;
   is_gap = g.1;
-  is_word = w.1;
+  is_word = w.0;
+  begins_so = refl;
   means = p.means;
-  parts = three_parts bytes w.0 perms.1 (print_blank g.0) from (print_path p.written) path.1 w.2 g.2 p.parts;
+  parts = three_parts bytes (word bytes) perms.1 (print_blank g.0) from (print_path p.written) path.1 w.1 g.2 p.parts;
   stands = p.ends;
 }
 
@@ -214,9 +263,10 @@ body_takes bytes x e =
     let R : Type 0 = Result ((Perms × List Token) × List ℕ) LocalFault in
     let put_first : List Token × List ℕ → Perms × List ℕ → R = λ path perms. Ok ((perms.0, path.0), perms.1) in
     let put_last : Perms × List ℕ → List Token × List ℕ → R = λ perms path. Ok ((perms.0, path.0), path.1) in
+    let conflict : Perms × List ℕ → R = λ perms. fault_with_left kinds.Conflict (length bytes) perms.1 in
     let go : Option (Perms × List ℕ) → R = λ start. elim start [
       | None ↦ path_at bytes >>= λ path. perms_behind path.1 >>= put_first path
-      | Some perms ↦ gap perms.1 >>= λ from. path_at from >>= put_last perms
+      | Some perms ↦ cond (conflicts perms.0) (conflict perms) (gap perms.1 >>= λ from. path_at from >>= put_last perms)
     ] in
     let k = bind_ok (start_at bytes) go x e in
     let P : (start : Option (Perms × List ℕ)) → start_at bytes ≡ Ok start → go start ≡ Ok x → BodyTaken bytes x =
@@ -226,12 +276,16 @@ body_takes bytes x e =
           let w = bind_ok (perms_behind p.0.1) (put_first p.0) x p.2 in
           subst (BodyTaken bytes) (ok_is ((w.0.0, p.0.0), w.0.1) x w.2) (path_is_first bytes p.0 w.0 (path_takes bytes p.0 p.1)
           (perms_behind_take p.0.1 w.0 w.1))
-      | Some perms ↦ λ a h.
-          let g = bind_ok (gap perms.1) (λ from. path_at from >>= put_last perms) x h in
-          let p = bind_ok (path_at g.0) (put_last perms) x g.2 in
-          subst (BodyTaken bytes) (ok_is ((perms.0, p.0.0), p.0.1) x p.2)
-          (path_is_last bytes perms g.0 p.0 (start_takes bytes perms a) (gap_takes perms.1 g.0 g.1 (path_some g.0 p.0 p.1))
-          (path_takes g.0 p.0 p.1))
+      | Some perms ↦ λ a h. elim (chosen (conflicts perms.0) (conflict perms)
+          (gap perms.1 >>= λ from. path_at from >>= put_last perms) (Ok x) h) [
+            | inl m ↦ absurd (not_ok _ x m.1)
+            | inr m ↦
+                let g = bind_ok (gap perms.1) (λ from. path_at from >>= put_last perms) x m.1 in
+                let p = bind_ok (path_at g.0) (put_last perms) x g.2 in
+                let w = word_so bytes perms (start_takes bytes perms a) m.0 in
+                subst (BodyTaken bytes) (ok_is ((perms.0, p.0.0), p.0.1) x p.2)
+                (path_is_last bytes perms g.0 p.0 w (gap_takes perms.1 g.0 g.1 (path_some g.0 p.0 p.1)) (path_takes g.0 p.0 p.1))
+          ]
     ] in
     P k.0 k.1 k.2
 
@@ -289,6 +343,14 @@ path_stands false r bytes rest behind others h e1 e2 more = (
       r.path.quoted bytes rest behind others h e1 e2 more,
 )
 
+begins_no_all : (q : Qualifier) (path_first : Bool) (letters bytes : List ℕ) → NoAllHere q bytes → BodyBegins path_first letters bytes →
+    BeginsNoAll q path_first letters
+begins_no_all none true letters bytes other same = tt
+begins_no_all none false letters bytes other same = λ is.
+    true≢false (sym ((bytes_eq-Decides (word bytes) (codes "all")).1 (sym same ∙ is)) ∙ other)
+begins_no_all (allow gap) path_first letters bytes other same = tt
+begins_no_all (deny gap) path_first letters bytes other same = tt
+
 pub goes_behind : (pieces tail : List ℕ) → goes_on tail ≡ true → goes_on (pieces ++ tail) ≡ true
 goes_behind [] tail h = h
 goes_behind (b ∷ pieces) tail h = refl
@@ -322,6 +384,7 @@ whole_rule bytes kind body rest past from tail others q b c is_past e1 e2 more =
         path = b.is_path;
         gap = b.is_gap;
         word = b.is_word;
+        first_word = begins_no_all q.0 b.path_first b.letters kind.1 q.4 b.begins_so;
         before_comma = c.1;
         past = is_past;
         stands = path_stands b.path_first w body.1 rest behind others b.stands c.2 there (goes_behind (print_blank past) tail more);

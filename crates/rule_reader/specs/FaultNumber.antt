@@ -2,7 +2,7 @@
 use Rattle.std.specs.Prelude.{ℕ, Option, Some, None}
 use Rattle.rule_reader.specs.declared.fault.ReadFault.{ReadFault}
 use Rattle.rule_reader.specs.declared.fault.ReadFault.TheVariants.{Syntax, LeftOut, Permission, EmptyPermissions, NotAbsolute, Class}
-use Rattle.rule_reader.specs.declared.fault.ReadFault.TheVariants.{Group, Depth, TooManyRules, TooManyItems, NoMemory}
+use Rattle.rule_reader.specs.declared.fault.ReadFault.TheVariants.{Group, Depth, TooManyRules, TooManyItems, NoMemory, Conflict}
 
 abbrev pub fault_number : ReadFault → ℕ
 fault_number (Syntax offset) = 1
@@ -16,6 +16,7 @@ fault_number (Depth offset) = 8
 fault_number (TooManyRules offset) = 9
 fault_number (TooManyItems offset) = 10
 fault_number NoMemory = 11
+fault_number (Conflict offset) = 12
 
 -- how many bytes are before the fault
 abbrev pub fault_offset : ReadFault → Option ℕ
@@ -30,3 +31,4 @@ fault_offset (Depth offset) = Some offset
 fault_offset (TooManyRules offset) = Some offset
 fault_offset (TooManyItems offset) = Some offset
 fault_offset NoMemory = None
+fault_offset (Conflict offset) = Some offset

@@ -2,7 +2,7 @@
 use Rattle.std.specs.Prelude.{ℕ, List, ◌++◌, codes, decimal}
 use Rattle.rule_reader.specs.declared.fault.ReadFault.{ReadFault}
 use Rattle.rule_reader.specs.declared.fault.ReadFault.TheVariants.{Syntax, LeftOut, Permission, EmptyPermissions, NotAbsolute, Class}
-use Rattle.rule_reader.specs.declared.fault.ReadFault.TheVariants.{Group, Depth, TooManyRules, TooManyItems, NoMemory}
+use Rattle.rule_reader.specs.declared.fault.ReadFault.TheVariants.{Group, Depth, TooManyRules, TooManyItems, NoMemory, Conflict}
 
 abbrev pub fault_text : ReadFault → List ℕ
 fault_text (Syntax offset) = codes "syntax error at byte " ++ decimal offset
@@ -17,3 +17,4 @@ fault_text (Depth offset) = codes "groups nested too deep at byte " ++ decimal o
 fault_text (TooManyRules offset) = codes "too many rules at byte " ++ decimal offset
 fault_text (TooManyItems offset) = codes "too many items at byte " ++ decimal offset
 fault_text NoMemory = codes "memory allocation failed"
+fault_text (Conflict offset) = codes "append and write conflict at byte " ++ decimal offset

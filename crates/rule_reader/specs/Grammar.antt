@@ -1,9 +1,10 @@
 -- The grammar of profile texts: what may be written, as trees; the bytes of a tree; and the profile that it means.
-use Rattle.std.specs.Prelude.{◌≡◌, ℕ, ◌≤◌, ◌<◌, List, [], ◌∷◌, ◌++◌, length, codes, Bool, true, false, if◌then◌else◌, Option, Some, None}
+use Rattle.std.specs.Prelude.{◌≡◌, ◌≢◌, ℕ, ◌≤◌, ◌<◌, List, [], ◌∷◌, ◌++◌, length, codes, Bool, true, false, if◌then◌else◌}
+use Rattle.std.specs.Prelude.{Option, Some, None}
 use Rattle.names.specs.declared.permissions.Perms.{Perms}
-use Rattle.names.specs.Permissions.{perms_of}
-use Rattle.verdicts.specs.declared.kind.RuleKind.{RuleKind}
-use Rattle.verdicts.specs.declared.kind.RuleKind.TheVariants.{Allow, Deny}
+use Rattle.names.specs.Permissions.{perms_of, conflicts}
+use Rattle.names.specs.declared.kind.RuleKind.{RuleKind}
+use Rattle.names.specs.declared.kind.RuleKind.TheVariants.{Allow, Deny}
 use Rattle.rule_reader.specs.GrammarPaths.{WrittenPath, print_path, IsPath, path_means}
 use Rattle.rule_reader.specs.GrammarWords.{Piece, print_blank, IsBlank, IsGap, Stands, print_last, IsLast, WrittenName, print_name}
 use Rattle.rule_reader.specs.GrammarWords.{name_means, IsWrittenName, IsNameCell, IsFirst, BeginsWithSlash}
@@ -36,9 +37,9 @@ kind_of none = Allow
 kind_of (allow gap) = Allow
 kind_of (deny gap) = Deny
 
--- one or more letters of permissions, and their set
+-- one or more letters of permissions, and their set, in which no two conflict
 abbrev pub IsWord : List ℕ → Perms → Type 0
-IsWord letters perms = (0 < length letters) × (perms_of letters ≡ Some perms)
+IsWord letters perms = (0 < length letters) × (perms_of letters ≡ Some perms) × (conflicts perms ≡ false)
 
 pub record WrittenRule : Type 0 where
   pub qualifier : Qualifier
@@ -74,12 +75,21 @@ abbrev pub PathStands : Bool → WrittenRule → List ℕ → Type 0
 PathStands true r behind = Stands r.path.quoted r.gap
 PathStands false r behind = Stands r.path.quoted r.before_comma × CommaEnds r.before_comma r.path.quoted behind
 
+-- A rule without qualifier whose letters come first has other letters than all: that word at a rule's start is a rule of its own,
+-- which is not supported (apparmor.d(5) of AppArmor 4.1, "Format").
+abbrev pub BeginsNoAll : Qualifier → Bool → List ℕ → Type 0
+BeginsNoAll none false letters = letters ≢ codes "all"
+BeginsNoAll none true letters = Unit {0}
+BeginsNoAll (allow gap) path_first letters = Unit {0}
+BeginsNoAll (deny gap) path_first letters = Unit {0}
+
 -- valid with these bytes after the comma
 pub record IsRule (behind : List ℕ) (r : WrittenRule) : Type 0 where
   pub qualifier : IsQualifier r.qualifier
   pub path : IsPath r.path
   pub gap : IsGap r.gap
   pub word : IsWord r.letters r.perms
+  pub first_word : BeginsNoAll r.qualifier r.path_first r.letters
   pub before_comma : IsBlank r.before_comma
   pub past : IsBlank r.past
   pub stands : PathStands r.path_first r behind

@@ -18,8 +18,8 @@ HasOutcome text = ((p : ProfileValue) × ReadsAs text p) ⊎ ((fault : ReadFault
 abbrev pub Refused : List ℕ → Type 0
 Refused text = (fault : ReadFault) × FaultsAs text fault
 
--- The text has a settled fault. These are not settled: a Syntax fault at the text's end; a word that is left out or reported as no
--- permissions, if it ends at the text's end; the comma of missing permissions directly after a path, if it is the last byte; and an
--- open class or group, if the path ends at the text's end.
+-- The text has a settled fault. These are not settled: a Syntax fault at the text's end; a word that is left out, or reported as no
+-- permissions or as ones that conflict, if it ends at the text's end; the comma of missing permissions directly after a path, if it
+-- is the last byte; and an open class or group, if the path ends at the text's end.
 abbrev pub IsSettled : List ℕ → Type 0
 IsSettled text = (s : LocalFault) × (text_at text ≡ Err s) × (s.settled ≡ true)

@@ -41,6 +41,7 @@ fault_at kinds.Group offset = faults.Group offset
 fault_at kinds.Depth offset = faults.Depth offset
 fault_at kinds.TooManyRules offset = faults.TooManyRules offset
 fault_at kinds.TooManyItems offset = faults.TooManyItems offset
+fault_at kinds.Conflict offset = faults.Conflict offset
 
 -- a local fault as a fault of a text of `n` bytes
 abbrev pub fault_of : ℕ → LocalFault → ReadFault

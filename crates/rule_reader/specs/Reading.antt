@@ -3,10 +3,10 @@ use Rattle.std.specs.Prelude.{ℕ, zero, suc, List, [], ◌∷◌, length, codes
 use Rattle.std.specs.Prelude.{if◌then◌else◌, drop}
 use Rattle.std.specs.List.{list_all, list_any}
 use Rattle.names.specs.declared.permissions.Perms.{Perms}
-use Rattle.names.specs.Permissions.{perms_of}
+use Rattle.names.specs.Permissions.{perms_of, conflicts}
 use Rattle.rule_reader.specs.declared.fault.ReadFault.{ReadFault}
-use Rattle.verdicts.specs.declared.kind.RuleKind.{RuleKind}
-use Rattle.verdicts.specs.declared.kind.RuleKind.TheVariants.{Allow, Deny}
+use Rattle.names.specs.declared.kind.RuleKind.{RuleKind}
+use Rattle.names.specs.declared.kind.RuleKind.TheVariants.{Allow, Deny}
 use Rattle.rule_reader.specs.declared.reading.local_fault.FaultKind.TheVariants as kinds
 use Rattle.rule_reader.specs.declared.reading.local_fault.LocalFault.{LocalFault}
 use Rattle.rule_globs.specs.Glob.{is_slash}
@@ -25,14 +25,15 @@ use Rattle.rule_globs.specs.Tokens.{Token}
 abbrev pub is_mode : ℕ → Bool
 is_mode b = list_any (λ mode. mode == b) (codes "rwlkmaxipcuPCU")
 
--- The permissions after a path. A word of access modes of which some are not supported is left out as a whole.
+-- The permissions after a path, of which no two conflict. A word of access modes of which some are not supported is left out as a
+-- whole.
 unfoldable pub perms_at : List ℕ → Result (Perms × List ℕ) LocalFault
 perms_at bytes =
     if begins is_comma bytes then fault_here kinds.EmptyPermissions bytes
     else if is_arrow bytes then fault_here (kinds.LeftOut 2) bytes
     else if length (word bytes) == 0 then syntax bytes
     else elim (perms_of (word bytes)) [
-      | Some perms ↦ Ok (perms, after_word bytes)
+      | Some perms ↦ if conflicts perms then fault_of_word kinds.Conflict bytes else Ok (perms, after_word bytes)
       | None ↦ if list_all is_mode (word bytes) then word_left_out bytes else fault_of_word kinds.Permission bytes
     ]
 
@@ -44,12 +45,22 @@ perms_behind bytes =
 
 -- ---- rules
 
--- what the rule does: the word allow or deny, if there is one here, and a gap; without it the rule allows
+-- The qualifier that a rule begins with, and what follows its word; none if there is no qualifier. The word all is a rule of its
+-- own there, which is not supported (apparmor.d(5) of AppArmor 4.1, "Format"); after a qualifier it is permissions (our choice).
+unfoldable pub first_word_at : List ℕ → Result (Option (RuleKind × List ℕ)) LocalFault
+first_word_at bytes =
+    if is_word (codes "allow") bytes then Ok (Some (Allow, after_word bytes))
+    else if is_word (codes "deny") bytes then Ok (Some (Deny, after_word bytes))
+    else if is_word (codes "all") bytes then word_left_out bytes
+    else Ok None
+
+-- what the rule does: its qualifier and the gap after it; without a qualifier the rule allows
 unfoldable pub qualifier_at : List ℕ → Result (RuleKind × List ℕ) LocalFault
 qualifier_at bytes =
-    if is_word (codes "allow") bytes then (gap (after_word bytes) >>= λ from. Ok (Allow, from))
-    else if is_word (codes "deny") bytes then (gap (after_word bytes) >>= λ from. Ok (Deny, from))
-    else Ok (Allow, bytes)
+    first_word_at bytes >>= λ first. elim first [
+      | Some qualifier ↦ gap qualifier.1 >>= λ from. Ok (qualifier.0, from)
+      | None ↦ Ok (Allow, bytes)
+    ]
 
 -- What follows the qualifier: none for a path, or permissions. Other words, variables (@, 64), hats (^, 94) and $ (36) are not
 -- supported.
@@ -66,7 +77,8 @@ comma_at bytes =
     blank bytes >>= λ at.
     if begins is_comma at then Ok (drop 1 at) else if is_arrow at then fault_here (kinds.LeftOut 2) at else syntax at
 
--- PATH PERMISSIONS, or PERMISSIONS PATH
+-- PATH PERMISSIONS, or PERMISSIONS PATH. Permissions of which two conflict are a fault at their word, before the gap after it is
+-- read (our choice).
 unfoldable pub body_at : List ℕ → Result ((Perms × List Token) × List ℕ) LocalFault
 body_at bytes =
     start_at bytes >>= λ start. elim start [
@@ -74,7 +86,7 @@ body_at bytes =
         path ← path_at bytes
         perms ← perms_behind path.1
         Ok ((perms.0, path.0), perms.1))
-      | Some perms ↦ (do
+      | Some perms ↦ if conflicts perms.0 then fault_with_left kinds.Conflict (length bytes) perms.1 else (do
         from ← gap perms.1
         path ← path_at from
         Ok ((perms.0, path.0), path.1))
@@ -90,8 +102,10 @@ rule_at bytes = do
 -- a rule begins here; anything else is a fault
 unfoldable pub rule_begins : List ℕ → Result (Unit {0}) LocalFault
 rule_begins bytes =
-    if is_word (codes "allow") bytes || is_word (codes "deny") bytes then Ok tt
-    else (start_at bytes >>= λ _. Ok tt)
+    first_word_at bytes >>= λ first. elim first [
+      | Some qualifier ↦ Ok tt
+      | None ↦ start_at bytes >>= λ start. Ok tt
+    ]
 
 -- the rules up to the closing brace, at most as many as there is room for
 unfoldable pub rules_at : ℕ → List ℕ → Result (List RuleValue × List ℕ) LocalFault

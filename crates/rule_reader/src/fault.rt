@@ -30,10 +30,12 @@ pub enum ReadFault {
     TooManyItems { offset: usize },
     /// Out of memory; this says nothing about the text.
     NoMemory,
+    /// A word with the letters of append and of write, which conflict.
+    Conflict { offset: usize },
 }
 
 impl ReadFault {
-    /// The number of the kind of fault, 1 to 11.
+    /// The number of the kind of fault, 1 to 12.
     pub fn number(self) -> u16
         ensures { result ≡ fault_number self }
     {
@@ -49,6 +51,7 @@ impl ReadFault {
             ReadFault::TooManyRules { .. } => 9,
             ReadFault::TooManyItems { .. } => 10,
             ReadFault::NoMemory => 11,
+            ReadFault::Conflict { .. } => 12,
         }
     }
 
@@ -66,7 +69,8 @@ impl ReadFault {
             | ReadFault::Group { offset }
             | ReadFault::Depth { offset }
             | ReadFault::TooManyRules { offset }
-            | ReadFault::TooManyItems { offset } => Some(offset),
+            | ReadFault::TooManyItems { offset }
+            | ReadFault::Conflict { offset } => Some(offset),
             ReadFault::NoMemory => None,
         }
     }
@@ -94,6 +98,9 @@ impl fmt::Display for ReadFault {
             ReadFault::TooManyRules { offset } => write!(f, "too many rules at byte {offset}"),
             ReadFault::TooManyItems { offset } => write!(f, "too many items at byte {offset}"),
             ReadFault::NoMemory => write!(f, "memory allocation failed"),
+            ReadFault::Conflict { offset } => {
+                write!(f, "append and write conflict at byte {offset}")
+            }
         }
     }
 }

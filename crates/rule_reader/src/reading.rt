@@ -44,6 +44,7 @@ fn fault_of(len: usize, fault: LocalFault) -> ReadFault
         FaultKind::Depth => ReadFault::Depth { offset },
         FaultKind::TooManyRules => ReadFault::TooManyRules { offset },
         FaultKind::TooManyItems => ReadFault::TooManyItems { offset },
+        FaultKind::Conflict => ReadFault::Conflict { offset },
     }
 }
 

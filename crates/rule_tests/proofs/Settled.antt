@@ -6,8 +6,8 @@ use Rattle.rule_reader.specs.ReadHeader.{slash_name_at, name_at, attachment_at, 
 use Rattle.rule_reader.specs.ReadWords.{name_bytes, name_in, quoted_name}
 use Rattle.rule_reader.specs.ReadClasses.{members_at, class_at}
 use Rattle.rule_reader.specs.ReadPaths.{goes_on_at, token_at, tokens_at, path_in, path_at}
-use Rattle.rule_reader.specs.Reading.{perms_at, perms_behind, qualifier_at, start_at, rule_begins, comma_at, body_at, rule_at, rules_at}
-use Rattle.rule_reader.specs.Reading.{text_at}
+use Rattle.rule_reader.specs.Reading.{perms_at, perms_behind, first_word_at, qualifier_at, start_at, rule_begins, comma_at}
+use Rattle.rule_reader.specs.Reading.{body_at, rule_at, rules_at, text_at}
 use Rattle.rule_reader.specs.ReadFaults.{IsSettled}
 use Rattle.rule_tests.specs.Settled.{settled_fronts, unsettled_fronts}
 
@@ -33,14 +33,14 @@ when_unsettled text h x = true≢false (sym h ∙ ap (λ r. elim r [ Ok p ↦ fa
 
 all_settled : list_all is_settled settled_fronts ≡ true
 unfolding is_settled slash_name_at name_at attachment_at brace_at named_header_at slash_header_at header_at name_bytes name_in quoted_name
-    members_at class_at goes_on_at token_at tokens_at path_in path_at perms_at perms_behind qualifier_at start_at rule_begins comma_at
-    body_at rule_at rules_at text_at
+    members_at class_at goes_on_at token_at tokens_at path_in path_at perms_at perms_behind first_word_at qualifier_at start_at rule_begins
+    comma_at body_at rule_at rules_at text_at
 all_settled = refl
 
 all_unsettled : list_all is_unsettled unsettled_fronts ≡ true
 unfolding is_unsettled slash_name_at name_at attachment_at brace_at named_header_at slash_header_at header_at name_bytes name_in
-    quoted_name members_at class_at goes_on_at token_at tokens_at path_in path_at perms_at perms_behind qualifier_at start_at rule_begins
-    comma_at body_at rule_at rules_at text_at
+    quoted_name members_at class_at goes_on_at token_at tokens_at path_in path_at perms_at perms_behind first_word_at qualifier_at start_at
+    rule_begins comma_at body_at rule_at rules_at text_at
 all_unsettled = refl
 
 pub settled : All IsSettled settled_fronts

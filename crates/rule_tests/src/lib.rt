@@ -30,3 +30,5 @@ mod rows;
 mod subjects;
 #[cfg(test)]
 mod variables;
+#[cfg(test)]
+mod words;

@@ -43,6 +43,10 @@ fn links_by_what_their_names_allow(rt: HostRuntime) -> Result<(), Fail> {
             [b"r", b"rwl", b"w"],
             [b"l", b"rwlkm", b"rwkm"],
             [b"m", b"lk", b"k"],
+            // Append is a permission of its own, whatever a rule with write holds.
+            [b"a", b"lwa", b"w"],
+            [b"wa", b"la", b""],
+            [b"r", b"rla", b"a"],
         ],
     )
 }

@@ -15,14 +15,14 @@ fn expect_letters(rt: &impl Abort, alloc: Global, rows: &[(Perms, &str)]) -> Res
 #[test]
 fn letters_of_permissions(rt: HostRuntime) -> Result<(), Fail> {
     let some = Perms::from_letters(b"mwrwm").ok_or("letters")?;
-    let all = Perms::from_letters(b"mklwr").ok_or("letters")?;
+    let all = Perms::from_letters(b"amklwr").ok_or("letters")?;
     expect_letters(
         &rt,
         rt.alloc(),
         &[
             (some, "rwm"),
-            (all, "rwlkm"),
-            (all.without(some), "lk"),
+            (all, "rwlkma"),
+            (all.without(some), "lka"),
             (Perms::NONE.with(Permission::Link), "l"),
         ],
     )
@@ -31,7 +31,7 @@ fn letters_of_permissions(rt: HostRuntime) -> Result<(), Fail> {
 #[test]
 fn sets_of_permissions(rt: HostRuntime) -> Result<(), Fail> {
     let some = Perms::from_letters(b"mwrwm").ok_or("letters")?;
-    let all = Perms::from_letters(b"mklwr").ok_or("letters")?;
+    let all = Perms::from_letters(b"amklwr").ok_or("letters")?;
     assert!(rt; some.contains(Permission::Map) && !some.contains(Permission::Lock));
     assert!(rt; Perms::NONE.is_empty() && !some.is_empty());
     assert!(rt; all.intersects(some) && !all.without(some).intersects(some));
@@ -40,8 +40,28 @@ fn sets_of_permissions(rt: HostRuntime) -> Result<(), Fail> {
 
 #[test]
 fn letters_that_are_read(rt: HostRuntime) {
-    assert_eq!(rt; Perms::from_letters(b"ra"), None);
+    assert_eq!(rt; Perms::from_letters(b"rx"), None);
     assert_eq!(rt; Perms::from_letters(b""), Some(Perms::NONE));
+}
+
+/// Each row has letters, those that a rule with them holds, and whether they conflict.
+#[test]
+fn write_holds_append(rt: HostRuntime) -> Result<(), Fail> {
+    let rows = [
+        ("", "", false),
+        ("rlkm", "rlkm", false),
+        ("w", "wa", false),
+        ("ra", "ra", false),
+        ("rw", "rwa", false),
+        ("wa", "wa", true),
+        ("rwlkma", "rwlkma", true),
+    ];
+    for (letters, held, conflict) in rows {
+        let perms = Perms::from_letters(letters.as_bytes()).ok_or("letters")?;
+        assert_eq!(&rt; perms.conflict(), conflict, "{letters}");
+        assert!(&rt; is_printed(rt.alloc(), &perms.held(), held)?, "{letters}");
+    }
+    Ok(())
 }
 
 #[test]

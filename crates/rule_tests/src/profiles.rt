@@ -1,11 +1,10 @@
 //! Profiles made of parts.
-use names::Perms;
+use names::{Perms, RuleKind};
 use profile_parts::{path_of, profile_of};
 use rule_profile::Rule;
 use rule_reader::read_path;
 use std::alloc::Global;
 use std::test::Fail;
-use verdicts::RuleKind;
 
 /// A rule that allows these permissions on `/a`.
 fn rule_of(alloc: Global, letters: &[u8]) -> Result<Rule, Fail> {
@@ -37,8 +36,12 @@ fn so_many_rules(rt: HostRuntime) -> Result<(), Fail> {
 }
 
 #[test]
-fn some_permission(rt: HostRuntime) -> Result<(), Fail> {
-    assert!(&rt; is_made(rt.alloc(), b"p", b"rwlkm", 1)?);
-    assert!(&rt; !is_made(rt.alloc(), b"p", b"", 1)?);
+fn some_permission_and_none_that_conflict(rt: HostRuntime) -> Result<(), Fail> {
+    for letters in [b"rwlkm".as_slice(), b"rlkma", b"a", b"w"] {
+        assert!(&rt; is_made(rt.alloc(), b"p", letters, 1)?, "{letters:?}");
+    }
+    for letters in [b"".as_slice(), b"wa", b"rwlkma"] {
+        assert!(&rt; !is_made(rt.alloc(), b"p", letters, 1)?, "{letters:?}");
+    }
     Ok(())
 }

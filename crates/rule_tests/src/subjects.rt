@@ -1,9 +1,8 @@
 //! What restating rules changes. To whom a rule applies follows apparmor_parser's tables, which keep the owner's permissions
 //! separate from the others'.
-use names::{Permission, Perms};
+use names::{Permission, Perms, RuleKind};
 use std::test::Fail;
 use subject_rules::{AppliesTo, Change, Effect, Mode, RuleShape, Subject, restated_perms};
-use verdicts::RuleKind;
 
 fn allow(applies_to: AppliesTo, letters: &str) -> Result<RuleShape, Fail> {
     Ok(RuleShape {

@@ -1,7 +1,8 @@
 //! Profiles of file rules: their text, what a path's items match, and the plain judge of a name. This crate re-exports its parts:
-//! `verdicts`, `rule_globs`, `rule_reader`, `rule_writer` and `rule_judge`.
+//! verdicts of `names`, and `rule_globs`, `rule_reader`, `rule_writer` and `rule_judge`.
 #![tactic(auto)]
 
+pub use names::{RuleKind, Verdict};
 pub use rule_globs::{
     ByteRange, Class, Item, RulePath, Stars, allowed_alone, byte_zero_never, end_is_live,
     live_is_left_first, live_places_go_on, one_verdict_is_right, takes_by_cuts,
@@ -15,4 +16,3 @@ pub use rule_reader::{
     spans_are_read_again,
 };
 pub use rule_writer::{canonical_texts_are_read, rule_texts_are_read, write, write_rule};
-pub use verdicts::{RuleKind, Verdict};

@@ -6,18 +6,18 @@ use Rattle.std.specs.List.{list_all, list_any, flat_map}
 use Rattle.std.proofs.lemmas.Bool.{and_parts, leb-true, not-true}
 use Rattle.names.specs.declared.permissions.Permission.{Permission}
 use Rattle.names.specs.declared.permissions.Perms.{Perms}
-use Rattle.names.specs.Permissions.{letter, has, letters, perms_of, all_permissions}
+use Rattle.names.specs.Permissions.{letter, has, letters, perms_of, all_permissions, conflicts}
 use Rattle.rule_writer.specs.Canonical.{token_text, kind_text, rule_line, canonical}
 use Rattle.rule_reader.specs.Grammar.{Qualifier, none, deny, print_qualifier, IsQualifier, kind_of, IsWord, WrittenRule, print_rule}
-use Rattle.rule_reader.specs.Grammar.{IsRule, rule_means, print_rules, AreRules, rules_mean, behind_rule, named, WrittenText, print_text}
-use Rattle.rule_reader.specs.Grammar.{IsText, text_means, ReadsAs}
+use Rattle.rule_reader.specs.Grammar.{BeginsNoAll, IsRule, rule_means, print_rules, AreRules, rules_mean, behind_rule, named}
+use Rattle.rule_reader.specs.Grammar.{WrittenText, print_text, IsText, text_means, ReadsAs}
 use Rattle.rule_reader.specs.GrammarPaths.{print_items, path_means}
 use Rattle.rule_reader.specs.GrammarWords.{Piece, white, print_blank, IsBlank, Cell, plain, escaped, print_cells, WrittenName}
 use Rattle.rule_reader.specs.GrammarWords.{IsWrittenName, IsFirst}
 use Rattle.rule_profile.specs.Profile.{RuleValue, ProfileValue}
 use Rattle.rule_profile.specs.Readable.{are_name_bytes, is_name, is_path, is_rule, is_profile}
-use Rattle.verdicts.specs.declared.kind.RuleKind.{RuleKind}
-use Rattle.verdicts.specs.declared.kind.RuleKind.TheVariants.{Allow, Deny}
+use Rattle.names.specs.declared.kind.RuleKind.{RuleKind}
+use Rattle.names.specs.declared.kind.RuleKind.TheVariants.{Allow, Deny}
 use Rattle.rule_writer.proofs.CanonCells.{name_cells, name_cells_are}
 use Rattle.rule_writer.proofs.CanonItems.{canonical_item, canonical_path, canonical_path_valid, canonical_path_means, items_print}
 
@@ -83,8 +83,8 @@ some_letter test (p ∷ ps) h =
       | false ↦ λ h. some_letter test ps h
     ] h
 
-pub perms_word : (s : Perms) → list_any (has s) all_permissions ≡ true → IsWord (letters s) s
-perms_word s h = (some_letter (has s) all_permissions h, letters_again s)
+pub perms_word : (s : Perms) → list_any (has s) all_permissions ≡ true → conflicts s ≡ false → IsWord (letters s) s
+perms_word s h fine = (some_letter (has s) all_permissions h, letters_again s, fine)
 
 -- ---- rules
 
@@ -104,6 +104,11 @@ canonical_kind Deny = deny (white 32 ∷ [])
 kind_valid : (kind : RuleKind) → IsQualifier (canonical_kind kind)
 kind_valid Allow = tt
 kind_valid Deny = (refl, tt)
+
+-- the path is first
+kind_begins : (kind : RuleKind) (letters : List ℕ) → BeginsNoAll (canonical_kind kind) true letters
+kind_begins Allow letters = tt
+kind_begins Deny letters = tt
 
 kind_means : (kind : RuleKind) → kind_of (canonical_kind kind) ≡ kind
 kind_means Allow = refl
@@ -125,12 +130,14 @@ canonical_rule r rules = record {
 pub canonical_rule_valid : (behind : List ℕ) (r : RuleValue) (rules : List RuleValue) → is_rule r ≡ true →
     IsRule behind (canonical_rule r rules)
 canonical_rule_valid behind r rules h =
-    let p = and_parts (list_any (has r.perms) all_permissions) (is_path r.items) h in
+    let p = and_parts (list_any (has r.perms) all_permissions && not (conflicts r.perms)) (is_path r.items) h in
+    let q = and_parts (list_any (has r.perms) all_permissions) (not (conflicts r.perms)) p.0 in
     record {
       qualifier = kind_valid r.kind;
       path = canonical_path_valid r.items p.1;
       gap = (refl, tt);
-      word = perms_word r.perms p.0;
+      word = perms_word r.perms q.0 (not-true (conflicts r.perms) q.1);
+      first_word = kind_begins r.kind (letters r.perms);
       before_comma = tt;
       past = line_end_valid rules;
       stands = tt;
@@ -138,7 +145,7 @@ canonical_rule_valid behind r rules h =
 
 pub canonical_rule_means : (r : RuleValue) (rules : List RuleValue) → is_rule r ≡ true → rule_means (canonical_rule r rules) ≡ r
 canonical_rule_means r rules h =
-    let p = and_parts (list_any (has r.perms) all_permissions) (is_path r.items) h in
+    let p = and_parts (list_any (has r.perms) all_permissions && not (conflicts r.perms)) (is_path r.items) h in
     let kind = kind_means r.kind in
     let items = canonical_path_means r.items p.1 in
     ap (λ (k : RuleKind). record { kind = k; perms = r.perms; items = path_means (canonical_path r.items) }) kind

@@ -1,10 +1,13 @@
--- The text of items, as it is written: item by item, and alternative by alternative.
-use Rattle.std.proofs.Common.{◌≡◌, ℕ, zero, suc, ◌+◌, ◌<◌, ◌≤◌, Bool, true, false, List, [], ◌∷◌, ◌++◌, length, map, get_or, Vec, Global}
-use Rattle.std.proofs.Common.{sym, ap, ◌∙◌, append_assoc, arith}
+-- The text of items, as it is written: item by item, and alternative by alternative. The letters of a set, one by one.
+use Rattle.std.proofs.Common.{◌≡◌, ℕ, zero, suc, ◌+◌, ◌<◌, ◌≤◌, Bool, true, false, cond, List, [], ◌∷◌, ◌++◌, length, map, filter, take}
+use Rattle.std.proofs.Common.{get_or, Vec, Global, sym, ap, ◌∙◌, append-nil, append_assoc, arith}
 use Rattle.std.specs.Prelude.{codes}
 use Rattle.std.specs.List.{flat_map}
-use Rattle.std.proofs.lemmas.List.{length-append, length-map, get_or-map}
+use Rattle.std.proofs.lemmas.List.{length-append, length-map, get_or-map, map-append}
 use Rattle.std.proofs.lemmas.List.Concat.{flat_map-append}
+use Rattle.std.proofs.lemmas.List.Elements.{filter_more}
+use Rattle.names.specs.declared.permissions.Permission.{Permission}
+use Rattle.names.specs.Permissions.{letter}
 use Rattle.rule_writer.specs.Canonical.{token_text}
 use Rattle.rule_globs.specs.Tokens.{Token, between, closing, with_commas, tokens, tokens_of}
 use Rattle.rule_globs.specs.declared.items.Item.{Item}
@@ -83,3 +86,31 @@ group_written item alternatives list first second third last e f g h k =
     let regrouped : ((first ++ codes "{") ++ middle) ++ codes "}" ≡ first ++ (codes "{" ++ (middle ++ codes "}")) = simp append_assoc in
     k ∙ ap (λ (x : List ℕ). x ++ codes "}") (same ∙ ap (λ (x : List ℕ). x ++ middle) g) ∙ regrouped ∙ ap (λ (x : List ℕ). first ++ x)
     (sym (text-Group item alternatives e))
+
+-- ---- the letters of the permissions that pass
+
+abbrev pub letters_before : (Permission → Bool) → List Permission → ℕ → List ℕ
+letters_before test ps i = map letter (filter test (take i ps))
+
+one_further : (test : Permission → Bool) (ps : List Permission) (i : ℕ) (d : Permission) (passes : Bool) → i < length ps →
+    test (get_or ps i d) ≡ passes
+    → letters_before test ps (i + 1) ≡ letters_before test ps i ++ map letter (cond passes (get_or ps i d ∷ []) [])
+one_further test ps i d passes lt h =
+    ap (map letter) (filter_more test ps i d lt)
+    ∙ map-append letter (filter test (take i ps)) (cond (test (get_or ps i d)) (get_or ps i d ∷ []) [])
+    ∙ ap (λ (b : Bool). letters_before test ps i ++ map letter (cond b (get_or ps i d ∷ []) [])) h
+
+-- the next one passes, and its letter is added
+pub letter_added : (test : Permission → Bool) (ps : List Permission) (i : ℕ) (d : Permission) (text old new : List ℕ) → i < length ps →
+    test (get_or ps i d) ≡ true → old ≡ text ++ letters_before test ps i → new ≡ old ++ letter (get_or ps i d) ∷ []
+    → new ≡ text ++ letters_before test ps (i + 1)
+letter_added test ps i d text old new lt h e1 e2 =
+    e2 ∙ ap (λ (x : List ℕ). x ++ letter (get_or ps i d) ∷ []) e1
+    ∙ append_assoc text (letters_before test ps i) (letter (get_or ps i d) ∷ [])
+    ∙ ap (λ (x : List ℕ). text ++ x) (sym (one_further test ps i d true lt h))
+
+-- the next one doesn't pass
+pub no_letter_added : (test : Permission → Bool) (ps : List Permission) (i : ℕ) (d : Permission) (text old : List ℕ) → i < length ps →
+    test (get_or ps i d) ≡ false → old ≡ text ++ letters_before test ps i → old ≡ text ++ letters_before test ps (i + 1)
+no_letter_added test ps i d text old lt h e =
+    e ∙ ap (λ (x : List ℕ). text ++ x) (sym (one_further test ps i d false lt h ∙ append-nil (letters_before test ps i)))

@@ -3,8 +3,8 @@ use Rattle.std.specs.Prelude.{ℕ, List, [], ◌∷◌, ◌++◌, codes, ◌==�
 use Rattle.std.specs.List.{list_any, flat_map}
 use Rattle.names.specs.Permissions.{letters}
 use Rattle.rule_globs.specs.declared.items.ByteRange.{ByteRange}
-use Rattle.verdicts.specs.declared.kind.RuleKind.{RuleKind}
-use Rattle.verdicts.specs.declared.kind.RuleKind.TheVariants.{Allow, Deny}
+use Rattle.names.specs.declared.kind.RuleKind.{RuleKind}
+use Rattle.names.specs.declared.kind.RuleKind.TheVariants.{Allow, Deny}
 use Rattle.rule_reader.specs.Grammar.{ReadsAs}
 use Rattle.rule_profile.specs.Profile.{RuleValue, ProfileValue}
 use Rattle.rule_globs.specs.Tokens.{Token, byte, any_byte, bracket, stars, opening, between, closing}

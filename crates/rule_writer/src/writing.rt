@@ -7,12 +7,11 @@ ghost use Rattle.rule_reader.specs.Grammar.{ReadsAs};
 ghost use Rattle.rule_profile.specs.Profile.{rule_value, profile_value};
 ghost use Rattle.rule_globs.specs.Tokens.{bracket, stars as stars_token, tokens, tokens_of, with_commas};
 
-use names::{NoMemory, Permission, Perms};
+use names::{NoMemory, Permission, Perms, RuleKind};
 use rule_globs::{ByteRange, Class, Item, Stars};
 use rule_profile::{Profile, Rule};
 use rule_reader::profiles_can_be_read;
 use std::alloc::Global;
-use verdicts::RuleKind;
 
 /// The bytes that have a backslash before them in a path.
 const SPECIAL: &[u8] = b"*?[{},\\\"@]";
@@ -114,7 +113,7 @@ fn stars_text(stars: Stars) -> &'static [u8]
     if stars.crosses_slashes { b"**" } else { b"*" }
 }
 
-/// Adds the letters of a set of permissions.
+/// Adds the letters of a set of permissions, in the order of [`Permission::ALL`].
 fn put_perms(text: &mut Vec<u8>, perms: Perms) -> Result<(), NoMemory>
     ensures { IfOk result (λ _. text.new.items ≡ text.old.items ++ letters perms) }
 {

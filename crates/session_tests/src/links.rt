@@ -159,7 +159,7 @@ fn make_links(rt: &impl Abort, session: &mut Session, keeper: &mut Keeper) -> Re
 {
     expect_unknown(rt, session, keeper);
     select(session, b"p")?;
-    let unmade = not_allowed(perms(b"l")?, perms(b"w")?);
+    let unmade = not_allowed(perms(b"l")?, perms(b"wa")?);
     expect_unmade(rt, session, keeper, &unmade)?;
     expect_unmade(rt, session, keeper, &failures())?;
     expect_made(rt, session, keeper)

@@ -127,7 +127,7 @@ fn profiles_are_selected_at_one_version(rt: HostRuntime) -> Result<(), Fail> {
 fn wider_link(policy_version: u64) -> Result<LinkAnswer, Fail> {
     Ok(LinkAnswer::NotAllowed {
         verdict: LinkVerdict::Wider {
-            extra: perms(b"w")?,
+            extra: perms(b"wa")?,
         },
         node: FILE,
         tree_version: TREE,

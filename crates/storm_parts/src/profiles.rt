@@ -60,7 +60,7 @@ const COMPONENTS: [&str; 14] = [
 // What they end in: often what takes many names.
 const ENDS: [&str; 8] = ["/**", "/**", "/**", "/*", "/*", "/a", "/[b-d]", "/{e,?/a}"];
 
-const LETTERS: [&str; 6] = ["r", "w", "rw", "rwk", "rwkm", "rwlkm"];
+const LETTERS: [&str; 8] = ["r", "w", "a", "ra", "rw", "rwk", "rwkm", "rwlkm"];
 
 /// Draws the profiles of a storm.
 pub fn draw_profiles(

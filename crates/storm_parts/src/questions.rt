@@ -61,7 +61,7 @@ fn ask(random: &mut Random) -> Perms {
     for permission in &Permission::ALL {
         let often = match permission {
             Permission::Read => 12,
-            Permission::Write | Permission::Lock | Permission::Map => 4,
+            Permission::Write | Permission::Lock | Permission::Map | Permission::Append => 4,
             Permission::Link => 1,
         };
         if random.below(20) < often {

@@ -3,8 +3,8 @@ use Rattle.std.proofs.Common.{◌≡◌, ◌≢◌, Bool, true, false, if◌then
 use Rattle.subject_rules.specs.declared.effect.Change.{Change}
 use Rattle.subject_rules.specs.declared.effect.Change.TheVariants.{Exact, Wider, Narrower}
 use Rattle.subject_rules.specs.Changes.{gained, lost}
-use Rattle.verdicts.specs.declared.kind.RuleKind.{RuleKind}
-use Rattle.verdicts.specs.declared.kind.RuleKind.TheVariants.{Allow, Deny}
+use Rattle.names.specs.declared.kind.RuleKind.{RuleKind}
+use Rattle.names.specs.declared.kind.RuleKind.TheVariants.{Allow, Deny}
 
 exact_is_wider : Exact ≡ Wider → ⊥
 exact_is_wider e = cc (e)

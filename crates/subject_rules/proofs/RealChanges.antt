@@ -4,7 +4,7 @@ use Rattle.std.specs.List.{Contains}
 use Rattle.std.proofs.lemmas.Bool.{and_parts, cases_Bool}
 use Rattle.names.specs.declared.permissions.Permission.{Permission}
 use Rattle.names.specs.declared.permissions.Permission.TheVariants.{Link}
-use Rattle.names.specs.Permissions.{has}
+use Rattle.names.specs.Permissions.{has, held}
 use Rattle.names.proofs.PermsLaws.{one_found}
 use Rattle.rule_globs.specs.Rules.{RuleValue, holds}
 use Rattle.subject_rules.specs.declared.subject.Subject.{Subject}
@@ -14,15 +14,16 @@ use Rattle.subject_rules.specs.Restating.{can_be_said, has_some, is_restated, lo
 use Rattle.subject_rules.specs.SubjectRules.{SubjectRule}
 use Rattle.subject_rules.specs.Subjects.{applies_to}
 use Rattle.subject_rules.proofs.ChangeKinds.{is_lost, lost_is_gained, never_gained}
-use Rattle.subject_rules.proofs.RestatedPerms.{link_stays_out}
+use Rattle.subject_rules.proofs.RestatedPerms.{held_by_letters, held_link, letter_held, letter_restated, link_stays_out}
 use Rattle.subject_rules.proofs.RestatedRules.{change_if, gain_if, made, restated_if}
 use Rattle.subject_rules.proofs.SomeElements.{nothing_in}
 
 module _ (chosen subject : Subject) (rule : SubjectRule) where
   -- each rule that it is restated as holds these permissions
-  held : (value : RuleValue) (p : Permission) → Contains (restated chosen rule) value →
-      has (restated_perms rule.perms (is_some rule.target)) p ≡ holds value p
-  held value p here = ap (λ v. holds v p) (made chosen subject rule value here).1.2
+  held_so : (value : RuleValue) (p : Permission) → Contains (restated chosen rule) value →
+      has (restated_perms (held rule.perms) (is_some rule.target)) p ≡ holds value p
+  held_so value p here = sym (ap (λ s. has s p) (held_by_letters rule.perms (is_some rule.target)))
+      ∙ ap (λ v. holds v p) (made chosen subject rule value here).1.2
 
   not_restated : is_restated chosen (shape_of rule) ≡ false → (value : RuleValue) → Contains (restated chosen rule) value → ⊥
   not_restated isnt value here = nothing_in value (subst (λ b. Contains (restated_if chosen subject rule b) value) isnt here)
@@ -31,9 +32,9 @@ module _ (chosen subject : Subject) (rule : SubjectRule) where
   link_lost applies loses =
       let both = and_parts (is_some rule.target) (has rule.perms Link) loses in (
         Link,
-        λ unknown name met takes. (applies, (both.1, λ e. met), takes),
-        λ value here holds. link_stays_out rule.perms
-            (subst (λ b. IsTrue (has (restated_perms rule.perms b) Link)) both.0 (held value Link here ∙ holds)),
+        λ unknown name met takes. (applies, (held_link rule.perms ∙ both.1, λ e. met), takes),
+        λ value here holds. link_stays_out (held rule.perms)
+            (subst (λ b. IsTrue (has (restated_perms (held rule.perms) b) Link)) both.0 (held_so value Link here ∙ holds)),
       )
 
   rule_lost : is_restated chosen (shape_of rule) ≡ false → (applies_to rule.applies_to subject && has_some rule.perms) ≡ true →
@@ -42,7 +43,7 @@ module _ (chosen subject : Subject) (rule : SubjectRule) where
       let both = and_parts (applies_to rule.applies_to subject) (has_some rule.perms) loses in
       let some = one_found (has rule.perms) both.1 in (
         some.0,
-        λ unknown name met takes. (both.0, (some.1, λ e. met), takes),
+        λ unknown name met takes. (both.0, (letter_held rule.perms some.0 some.1, λ e. met), takes),
         λ value here holds. not_restated isnt value here,
       )
 
@@ -53,7 +54,8 @@ module _ (chosen subject : Subject) (rule : SubjectRule) where
       let some = one_found (has (restated_perms rule.perms (is_some rule.target))) parts.1 in (
         some.0,
         λ unknown name says. true≢false (sym says.0 ∙ not_applies),
-        λ value here. sym (held value some.0 here) ∙ some.1,
+        λ value here. sym (held_so value some.0 here)
+            ∙ letter_restated rule.perms (is_some rule.target) some.0 some.1,
       )
 
   pub lost_is_real : change chosen subject (shape_of rule) ≡ lost rule.kind → LosesSome chosen subject rule

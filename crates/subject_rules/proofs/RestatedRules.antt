@@ -1,10 +1,10 @@
 -- One rule, and what it is restated as.
 use Rattle.std.proofs.Common.{◌≡◌, ◌≢◌, Bool, true, false, not, ◌&&◌, ◌==◌, ⊎_elim, List, [], ℕ, IsTrue, is_some, map, if◌then◌else◌}
-use Rattle.std.proofs.Common.{refl, sym, ap}
-use Rattle.std.proofs.Common.{◌∙◌, subst, true≢false}
+use Rattle.std.proofs.Common.{refl, sym, ap, ◌∙◌, subst, true≢false}
 use Rattle.std.specs.List.{Contains}
 use Rattle.std.proofs.lemmas.Bool.{and_parts, and_from, cases_Bool, eqb-true}
 use Rattle.names.specs.declared.permissions.Permission.{Permission}
+use Rattle.names.specs.Permissions.{has, held}
 use Rattle.rule_globs.specs.Glob.{Takes}
 use Rattle.rule_globs.specs.Rules.{RuleValue, pattern, holds}
 use Rattle.rule_globs.specs.Tokens.{Token, pattern_of}
@@ -18,7 +18,7 @@ use Rattle.subject_rules.specs.Restating.{restated_paths, restated_perms, shape_
 use Rattle.subject_rules.specs.Restating.{with_path}
 use Rattle.subject_rules.specs.SubjectRules.{SubjectPath, SubjectRule, Unknown, read, unread}
 use Rattle.subject_rules.specs.Subjects.{applies_to}
-use Rattle.subject_rules.proofs.RestatedPerms.{held_after, held_before, met, some_held}
+use Rattle.subject_rules.proofs.RestatedPerms.{held_after, held_before, held_by_letters, held_link, met, some_letter}
 use Rattle.subject_rules.proofs.SomeElements.{made_of_some, nothing_in, some_from, some_made}
 
 -- a path's names are those of the paths that it was read as
@@ -75,15 +75,16 @@ module _ (chosen subject : Subject) (rule : SubjectRule) where
   pub says_no_more : (unknown : Unknown) (p : Permission) (name : List ℕ) (value : RuleValue) →
       change chosen subject (shape_of rule) ≢ gained rule.kind → Contains (restated chosen rule) value →
       IsTrue (holds value p) → Takes (pattern value) name → SaysOf unknown subject p name rule
-  says_no_more unknown p name value no_gain here held takes =
+  says_no_more unknown p name value no_gain here is_held takes =
       let of = made value here in
       let path = of.1 in
-      let own = subst (λ v. IsTrue (holds v p)) (sym path.2) held in (
+      let own = subst (λ s. IsTrue (has s p)) (held_by_letters rule.perms (is_some rule.target))
+      (subst (λ v. IsTrue (holds v p)) (sym path.2) is_held) in (
         ⊎_elim
             (λ applies. applies)
             (λ not_applies. absurd (no_gain (ap change_if of.0 ∙ ap gain_if not_applies)))
             (cases_Bool (applies_to rule.applies_to subject)),
-        (held_before rule.perms (is_some rule.target) p own, met unknown rule.target rule.perms p own),
+        (held_before (held rule.perms) (is_some rule.target) p own, met unknown rule.target (held rule.perms) p own),
         taken unknown rule.path name path.0 path.1 (subst (λ v. Takes (pattern v) name) (sym path.2) takes),
       )
 
@@ -106,9 +107,11 @@ module _ (chosen subject : Subject) (rule : SubjectRule) where
         subst (λ b. Contains (restated_if b) (with_path rule path.0)) (sym is)
             (some_made (with_path rule) (restated_paths rule.path) path.0 path.1),
         refl,
-        held_after rule.perms (is_some rule.target) p keeps_link says.1.0,
+        subst (λ s. IsTrue (has s p)) (sym (held_by_letters rule.perms (is_some rule.target)))
+            (held_after (held rule.perms) (is_some rule.target) p
+            (ap (λ b. is_some rule.target && b) (held_link rule.perms) ∙ keeps_link) says.1.0),
         path.2,
       ))
       (λ isnt. absurd (no_loss (ap change_if isnt ∙ ap loss_if
-      (and_from (applies_to rule.applies_to subject) (has_some rule.perms) says.0 (some_held rule.perms p says.1.0)))))
+      (and_from (applies_to rule.applies_to subject) (has_some rule.perms) says.0 (some_letter rule.perms p says.1.0)))))
       (cases_Bool (is_restated chosen (shape_of rule)))

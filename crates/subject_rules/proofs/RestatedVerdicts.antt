@@ -20,9 +20,9 @@ use Rattle.subject_rules.proofs.ChangeKinds.{exact_gains_nothing, exact_is_narro
 use Rattle.subject_rules.proofs.RestatedRules.{made, no_priority_left, same_kind, says_no_less, says_no_more}
 use Rattle.subject_rules.proofs.SomeElements.{in_all_lists, in_list_of_some, some_from}
 use Rattle.subject_rules.proofs.SomeHits.{allowed_by_hits, each_granted, hit_of_rule, none_denied, rule_of_hit}
-use Rattle.verdicts.specs.declared.kind.RuleKind.{RuleKind}
-use Rattle.verdicts.specs.declared.kind.RuleKind.TheVariants.{Allow, Deny}
-use Rattle.verdicts.specs.declared.verdict.Verdict.TheVariants.{Allowed}
+use Rattle.names.specs.declared.kind.RuleKind.{RuleKind}
+use Rattle.names.specs.declared.kind.RuleKind.TheVariants.{Allow, Deny}
+use Rattle.names.specs.declared.verdict.Verdict.TheVariants.{Allowed}
 
 -- 0 isn't greater than 0
 none_is_greater : (below other_below : Bool) (size other : ℕ) → size ≡ 0 → other ≡ 0 → IsGreater below other_below size other → ⊥

@@ -9,9 +9,9 @@ use Rattle.rule_globs.specs.Glob.{Takes}
 use Rattle.rule_globs.specs.Rules.{RuleValue, pattern, holds}
 use Rattle.rule_globs.specs.Verdict.{Hits, IsAllowed, IsVerdict}
 use Rattle.subject_rules.specs.Lists.{IsHit, LeavesOut}
-use Rattle.verdicts.specs.declared.kind.RuleKind.{RuleKind}
-use Rattle.verdicts.specs.declared.kind.RuleKind.TheVariants.{Allow, Deny}
-use Rattle.verdicts.specs.declared.verdict.Verdict.TheVariants.{Allowed}
+use Rattle.names.specs.declared.kind.RuleKind.{RuleKind}
+use Rattle.names.specs.declared.kind.RuleKind.TheVariants.{Allow, Deny}
+use Rattle.names.specs.declared.verdict.Verdict.TheVariants.{Allowed}
 
 -- the rule is of the list, and hits
 abbrev pub HitsIn : List RuleValue → RuleKind → Permission → List ℕ → RuleValue → Type 0

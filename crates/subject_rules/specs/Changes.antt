@@ -12,8 +12,8 @@ use Rattle.subject_rules.specs.declared.subject.Subject.{Subject}
 use Rattle.subject_rules.specs.Restating.{has_some, is_restated, loses_link, shape_of}
 use Rattle.subject_rules.specs.SubjectRules.{SubjectRule}
 use Rattle.subject_rules.specs.Subjects.{applies_to, other_subject}
-use Rattle.verdicts.specs.declared.kind.RuleKind.{RuleKind}
-use Rattle.verdicts.specs.declared.kind.RuleKind.TheVariants.{Allow, Deny}
+use Rattle.names.specs.declared.kind.RuleKind.{RuleKind}
+use Rattle.names.specs.declared.kind.RuleKind.TheVariants.{Allow, Deny}
 
 -- something that the rule says to the subject isn't restated
 abbrev pub lost : RuleKind → Change

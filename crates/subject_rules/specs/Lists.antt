@@ -3,7 +3,7 @@ use Rattle.std.specs.Prelude.{◌≡◌, ℕ, List, Contains}
 use Rattle.names.specs.declared.permissions.Permission.{Permission}
 use Rattle.rule_globs.specs.Rules.{RuleValue}
 use Rattle.rule_globs.specs.Verdict.{Hits}
-use Rattle.verdicts.specs.declared.kind.RuleKind.{RuleKind}
+use Rattle.names.specs.declared.kind.RuleKind.{RuleKind}
 
 -- some rule of this kind holds p and takes the name
 abbrev pub IsHit : List RuleValue → RuleKind → Permission → List ℕ → Type 0

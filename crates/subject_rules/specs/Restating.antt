@@ -1,9 +1,10 @@
 -- How a rule is restated for a chosen subject: as rules of a profile, which know no subject and no target.
 use Rattle.std.specs.Prelude.{◌≡◌, Bool, true, false, not, ◌&&◌, ◌==◌, List, [], map, None, is_some, if◌then◌else◌}
 use Rattle.std.specs.List.{flat_map, list_any}
-use Rattle.names.specs.declared.permissions.Permission.TheVariants.{Link}
+use Rattle.names.specs.declared.permissions.Permission.{Permission}
+use Rattle.names.specs.declared.permissions.Permission.TheVariants.{Append, Link}
 use Rattle.names.specs.declared.permissions.Perms.{Perms}
-use Rattle.names.specs.Permissions.{all_permissions, has, only, set_of}
+use Rattle.names.specs.Permissions.{all_permissions, conflicts, has, only, set_of}
 use Rattle.rule_globs.specs.Rules.{RuleValue}
 use Rattle.rule_globs.specs.Tokens.{Token}
 use Rattle.subject_rules.specs.declared.shape.RuleShape.{RuleShape}
@@ -33,12 +34,16 @@ shape_of rule = record {
 abbrev pub has_some : Perms → Bool
 has_some perms = list_any (has perms) all_permissions
 
-abbrev pub without_link : Perms → Perms
-without_link perms = set_of (λ p. has perms p && not (has (only Link) p))
+abbrev pub without : Permission → Perms → Perms
+without q perms = set_of (λ p. has perms p && not (has (only q) p))
 
 -- link is left out where it is bound to a target: a restated rule would apply to every link
 abbrev pub restated_perms : Perms → Bool → Perms
-restated_perms perms has_target = if has_target then without_link perms else perms
+restated_perms perms has_target = if has_target then without Link perms else perms
+
+-- Letters that a rule may have, by which it holds the same: append is left out where write is, since a rule with w holds it.
+abbrev pub fitting_letters : Perms → Perms
+fitting_letters perms = if conflicts perms then without Append perms else perms
 
 abbrev pub loses_link : RuleShape → Bool
 loses_link shape = shape.has_target && has shape.perms Link
@@ -67,7 +72,11 @@ restated_paths (unread text) = []
 
 -- the rule as one of a profile, with one of its paths
 abbrev pub with_path : SubjectRule → List Token → RuleValue
-with_path rule path = record { kind = rule.kind; perms = restated_perms rule.perms (is_some rule.target); items = path }
+with_path rule path = record {
+  kind = rule.kind;
+  perms = fitting_letters (restated_perms rule.perms (is_some rule.target));
+  items = path;
+}
 
 -- one rule for each path that it was read as, or none at all
 abbrev pub restated : Subject → SubjectRule → List RuleValue

@@ -3,7 +3,7 @@ use Rattle.std.specs.Prelude.{ℕ, Bool, false, List, Option}
 use Rattle.names.specs.declared.permissions.Perms.{Perms}
 use Rattle.rule_globs.specs.Tokens.{Token}
 use Rattle.subject_rules.specs.declared.subject.AppliesTo.{AppliesTo}
-use Rattle.verdicts.specs.declared.kind.RuleKind.{RuleKind}
+use Rattle.names.specs.declared.kind.RuleKind.{RuleKind}
 
 -- A path as AppArmor reads it: as some paths, any of which may take the name; or a text that it reads in its own way.
 pub data SubjectPath : Type 0 where
@@ -22,7 +22,7 @@ no_priority = record { below = false; size = 0 }
 pub record SubjectRule : Type 0 where
   pub kind : RuleKind
   pub applies_to : AppliesTo
-  -- of r, w, l, k and m; an execute mode with `i` counts as m
+  -- its letters but those of execute modes; a mode with `i` counts as m
   pub perms : Perms
   -- the text after `->`, where that binds link (apparmor.d(5), "Link rules")
   pub target : Option (List ℕ)

@@ -2,6 +2,7 @@
 ghost use Rattle.std.specs.Prelude.{◌≡◌, ◌≢◌, ◌↔◌, ◌⊎◌, ℕ, List, None, IsTrue, true, false};
 ghost use Rattle.names.specs.declared.permissions.Permission.{Permission};
 ghost use Rattle.names.specs.declared.permissions.Perms.{Perms};
+ghost use Rattle.names.specs.Permissions.{conflicts, held};
 ghost use Rattle.rule_globs.specs.Rules.{RuleValue};
 ghost use Rattle.rule_globs.specs.Verdict.{IsVerdict};
 ghost use Rattle.subject_rules.specs.Causes.{GainsSome, LosesSome};
@@ -9,7 +10,7 @@ ghost use Rattle.subject_rules.specs.Changes.{change, effect, for_everybody, gai
 ghost use Rattle.subject_rules.specs.Changes.{NoneIsNarrower, NoneIsWider};
 ghost use Rattle.subject_rules.specs.Judging.{IsAllowedTo, IsDenied, IsGranted};
 ghost use Rattle.subject_rules.specs.Lists.{IsHit, LeavesOut};
-ghost use Rattle.subject_rules.specs.Restating.{has_priority, is_read, restated_all, shape_of, IsPlain};
+ghost use Rattle.subject_rules.specs.Restating.{fitting_letters, has_priority, is_read, restated_all, shape_of, IsPlain};
 ghost use Rattle.subject_rules.specs.SubjectRules.{SubjectRule, Unknown};
 ghost use Rattle.subject_rules.specs.declared.effect.Change.TheVariants.{Exact, Wider, Narrower};
 ghost use Rattle.subject_rules.specs.declared.mode.Mode.{Mode};
@@ -17,9 +18,9 @@ ghost use Rattle.subject_rules.specs.declared.shape.RuleShape.{RuleShape};
 ghost use Rattle.subject_rules.specs.declared.subject.AppliesTo.TheVariants.{Everybody, Others, Owners};
 ghost use Rattle.subject_rules.specs.declared.subject.Subject.{Subject};
 ghost use Rattle.subject_rules.specs.declared.subject.Subject.TheVariants.{Owner, Other};
-ghost use Rattle.verdicts.specs.declared.kind.RuleKind.{RuleKind};
-ghost use Rattle.verdicts.specs.declared.kind.RuleKind.TheVariants.{Allow, Deny};
-ghost use Rattle.verdicts.specs.declared.verdict.Verdict.TheVariants.{Allowed};
+ghost use Rattle.names.specs.declared.kind.RuleKind.{RuleKind};
+ghost use Rattle.names.specs.declared.kind.RuleKind.TheVariants.{Allow, Deny};
+ghost use Rattle.names.specs.declared.verdict.Verdict.TheVariants.{Allowed};
 
 use rule_globs::allowed_alone;
 
@@ -98,6 +99,12 @@ pub fn fewer_rules_say_less()
         IsVerdict left name ask Allowed → IsVerdict rules name ask Allowed }
     ensures deny { (rules left : List RuleValue) (name : List ℕ) (ask : Perms) → LeavesOut Deny rules left →
         IsVerdict rules name ask Allowed → IsVerdict left name ask Allowed }
+{}
+
+/// The letters of a restated rule are such that a rule may have, and by them it holds just what it would by those that they replace.
+pub fn fitting_letters_hold_the_same()
+    ensures fit { (perms : Perms) → conflicts (fitting_letters perms) ≡ false }
+    ensures same { (perms : Perms) → held (fitting_letters perms) ≡ held perms }
 {}
 
 /// A rule for everybody whose path was read, which binds link to no target and has no priority, is exact for each subject.

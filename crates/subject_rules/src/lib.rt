@@ -16,9 +16,10 @@ mod subject;
 pub use effect::{Change, Effect};
 pub use laws::{
     changes_are_told_in_parts, changes_have_causes, chosen_subject_gains_nothing,
-    exact_rules_say_the_same, fewer_rules_say_less, narrower_rules_allow_no_more,
-    plain_rules_are_exact, qualified_rules_change_for_one, wider_rules_allow_no_less,
+    exact_rules_say_the_same, fewer_rules_say_less, fitting_letters_hold_the_same,
+    narrower_rules_allow_no_more, plain_rules_are_exact, qualified_rules_change_for_one,
+    wider_rules_allow_no_less,
 };
 pub use mode::Mode;
-pub use shape::{RuleShape, restated_perms};
+pub use shape::{RuleShape, fitting_letters, restated_perms};
 pub use subject::{AppliesTo, Subject};

@@ -1,12 +1,11 @@
 //! What of a rule decides whether it is restated, and what that changes.
 ghost use Rattle.std.specs.Prelude.{◌≡◌};
 ghost use Rattle.subject_rules.specs.Changes.{change, for_everybody, gained, left_out_change, lost, qualifier_alone, restated_change};
-ghost use Rattle.subject_rules.specs.Restating.{can_be_said, has_some, is_restated, loses_link, restated_perms};
+ghost use Rattle.subject_rules.specs.Restating.{can_be_said, fitting_letters, has_some, is_restated, loses_link, restated_perms};
 
 use crate::effect::Change;
 use crate::subject::{AppliesTo, Subject};
-use names::{Permission, Perms};
-use verdicts::RuleKind;
+use names::{Permission, Perms, RuleKind};
 
 /// A file rule without its path and its target.
 #[derive(Clone, Copy, Debug, PartialEq, Eq)]
@@ -15,7 +14,7 @@ pub struct RuleShape {
     pub kind: RuleKind,
     /// To whom.
     pub applies_to: AppliesTo,
-    /// Which of r, w, l, k and m it holds. An execute mode with `i` counts as m.
+    /// Its letters, but those of execute modes. A mode with `i` counts as m.
     pub perms: Perms,
     /// Whether `->` binds link to a target.
     pub has_target: bool,
@@ -32,6 +31,17 @@ pub fn restated_perms(perms: Perms, has_target: bool) -> Perms
 {
     if has_target {
         perms.without(Perms::NONE.with(Permission::Link))
+    } else {
+        perms
+    }
+}
+
+/// Letters that a rule may have, by which it holds the same: append is left out where write is, since a rule with write holds it.
+pub fn fitting_letters(perms: Perms) -> Perms
+    ensures { result ≡ fitting_letters perms }
+{
+    if perms.conflict() {
+        perms.without(Perms::NONE.with(Permission::Append))
     } else {
         perms
     }

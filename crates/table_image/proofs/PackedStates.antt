@@ -1,7 +1,6 @@
 -- One state more is packed.
 use Rattle.std.proofs.Common.{◌≡◌, ◌≢◌, ◌⊎◌, inl, inr, ⊎_elim, ℕ, zero, suc, ◌+◌, ◌*◌, ◌<◌, ◌≤◌, true, false, true≢false, List}
-use Rattle.std.proofs.Common.{[], ◌∷◌, ◌++◌, length, Option, Some, slice_get, slice_index_or, refl, sym, ap, ap₂, ◌∙◌, arith}
-use Rattle.std.specs.Option.{option_map}
+use Rattle.std.proofs.Common.{[], ◌∷◌, ◌++◌, length, Some, slice_get, slice_index_or, refl, sym, ap, ap₂, ◌∙◌, arith}
 use Rattle.std.specs.List.{Contains}
 use Rattle.std.proofs.Math.Seq.{get_or-append_seam}
 use Rattle.std.proofs.lemmas.Bool.{cases_lt}
@@ -10,9 +9,8 @@ use Rattle.std.proofs.lemmas.List.{length-append, get_or_append_left, get_or_pas
 use Rattle.std.proofs.lemmas.List.Folds.{list_any_at}
 use Rattle.std.proofs.lemmas.Option.{slice_get_within}
 use Rattle.automata.specs.Automata.{Automaton, IsWhole, target}
-use Rattle.verdicts.specs.declared.record.Record.{Record}
-use Rattle.tables.specs.Tables.{Table, default_of, depth_of, stored}
-use Rattle.tables.specs.declared.table.StoredRecord.{StoredRecord}
+use Rattle.names.specs.declared.record.Record.{Record}
+use Rattle.tables.specs.Tables.{Table, default_of, depth_of}
 use Rattle.table_image.specs.Chains.{source}
 use Rattle.table_image.specs.inner.PackSteps.{IsRecordNumber}
 use Rattle.table_image.proofs.RecordNumbers.{no_fewer, record_kept}
@@ -54,8 +52,8 @@ untaken taken bytes base b none there = elim (is_taken taken (base + b)) as (λ 
 ] refl
 
 module _ (a : Automaton) (whole : IsWhole a) (t : Table) (taken : Taken) (s : ℕ) (low_state : s < 16384) (packed : IsPacked a t taken s)
-    (r : Record) (number : ℕ) (records : List StoredRecord) (hits : slice_get a.records (source a s) ≡ Some r)
-    (numbered : IsRecordNumber t.records records (stored r) number)
+    (r : Record) (number : ℕ) (records : List Record) (hits : slice_get a.records (source a s) ≡ Some r)
+    (numbered : IsRecordNumber t.records records r number)
     (default : ℕ) (default_there : default < length a.rows) (depth bound : ℕ) (deep : depth ≤ bound) (more : t.depth_bound ≤ bound)
     (chain : (depth ≡ 0) ⊎ ((default < s) × (depth_of t default < depth)))
     (bytes targets : List ℕ) (others : AreOthers (target a (source a s)) (without_cell a default depth) bytes targets)
@@ -201,9 +199,6 @@ module _ (a : Automaton) (whole : IsWhole a) (t : Table) (taken : Taken) (s : �
       (cases_lt c (length t.next)))
       (cell_or_not base bytes c)
 
-  abbrev hits_at : ℕ → Option Record
-  hits_at k = option_map (λ (q : StoredRecord). q.hits) (slice_get records k)
-
   -- the state chains to one before it, whose depth is less, as those before it do
   chained : (k : ℕ) → k < s + 1 → (depth_of new k ≡ 0) ⊎ ((default_of new k < k) × (depth_of new (default_of new k) < depth_of new k))
   chained k lt = ⊎_elim
@@ -252,27 +247,25 @@ module _ (a : Automaton) (whole : IsWhole a) (t : Table) (taken : Taken) (s : �
         (λ e. omega (arith, e, placed.written.room, placed.low))
         placed.made.few_words;
     record_at = λ k lt. ⊎_elim
-        (λ old. ap hits_at (earlier t.accept number k (omega (arith, old, packed.accepts_long)))
-        ∙ ap (option_map (λ (q : StoredRecord). q.hits))
-        (record_kept t.records records (stored r) number numbered (slice_index_or t.accept k 0) (packed.accept k old))
+        (λ old. ap (slice_get records) (earlier t.accept number k (omega (arith, old, packed.accepts_long)))
+        ∙ record_kept t.records records r number numbered (slice_index_or t.accept k 0) (packed.accept k old)
         ∙ packed.record_at k old)
         (λ le. let now : k ≡ s = is_state k lt le in
-        ap hits_at (newest t.accept number k (omega (arith, now, packed.accepts_long)))
-        ∙ ap (option_map (λ (q : StoredRecord). q.hits)) numbered.at ∙ sym hits
-        ∙ ap (λ z. slice_get a.records (source a z)) (sym now))
+        ap (slice_get records) (newest t.accept number k (omega (arith, now, packed.accepts_long)))
+        ∙ numbered.at ∙ sym hits ∙ ap (λ z. slice_get a.records (source a z)) (sym now))
         (cases_lt k s);
     accept = λ k lt. ⊎_elim
         (λ old. omega (
           arith,
           earlier t.accept number k (omega (arith, old, packed.accepts_long)),
           packed.accept k old,
-          no_fewer t.records records (stored r) number numbered,
+          no_fewer t.records records r number numbered,
         ))
         (λ le. let now : k ≡ s = is_state k lt le in
         omega (
           arith,
           newest t.accept number k (omega (arith, now, packed.accepts_long)),
-          slice_get_within records number (stored r) numbered.at,
+          slice_get_within records number r numbered.at,
         ))
         (cases_lt k s);
     default = λ k lt. ⊎_elim
@@ -310,7 +303,7 @@ module _ (a : Automaton) (whole : IsWhole a) (t : Table) (taken : Taken) (s : �
   }
 
 -- the tables with one state more
-abbrev pub table_with : List ℕ → List ℕ → List ℕ → List ℕ → List ℕ → List StoredRecord → ℕ → List ℕ → Table
+abbrev pub table_with : List ℕ → List ℕ → List ℕ → List ℕ → List ℕ → List Record → ℕ → List ℕ → Table
 table_with x y z next2 check2 records bound depth = record {
   default = x;
   base = y;
@@ -322,7 +315,7 @@ table_with x y z next2 check2 records bound depth = record {
   depth = depth;
 }
 
-pub new_table : (t : Table) (default base number depth : ℕ) (next2 check2 : List ℕ) (records : List StoredRecord) (bound : ℕ)
+pub new_table : (t : Table) (default base number depth : ℕ) (next2 check2 : List ℕ) (records : List Record) (bound : ℕ)
     (defaults bases accepts depths : List ℕ) →
     defaults ≡ t.default ++ default ∷ [] → bases ≡ t.base ++ base ∷ [] → accepts ≡ t.accept ++ number ∷ [] →
     depths ≡ t.depth ++ depth ∷ [] →

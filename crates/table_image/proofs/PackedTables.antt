@@ -1,17 +1,13 @@
 -- The table of an automaton, once each state is packed.
-use Rattle.std.proofs.Common.{◌≡◌, inl, inr, ⊎_elim, ℕ, ◌<◌, ◌≤◌, Bool, true, false, true≢false, All, List, [], ◌∷◌, length}
-use Rattle.std.proofs.Common.{Some, slice_get, slice_index_or, replicate, suc, if◌then◌else◌, refl, sym, ap, ◌∙◌, arith}
-use Rattle.std.specs.Option.{option_and_then, option_map}
+use Rattle.std.proofs.Common.{◌≡◌, inl, inr, ⊎_elim, ℕ, ◌<◌, ◌≤◌, Bool, true, false, true≢false, List, length}
+use Rattle.std.proofs.Common.{Some, slice_get, slice_index_or, if◌then◌else◌, sym, ap, ◌∙◌, arith}
+use Rattle.std.specs.Option.{option_and_then}
 use Rattle.std.proofs.lemmas.Bool.{eqb-true}
 use Rattle.std.proofs.lemmas.Bool.Decides.{eqb_tells}
 use Rattle.std.proofs.lemmas.Option.{slice_get-get_or, slice_get_within, get_or_from_slice_get}
 use Rattle.automata.specs.Automata.{Automaton, target}
-use Rattle.names.specs.declared.permissions.Permission.TheVariants.{Write}
 use Rattle.tables.specs.Bounds.{InBounds, IsTooDeep}
-use Rattle.tables.specs.Images.{FitsVersion1}
 use Rattle.tables.specs.Tables.{Table, cell_of, default_of, depth_of, owns, record_of}
-use Rattle.tables.specs.declared.table.StoredRecord.{StoredRecord}
-use Rattle.verdicts.specs.Least.{hits_of}
 use Rattle.table_image.specs.Chains.{source, IsChained, IsOnward}
 use Rattle.table_image.specs.declared.taken.Taken.{Taken}
 use Rattle.table_image.specs.inner.PackSteps.{IsPacked, without_cell}
@@ -92,8 +88,7 @@ module _ (a : Automaton) (t : Table) (taken : Taken) (states : ℕ) (two : 2 ≤
 
   record_is : (s : ℕ) → s < states → record_of t s ≡ slice_get a.records (source a s)
   record_is s lt =
-      ap (λ o. option_and_then (λ k. option_map (λ (r : StoredRecord). r.hits) (slice_get t.records k)) o)
-      (slice_get-get_or t.accept s 0 (omega (arith, lt, packed.accepts_long)))
+      ap (option_and_then (slice_get t.records)) (slice_get-get_or t.accept s 0 (omega (arith, lt, packed.accepts_long)))
       ∙ packed.record_at s lt
 
   pub all_chained : IsChained a t
@@ -104,18 +99,3 @@ module _ (a : Automaton) (t : Table) (taken : Taken) (states : ℕ) (two : 2 ≤
     onward = λ s b lt. unowned_is s b (omega (arith, lt, packed.defaults_long));
     recorded = λ s lt. record_is s (omega (arith, lt, packed.defaults_long));
   }
-
-all_zero : (list : List ℕ) → ((k : ℕ) → k < length list → slice_index_or list k 0 ≡ 0) → list ≡ replicate (length list) 0
-all_zero [] each = refl
-all_zero (d ∷ list) each =
-    ap (λ z. z ∷ list) (each 0 (omega arith)) ∙ ap (λ z. 0 ∷ z) (all_zero list (λ k lt. each (suc k) (omega (arith, lt))))
-
--- without a depth, version 1 can hold the table
-pub fits_version_1 : (a : Automaton) (t : Table) (taken : Taken) (states : ℕ) → IsPacked a t taken states → t.depth_bound ≡ 0 →
-    All (λ (r : StoredRecord). r.append ≡ hits_of r.hits Write) t.records → FitsVersion1 t
-fits_version_1 a t taken states packed none appends = record {
-  bound = none;
-  depths = all_zero t.depth (λ k lt. omega (arith, packed.depth k (omega (arith, lt, packed.depths_long)), none))
-      ∙ ap (λ n. replicate n 0) (packed.depths_long ∙ sym packed.defaults_long);
-  appends = appends;
-}

@@ -1,11 +1,10 @@
 //! The tables of an automaton.
-ghost use Rattle.std.specs.Prelude.{◌≡◌, ℕ, ◌+◌, ◌*◌, ◌^◌, ◌<◌, ◌≤◌, ◌++◌, ◌∷◌, [], Contains, IfOk, OnOk, false, length, map};
+ghost use Rattle.std.specs.Prelude.{◌≡◌, ℕ, ◌+◌, ◌*◌, ◌^◌, ◌<◌, ◌≤◌, ◌++◌, ◌∷◌, [], Contains, IfOk, OnOk, false, length};
 ghost use Rattle.table_image.specs.Packing.{IsTableOf};
 ghost use Rattle.table_image.specs.inner.PackSteps.{HasCells, IsPacked, IsPlaced, IsRecordNumber};
 ghost use Rattle.table_image.specs.inner.Starting.{AreStarts};
 ghost use Rattle.table_image.specs.inner.Taking.{is_taken};
-ghost use Rattle.tables.specs.Images.{FitsVersion1};
-ghost use Rattle.tables.specs.Tables.{stored, table_value};
+ghost use Rattle.tables.specs.Tables.{table_value};
 
 use crate::cells::write_cells;
 use crate::choosing::{choose, others_of};
@@ -13,10 +12,9 @@ use crate::starts::Starts;
 use crate::taken::Taken;
 use automata::Dfa;
 use indexmap::IndexSet;
-use names::NoMemory;
+use names::{NoMemory, Record, equal_records_are_one};
 use std::alloc::{AllocError, Global};
-use tables::{FEWEST_STATES, ROW_LENGTH, RawTable, StoredRecord};
-use verdicts::{Record, equal_records_are_one};
+use tables::{FEWEST_STATES, ROW_LENGTH, RawTable};
 
 // The owner of a cell that no state owns.
 const FREE: u32 = u32::MAX;
@@ -40,10 +38,11 @@ struct Packing {
 /// The tables of an automaton. A state's default is the target that the most bytes have, the least state among equals. The other
 /// bytes have cells, at the least base at which none of them is taken; a state without cells has base 0. There are as many cells
 /// as the greatest base and 256. Equal records are stored once, in the order of their least states. An automaton of state 0 alone
-/// has a second state, which is as dead. No state has a depth, so version 1 of images can hold the tables.
+/// has a second state, which is as dead. No state has a depth, so version 1 of images can hold the tables if in each record append
+/// has the hits of write.
 pub fn pack(alloc: Global, dfa: &Dfa) -> Result<RawTable, NoMemory>
     ensures table { IfOk result (λ table. IsTableOf dfa.now (table_value table)) }
-    ensures fits { IfOk result (λ table. FitsVersion1 (table_value table)) }
+    ensures flat { IfOk result (λ table. table.depth_bound ≡ 0) }
 {
     match pack_states(alloc, dfa, 0) {
         Ok(table) => Ok(table),
@@ -59,7 +58,6 @@ pub fn pack(alloc: Global, dfa: &Dfa) -> Result<RawTable, NoMemory>
 pub fn pack_chained(alloc: Global, dfa: &Dfa, most_depth: u16) -> Result<RawTable, NoMemory>
     ensures table { IfOk result (λ table. IsTableOf dfa.now (table_value table)) }
     ensures bound { IfOk result (λ table. table.depth_bound ≤ most_depth) }
-    ensures fits { IfOk result (λ table. most_depth ≡ 0 → FitsVersion1 (table_value table)) }
 {
     match pack_states(alloc, dfa, most_depth) {
         Ok(table) => Ok(table),
@@ -70,7 +68,6 @@ pub fn pack_chained(alloc: Global, dfa: &Dfa, most_depth: u16) -> Result<RawTabl
 fn pack_states(alloc: Global, dfa: &Dfa, most_depth: u16) -> Result<RawTable, AllocError>
     ensures table { IfOk result (λ table. IsTableOf dfa.now (table_value table)) }
     ensures bound { IfOk result (λ table. table.depth_bound ≤ most_depth) }
-    ensures fits { IfOk result (λ table. most_depth ≡ 0 → FitsVersion1 (table_value table)) }
 {
     let states = dfa.states().max(FEWEST_STATES);
     let mut counts = Vec::new(alloc);
@@ -107,13 +104,13 @@ fn push_state(
     most_depth: u16,
 ) -> Result<(), AllocError>
     requires few { state < 16384 }
-    requires same { packing.old.table.records.items ≡ map stored packing.old.numbers.keys }
+    requires same { packing.old.table.records.items ≡ packing.old.numbers.keys }
     requires counts { length packing.old.counts.items ≡ length dfa.now.rows }
     requires bound { packing.old.table.depth_bound ≤ most_depth }
     requires packed { IsPacked dfa.now (table_value packing.old.table) packing.old.taken state }
     requires starts { AreStarts packing.old.taken packing.old.starts }
     ensures starts { OnOk result (AreStarts packing.new.taken packing.new.starts) }
-    ensures same { OnOk result (packing.new.table.records.items ≡ map stored packing.new.numbers.keys) }
+    ensures same { OnOk result (packing.new.table.records.items ≡ packing.new.numbers.keys) }
     ensures bound { OnOk result (packing.new.table.depth_bound ≤ most_depth) }
     ensures counts { OnOk result (length packing.new.counts.items ≡ length dfa.now.rows) }
     ensures packed { OnOk result (IsPacked dfa.now (table_value packing.new.table) packing.new.taken (state + 1)) }
@@ -213,14 +210,14 @@ fn push_number(list: &mut Vec<u32>, number: u32) -> Result<(), AllocError>
 
 // The number of a record: the next one, if it is new.
 fn number_of(
-    records: &mut Vec<StoredRecord>,
+    records: &mut Vec<Record>,
     numbers: &mut IndexSet<Record>,
     hits: Record,
 ) -> Result<u32, AllocError>
-    requires same { records.old.items ≡ map stored numbers.old.keys }
+    requires same { records.old.items ≡ numbers.old.keys }
     requires few { length records.old.items < 65536 }
-    ensures same { OnOk result (records.new.items ≡ map stored numbers.new.keys) }
-    ensures number { IfOk result (IsRecordNumber records.old.items records.new.items (stored hits)) }
+    ensures same { OnOk result (records.new.items ≡ numbers.new.keys) }
+    ensures number { IfOk result (IsRecordNumber records.old.items records.new.items hits) }
 {
     equal_records_are_one();
     if let Some(number) = numbers.get_index_of(&hits) {
@@ -228,6 +225,6 @@ fn number_of(
     }
     let number = records.len() as u32;
     numbers.insert(hits)?;
-    records.push(StoredRecord::of(hits))?;
+    records.push(hits)?;
     Ok(number)
 }

@@ -11,10 +11,11 @@ use std::alloc::Global;
 use std::process::Abort;
 use std::test::Fail;
 use table_image::{
-    ImageFault, RawTable, StoredRecord, bytes_have_one_outcome, from_bytes, pack,
-    tables_have_one_outcome, to_bytes, to_bytes_v1,
+    ImageFault, RawTable, bytes_have_one_outcome, from_bytes, pack, tables_have_one_outcome,
+    to_bytes, to_bytes_v1,
 };
 
+mod append;
 mod faults;
 mod headers;
 mod layout;
@@ -22,8 +23,7 @@ mod numbers;
 
 // The tables of a profile's text.
 fn tables_of(alloc: Global, text: &[u8]) -> Result<RawTable, Fail>
-    ensures bounds { IfOk result (λ table. InBounds (table_value table)) }
-    ensures fits { IfOk result (λ table. FitsVersion1 (table_value table)) }
+    ensures { IfOk result (λ table. InBounds (table_value table)) }
 {
     let profile = read(alloc, text)?;
     Ok(pack(alloc, &compile(alloc, &profile)?)?)
@@ -32,6 +32,9 @@ fn tables_of(alloc: Global, text: &[u8]) -> Result<RawTable, Fail>
 // The image of a profile's text, in version 1.
 fn image_of(alloc: Global, text: &[u8]) -> Result<Vec<u8>, Fail> {
     let table = tables_of(alloc, text)?;
+    if !table.fits_version_1() {
+        return Err(Fail::from("version 1 can't hold the tables"));
+    }
     Ok(to_bytes_v1(alloc, &table)?)
 }
 

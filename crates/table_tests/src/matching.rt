@@ -8,7 +8,7 @@ use rule_text::{Profile, read};
 use std::alloc::Global;
 use std::process::Abort;
 use std::test::Fail;
-use table_image::{ImageFault, to_bytes_v1};
+use table_image::{ImageFault, to_bytes, to_bytes_v1};
 use table_verifier::{LookUps, Steps, VerifiedTable};
 
 mod agreeing;
@@ -30,9 +30,17 @@ fn compiled_of(alloc: Global, rules: &[u8]) -> Result<CompiledProfile, Fail> {
     Ok(CompiledProfile::make(alloc, profile)?)
 }
 
-// The profile that is loaded from the image, in version 1, of a compiled one's table.
+// The image of a profile's table: in version 1, if that can hold it.
+fn image_of(alloc: Global, profile: &Profile) -> Result<Vec<u8>, Fail> {
+    let table = table_of(alloc, profile)?;
+    if table.fits_version_1() {
+        return Ok(to_bytes_v1(alloc, &table)?);
+    }
+    Ok(to_bytes(alloc, &table)?)
+}
+
+// The profile that is loaded from the image of a compiled one's table.
 fn loaded_of(alloc: Global, compiled: &CompiledProfile) -> Result<LoadedProfile, Fail> {
-    let table = table_of(alloc, compiled.profile())?;
-    let image = to_bytes_v1(alloc, &table)?;
+    let image = image_of(alloc, compiled.profile())?;
     Ok(LoadedProfile::make(alloc, &image)?)
 }

@@ -1,5 +1,6 @@
-//! An image through each function of `image_judge`. It is written by hand: `a` leads from the start to a state whose record
-//! allows reading by rule 1 and denies writing by rule 2; all else leads to the dead state.
+//! Images through each function of `image_judge`. They are written by hand: `a` leads from the start to a state whose record
+//! allows reading by rule 1 and denies writing by rule 2; all else leads to the dead state. By the image of version 2 that record
+//! allows appending by rule 3, too.
 ghost use Rattle.std.specs.Prelude.{IsTrue};
 ghost use Rattle.image_judge.specs.Answers.{IsNoneOrLoaded};
 
@@ -12,18 +13,45 @@ use table_verifier::verify_image;
 fn image(alloc: Global) -> Result<Vec<u8>, Fail> {
     let mut image = Vec::new(alloc);
     image.extend_from_slice(b"PTAB\x01\x00\x00\x00")?;
-    // The counts of states, cells and records; then default, base and accept.
-    push(&mut image, &[3, 256, 2])?;
-    push(&mut image, &[0, 0, 0])?;
-    push(&mut image, &[0, 0, 0])?;
-    push(&mut image, &[0, 0, 1])?;
-    // Next and check: state 1 owns the cell of `a`.
-    push_row(&mut image, 2, 0)?;
-    push_row(&mut image, 1, u32::MAX)?;
+    push_states(&mut image)?;
+    push_cells(&mut image)?;
     image.extend_from_slice(&[0; 20])?;
+    push_record(&mut image)?;
+    Ok(image)
+}
+
+// The image of version 2, in which no state has a depth.
+fn image_of_second(alloc: Global) -> Result<Vec<u8>, Fail> {
+    let mut image = Vec::new(alloc);
+    image.extend_from_slice(b"PTAB\x02\x00\x00\x00")?;
+    push_states(&mut image)?;
+    push(&mut image, &[0, 0, 0])?;
+    push_cells(&mut image)?;
+    image.extend_from_slice(&[0; 24])?;
+    push_record(&mut image)?;
+    image.extend_from_slice(&[3, 0, 0, 0])?;
+    Ok(image)
+}
+
+// The counts of states, cells and records; then default, base and accept.
+fn push_states(image: &mut Vec<u8>) -> Result<(), Fail> {
+    push(image, &[3, 256, 2])?;
+    push(image, &[0, 0, 0])?;
+    push(image, &[0, 0, 0])?;
+    push(image, &[0, 0, 1])
+}
+
+// Next and check: state 1 owns the cell of `a`.
+fn push_cells(image: &mut Vec<u8>) -> Result<(), Fail> {
+    push_row(image, 2, 0)?;
+    push_row(image, 1, u32::MAX)
+}
+
+// The hits of all permissions but append.
+fn push_record(image: &mut Vec<u8>) -> Result<(), Fail> {
     image.extend_from_slice(&[1, 0, 0, 0, 0, 0, 2, 0])?;
     image.extend_from_slice(&[0; 12])?;
-    Ok(image)
+    Ok(())
 }
 
 fn push(image: &mut Vec<u8>, numbers: &[u32]) -> Result<(), Fail> {
@@ -152,6 +180,26 @@ fn names_are_judged(rt: HostRuntime) -> Result<(), Fail> {
     Ok(())
 }
 
+// Append is 32. Version 1 answers for it what it answers for write.
+#[test]
+fn append_is_judged(rt: HostRuntime) -> Result<(), Fail> {
+    let alloc = rt.alloc();
+    let first = image(alloc)?;
+    let first = &first[..];
+    assert!(rt; is_accepted(first));
+    assert_eq!(rt; told(first, b"a", 32), answer(2, 2, 0, 1));
+    assert_eq!(rt; told(first, b"aa", 63), answer(3, 0, 63, 2));
+    let second = image_of_second(alloc)?;
+    let second = &second[..];
+    assert!(rt; is_accepted(second));
+    assert_eq!(rt; told(second, b"a", 32), answer(1, 0, 0, 1));
+    assert_eq!(rt; told(second, b"a", 33), answer(1, 0, 0, 1));
+    assert_eq!(rt; told(second, b"a", 34), answer(2, 2, 0, 1));
+    assert_eq!(rt; told(second, b"a", 48), answer(3, 0, 16, 1));
+    assert_eq!(rt; told(second, b"aa", 63), answer(3, 0, 63, 2));
+    Ok(())
+}
+
 // No set of permissions, one that isn't known, and no image.
 #[test]
 fn nothing_is_judged(rt: HostRuntime) -> Result<(), Fail> {
@@ -160,7 +208,7 @@ fn nothing_is_judged(rt: HostRuntime) -> Result<(), Fail> {
     let image = &image[..];
     assert!(rt; is_accepted(image));
     assert_eq!(rt; told(image, b"a", 0), answer(0, 0, 0, 0));
-    assert_eq!(rt; told(image, b"a", 32), answer(0, 0, 0, 0));
+    assert_eq!(rt; told(image, b"a", 64), answer(0, 0, 0, 0));
     assert_eq!(rt; told(b"", b"a", 1), answer(0, 0, 0, 0));
     numbers_are_sets();
     Ok(())
@@ -235,6 +283,7 @@ fn names_of_a_batch_are_judged_as_each_is(rt: HostRuntime) -> Result<(), Fail> {
         expect_answers(&rt, alloc, image, &text, &offsets, names, 1)?;
         expect_answers(&rt, alloc, image, &text, &offsets, names, 3)?;
         expect_answers(&rt, alloc, image, &text, &offsets, names, 32)?;
+        expect_answers(&rt, alloc, image, &text, &offsets, names, 64)?;
         expect_answers(&rt, alloc, b"", &text, &offsets, names, 1)?;
         // The last name has no end.
         let ends = offsets.len().saturating_sub(1);

@@ -1,10 +1,10 @@
 //! The smallest tables, sound and altered, and strangers' tables.
+use names::Record;
 use std::alloc::Global;
 use std::process::Abort;
 use std::test::Fail;
-use table_image::{ImageFault, RawTable, StoredRecord};
+use table_image::{ImageFault, RawTable};
 use table_verifier::{LookUps, State, Steps, VerifiedTable, tables_in_bounds_run, verify};
-use verdicts::Record;
 
 mod altered;
 mod chains;
@@ -20,7 +20,7 @@ fn counted(alloc: Global, states: usize, cells: usize, records: usize) -> Result
         accept: zeros.clone()?,
         next: Vec::from_elem(alloc, 0, cells)?,
         check: Vec::from_elem(alloc, 0, cells)?,
-        records: Vec::from_elem(alloc, StoredRecord::of(Record::none()), records)?,
+        records: Vec::from_elem(alloc, Record::none(), records)?,
         depth_bound: 0,
         depth: zeros,
     })

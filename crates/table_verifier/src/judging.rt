@@ -1,7 +1,7 @@
 //! Verdicts by tables and by images.
 ghost use Rattle.std.specs.Prelude.{◌≡◌, ◌+◌, ◌^◌, ◌<◌, Some, length};
-ghost use Rattle.verdicts.specs.Records.{IsTold};
-ghost use Rattle.verdicts.specs.declared.record.Record.{Record};
+ghost use Rattle.names.specs.Records.{IsTold};
+ghost use Rattle.names.specs.declared.record.Record.{Record};
 ghost use Rattle.tables.specs.Tables.{record_after};
 
 use crate::image::VerifiedImage;
@@ -9,8 +9,7 @@ use crate::look_ups::LookUps;
 use crate::running::{record_by_image, record_of_name};
 use crate::steps::Steps;
 use crate::verified::VerifiedTable;
-use names::Perms;
-use verdicts::{Verdict, told};
+use names::{Perms, Verdict, told};
 
 /// The verdict that the record of a name's last state gives. Allocates nothing, and can't be refused.
 pub fn judge(table: &VerifiedTable, name: &[u8], ask: Perms) -> Verdict

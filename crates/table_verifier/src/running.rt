@@ -9,7 +9,7 @@ use crate::look_ups::LookUps;
 use crate::stepping::run_from;
 use crate::steps::Steps;
 use crate::verified::{State, VerifiedTable};
-use verdicts::Record;
+use names::Record;
 
 /// The state that a list of bytes leads to. Whoever made the table and whatever the bytes are, no index leaves it, and each byte
 /// takes exactly one step, and one look-up at least and at most one more than the bound of depths. Allocates nothing, and can't be

@@ -9,9 +9,9 @@ use crate::entries::{Entries, Reader};
 use crate::laws::tables_in_bounds_run;
 use crate::look_ups::LookUps;
 use crate::steps::Steps;
+use names::Record;
 use std::marker::Model;
 use tables::RawTable;
-use verdicts::Record;
 
 /// The number of a state.
 pub type State = u32;
@@ -82,7 +82,7 @@ impl VerifiedTable {
         requires { state < state_count self.now }
         ensures { record_of self.now state ≡ Some result }
     {
-        self.table.records[self.table.accept[state as usize] as usize].hits
+        self.table.records[self.table.accept[state as usize] as usize]
     }
 
     /// How many states there are.

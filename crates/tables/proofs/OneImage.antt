@@ -7,37 +7,37 @@ use Rattle.std.proofs.lemmas.List.{append_assoc, length-append}
 use Rattle.byteorder.specs.Endian.{little_bytes, little_number}
 use Rattle.byteorder.specs.Numbers.{little_number-reads_back}
 use Rattle.names.specs.declared.permissions.Permission.{Permission}
-use Rattle.names.specs.declared.permissions.Permission.TheVariants.{Write}
+use Rattle.names.specs.declared.permissions.Permission.TheVariants.{Append, Write}
 use Rattle.names.specs.Permissions.{index}
-use Rattle.verdicts.specs.Least.{hits_list, hits_of, no_hit, record_of}
-use Rattle.verdicts.specs.declared.record.LeastHits.{LeastHits}
-use Rattle.verdicts.specs.declared.record.Record.{Record}
+use Rattle.names.specs.Least.{hits_of, no_hit}
+use Rattle.names.specs.declared.record.LeastHits.{LeastHits}
+use Rattle.names.specs.declared.record.Record.{Record}
 use Rattle.tables.specs.Bounds.{InLimits, IsShaped}
-use Rattle.tables.specs.Images.{AreShort, HasImageFault, HasRoom, FitsVersion1, HasVersion, IsImageOf, IsShortRecord, IsShortStored}
-use Rattle.tables.specs.Images.{IsVersionOf, IsWhole, IsWholeOf, bound_of, depth_count, depths_of, header_of, hits_bytes, image_of}
-use Rattle.tables.specs.Images.{length_of, record_bytes, short_at, stored_bytes, stored_length, told_length, version_number, word_at}
-use Rattle.tables.specs.Images.{words}
+use Rattle.tables.specs.Images.{AreShort, HasImageFault, HasRoom, FitsVersion1, HasVersion, IsImageOf, IsShortRecord, IsVersionOf}
+use Rattle.tables.specs.Images.{IsWhole, IsWholeOf, bound_of, depth_count, depths_of, header_of, hits_bytes, image_of, length_of}
+use Rattle.tables.specs.Images.{record_bytes, record_length, short_at, told_length, version_number, word_at, words}
+use Rattle.tables.specs.inner.Reading.{stored_for}
 use Rattle.tables.specs.declared.header.Version.{Version}
 use Rattle.tables.specs.declared.header.Version.TheVariants.{First, Second}
-use Rattle.tables.specs.declared.table.StoredRecord.{StoredRecord}
 use Rattle.tables.proofs.HeaderReads.{one_version}
 use Rattle.tables.specs.Tables.{Table, state_count, cell_count, record_count}
 use Rattle.tables.specs.declared.fault.ImageFault.{ImageFault}
 use Rattle.tables.specs.declared.fault.ImageFault.TheVariants as fault
 use Rattle.tables.proofs.Joined.{same_parts}
+use Rattle.tables.proofs.StoredHits.{all_short, held_hits, stored_hit, stored_hits, stored_hits_long}
 
 -- ---- what an image has
 
 abbrev pub parts_of : Version → Table → List ℕ
 parts_of v t = words t.default ++ (words t.base ++ (words t.accept
-    ++ (words (depths_of v t) ++ (words t.next ++ (words t.check ++ concat (map (stored_bytes v) t.records))))))
+    ++ (words (depths_of v t) ++ (words t.next ++ (words t.check ++ concat (map (record_bytes v) t.records))))))
 
 regrouped : (h a b c p d e f : List ℕ) → h ++ a ++ b ++ c ++ p ++ d ++ e ++ f ≡ h ++ (a ++ (b ++ (c ++ (p ++ (d ++ (e ++ f))))))
 regrouped h a b c p d e f = simp append_assoc
 
 image_parts : (v : Version) (t : Table) → image_of v t ≡ header_of v t ++ parts_of v t
 image_parts v t = regrouped (header_of v t) (words t.default) (words t.base) (words t.accept) (words (depths_of v t)) (words t.next)
-    (words t.check) (concat (map (stored_bytes v) t.records))
+    (words t.check) (concat (map (record_bytes v) t.records))
 
 abbrev head : ℕ → ℕ → ℕ → ℕ → ℕ → List ℕ
 head n m s c r = codes "PTAB" ++ little_bytes 2 n ++ little_bytes 2 m ++ little_bytes 4 s ++ little_bytes 4 c ++ little_bytes 4 r
@@ -77,23 +77,18 @@ concat_length f n h (x ∷ xs) =
 words_length : (xs : List ℕ) → length (words xs) ≡ 4 * length xs
 words_length xs = concat_length (little_bytes 4) 4 (λ x. refl) xs
 
-record_length : (r : Record) → length (record_bytes r) ≡ 20
-unfolding record_bytes hits_list
-record_length r = refl
+record_long : (v : Version) (r : Record) → length (record_bytes v r) ≡ record_length v
+unfolding record_bytes
+record_long v r = concat_length hits_bytes 4 (λ h. refl) (stored_hits v r) ∙ ap (λ n. 4 * n) (stored_hits_long v r)
 
-stored_long : (v : Version) (r : StoredRecord) → length (stored_bytes v r) ≡ stored_length v
-unfolding stored_bytes
-stored_long First r = record_length r.hits
-stored_long Second r = length-append (record_bytes r.hits) (hits_bytes r.append) ∙ ap (λ n. n + 4) (record_length r.hits)
-
-records_length : (v : Version) (rs : List StoredRecord) → length (concat (map (stored_bytes v) rs)) ≡ stored_length v * length rs
-records_length v rs = concat_length (stored_bytes v) (stored_length v) (stored_long v) rs
+records_length : (v : Version) (rs : List Record) → length (concat (map (record_bytes v) rs)) ≡ record_length v * length rs
+records_length v rs = concat_length (record_bytes v) (record_length v) (record_long v) rs
 
 depths_length : (v : Version) (t : Table) → IsShaped t → length (depths_of v t) ≡ depth_count v (state_count t)
 depths_length First t shaped = refl
 depths_length Second t shaped = shaped.depths
 
-parts_length : (v : Version) (t : Table) (x : ℕ) → x ≡ stored_length v * record_count t → IsShaped t →
+parts_length : (v : Version) (t : Table) (x : ℕ) → x ≡ record_length v * record_count t → IsShaped t →
     length (header_of v t ++ parts_of v t) ≡ 20 + 12 * state_count t + 4 * depth_count v (state_count t) + 8 * cell_count t + x
 parts_length v t x is shaped =
     let d : List ℕ = words t.default in
@@ -102,7 +97,7 @@ parts_length v t x is shaped =
     let p : List ℕ = words (depths_of v t) in
     let n : List ℕ = words t.next in
     let c : List ℕ = words t.check in
-    let r : List ℕ = concat (map (stored_bytes v) t.records) in
+    let r : List ℕ = concat (map (record_bytes v) t.records) in
     let l0 = length-append (header_of v t) (parts_of v t) in
     let l1 = length-append d (b ++ (a ++ (p ++ (n ++ (c ++ r))))) in
     let l2 = length-append b (a ++ (p ++ (n ++ (c ++ r)))) in
@@ -111,7 +106,7 @@ parts_length v t x is shaped =
     let l4 = length-append n (c ++ r) in
     let l5 = length-append c r in
     let head_is : length (header_of v t) ≡ 20 = refl in
-    let kept : length (concat (map (stored_bytes v) t.records)) ≡ x = records_length v t.records ∙ sym is in
+    let kept : length (concat (map (record_bytes v) t.records)) ≡ x = records_length v t.records ∙ sym is in
     omega (
       arith,
       l0,
@@ -174,7 +169,7 @@ image_is_whole v bytes t image =
     let c : word_at bytes 12 ≡ cell_count t = says.cells in
     let r : word_at bytes 16 ≡ record_count t = says.records in
     let size : length bytes ≡ length_of v (state_count t) (cell_count t) (record_count t) =
-    ap length is ∙ parts_length v t (stored_length v * record_count t) refl image.shaped in
+    ap length is ∙ parts_length v t (record_length v * record_count t) refl image.shaped in
     record {
       header = omega (arith, ap length is, length-append (header_of v t) (parts_of v t));
       magic = ap (take 4) is;
@@ -233,19 +228,22 @@ hits_one h k p q e =
     let Made : ℕ → ℕ → LeastHits = λ a d. record { allow = a; deny = d } in
     ap (λ a. Made a h.deny) (short_one h.allow k.allow p.0 q.0 both.0) ∙ ap (λ d. Made k.allow d) (short_one h.deny k.deny p.1 q.1 both.1)
 
--- what the laws of records say
+-- what the law of records says
 abbrev AreTheirHits : Type 0
 AreTheirHits = (r s : Record) → ((p : Permission) → hits_of r p ≡ hits_of s p) → r ≡ s
 
-abbrev HaveTheirHits : Type 0
-HaveTheirHits = (hits : Permission → LeastHits) (p : Permission) → hits_of (record_of hits) p ≡ hits p
+-- a record that the version can hold
+abbrev IsHeld : Version → Record → Type 0
+IsHeld v r = IsShortRecord r × (v ≡ First → hits_of r Append ≡ hits_of r Write)
 
-record_one : AreTheirHits → HaveTheirHits → (r q : Record) → IsShortRecord r → IsShortRecord q → record_bytes r ≡ record_bytes q → r ≡ q
-unfolding record_bytes IsShortRecord hits_list
-record_one same made r q p s e =
-    let lists : hits_list r ≡ hits_list q = concat_one hits_bytes AreShort 4 (λ x. refl) hits_one (hits_list r) (hits_list q) refl p s
-    e in
-    same r q (λ x. sym (made (hits_of r) x) ∙ ap (λ l. get_or l (index x) no_hit) lists ∙ made (hits_of q) x)
+record_one : AreTheirHits → (v : Version) (r q : Record) → IsHeld v r → IsHeld v q → record_bytes v r ≡ record_bytes v q → r ≡ q
+unfolding record_bytes
+record_one same v r q mine other e =
+    let lists : stored_hits v r ≡ stored_hits v q =
+    concat_one hits_bytes AreShort 4 (λ x. refl) hits_one (stored_hits v r) (stored_hits v q)
+    (stored_hits_long v r ∙ sym (stored_hits_long v q)) (all_short v r mine.0) (all_short v q other.0) e in
+    same r q (λ p. held_hits v r mine.1 p ∙ sym (stored_hit v r p) ∙ ap (λ l. get_or l (index (stored_for v p)) no_hit) lists
+    ∙ stored_hit v q p ∙ sym (held_hits v q other.1 p))
 
 words_one : (xs ys : List ℕ) → length xs ≡ length ys → All (λ n. n < 4294967296) xs → All (λ n. n < 4294967296) ys → words xs
     ≡ words ys → xs ≡ ys
@@ -259,26 +257,6 @@ words_first xs ys rest more same p q e =
     let size : length (words xs) ≡ length (words ys) = words_length xs ∙ ap (λ n. 4 * n) same ∙ sym (words_length ys) in
     let both : (words xs ≡ words ys) × (rest ≡ more) = same_parts (words xs) rest (words ys) more size e in
     (words_one xs ys same p q both.0, both.1)
-
--- a record that the version can hold
-abbrev IsHeld : Version → StoredRecord → Type 0
-IsHeld v r = IsShortStored r × (v ≡ First → r.append ≡ hits_of r.hits Write)
-
-made_of : LeastHits → Record → StoredRecord
-made_of h r = record { hits = r; append = h }
-
-stored_one : AreTheirHits → HaveTheirHits → (v : Version) (r q : StoredRecord) → IsHeld v r → IsHeld v q → stored_bytes v r
-    ≡ stored_bytes v q → r ≡ q
-unfolding stored_bytes made_of
-stored_one same made First r q p s e =
-    let one : r.hits ≡ q.hits = record_one same made r.hits q.hits p.0.0 s.0.0 e in
-    ap (made_of r.append) one ∙ ap (λ h. made_of h q.hits) (p.1 refl ∙ ap (λ z. hits_of z Write) one ∙ sym (s.1 refl))
-stored_one same made Second r q p s e =
-    let both : (record_bytes r.hits ≡ record_bytes q.hits) × (hits_bytes r.append ≡ hits_bytes q.append) =
-    same_parts (record_bytes r.hits) (hits_bytes r.append) (record_bytes q.hits) (hits_bytes q.append)
-    (record_length r.hits ∙ sym (record_length q.hits)) e in
-    ap (made_of r.append) (record_one same made r.hits q.hits p.0.0 s.0.0 both.0)
-    ∙ ap (λ h. made_of h q.hits) (hits_one r.append q.append p.0.1 s.0.1 both.1)
 
 all_held : (v : Version) (bytes : List ℕ) (t : Table) → IsVersionOf v bytes t → All (IsHeld v) t.records
 all_held v bytes t image = λ k d lt. (image.room.records k d lt, λ e. (image.fits e).appends k d lt)
@@ -298,9 +276,9 @@ depths_room : (v : Version) (t : Table) → HasRoom t → All (λ n. n < 4294967
 depths_room First t room = λ k d lt. absurd (omega (arith, lt))
 depths_room Second t room = room.depths
 
-one_of_version : AreTheirHits → HaveTheirHits → (v : Version) (bytes : List ℕ) (t u : Table) → IsVersionOf v bytes t →
+one_of_version : AreTheirHits → (v : Version) (bytes : List ℕ) (t u : Table) → IsVersionOf v bytes t →
     IsVersionOf v bytes u → t ≡ u
-one_of_version same made v bytes t u i j =
+one_of_version same v bytes t u i j =
     let mine = header_says v bytes t i in
     let other = header_says v bytes u j in
     let s : state_count t ≡ state_count u = sym mine.states ∙ other.states in
@@ -309,8 +287,8 @@ one_of_version same made v bytes t u i j =
     let m : bound_of v t ≡ bound_of v u = sym mine.bound ∙ other.bound in
     let e : header_of v t ++ parts_of v t ≡ header_of v u ++ parts_of v u = sym (image_parts v t) ∙ sym i.is ∙ j.is ∙ image_parts v u in
     let e0 : parts_of v t ≡ parts_of v u = (same_parts (header_of v t) (parts_of v t) (header_of v u) (parts_of v u) refl e).1 in
-    let rt : List ℕ = concat (map (stored_bytes v) t.records) in
-    let ru : List ℕ = concat (map (stored_bytes v) u.records) in
+    let rt : List ℕ = concat (map (record_bytes v) t.records) in
+    let ru : List ℕ = concat (map (record_bytes v) u.records) in
     let dt : List ℕ = depths_of v t in
     let du : List ℕ = depths_of v u in
     let p : HasRoom t = i.room in
@@ -329,11 +307,11 @@ one_of_version same made v bytes t u i j =
     let e4 = words_first t.next u.next (words t.check ++ rt) (words u.check ++ ru) c p.nexts q.nexts e7.1 in
     let e5 = words_first t.check u.check rt ru (i.shaped.checks ∙ c ∙ sym j.shaped.checks) p.checks q.checks e4.1 in
     let e6 : t.records ≡ u.records =
-    concat_one (stored_bytes v) (IsHeld v) (stored_length v) (stored_long v) (stored_one same made v) t.records u.records r
+    concat_one (record_bytes v) (IsHeld v) (record_length v) (record_long v) (record_one same v) t.records u.records r
     (all_held v bytes t i) (all_held v bytes u j) e5.1 in
     let e8 : t.depth_bound ≡ u.depth_bound = same_bound v t u i.fits j.fits m in
     let e9 : t.depth ≡ u.depth = same_depths v t u i.fits j.fits s e7.0 in
-    let Made : List ℕ → List ℕ → List ℕ → List ℕ → List ℕ → List StoredRecord → ℕ → List ℕ → Table =
+    let Made : List ℕ → List ℕ → List ℕ → List ℕ → List ℕ → List Record → ℕ → List ℕ → Table =
     λ d b a n k l m p. record { default = d; base = b; accept = a; next = n; check = k; records = l; depth_bound = m; depth = p } in
     ap (λ z. Made z t.base t.accept t.next t.check t.records t.depth_bound t.depth) e1.0
     ∙ ap (λ z. Made u.default z t.accept t.next t.check t.records t.depth_bound t.depth) e2.0
@@ -345,9 +323,9 @@ one_of_version same made v bytes t u i j =
     ∙ ap (λ z. Made u.default u.base u.accept u.next u.check u.records u.depth_bound z) e9
 
 -- the header has one version
-pub one_table : AreTheirHits → HaveTheirHits → (bytes : List ℕ) (t u : Table) → IsImageOf bytes t → IsImageOf bytes u → t ≡ u
-one_table same made bytes t u i j =
+pub one_table : AreTheirHits → (bytes : List ℕ) (t u : Table) → IsImageOf bytes t → IsImageOf bytes u → t ≡ u
+one_table same bytes t u i j =
     let mine = header_says i.0 bytes t i.1 in
     let other = header_says j.0 bytes u j.1 in
     let v : j.0 ≡ i.0 = one_version j.0 i.0 (sym other.version ∙ mine.version) in
-    one_of_version same made i.0 bytes t u i.1 (subst (λ z. IsVersionOf z bytes u) v j.1)
+    one_of_version same i.0 bytes t u i.1 (subst (λ z. IsVersionOf z bytes u) v j.1)

@@ -1,25 +1,27 @@
 -- Bytes with no fault are the image of the table that is read from them.
 use Rattle.std.proofs.Common.{◌≡◌, ⊎_elim, ℕ, zero, suc, ◌+◌, ◌*◌, ◌<◌, ◌≤◌, List, ◌++◌, length, map, take, drop, refl, sym, ap, ◌∙◌}
-use Rattle.std.proofs.Common.{subst, arith, get_or}
+use Rattle.std.proofs.Common.{subst, arith}
 use Rattle.std.specs.Prelude.{codes, All, replicate}
 use Rattle.std.specs.List.{concat}
 use Rattle.std.proofs.lemmas.Bool.{cases_lt}
 use Rattle.std.proofs.lemmas.List.{get_or_past, length-replicate, take_all}
-use Rattle.std.proofs.lemmas.List.Elements.{All-map, All-push, All-replicate}
+use Rattle.std.proofs.lemmas.List.Elements.{All-push, All-replicate}
 use Rattle.byteorder.specs.Endian.{little_bytes}
 use Rattle.byteorder.specs.Numbers.{little_from-lt}
-use Rattle.names.specs.Permissions.{all_permissions, index}
-use Rattle.names.specs.declared.permissions.Permission.TheVariants.{Write}
-use Rattle.verdicts.specs.Least.{hits_list, hits_of}
+use Rattle.names.specs.Permissions.{index}
+use Rattle.names.specs.declared.permissions.Permission.TheVariants.{Append, Write}
+use Rattle.names.specs.Least.{hits_of}
+use Rattle.names.specs.declared.record.Record.{Record}
+use Rattle.names.proofs.Positions.{place_below, stands_there}
+use Rattle.names.proofs.RecordLaws.{hits_made}
 use Rattle.names.specs.Bytes.{are_bytes}
 use Rattle.tables.specs.Bounds.{InLimits}
-use Rattle.tables.specs.Images.{AreShort, HasRoom, HasVersion, FitsVersion1, IsShortRecord, IsShortStored, IsVersionOf, IsWholeOf}
-use Rattle.tables.specs.Images.{bound_of, depth_count, depths_of, header_of, short_at, stored_bytes, stored_length, version_number}
+use Rattle.tables.specs.Images.{AreShort, HasRoom, HasVersion, FitsVersion1, IsShortRecord, IsVersionOf, IsWholeOf}
+use Rattle.tables.specs.Images.{bound_of, depth_count, depths_of, header_of, record_bytes, record_length, short_at, version_number}
 use Rattle.tables.specs.Images.{word_at, words}
 use Rattle.tables.specs.declared.header.Version.{Version}
 use Rattle.tables.specs.declared.header.Version.TheVariants.{First, Second}
-use Rattle.tables.specs.declared.table.StoredRecord.{StoredRecord}
-use Rattle.tables.specs.inner.Reading.{bound_at, depths_at, hits_at, record_at, records_at, stored_at, table_at, words_at}
+use Rattle.tables.specs.inner.Reading.{bound_at, depths_at, hits_at, record_at, records_at, stored_for, table_at, words_at}
 use Rattle.tables.specs.Tables.{Table, state_count, cell_count, record_count}
 use Rattle.tables.proofs.Pieces.{AreLow, length_records_at, length_words_at, low_rest, piece, records_back, short_back, take_both}
 use Rattle.tables.proofs.Pieces.{word_back, words_back}
@@ -49,23 +51,16 @@ module _ (bytes : List ℕ) (low : AreLow bytes) where
   words_room i (suc n) = All-push (λ x. x < 4294967296) (words_at bytes i n) (word_at bytes (i + 4 * n)) (words_room i n)
       (word_room (i + 4 * n))
 
-  record_room : (i : ℕ) → IsShortRecord (record_at bytes i)
-  unfolding IsShortRecord hits_list record_at
-  record_room i = All-map AreShort (λ p. hits_at bytes (i + 4 * index p)) all_permissions
-      (λ k d lt. hits_room (i + 4 * index (get_or all_permissions k d)))
-
-  write_room : (i : ℕ) → AreShort (hits_of (record_at bytes i) Write)
+  record_room : (v : Version) (i : ℕ) → IsShortRecord (record_at v bytes i)
   unfolding record_at
-  write_room i = hits_room (i + 4)
+  record_room v i p = subst AreShort
+      (sym (hits_made place_below stands_there (λ q. hits_at bytes (i + 4 * index (stored_for v q))) p))
+      (hits_room (i + 4 * index (stored_for v p)))
 
-  stored_room : (v : Version) (i : ℕ) → IsShortStored (stored_at v bytes i)
-  stored_room First i = (record_room i, write_room i)
-  stored_room Second i = (record_room i, hits_room (i + 20))
-
-  records_room : (v : Version) (i n : ℕ) → All IsShortStored (records_at v bytes i n)
+  records_room : (v : Version) (i n : ℕ) → All IsShortRecord (records_at v bytes i n)
   records_room v i zero = λ k d lt. absurd (omega (arith, lt))
-  records_room v i (suc n) = All-push IsShortStored (records_at v bytes i n) (stored_at v bytes (i + stored_length v * n))
-      (records_room v i n) (stored_room v (i + stored_length v * n))
+  records_room v i (suc n) = All-push IsShortRecord (records_at v bytes i n) (record_at v bytes (i + record_length v * n))
+      (records_room v i n) (record_room v (i + record_length v * n))
 
   depths_room : (v : Version) (i n : ℕ) → All (λ x. x < 4294967296) (depths_at v bytes i n)
   depths_room First i n = All-replicate (λ x. x < 4294967296) n 0 (omega arith)
@@ -124,13 +119,13 @@ module _ (bytes : List ℕ) (low : AreLow bytes) where
 
   -- the header and the parts are all the bytes
   parts_back : (v : Version) (s c k x r : ℕ) (head depths : List ℕ) → head ≡ take 20 bytes →
-      length bytes ≡ 20 + 12 * s + 4 * k + 8 * c + x → x ≡ stored_length v * r →
+      length bytes ≡ 20 + 12 * s + 4 * k + 8 * c + x → x ≡ record_length v * r →
       depths ≡ piece bytes (20 + 4 * s + 4 * s + 4 * s) (4 * k) →
       head ++ words (words_at bytes 20 s) ++ words (words_at bytes (20 + 4 * s) s) ++ words (words_at bytes (20 + 4 * s + 4 * s) s)
       ++ depths
       ++ words (words_at bytes (20 + 4 * s + 4 * s + 4 * s + 4 * k) c)
       ++ words (words_at bytes (20 + 4 * s + 4 * s + 4 * s + 4 * k + 4 * c) c)
-      ++ concat (map (stored_bytes v) (records_at v bytes (20 + 4 * s + 4 * s + 4 * s + 4 * k + 4 * c + 4 * c) r)) ≡ bytes
+      ++ concat (map (record_bytes v) (records_at v bytes (20 + 4 * s + 4 * s + 4 * s + 4 * k + 4 * c + 4 * c) r)) ≡ bytes
   parts_back v s c k x r head p h size is deep =
       let i : ℕ = 20 + 4 * s in
       let j : ℕ = 20 + 4 * s + 4 * s in
@@ -143,8 +138,8 @@ module _ (bytes : List ℕ) (low : AreLow bytes) where
       let a : List ℕ = words (words_at bytes j s) in
       let n : List ℕ = words (words_at bytes y c) in
       let e : List ℕ = words (words_at bytes l c) in
-      let f : List ℕ = concat (map (stored_bytes v) (records_at v bytes m r)) in
-      let kept : concat (map (stored_bytes v) (records_at v bytes m r)) ≡ piece bytes m x =
+      let f : List ℕ = concat (map (record_bytes v) (records_at v bytes m r)) in
+      let kept : concat (map (record_bytes v) (records_at v bytes m r)) ≡ piece bytes m x =
       records_back bytes low v m r (subst (λ z. m + z ≤ length bytes) is (omega arith)) ∙ ap (piece bytes m) (sym is) in
       fronts bytes m x (head ++ d ++ b ++ a ++ p ++ n ++ e) f
       (fronts bytes l (4 * c) (head ++ d ++ b ++ a ++ p ++ n) e
@@ -163,10 +158,14 @@ module _ (bytes : List ℕ) (low : AreLow bytes) where
       ∙ take_all (m + x) bytes (omega arith)
 
   -- version 1 can hold its table
-  appends_back : (i n : ℕ) → All (λ (r : StoredRecord). r.append ≡ hits_of r.hits Write) (records_at First bytes i n)
+  append_back : (i : ℕ) → hits_of (record_at First bytes i) Append ≡ hits_of (record_at First bytes i) Write
+  unfolding record_at
+  append_back i = refl
+
+  appends_back : (i n : ℕ) → All (λ (r : Record). hits_of r Append ≡ hits_of r Write) (records_at First bytes i n)
   appends_back i zero = λ k d lt. absurd (omega (arith, lt))
-  appends_back i (suc n) = All-push (λ (r : StoredRecord). r.append ≡ hits_of r.hits Write) (records_at First bytes i n)
-      (stored_at First bytes (i + 20 * n)) (appends_back i n) refl
+  appends_back i (suc n) = All-push (λ (r : Record). hits_of r Append ≡ hits_of r Write) (records_at First bytes i n)
+      (record_at First bytes (i + record_length First * n)) (appends_back i n) (append_back (i + record_length First * n))
 
   fits_back : (v : Version) → v ≡ First → FitsVersion1 (table_at v bytes)
   fits_back First e = record {
@@ -207,7 +206,7 @@ module _ (bytes : List ℕ) (low : AreLow bytes) where
         limits = subst (λ x. InLimits x (length (words_at bytes y c)) (length (records_at v bytes m r))) (sym states)
             (subst (λ x. InLimits s x (length (records_at v bytes m r))) (sym cells)
             (subst (λ x. InLimits s c x) (sym records) w.limits));
-        is = sym (parts_back v s c k (stored_length v * r) r (header_of v (table_at v bytes)) (words (depths_of v (table_at v bytes)))
+        is = sym (parts_back v s c k (record_length v * r) r (header_of v (table_at v bytes)) (words (depths_of v (table_at v bytes)))
             (head_back v (bound_of v (table_at v bytes)) (state_count (table_at v bytes)) (cell_count (table_at v bytes))
             (record_count (table_at v bytes))
             w.header w.magic w.version (bound_back v w.reserved) states cells records) w.whole refl

@@ -1,18 +1,20 @@
 -- The bytes of an image, versions 1 and 2. Numbers are little-endian.
-use Rattle.std.specs.Prelude.{◌≡◌, ◌≢◌, All, ℕ, ◌+◌, ◌*◌, ◌<◌, ◌≤◌, List, [], ◌++◌, codes, drop, length, map, replicate, take}
+use Rattle.std.specs.Prelude.{◌≡◌, ◌≢◌, ◌==◌, All, ℕ, ◌+◌, ◌*◌, ◌<◌, ◌≤◌, List, [], ◌++◌, codes, drop, filter, length, map, not, replicate}
+use Rattle.std.specs.Prelude.{take}
 use Rattle.std.specs.List.{concat}
 use Rattle.byteorder.specs.Endian.{little_bytes, little_number}
-use Rattle.names.specs.declared.permissions.Permission.TheVariants.{Write}
-use Rattle.verdicts.specs.Least.{hits_list, hits_of}
-use Rattle.verdicts.specs.declared.record.LeastHits.{LeastHits}
-use Rattle.verdicts.specs.declared.record.Record.{Record}
+use Rattle.names.specs.declared.permissions.Permission.{Permission}
+use Rattle.names.specs.declared.permissions.Permission.TheVariants.{Append, Write}
+use Rattle.names.specs.Permissions.{all_permissions, letter}
+use Rattle.names.specs.Least.{hits_of}
+use Rattle.names.specs.declared.record.LeastHits.{LeastHits}
+use Rattle.names.specs.declared.record.Record.{Record}
 use Rattle.tables.specs.Bounds.{InLimits, IsShaped, IsWithinLimits, fault_number}
 use Rattle.tables.specs.Tables.{Table, state_count, cell_count, record_count}
 use Rattle.tables.specs.declared.fault.ImageFault.{ImageFault}
 use Rattle.tables.specs.declared.fault.ImageFault.TheVariants as fault
 use Rattle.tables.specs.declared.header.Version.{Version}
 use Rattle.tables.specs.declared.header.Version.TheVariants.{First, Second}
-use Rattle.tables.specs.declared.table.StoredRecord.{StoredRecord}
 
 abbrev pub version_number : Version → ℕ
 version_number First = 1
@@ -22,19 +24,18 @@ version_number Second = 2
 abbrev pub hits_bytes : LeastHits → List ℕ
 hits_bytes h = little_bytes 2 h.allow ++ little_bytes 2 h.deny
 
--- in the order of all permissions
-unfoldable pub record_bytes : Record → List ℕ
-record_bytes r = concat (map hits_bytes (hits_list r))
+-- the permissions whose hits are stored, in the order of all permissions: in version 1, all but append
+abbrev pub stored_permissions : Version → List Permission
+stored_permissions First = filter (λ p. not (letter p == letter Append)) all_permissions
+stored_permissions Second = all_permissions
 
--- in version 2, the hits of append follow those of the permissions
-unfoldable pub stored_bytes : Version → StoredRecord → List ℕ
-stored_bytes First r = record_bytes r.hits
-stored_bytes Second r = record_bytes r.hits ++ hits_bytes r.append
+-- the hits of each of them
+unfoldable pub record_bytes : Version → Record → List ℕ
+record_bytes v r = concat (map hits_bytes (map (hits_of r) (stored_permissions v)))
 
--- how many bytes a record has
-abbrev pub stored_length : Version → ℕ
-stored_length First = 20
-stored_length Second = 24
+-- how many bytes a record has: four for each of them
+abbrev pub record_length : Version → ℕ
+record_length v = 4 * length (stored_permissions v)
 
 abbrev pub words : List ℕ → List ℕ
 words numbers = concat (map (little_bytes 4) numbers)
@@ -58,16 +59,13 @@ header_of v t = codes "PTAB" ++ little_bytes 2 (version_number v) ++ little_byte
 
 abbrev pub image_of : Version → Table → List ℕ
 image_of v t = header_of v t ++ words t.default ++ words t.base ++ words t.accept ++ words (depths_of v t)
-    ++ words t.next ++ words t.check ++ concat (map (stored_bytes v) t.records)
+    ++ words t.next ++ words t.check ++ concat (map (record_bytes v) t.records)
 
 abbrev pub AreShort : LeastHits → Type 0
 AreShort h = (h.allow < 65536) × (h.deny < 65536)
 
-unfoldable pub IsShortRecord : Record → Type 0
-IsShortRecord r = All AreShort (hits_list r)
-
-abbrev pub IsShortStored : StoredRecord → Type 0
-IsShortStored r = IsShortRecord r.hits × AreShort r.append
+abbrev pub IsShortRecord : Record → Type 0
+IsShortRecord r = (p : Permission) → AreShort (hits_of r p)
 
 abbrev pub AreWords : List ℕ → Type 0
 AreWords numbers = All (λ n. n < 4294967296) numbers
@@ -79,7 +77,7 @@ pub record HasRoom (t : Table) : Type 0 where
   pub accepts : AreWords t.accept
   pub nexts : AreWords t.next
   pub checks : AreWords t.check
-  pub records : All IsShortStored t.records
+  pub records : All IsShortRecord t.records
   pub bound : t.depth_bound < 65536
   pub depths : AreWords t.depth
 
@@ -87,7 +85,7 @@ pub record HasRoom (t : Table) : Type 0 where
 pub record FitsVersion1 (t : Table) : Type 0 where
   pub bound : t.depth_bound ≡ 0
   pub depths : t.depth ≡ replicate (state_count t) 0
-  pub appends : All (λ r. r.append ≡ hits_of r.hits Write) t.records
+  pub appends : All (λ r. hits_of r Append ≡ hits_of r Write) t.records
 
 -- the bytes are the image of the table in this version
 pub record IsVersionOf (v : Version) (bytes : List ℕ) (t : Table) : Type 0 where
@@ -118,7 +116,7 @@ depth_count Second states = states
 
 -- the length of an image with these counts
 abbrev pub length_of : Version → ℕ → ℕ → ℕ → ℕ
-length_of v states cells records = 20 + 12 * states + 4 * depth_count v states + 8 * cells + stored_length v * records
+length_of v states cells records = 20 + 12 * states + 4 * depth_count v states + 8 * cells + record_length v * records
 
 -- the length that the header says
 abbrev pub told_length : Version → List ℕ → ℕ

@@ -1,12 +1,9 @@
 -- A table of an automaton, as an image has it, and how it runs.
 use Rattle.std.specs.Prelude.{◌≡◌, ℕ, zero, suc, Bool, ◌+◌, ◌<◌, ◌==◌, List, [], ◌∷◌, length, Option, Some, None, slice_get}
 use Rattle.std.specs.Prelude.{slice_index_or, if◌then◌else◌, unwrap_or}
-use Rattle.std.specs.Option.{option_and_then, option_map}
-use Rattle.names.specs.declared.permissions.Permission.TheVariants.{Write}
-use Rattle.verdicts.specs.Least.{hits_of}
-use Rattle.verdicts.specs.declared.record.Record.{Record}
+use Rattle.std.specs.Option.{option_and_then}
+use Rattle.names.specs.declared.record.Record.{Record}
 use Rattle.tables.specs.declared.table.RawTable.{RawTable}
-use Rattle.tables.specs.declared.table.StoredRecord.{StoredRecord}
 
 -- default, base, accept and depth have one number for each state, next and check one for each cell
 pub record Table : Type 0 where
@@ -15,13 +12,9 @@ pub record Table : Type 0 where
   pub accept : List ℕ
   pub next : List ℕ
   pub check : List ℕ
-  pub records : List StoredRecord
+  pub records : List Record
   pub depth_bound : ℕ
   pub depth : List ℕ
-
--- the hits of append are those of write
-abbrev pub stored : Record → StoredRecord
-stored r = record { hits = r; append = hits_of r Write }
 
 abbrev pub table_value : RawTable → Table
 table_value t = record {
@@ -110,7 +103,7 @@ look_ups_after t bytes = look_ups_from t 1 bytes
 
 -- the record that a state's accept names
 abbrev pub record_of : Table → ℕ → Option Record
-record_of t s = option_and_then (λ k. option_map (λ r. r.hits) (slice_get t.records k)) (slice_get t.accept s)
+record_of t s = option_and_then (slice_get t.records) (slice_get t.accept s)
 
 abbrev pub record_after : Table → List ℕ → Option Record
 record_after t bytes = option_and_then (record_of t) (state_after t bytes)

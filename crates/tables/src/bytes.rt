@@ -3,24 +3,21 @@ ghost use Rattle.std.specs.Prelude.{◌≡◌, ◌⊎◌, All, ◌+◌, ◌*◌,
 ghost use Rattle.std.specs.List.{concat};
 ghost use Rattle.byteorder.specs.Endian.{little_bytes};
 ghost use Rattle.tables.specs.Bounds.{IsShaped, IsWithinLimits};
-ghost use Rattle.tables.specs.Images.{AreShort, AreWords, FitsVersion1, IsFirstImageFault, IsImageOf, IsShortRecord, IsShortStored};
-ghost use Rattle.tables.specs.Images.{IsVersionOf, IsWhole, bound_of, depth_count, depths_of, header_of, hits_bytes, record_bytes};
-ghost use Rattle.tables.specs.Images.{stored_bytes, stored_length, words};
-ghost use Rattle.tables.specs.inner.Places.{IsCounted};
-ghost use Rattle.tables.specs.inner.Reading.{depths_at, hits_at, record_at, records_at, stored_at, table_at, words_at};
+ghost use Rattle.tables.specs.Images.{AreShort, AreWords, FitsVersion1, IsFirstImageFault, IsImageOf, IsVersionOf};
+ghost use Rattle.tables.specs.Images.{IsWhole, bound_of, depth_count, depths_of, header_of, hits_bytes, record_bytes, record_length};
+ghost use Rattle.tables.specs.Images.{words};
+ghost use Rattle.tables.specs.inner.Places.{IsCounted, IsShortAsStored};
+ghost use Rattle.tables.specs.inner.Reading.{depths_at, hits_at, record_at, records_at, table_at, words_at};
 ghost use Rattle.tables.specs.Tables.{table_value};
 ghost use Rattle.tables.specs.declared.fault.ImageFault.TheVariants as fault;
 ghost use Rattle.tables.specs.declared.header.Version.TheVariants.{First, Second};
 
 use crate::fault::ImageFault;
-use crate::header::{
-    Counts, HEADER_LENGTH, HITS_LENGTH, RECORD_LENGTH, Version, WORD_LENGTH, read_header,
-};
-use crate::table::{RawTable, StoredRecord};
+use crate::header::{Counts, HEADER_LENGTH, HITS_LENGTH, Version, WORD_LENGTH, read_header};
+use crate::table::RawTable;
 use byteorder::{ByteOrder, LittleEndian};
-use names::{NoMemory, Permission, permissions_are_numbered};
+use names::{LeastHits, NoMemory, Permission, Record, permissions_are_numbered};
 use std::alloc::{AllocError, Global};
-use verdicts::{LeastHits, Record};
 
 /// The image, in version 2, of tables whose counts are within the limits and whose lists are equally long within each group.
 pub fn to_bytes(alloc: Global, table: &RawTable) -> Result<Vec<u8>, NoMemory>
@@ -124,50 +121,22 @@ fn push_hits(bytes: &mut Vec<u8>, hits: LeastHits) -> Result<(), AllocError>
     push_short(bytes, hits.deny)
 }
 
-fn push_record(bytes: &mut Vec<u8>, record: &Record) -> Result<(), AllocError>
-    ensures bytes { OnOk result (bytes.new.items ≡ bytes.old.items ++ record_bytes «record».now) }
-    ensures room { OnOk result (IsShortRecord «record».now) }
+fn push_record(bytes: &mut Vec<u8>, record: &Record, version: Version) -> Result<(), AllocError>
+    ensures bytes { OnOk result (bytes.new.items ≡ bytes.old.items ++ record_bytes version «record».now) }
+    ensures room { OnOk result (IsShortAsStored version «record».now) }
 {
-    for permission in &Permission::ALL {
+    for permission in version.permissions() {
         push_hits(bytes, record.of(*permission))?;
     }
     Ok(())
 }
 
-// The same hits: each number of them is below 65,536.
-fn numbered(hits: LeastHits) -> LeastHits
-    ensures same { result ≡ hits }
-    ensures short { AreShort hits }
+fn push_records(bytes: &mut Vec<u8>, records: &[Record], version: Version) -> Result<(), AllocError>
+    ensures bytes { OnOk result (bytes.new.items ≡ bytes.old.items ++ concat (map (record_bytes version) records.now)) }
+    ensures room { OnOk result (All (IsShortAsStored version) records.now) }
 {
-    hits
-}
-
-fn push_stored(
-    bytes: &mut Vec<u8>,
-    stored: &StoredRecord,
-    version: Version,
-) -> Result<(), AllocError>
-    ensures bytes { OnOk result (bytes.new.items ≡ bytes.old.items ++ stored_bytes version stored.now) }
-    ensures room { OnOk result (IsShortStored stored.now) }
-{
-    let append = numbered(stored.append);
-    push_record(bytes, &stored.hits)?;
-    match version {
-        Version::First => Ok(()),
-        Version::Second => push_hits(bytes, append),
-    }
-}
-
-fn push_records(
-    bytes: &mut Vec<u8>,
-    records: &[StoredRecord],
-    version: Version,
-) -> Result<(), AllocError>
-    ensures bytes { OnOk result (bytes.new.items ≡ bytes.old.items ++ concat (map (stored_bytes version) records.now)) }
-    ensures room { OnOk result (All IsShortStored records.now) }
-{
-    for stored in records {
-        push_stored(bytes, stored, version)?;
+    for record in records {
+        push_record(bytes, record, version)?;
     }
     Ok(())
 }
@@ -243,30 +212,17 @@ fn read_hits(bytes: &[u8], at: usize) -> LeastHits
     }
 }
 
-fn read_record(bytes: &[u8], at: usize) -> Record
-    requires { at + 20 ≤ length bytes.now }
-    ensures { result ≡ record_at bytes.now at }
+pub(crate) fn read_record(bytes: &[u8], at: usize, version: Version) -> Record
+    requires { at + record_length version ≤ length bytes.now }
+    ensures { result ≡ record_at version bytes.now at }
 {
     permissions_are_numbered();
     let mut hits = [LeastHits::NONE; Permission::COUNT];
-    for place in 0..Permission::COUNT {
-        hits[place] = read_hits(bytes, at + HITS_LENGTH * place);
+    for permission in &Permission::ALL {
+        let place = version.stored_for(*permission).index();
+        hits[permission.index()] = read_hits(bytes, at + HITS_LENGTH * place);
     }
     Record::from_hits(hits)
-}
-
-pub(crate) fn read_stored(bytes: &[u8], at: usize, version: Version) -> StoredRecord
-    requires { at + stored_length version ≤ length bytes.now }
-    ensures { result ≡ stored_at version bytes.now at }
-{
-    let hits = read_record(bytes, at);
-    match version {
-        Version::First => StoredRecord::of(hits),
-        Version::Second => StoredRecord {
-            hits,
-            append: read_hits(bytes, at + RECORD_LENGTH),
-        },
-    }
 }
 
 fn read_records(
@@ -274,15 +230,15 @@ fn read_records(
     bytes: &[u8],
     at: usize,
     counts: Counts,
-) -> Result<Vec<StoredRecord>, AllocError>
-    requires { at + stored_length counts.version * counts.records ≤ length bytes.now }
+) -> Result<Vec<Record>, AllocError>
+    requires { at + record_length counts.version * counts.records ≤ length bytes.now }
     ensures { IfOk result (λ v. v.items ≡ records_at counts.version bytes.now at counts.records) }
 {
     let count = counts.records as usize;
     let mut records = Vec::with_capacity(alloc, count)?;
     for place in 0..count {
-        let start = at + counts.version.stored_length() * place;
-        records.push(read_stored(bytes, start, counts.version))?;
+        let start = at + counts.version.record_length() * place;
+        records.push(read_record(bytes, start, counts.version))?;
     }
     Ok(records)
 }

@@ -1,6 +1,5 @@
 //! Unverified tables, from an automaton or from an untrusted source.
-use names::Permission;
-use verdicts::{LeastHits, Record};
+use names::{Permission, Record};
 
 /// The tables of an automaton. Anyone may fill them: nothing is known of their contents. There are as many states as `default`
 /// has entries, as many cells as `next`, and as many records as `records`.
@@ -17,7 +16,7 @@ pub struct RawTable {
     /// For each cell the state that owns it.
     pub check: Vec<u32>,
     /// The record of names that end in a state.
-    pub records: Vec<StoredRecord>,
+    pub records: Vec<Record>,
     /// The greatest depth that a state may have.
     pub depth_bound: u16,
     /// For each state how many times a byte without a cell may be looked up again at a default: 0 where the default is the state
@@ -25,26 +24,26 @@ pub struct RawTable {
     pub depth: Vec<u32>,
 }
 
-/// A record as images have it: the least hits of each permission, and those of append.
-#[derive(Clone, Copy, Debug, PartialEq, Eq)]
-pub struct StoredRecord {
-    /// The least hits of each permission.
-    pub hits: Record,
-    /// The least hits of append.
-    pub append: LeastHits,
-}
+impl RawTable {
+    ghost use Rattle.std.specs.Prelude.{◌≡◌, ◌↔◌, IsTrue, replicate, vec_len};
+    ghost use Rattle.tables.specs.Images.{FitsVersion1};
+    ghost use Rattle.tables.specs.Tables.{table_value};
 
-impl StoredRecord {
-    ghost use Rattle.std.specs.Prelude.{◌≡◌};
-    ghost use Rattle.tables.specs.Tables.{stored};
-
-    /// A record whose hits of append are those of write.
-    pub fn of(hits: Record) -> StoredRecord
-        ensures { result ≡ stored hits }
+    /// Whether images of version 1 can hold the tables: no state has a depth, and each record has the hits of write for append.
+    pub fn fits_version_1(&self) -> bool
+        ensures { IsTrue result ↔ FitsVersion1 (table_value self.now) }
     {
-        StoredRecord {
-            hits,
-            append: hits.of(Permission::Write),
-        }
+        self.is_flat()
+            && self.records.iter().all(|record| record.of(Permission::Append)
+                == record.of(Permission::Write))
+    }
+
+    // Whether no state has a depth.
+    fn is_flat(&self) -> bool
+        ensures { IsTrue result ↔ ((self.now.depth_bound ≡ 0) × (self.now.depth.items ≡ replicate (vec_len self.now.default) 0)) }
+    {
+        self.depth_bound == 0
+            && self.depth.len() == self.default.len()
+            && self.depth.iter().all(|depth| *depth == 0)
     }
 }

@@ -54,7 +54,6 @@ pub(crate) fn tell_letters<W: Write>(word: &[u8], output: &mut W) -> io::Result<
         return writeln!(output, "none");
     };
     let marks = [
-        (letters.append, " append"),
         (letters.exec.is_some(), " exec"),
         (letters.two_modes, " two modes"),
         (letters.capitals, " capitals"),

@@ -5,16 +5,16 @@ use Rattle.std.proofs.lemmas.Bool.{ne_eqb}
 use Rattle.std.proofs.lemmas.List.{append-nil}
 use Rattle.std.specs.Prelude.{◌==◌, codes, decimal, if◌then◌else◌}
 use Rattle.std.proofs.lemmas.Option.{same_Some}
-use Rattle.verdicts.specs.Records.{IsTold}
+use Rattle.names.specs.Records.{IsTold}
 use Rattle.names.specs.Bytes.{are_bytes}
-use Rattle.verdicts.specs.declared.record.Record.{Record}
+use Rattle.names.specs.declared.record.Record.{Record}
 use Rattle.table_verifier.specs.Loading.{IsLoaded, IsLoadFault}
 use Rattle.matcher.specs.Telling.{TellsLeastHits, TellsVerdicts}
 use Rattle.names.specs.declared.permissions.Perms.{Perms}
 use Rattle.rule_globs.specs.PlainVerdict.{verdict}
 use Rattle.rule_profile.specs.Profile.{ProfileValue, RuleValue}
-use Rattle.verdicts.specs.VerdictText.{verdict_text}
-use Rattle.verdicts.specs.declared.verdict.Verdict.{Verdict}
+use Rattle.names.specs.VerdictText.{verdict_text}
+use Rattle.names.specs.declared.verdict.Verdict.{Verdict}
 use Rattle.tables.specs.Bounds.{InBounds, IsFirstFault}
 use Rattle.tables.specs.Images.{IsFirstImageFault, IsImageOf}
 use Rattle.tables.specs.Tables.{Table, look_ups_after, record_after}
@@ -22,7 +22,7 @@ use Rattle.tables.specs.declared.fault.ImageFault.{ImageFault}
 use Rattle.trace_commands.specs.Judge.{ask_of}
 use Rattle.trace_report.specs.Output.{Output, fault, image_refusal, line, whole_answer}
 use Rattle.trace_commands.specs.Tables.{IsCheckOutput, IsImageOutput, IsImageRefused, IsMatchOutput, IsMatchOutputOf, IsMatchedOutput}
-use Rattle.trace_commands.specs.Tables.{IsVerdictOf, counts_text, match_text, steps_text, version_asked}
+use Rattle.trace_commands.specs.Tables.{IsVerdictOf, counts_text, match_text, steps_text}
 use Rattle.trace_report.specs.declared.status.Status.TheVariants.{Refused}
 
 -- nothing is written of look-ups where states have no depth
@@ -118,7 +118,7 @@ module _
         → (t : Table) × IsLoaded image.answers t × (t.depth_bound ≤ depth)
         × (matched ≡ whole_answer (match_text t name (verdict profile.rules name ask)))
     matched_by_image depth profile image matched ask name small made wanted =
-        let loaded : IsLoaded made.bytes made.table = ((version_asked depth, made.image), made.bounds) in (
+        let loaded : IsLoaded made.bytes made.table = ((made.version, made.image), made.bounds) in (
           made.table,
           subst (λ (o : Output). IsLoaded o.answers made.table) (sym made.is) loaded,
           made.depth_asked,

@@ -2,6 +2,7 @@
 use Rattle.table_verifier.specs.Loading.{IsLoadFault}
 use Rattle.std.specs.Prelude.{Vec}
 use Rattle.matcher.specs.declared.fault.MakeFault.TheVariants.{TooManyStates}
+use Rattle.tables.specs.Tables.{Table}
 use Rattle.tables.specs.declared.header.Version.TheVariants.{Second}
 use Rattle.std.specs.declared.alloc.Global.{Global}
 use Rattle.tables.specs.declared.fault.ImageFault.{ImageFault}
@@ -17,7 +18,7 @@ use Rattle.trace_commands.specs.Judge.{ask_of}
 use Rattle.trace_report.specs.Output.{Output, compile_refusal, fault, image_refusal, refusal, whole_answer}
 use Rattle.trace_report.specs.Streams.{Ends, EndsInOne, IsTold, Streams}
 use Rattle.trace_commands.specs.Tables.{IsCheckOutput, IsCompileOutput, IsCompileOutputOf, IsImageRefused, IsMatchOutput, IsMemoryOfWhole}
-use Rattle.trace_commands.specs.Tables.{IsMatchOutputOf, IsMatchedOutput, version_asked}
+use Rattle.trace_commands.specs.Tables.{IsMatchOutputOf, IsMatchedOutput, IsVersionAsked}
 use Rattle.trace_report.specs.declared.fault.Fault.{Fault}
 use Rattle.trace_report.specs.declared.fault.Fault.TheVariants.{Permissions, Name, Text, Compiling, Image, Input, Memory}
 use Rattle.trace_report.specs.declared.status.Status.{Status}
@@ -166,6 +167,6 @@ image_memory image (fault_here.Next s) h e = cc
 image_memory image (fault_here.Depth s) h e = cc
 
 -- with a depth, version 2 is written
-pub second_asked : (depth : ℕ) → 0 < depth → version_asked depth ≡ Second
-second_asked zero some = absurd (omega (arith, some))
-second_asked (suc depth) some = refl
+pub second_asked : (depth : ℕ) (t : Table) → 0 < depth → IsVersionAsked depth t Second
+second_asked zero t some = absurd (omega (arith, some))
+second_asked (suc depth) t some = refl

@@ -6,7 +6,7 @@ use Rattle.rule_reader.specs.declared.fault.ReadFault.{ReadFault}
 use Rattle.rule_globs.specs.PlainVerdict.{verdict}
 use Rattle.rule_profile.specs.Profile.{ProfileValue}
 use Rattle.rule_reader.specs.Reading.{outcome_of}
-use Rattle.verdicts.specs.VerdictText.{verdict_text}
+use Rattle.names.specs.VerdictText.{verdict_text}
 use Rattle.trace_report.specs.declared.status.Status.TheVariants.{BadArguments, Refused}
 use Rattle.trace_report.specs.Output.{Output, answer, fault, refusal}
 

@@ -1,22 +1,22 @@
 -- What `compile`, `check` and `match` write, memory and failures of the streams aside.
-use Rattle.std.specs.Prelude.{◌≡◌, ◌⊎◌, ◌≤◌, ◌==◌, ℕ, zero, suc, List, [], ◌++◌, Result, Ok, Err, Some, codes, decimal, length}
+use Rattle.std.specs.Prelude.{◌≡◌, ◌⊎◌, ◌↔◌, ◌≤◌, ◌==◌, ℕ, zero, suc, List, [], ◌++◌, Result, Ok, Err, Some, codes, decimal, length}
 use Rattle.std.specs.Prelude.{if◌then◌else◌}
 use Rattle.glob_automaton.specs.Automata.{most_sets}
-use Rattle.verdicts.specs.Records.{IsTold}
+use Rattle.names.specs.Records.{IsTold}
 use Rattle.glob_automaton.specs.Sets.{AreMoreThan}
 use Rattle.matcher.specs.declared.fault.MakeFault.TheVariants.{TooManyStates}
-use Rattle.verdicts.specs.declared.record.Record.{Record}
+use Rattle.names.specs.declared.record.Record.{Record}
 use Rattle.table_verifier.specs.Loading.{IsLoaded, IsLoadFault}
 use Rattle.matcher.specs.Telling.{IsTableOfRules}
 use Rattle.names.specs.declared.permissions.Perms.{Perms}
 use Rattle.rule_profile.specs.Profile.{ProfileValue}
 use Rattle.rule_reader.specs.Reading.{outcome_of}
-use Rattle.verdicts.specs.VerdictText.{verdict_text}
+use Rattle.names.specs.VerdictText.{verdict_text}
 use Rattle.rule_reader.specs.declared.fault.ReadFault.{ReadFault}
-use Rattle.verdicts.specs.declared.verdict.Verdict.{Verdict}
+use Rattle.names.specs.declared.verdict.Verdict.{Verdict}
 use Rattle.tables.specs.Bounds.{InBounds}
 use Rattle.tables.specs.Tables.{Table, state_count, cell_count, record_count, look_ups_after, record_after}
-use Rattle.tables.specs.Images.{IsVersionOf, IsWhole}
+use Rattle.tables.specs.Images.{FitsVersion1, IsVersionOf, IsWhole}
 use Rattle.tables.specs.declared.fault.ImageFault.{ImageFault}
 use Rattle.tables.specs.declared.header.Version.{Version}
 use Rattle.tables.specs.declared.header.Version.TheVariants.{First, Second}
@@ -26,10 +26,11 @@ use Rattle.trace_commands.specs.Judge.{ask_of}
 use Rattle.trace_report.specs.Output.{Output, compile_refusal, fault, image_refusal, line, refusal, whole_answer}
 use Rattle.trace_report.specs.declared.status.Status.TheVariants.{BadArguments, Refused}
 
--- the version of the image that is written where states may have this depth
-abbrev pub version_asked : ℕ → Version
-version_asked zero = First
-version_asked (suc depth) = Second
+-- The version of the image that is written where states may have this depth. Without depths it is the first one, if that can hold
+-- the table: it can if append has the hits of write in each record.
+abbrev pub IsVersionAsked : ℕ → Table → Version → Type 0
+IsVersionAsked zero t v = (v ≡ First) ↔ FitsVersion1 t
+IsVersionAsked (suc depth) t v = v ≡ Second
 
 -- The image of a table of the rules, which is in bounds: in the version for the depth that is asked for, and with no state of a
 -- greater depth. How the table is laid out is left open.
@@ -38,8 +39,10 @@ pub record IsImageOutput (depth : ℕ) (profile : ProfileValue) (output : Output
   pub of_rules : IsTableOfRules profile.rules table
   pub bounds : InBounds table
   pub depth_asked : table.depth_bound ≤ depth
+  pub version : Version
+  pub version_asked : IsVersionAsked depth table version
   pub bytes : List ℕ
-  pub image : IsVersionOf (version_asked depth) bytes table
+  pub image : IsVersionOf version bytes table
   pub is : output ≡ whole_answer bytes
 
 -- what is written for a profile that was read, or for a text that is refused

@@ -2,19 +2,18 @@
 ghost use Rattle.std.specs.Prelude.{◌≡◌, ◌≢◌, ◌↔◌, ℕ, List, IsErr, MatchResult, IfSome, IsTrue, Some, Ok, Err};
 ghost use Rattle.std.specs.Io.KnownBytes.{Keeps};
 ghost use Rattle.names.specs.declared.permissions.Perms.{Perms};
-ghost use Rattle.verdicts.specs.VerdictText.{verdict_text};
+ghost use Rattle.names.specs.VerdictText.{verdict_text};
 ghost use Rattle.trace_commands.specs.Judge.{ask_of, asked_by, is_absolute, judge_output};
 ghost use Rattle.trace_report.specs.Output.{answer};
 ghost use Rattle.trace_report.specs.Streams.{Ends, IsTextOf};
 ghost use Rattle.trace_commands.specs.inner.Answers.{IsJudged, IsAsked, IsTextRead};
 
-use names::{NoMemory, Perms};
+use names::{NoMemory, Perms, Verdict};
 use rule_judge::judge_slow;
 use rule_reader::{ReadFault, read};
 use std::alloc::Global;
 use std::io::{Read, Write};
 use trace_report::{Fault, Status, fail, write_answer};
-use verdicts::Verdict;
 
 /// Reads a profile from `input` and writes to `answers` its verdict on the name for the permissions asked for. A fault is
 /// reported on `faults` instead of an answer. The arguments are tested before anything is read.

@@ -12,8 +12,8 @@ ghost use Rattle.trace_commands.specs.Judge.{judge_output};
 ghost use Rattle.trace_commands.specs.Tables.{IsCheckOutput, IsImageOutput, IsMatchOutput, IsMatchedOutput, match_text, steps_text};
 
 use matcher::tables_of_rules_tell_their_verdicts;
+use names::records_tell_one_verdict;
 use tables::{bytes_have_one_outcome, tables_have_one_outcome};
-use verdicts::records_tell_one_verdict;
 
 /// For each image there is only one output that `check` may write, and only one that `match` may write.
 pub fn images_have_one_answer()

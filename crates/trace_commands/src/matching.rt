@@ -1,7 +1,7 @@
 //! `match PERMS NAME`: the verdict on a name by the image that is read.
 ghost use Rattle.std.specs.Prelude.{◌≡◌, ◌≢◌, ◌⊎◌, ℕ, List, IsErr, IfErr, IfOk, Some};
 ghost use Rattle.std.specs.Io.KnownBytes.{Keeps};
-ghost use Rattle.verdicts.specs.declared.verdict.Verdict.{Verdict};
+ghost use Rattle.names.specs.declared.verdict.Verdict.{Verdict};
 ghost use Rattle.trace_commands.specs.Reading.{ReadsImage};
 ghost use Rattle.trace_commands.specs.inner.Answers.{IsAnswered};
 ghost use Rattle.trace_commands.specs.Judge.{ask_of};
@@ -11,13 +11,12 @@ ghost use Rattle.trace_commands.specs.Tables.{IsMatchOutput, IsMatchedOutput, Is
 
 use crate::judging::ask_of;
 use crate::reading::read_image;
-use names::{NoMemory, Perms};
+use names::{NoMemory, Perms, told};
 use std::alloc::Global;
 use std::io::{Read, Write};
 use table_verifier::{LookUps, Steps, VerifiedImage, record_by_image, verify_image};
 use tables::images_are_whole;
 use trace_report::{Fault, Status, fail, write_answer};
-use verdicts::told;
 
 /// Reads an image from `input` and writes to `answers` its verdict on the name for the permissions asked for, and how many steps
 /// there were; also how many cells were looked up, where states may have a depth. A fault is reported on `faults` instead. The

@@ -39,7 +39,7 @@ pub(crate) const DEPTH: NumberOption = NumberOption {
     default: "0",
     least: 0,
     most: 64,
-    help: "The number of defaults at which a byte may be looked up again, 0 to 64; 0 writes an image of version 1",
+    help: "The number of defaults at which a byte may be looked up again, 0 to 64; 0 writes version 1 if that can hold the profile",
 };
 
 /// How many sessions there are in a storm.
@@ -250,7 +250,7 @@ fn with_numbers<'a>(
 fn pair_command<'a>(alloc: Global, name: &'a str, about: &'a str) -> Result<Command<'a>, AllocError>
     ensures { IfOk result (λ command. app_of command ≡ pair_app name.now) }
 {
-    let perms = "The permissions that are asked, by their letters: r, w, l, k, m";
+    let perms = "The permissions that are asked, by their letters: r, w, l, k, m, a";
     let judged = "The name that is judged, from its first slash on";
     Command::new(alloc, name)
         .about(about)

@@ -5,7 +5,7 @@ use Rattle.mediation.specs.Linking.{LinkAnswered}
 use Rattle.mediation.specs.Opening.{Answered, judged, failed, no_profile}
 use Rattle.names.specs.Errors.{errno_text}
 use Rattle.rule_judge.specs.Linking.{link_verdict_text}
-use Rattle.verdicts.specs.VerdictText.{verdict_text}
+use Rattle.names.specs.VerdictText.{verdict_text}
 
 -- the end of a line: the node, and both versions
 abbrev pub versions_text : ℕ → ℕ → ℕ → List ℕ

@@ -2,7 +2,7 @@
 use Rattle.std.specs.Prelude.{ℕ, false, List, map, unwrap_or}
 use Rattle.names.specs.Permissions.{perms_of, set_of}
 use Rattle.names.specs.declared.permissions.Perms.{Perms}
-use Rattle.verdicts.specs.declared.kind.RuleKind.TheVariants.{Allow}
+use Rattle.names.specs.declared.kind.RuleKind.TheVariants.{Allow}
 use Rattle.rule_profile.specs.Profile.{RuleValue}
 use Rattle.rule_globs.specs.Tokens.{byte}
 

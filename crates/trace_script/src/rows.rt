@@ -55,7 +55,7 @@ pub fn links_are_answered()
         (script_of (codes "create /f\njudged-link q /f /x\njudged-link q /f /g\njudged-link q /f /h\njudged-link q /f /h\njudged-link p f /h\njudged-link q /f h\nunlink /f\n")).commands
         ≡ (codes "ok " ++ decimal 1)
         ∷ (codes "no rule for l /x node " ++ decimal 2 ++ codes " tree " ++ decimal 1 ++ codes " policy " ++ decimal 1)
-        ∷ (codes "wider by wm /g node " ++ decimal 2 ++ codes " tree " ++ decimal 1 ++ codes " policy " ++ decimal 1)
+        ∷ (codes "wider by wma /g node " ++ decimal 2 ++ codes " tree " ++ decimal 1 ++ codes " policy " ++ decimal 1)
         ∷ (codes "linked node " ++ decimal 2 ++ codes " tree " ++ decimal 2 ++ codes " policy " ++ decimal 1)
         ∷ (errno_text EEXIST ++ codes " tree " ++ decimal 2)
         ∷ (codes "no profile policy " ++ decimal 1)

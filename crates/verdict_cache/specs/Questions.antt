@@ -4,7 +4,7 @@ use Rattle.std.specs.Cmp.Lexicographic.{pointwise}
 use Rattle.std.specs.Map.{lookup}
 use Rattle.names.specs.declared.permissions.Perms.{Perms}
 use Rattle.names.specs.contracts.permissions.PermsPartialEq.TheImpl as perms
-use Rattle.verdicts.specs.declared.verdict.Verdict.{Verdict}
+use Rattle.names.specs.declared.verdict.Verdict.{Verdict}
 use Rattle.lru.specs.LruCache.{lru_cache, promoted, put_entries}
 
 -- what an open asks, by which profile, and at which versions of the tree and of the policy

@@ -10,13 +10,12 @@ use crate::judged::{Found, Judged};
 use crate::key::Key;
 use crate::question::Question;
 use lru::LruCache;
-use names::{LONGEST_PATH, NoMemory};
+use names::{LONGEST_PATH, NoMemory, Verdict};
 use path_lookup::NAME_ROOM;
 use std::alloc::Global;
 use std::marker::Model;
 use std::mem;
 use std::num::NonZeroUsize;
-use verdicts::Verdict;
 
 /// A cache of verdicts, each under the question that it answers. It holds a bounded number, those that were kept or found last.
 #[derive(Drop)]

@@ -1,9 +1,9 @@
 //! What is kept under a question.
 ghost use Rattle.verdict_cache.specs.Finding.{IsShown};
 
+use names::Verdict;
 use path_lookup::NAME_ROOM;
 use std::marker::Model;
-use verdicts::Verdict;
 
 /// A verdict that was found.
 #[derive(Clone, Copy)]

@@ -1,12 +1,11 @@
 //! Caches and questions. An allocation that fails is retried once, as `rt try --test --fail-alloc N` makes one fail.
-use names::{NoMemory, Permission, Perms};
+use names::{NoMemory, Permission, Perms, Verdict};
 use path_lookup::NAME_ROOM;
 use std::alloc::Global;
 use std::num::NonZeroUsize;
 use std::process::Abort;
 use std::test::Fail;
 use verdict_cache::{Found, Question, VerdictCache};
-use verdicts::Verdict;
 
 /// Returns an empty cache of a capacity that isn't 0.
 pub(crate) fn cache(alloc: Global, capacity: usize) -> Result<VerdictCache, Fail> {

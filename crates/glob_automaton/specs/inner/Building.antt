@@ -3,18 +3,18 @@ use Rattle.std.specs.Prelude.{◌≡◌, ◌≢◌, ◌↔◌, ℕ, ◌+◌, ◌
 use Rattle.std.specs.Prelude.{IsTrue}
 use Rattle.names.specs.declared.permissions.Permission.{Permission}
 use Rattle.names.specs.Permissions.{has}
-use Rattle.verdicts.specs.declared.kind.RuleKind.{RuleKind}
-use Rattle.verdicts.specs.declared.kind.RuleKind.TheVariants.{Allow, Deny}
+use Rattle.names.specs.declared.kind.RuleKind.{RuleKind}
+use Rattle.names.specs.declared.kind.RuleKind.TheVariants.{Allow, Deny}
 use Rattle.glob_automaton.specs.declared.chart.Chart.{Chart}
 use Rattle.glob_automaton.specs.declared.chart.ChartRule.{ChartRule}
 use Rattle.glob_automaton.specs.declared.chart.ChartPlace.{ChartPlace}
 use Rattle.automata.specs.declared.fault.CompileFault.{CompileFault}
 use Rattle.automata.specs.declared.fault.CompileFault.TheVariants.{TooManyStates, NoMemory}
-use Rattle.verdicts.specs.declared.record.Record.{Record}
+use Rattle.names.specs.declared.record.Record.{Record}
 use Rattle.automata.specs.Automata.{Automaton, target, most_sets, IsWhole}
 use Rattle.glob_automaton.specs.inner.Chart.{IsIn, takes_byte}
 use Rattle.glob_automaton.specs.inner.Gathering.{IsAscending}
-use Rattle.verdicts.specs.Least.{hits_of, IsLeastOrNone}
+use Rattle.names.specs.Least.{hits_of, IsLeastOrNone}
 
 -- all of these are places of the chart
 abbrev pub ArePlaces : Chart → List ℕ → Type 0

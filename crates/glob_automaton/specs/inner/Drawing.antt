@@ -1,5 +1,6 @@
 -- What a chart has of a pattern, and of a profile's rules.
 use Rattle.std.specs.Prelude.{◌≡◌, ◌↔◌, ℕ, ◌+◌, ◌<◌, ◌≤◌, List, [], ◌∷◌, ◌++◌, length, Some, slice_get, IsTrue}
+use Rattle.names.specs.Permissions.{held}
 use Rattle.rule_globs.specs.Glob.{Glob, fits, ByteSet, places}
 use Rattle.rule_globs.specs.Follow.{Starts, TakesAt, Goes}
 use Rattle.rule_profile.specs.Profile.{RuleValue, pattern}
@@ -51,7 +52,7 @@ pub record IsDrawn (old new : Chart) (g : Glob) (behind start : ℕ) : Type 0 wh
 -- a rule is in the chart, its end at this place and its places after it
 pub record HasRule (chart : Chart) (rule : RuleValue) (drawn : ChartRule) : Type 0 where
   pub kind : drawn.kind ≡ rule.kind
-  pub perms : drawn.perms ≡ rule.perms
+  pub perms : drawn.perms ≡ held rule.perms
   pub fits : drawn.end + places (pattern rule) < length chart.places.items
   pub starts : (q : ℕ) → IsIn chart.entries.items drawn.start q ↔ Starts (pattern rule) (drawn.end + 1) (λ r. r ≡ drawn.end) q
   pub start_there : drawn.start < length chart.entries.items

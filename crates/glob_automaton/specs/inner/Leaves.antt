@@ -1,12 +1,12 @@
 -- The automaton of one path, and that of a rule with this path and a number.
 use Rattle.std.specs.Prelude.{◌≡◌, ◌==◌, ℕ, ◌<◌, List, length, Some, slice_get, if◌then◌else◌}
 use Rattle.names.specs.declared.permissions.Permission.TheVariants.{Read}
-use Rattle.names.specs.Permissions.{only}
+use Rattle.names.specs.Permissions.{held, only}
 use Rattle.rule_profile.specs.Profile.{RuleValue}
-use Rattle.verdicts.specs.declared.kind.RuleKind.TheVariants.{Allow}
-use Rattle.verdicts.specs.declared.record.Record.{Record}
-use Rattle.verdicts.specs.Hits.{no_hits, record_with}
-use Rattle.verdicts.specs.Least.{hits_of}
+use Rattle.names.specs.declared.kind.RuleKind.TheVariants.{Allow}
+use Rattle.names.specs.declared.record.Record.{Record}
+use Rattle.names.specs.Hits.{no_hits, record_with}
+use Rattle.names.specs.Least.{hits_of}
 use Rattle.automata.specs.Automata.{Automaton, IsWhole, target}
 use Rattle.glob_automaton.specs.declared.leaf.Leaves.{Leaves}
 use Rattle.glob_automaton.specs.declared.leaf.PathAutomaton.{PathAutomaton}
@@ -18,7 +18,7 @@ reading rule = record { kind = Allow; perms = only Read; items = rule.items }
 
 -- what the rule with this number hits, where its path matches
 abbrev pub hits_alone : RuleValue → ℕ → Record
-hits_alone rule number = record_with no_hits rule.kind rule.perms number
+hits_alone rule number = record_with no_hits rule.kind (held rule.perms) number
 
 -- these hits where reading is allowed
 abbrev pub where_read : Record → Record → Record

@@ -6,7 +6,7 @@ use Rattle.automata.specs.declared.range.TargetRange.{TargetRange}
 use Rattle.automata.specs.Rows.{IsRowOf, rows_of}
 use Rattle.automata.specs.declared.fault.CompileFault.{CompileFault}
 use Rattle.automata.specs.declared.fault.CompileFault.TheVariants.{TooManyStates, NoMemory}
-use Rattle.verdicts.specs.declared.record.Record.{Record}
+use Rattle.names.specs.declared.record.Record.{Record}
 use Rattle.automata.specs.Automata.{Automaton, most_sets}
 use Rattle.glob_automaton.specs.inner.Building.{IsStartOf, IsStepOf, IsRecordOf, AreSets}
 

@@ -1,9 +1,9 @@
 -- Records that give a profile's verdicts on a name.
 use Rattle.std.specs.Prelude.{◌≡◌, ℕ, List}
-use Rattle.verdicts.specs.Records.{IsTold}
-use Rattle.verdicts.specs.declared.record.Record.{Record}
+use Rattle.names.specs.Records.{IsTold}
+use Rattle.names.specs.declared.record.Record.{Record}
 use Rattle.names.specs.declared.permissions.Perms.{Perms}
-use Rattle.verdicts.specs.declared.verdict.Verdict.{Verdict}
+use Rattle.names.specs.declared.verdict.Verdict.{Verdict}
 use Rattle.mediation.specs.Judge.{Judge, verdict_by}
 
 -- whatever is asked, the record's verdict is the verdict on the name

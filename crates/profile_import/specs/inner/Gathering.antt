@@ -5,7 +5,7 @@ use Rattle.profile_variables.specs.Variables.{Variable}
 use Rattle.rule_globs.specs.Tokens.{Token}
 use Rattle.subject_rules.specs.declared.shape.RuleShape.{RuleShape}
 use Rattle.subject_rules.specs.declared.subject.Subject.{Subject}
-use Rattle.subject_rules.specs.Restating.{is_restated, restated_paths, restated_perms, shape_of}
+use Rattle.subject_rules.specs.Restating.{fitting_letters, is_restated, restated_paths, restated_perms, shape_of}
 use Rattle.subject_rules.specs.SubjectRules.{SubjectRule}
 use Rattle.profile_import.specs.Expanded.{expanded}
 use Rattle.profile_import.specs.Faults.{ImportFault, too_many_rules}
@@ -20,7 +20,11 @@ text_of_path variables (Some path) = expanded variables path
 abbrev pub placed_value : ℕ → RuleShape → List Token → PlacedValue
 placed_value place shape path = record {
   place = place;
-  value = record { kind = shape.kind; perms = restated_perms shape.perms shape.has_target; items = path };
+  value = record {
+    kind = shape.kind;
+    perms = fitting_letters (restated_perms shape.perms shape.has_target);
+    items = path;
+  };
 }
 
 abbrev pub restated_values : ℕ → Subject → RuleShape → List (List Token) → List PlacedValue

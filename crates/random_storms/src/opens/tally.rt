@@ -4,10 +4,10 @@ use super::fault::Fault;
 use answer_trail::Trail;
 use directory_tree::Change;
 use matcher::PolicyChange;
+use names::Verdict;
 use path_guard::Answer;
 use std::alloc::Global;
 use storm_parts::{DrawnChange, Question};
-use verdicts::Verdict;
 
 /// How many answers there were, of each kind, and how many of them are not justified.
 #[derive(Clone, Copy, Default)]

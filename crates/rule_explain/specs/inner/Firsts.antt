@@ -1,9 +1,9 @@
 -- The first rules of each permission that hold it and take a name.
 use Rattle.std.specs.Prelude.{ℕ, Bool, true, false, Option, Some, None}
 use Rattle.names.specs.declared.permissions.Permission.{Permission}
-use Rattle.names.specs.declared.permissions.Permission.TheVariants.{Read, Write, Link, Lock, Map}
-use Rattle.verdicts.specs.declared.kind.RuleKind.{RuleKind}
-use Rattle.verdicts.specs.declared.kind.RuleKind.TheVariants.{Allow, Deny}
+use Rattle.names.specs.declared.permissions.Permission.TheVariants.{Read, Write, Link, Lock, Map, Append}
+use Rattle.names.specs.declared.kind.RuleKind.{RuleKind}
+use Rattle.names.specs.declared.kind.RuleKind.TheVariants.{Allow, Deny}
 use Rattle.rule_explain.specs.declared.hits.FirstHits.{FirstHits}
 use Rattle.rule_explain.specs.declared.hits.Firsts.{Firsts}
 
@@ -28,3 +28,4 @@ hits_of firsts Write = firsts.write
 hits_of firsts Link = firsts.link
 hits_of firsts Lock = firsts.lock
 hits_of firsts Map = firsts.map
+hits_of firsts Append = firsts.append

@@ -19,6 +19,7 @@ pub(crate) enum FaultKind {
     Depth,
     TooManyRules,
     TooManyItems,
+    Conflict,
 }
 
 /// A fault, and how many bytes are left from its place on. Only the reader of the whole text knows the offset.

@@ -1,12 +1,11 @@
 //! Rules.
-ghost use Rattle.std.specs.Prelude.{◌≡◌, ◌≤◌, ℕ, List, length, map, drop, option_map, IfOk, Some, None, if◌then◌else◌, codes};
-ghost use Rattle.rule_reader.specs.ReadWords.{is_word, after_word};
+ghost use Rattle.std.specs.Prelude.{◌≡◌, ◌≤◌, ℕ, List, length, map, drop, option_map, IfOk, Some, None, if◌then◌else◌};
 ghost use Rattle.std.specs.List.{list_all};
 ghost use Rattle.rule_profile.specs.Profile.{rule_value};
 ghost use Rattle.rule_reader.specs.inner.Gives.{Gives};
 ghost use Rattle.rule_profile.specs.Limits.{max_rules};
-ghost use Rattle.rule_reader.specs.Reading.{is_mode, perms_at, perms_behind, qualifier_at, start_at, comma_at, body_at, rule_at};
-ghost use Rattle.rule_reader.specs.Reading.{rule_begins, rules_at};
+ghost use Rattle.rule_reader.specs.Reading.{is_mode, perms_at, perms_behind, first_word_at, qualifier_at, start_at, comma_at};
+ghost use Rattle.rule_reader.specs.Reading.{body_at, rule_at, rule_begins, rules_at};
 ghost use Rattle.rule_profile.specs.RuleSpans.{rule_span};
 ghost use Rattle.rule_reader.specs.Spans.{span_between, spans_at};
 ghost use Rattle.rule_reader.specs.TextBytes.{begins, is_close_brace};
@@ -15,11 +14,10 @@ ghost use Rattle.rule_globs.specs.Tokens.{tokens_of};
 use super::local_fault::{Failure, FaultKind, fault_here, fault_with_left};
 use super::path::path_of;
 use super::words::{after_blank, after_gap, word_left_out, word_of};
-use names::Perms;
+use names::{Perms, RuleKind};
 use rule_globs::RulePath;
 use rule_profile::{MAX_RULES, Rule, Span};
 use std::alloc::Global;
-use verdicts::RuleKind;
 
 /// A letter of the access modes that file rules have, including those that are not supported.
 fn is_mode(byte: u8) -> bool
@@ -47,6 +45,9 @@ fn perms_of(bytes: &[u8]) -> Result<(Perms, &[u8]), Failure>
         });
     };
     match Perms::from_letters(word) {
+        Some(perms) if perms.conflict() => {
+            Err(fault_with_left(FaultKind::Conflict, bytes.len(), rest))
+        }
         Some(perms) => Ok((perms, rest)),
         None if has_only_modes(word) => Err(word_left_out(bytes, word, rest)),
         None => Err(fault_with_left(FaultKind::Permission, bytes.len(), rest)),
@@ -68,25 +69,26 @@ fn perms_behind(bytes: &[u8]) -> Result<(Perms, &[u8]), Failure>
     }
 }
 
-/// What the word at the front says that a rule does, if it is a qualifier, and what is left after it.
-fn qualifier_word(bytes: &[u8]) -> Option<(RuleKind, &[u8])>
-    ensures { option_map {U = RuleKind × List ℕ} (λ x. (x.0, x.1.now)) result ≡
-        (if is_word (codes "allow") bytes.now then Some (RuleKind.Allow, after_word bytes.now)
-        else if is_word (codes "deny") bytes.now then Some (RuleKind.Deny, after_word bytes.now) else None) }
+/// What the first word of a rule says that it does, if it is a qualifier, and what is left after it. The word `all` is a rule of its
+/// own, which isn't supported.
+#[tactic(auto, unfolding(crate::specs::Reading::first_word_at))]
+fn first_word(bytes: &[u8]) -> Result<Option<(RuleKind, &[u8])>, Failure>
+    ensures { Gives (λ o. option_map {U = RuleKind × List ℕ} (λ x. (x.0, x.1.now)) o) result (first_word_at bytes.now) }
 {
     match word_of(bytes) {
-        Some((word, rest)) if word == b"allow".as_slice() => Some((RuleKind::Allow, rest)),
-        Some((word, rest)) if word == b"deny".as_slice() => Some((RuleKind::Deny, rest)),
-        _ => None,
+        Some((word, rest)) if word == b"allow".as_slice() => Ok(Some((RuleKind::Allow, rest))),
+        Some((word, rest)) if word == b"deny".as_slice() => Ok(Some((RuleKind::Deny, rest))),
+        Some((word, rest)) if word == b"all".as_slice() => Err(word_left_out(bytes, word, rest)),
+        _ => Ok(None),
     }
 }
 
 /// What a rule does, and what is left after its qualifier and the gap after that. A rule without qualifier allows.
-#[tactic(auto, using(crate::proofs::ReadCodeRules::qualifier_there), unfolding(crate::specs::Reading::qualifier_at))]
+#[tactic(auto, unfolding(crate::specs::Reading::qualifier_at))]
 fn qualifier_of(bytes: &[u8]) -> Result<(RuleKind, &[u8]), Failure>
     ensures { Gives (λ x. (x.0, x.1.now)) result (qualifier_at bytes.now) }
 {
-    match qualifier_word(bytes) {
+    match first_word(bytes)? {
         Some((kind, rest)) => Ok((kind, after_gap(rest)?)),
         None => Ok((RuleKind::Allow, bytes)),
     }
@@ -129,6 +131,9 @@ fn body_of(alloc: Global, bytes: &[u8]) -> Result<(Perms, RulePath, &[u8]), Fail
     ensures { Gives (λ x. ((x.0, x.1), x.2.now)) result (body_at bytes.now) }
 {
     match start_of(bytes)? {
+        Some((perms, rest)) if perms.conflict() => {
+            Err(fault_with_left(FaultKind::Conflict, bytes.len(), rest))
+        }
         Some((perms, rest)) => {
             let (path, rest) = path_of(alloc, after_gap(rest)?)?;
             Ok((perms, path, rest))
@@ -162,7 +167,7 @@ fn rule_of(alloc: Global, len: usize, bytes: &[u8]) -> Result<(Rule, &[u8]), Fai
 fn rule_begins(bytes: &[u8]) -> Result<(), Failure>
     ensures { Gives (λ _. tt) result (rule_begins bytes.now) }
 {
-    if qualifier_word(bytes).is_none() {
+    if first_word(bytes)?.is_none() {
         start_of(bytes)?;
     }
     Ok(())

@@ -1,12 +1,11 @@
 -- What is packed of an automaton's states so far.
 use Rattle.std.specs.Prelude.{◌≡◌, ◌≢◌, ◌⊎◌, ℕ, ◌+◌, ◌*◌, ◌/◌, ◌<◌, ◌≤◌, ◌==◌, true, false, List, ◌++◌, length, Some, slice_get}
 use Rattle.std.specs.Prelude.{slice_index_or, if◌then◌else◌, Contains}
-use Rattle.std.specs.Option.{option_map}
+use Rattle.names.specs.declared.record.Record.{Record}
 use Rattle.automata.specs.Automata.{Automaton, target}
 use Rattle.automata.specs.declared.range.TargetRange.{TargetRange}
 use Rattle.automata.specs.Rows.{IsRowFrom, target_in}
 use Rattle.tables.specs.Tables.{Table, default_of, depth_of}
-use Rattle.tables.specs.declared.table.StoredRecord.{StoredRecord}
 use Rattle.table_image.specs.Chains.{source}
 use Rattle.table_image.specs.declared.taken.Taken.{Taken}
 use Rattle.table_image.specs.inner.Taking.{is_taken, is_blocked}
@@ -16,9 +15,9 @@ abbrev pub free : ℕ
 free = 4294967295
 
 -- The record has its number. At most one record is new, and it is the last.
-pub record IsRecordNumber (old new : List StoredRecord) (record_value : StoredRecord) (number : ℕ) : Type 0 where
+pub record IsRecordNumber (old new : List Record) (record_value : Record) (number : ℕ) : Type 0 where
   pub at : slice_get new number ≡ Some record_value
-  pub more : List StoredRecord
+  pub more : List Record
   pub is : new ≡ old ++ more
   pub few : length new ≤ length old + 1
 
@@ -61,8 +60,7 @@ pub record IsPacked (a : Automaton) (t : Table) (taken : Taken) (states : ℕ) :
   pub one_row : 0 < states → 256 ≤ length t.next
   pub few_records : length t.records ≤ states
   pub few_words : length taken.words.items ≤ 4 * states + 1
-  pub record_at : (s : ℕ) → s < states →
-      option_map (λ r. r.hits) (slice_get t.records (slice_index_or t.accept s 0)) ≡ slice_get a.records (source a s)
+  pub record_at : (s : ℕ) → s < states → slice_get t.records (slice_index_or t.accept s 0) ≡ slice_get a.records (source a s)
   pub accept : (s : ℕ) → s < states → slice_index_or t.accept s 0 < length t.records
   pub default : (s : ℕ) → s < states → slice_index_or t.default s 0 < length a.rows
   pub base : (s : ℕ) → s < states → slice_index_or t.base s 0 + 255 < length t.next

@@ -1,7 +1,6 @@
 //! Which states, cells and records a profile's tables have.
 use super::*;
-use names::Permission;
-use verdicts::{LeastHits, Record};
+use names::{LeastHits, Permission, Record};
 
 // A cell: the state that owns it, that state's base, the byte, and where it leads.
 type Cell = (u8, u8, u8, u32);
@@ -35,15 +34,6 @@ fn reading(rule: u16) -> Record {
     Record::none().with_hits(Permission::Read, hits)
 }
 
-// Whether these are the stored records of some hits, with those of write for append.
-fn are_stored(records: &[StoredRecord], hits: &[Record]) -> bool {
-    records
-        .iter()
-        .map(|stored| stored.hits)
-        .eq(hits.iter().copied())
-        && records.iter().all(|stored| stored.append == stored.hits.of(Permission::Write))
-}
-
 // What is wanted of the tables of a profile: no state has a depth.
 #[derive(Clone, Copy)]
 struct Layout<'a> {
@@ -67,7 +57,7 @@ fn expect_layout(
         && table.next == cells.next
         && table.check == cells.check
         && table.accept.as_slice() == want.accept
-        && are_stored(&table.records, want.records)
+        && table.records.as_slice() == want.records
         && table.depth_bound == 0
         && table.depth == Vec::from_elem(alloc, 0u32, want.default.len())?;
     assert!(rt; is_as_wanted);

@@ -31,7 +31,7 @@ fn perms_of(number: u8) -> Perms {
 
 // Whether the plain judge and both tables give the same verdicts on a name, for every set of permissions but the empty one.
 fn agree(compiled: &CompiledProfile, loaded: &VerifiedTable, name: &[u8]) -> bool {
-    for number in 1..32 {
+    for number in 1..64 {
         let ask = perms_of(number);
         let want = judge_slow(compiled.profile(), name, ask);
         if judge(compiled.table(), name, ask) != want || judge(loaded, name, ask) != want {
@@ -91,6 +91,8 @@ fn short_names(rt: HostRuntime) -> Result<(), Fail> {
             b"/* r, deny /** k, /[ab] w, /[^a] lm, deny /k r,",
             b"/{a,b,}{k,} rw, deny /{a,}b m, /a m, /[\x80-\xff]* k,",
             b"deny /** rwlkm, /a r,",
+            b"/a rlkma, /** w, deny /ab a, /k a,",
+            b"/** a, deny /a* w, deny /?k a, /b rw,",
         ],
     )
 }

@@ -71,7 +71,7 @@ fn expect_same(
     run_names(table, text, offsets, &mut states, &mut steps, &mut lookups);
     let counts = (text.len() as u64, text.len() as u128);
     assert_eq!(rt; (steps.count(), lookups.count()), counts);
-    let image = to_bytes_v1(alloc, &table_of(alloc, compiled.profile())?)?;
+    let image = image_of(alloc, compiled.profile())?;
     let image = verify_image(&image)?;
     assert!(rt; are_offsets(text, offsets, by_image.len()));
     assert_eq!(rt; image.depth_bound(), 0);

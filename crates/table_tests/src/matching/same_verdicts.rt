@@ -76,6 +76,31 @@ fn worked_verdicts(rt: HostRuntime) -> Result<(), Fail> {
     )
 }
 
+// By rules on append, on write, or on both: images of the first, the third and the fourth profile have version 2.
+#[test]
+fn worked_verdicts_on_append(rt: HostRuntime) -> Result<(), Fail> {
+    let append: &[u8] = b"/log a,";
+    let write: &[u8] = b"/log w,";
+    let denied: &[u8] = b"/log w, deny /log a,";
+    let neither: &[u8] = b"/log a, deny /log w,";
+    expect_verdicts(
+        &rt,
+        rt.alloc(),
+        &[
+            (append, b"/log", b"a", "allowed"),
+            (append, b"/log", b"w", "no rule for w"),
+            (append, b"/log", b"aw", "no rule for w"),
+            (append, b"/lo", b"wa", "no rule for wa"),
+            (write, b"/log", b"wa", "allowed"),
+            (write, b"/log", b"a", "allowed"),
+            (denied, b"/log", b"w", "allowed"),
+            (denied, b"/log", b"wa", "denied by rule 2"),
+            (neither, b"/log", b"a", "denied by rule 2"),
+            (neither, b"/log", b"wa", "denied by rule 2"),
+        ],
+    )
+}
+
 // A name, the state in which its run ends, and how many steps that takes. Each is one look-up, since no state has a depth.
 type Run<'a> = (&'a [u8], u32, u64);
 

@@ -3,8 +3,7 @@ ghost use Rattle.std.specs.Prelude.{◌≡◌, ◌+◌, ◌^◌, ◌<◌};
 ghost use Rattle.tables.specs.Tables.{state_count};
 
 use super::*;
-use names::Permission;
-use verdicts::LeastHits;
+use names::{LeastHits, Permission};
 
 // Two states that share one row. State 1 owns the cells of `a` and of byte 255, and state 0 those of `b` and of byte 0; no
 // state owns another one. What isn't owned leads from state 0 to 1, and from 1 to 0.
@@ -19,7 +18,9 @@ fn shared(alloc: Global) -> Result<RawTable, Fail> {
         &[(97, 1), (255, 1), (98, 1), (0, 0), (99, 1)],
     );
     let hits = LeastHits { allow: 3, deny: 5 };
-    table.records.push(StoredRecord::of(Record::none().with_hits(Permission::Write, hits)))?;
+    table
+        .records
+        .push(Record::none().with_hits(Permission::Write, hits))?;
     Ok(table)
 }
 

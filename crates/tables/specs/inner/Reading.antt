@@ -1,14 +1,15 @@
 -- The table that is read from bytes, whatever they are.
-use Rattle.std.specs.Prelude.{ℕ, zero, suc, ◌+◌, ◌*◌, List, [], ◌∷◌, ◌++◌, replicate}
-use Rattle.names.specs.Permissions.{index}
-use Rattle.verdicts.specs.Least.{record_of}
-use Rattle.verdicts.specs.declared.record.LeastHits.{LeastHits}
-use Rattle.verdicts.specs.declared.record.Record.{Record}
-use Rattle.tables.specs.Images.{depth_count, short_at, stored_length, word_at}
-use Rattle.tables.specs.Tables.{Table, stored}
+use Rattle.std.specs.Prelude.{ℕ, zero, suc, ◌+◌, ◌*◌, ◌==◌, List, [], ◌∷◌, ◌++◌, replicate, if◌then◌else◌}
+use Rattle.names.specs.declared.permissions.Permission.{Permission}
+use Rattle.names.specs.declared.permissions.Permission.TheVariants.{Append, Write}
+use Rattle.names.specs.Permissions.{index, letter}
+use Rattle.names.specs.Least.{record_of}
+use Rattle.names.specs.declared.record.LeastHits.{LeastHits}
+use Rattle.names.specs.declared.record.Record.{Record}
+use Rattle.tables.specs.Images.{depth_count, record_length, short_at, word_at}
+use Rattle.tables.specs.Tables.{Table}
 use Rattle.tables.specs.declared.header.Version.{Version}
 use Rattle.tables.specs.declared.header.Version.TheVariants.{First, Second}
-use Rattle.tables.specs.declared.table.StoredRecord.{StoredRecord}
 
 -- the n numbers from a place on
 abbrev pub words_at : List ℕ → ℕ → ℕ → List ℕ
@@ -18,19 +19,19 @@ words_at bytes i (suc n) = words_at bytes i n ++ word_at bytes (i + 4 * n) ∷ [
 abbrev pub hits_at : List ℕ → ℕ → LeastHits
 hits_at bytes i = record { allow = short_at bytes i; deny = short_at bytes (i + 2) }
 
--- four bytes for each permission
-unfoldable pub record_at : List ℕ → ℕ → Record
-record_at bytes i = record_of (λ p. hits_at bytes (i + 4 * index p))
+-- the permission whose hits are read for this one: in version 1, write for append
+abbrev pub stored_for : Version → Permission → Permission
+stored_for First p = if letter p == letter Append then Write else p
+stored_for Second p = p
 
--- in version 1, append has the hits of write
-abbrev pub stored_at : Version → List ℕ → ℕ → StoredRecord
-stored_at First bytes i = stored (record_at bytes i)
-stored_at Second bytes i = record { hits = record_at bytes i; append = hits_at bytes (i + 20) }
+-- four bytes for each permission that is stored
+unfoldable pub record_at : Version → List ℕ → ℕ → Record
+record_at v bytes i = record_of (λ p. hits_at bytes (i + 4 * index (stored_for v p)))
 
 -- the n records from a place on
-abbrev pub records_at : Version → List ℕ → ℕ → ℕ → List StoredRecord
+abbrev pub records_at : Version → List ℕ → ℕ → ℕ → List Record
 records_at v bytes i zero = []
-records_at v bytes i (suc n) = records_at v bytes i n ++ stored_at v bytes (i + stored_length v * n) ∷ []
+records_at v bytes i (suc n) = records_at v bytes i n ++ record_at v bytes (i + record_length v * n) ∷ []
 
 abbrev pub bound_at : Version → List ℕ → ℕ
 bound_at First bytes = 0

@@ -2,8 +2,8 @@
 use Rattle.std.specs.Prelude.{◌≡◌, ◌≢◌, ◌⊎◌, ℕ, List, Option, Result, Ok, Err, Vec, IfSome}
 use Rattle.std.specs.declared.alloc.Global.{Global}
 use Rattle.names.specs.declared.permissions.Perms.{Perms}
-use Rattle.verdicts.specs.declared.verdict.Verdict.{Verdict}
-use Rattle.verdicts.specs.VerdictText.{verdict_text}
+use Rattle.names.specs.declared.verdict.Verdict.{Verdict}
+use Rattle.names.specs.VerdictText.{verdict_text}
 use Rattle.trace_commands.specs.Judge.{ask_of}
 use Rattle.trace_report.specs.declared.status.Status.TheVariants.{BadArguments}
 use Rattle.trace_report.specs.declared.fault.Fault.{Fault}

@@ -24,15 +24,18 @@ equal_sets p q h =
     let write = (booleans_Decides p.write q.write).0 (first_so (beq p.write q.write) _ from_write) in
     let link = (booleans_Decides p.link q.link).0 (first_so (beq p.link q.link) _ from_link) in
     let lock = (booleans_Decides p.lock q.lock).0 (first_so (beq p.lock q.lock) _ from_lock) in
-    let map = (booleans_Decides p.map q.map).0 (second_so (beq p.lock q.lock) (beq p.map q.map) from_lock) in
-    λ i. record { read = read i; write = write i; link = link i; lock = lock i; map = map i }
+    let from_map = second_so (beq p.lock q.lock) _ from_lock in
+    let map = (booleans_Decides p.map q.map).0 (first_so (beq p.map q.map) _ from_map) in
+    let append = (booleans_Decides p.append q.append).0 (second_so (beq p.map q.map) (beq p.append q.append) from_map) in
+    λ i. record { read = read i; write = write i; link = link i; lock = lock i; map = map i; append = append i }
 
 own_bit : (b : Bool) → beq b b ≡ true
 own_bit b = (booleans_Decides b b).1 (λ i. b)
 
 own_set : (p : Perms) → perms.ghosts.eq p p ≡ true
 own_set p = both (beq p.read p.read) _ (own_bit p.read) (both (beq p.write p.write) _ (own_bit p.write)
-    (both (beq p.link p.link) _ (own_bit p.link) (both (beq p.lock p.lock) _ (own_bit p.lock) (own_bit p.map))))
+    (both (beq p.link p.link) _ (own_bit p.link) (both (beq p.lock p.lock) _ (own_bit p.lock)
+    (both (beq p.map p.map) _ (own_bit p.map) (own_bit p.append)))))
 
 pub equal_questions : (p q : Asked) → asks p q ≡ true → p ≡ q
 equal_questions p q h =

@@ -1,7 +1,7 @@
 -- One state more for each set, until there is one for each.
 use Rattle.std.proofs.Common.{◌≡◌, ◌∙◌, ◌∷◌, [], ◌++◌, ◌+◌, ◌≤◌, ℕ, List, ap, sym, subst, subst₂, length, arith}
 use Rattle.automata.specs.declared.range.TargetRange.{TargetRange}
-use Rattle.verdicts.specs.declared.record.Record.{Record}
+use Rattle.names.specs.declared.record.Record.{Record}
 use Rattle.glob_automaton.specs.inner.Building.{IsRecordOf}
 use Rattle.glob_automaton.specs.inner.States.{lists_of, AreStates, IsRowOfSet}
 use Rattle.glob_automaton.proofs.BuiltStates.{one_state_more, built_states, no_more}

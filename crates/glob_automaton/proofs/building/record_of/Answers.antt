@@ -2,8 +2,8 @@ use Rattle.std.proofs.Common.{◌≡◌, ◌∙◌, ap, nat_eq, refl, sym, subst
 use Rattle.std.proofs.lemmas.Bool.{eqb-true}
 use Rattle.std.proofs.lemmas.Map.Views.{Contains-from_any}
 use Rattle.std.proofs.lemmas.Option.{slice_get_read}
-use Rattle.verdicts.specs.declared.record.Record.{Record}
-use Rattle.verdicts.specs.Hits.{no_hits, record_with}
+use Rattle.names.specs.declared.record.Record.{Record}
+use Rattle.names.specs.Hits.{no_hits, record_with}
 use Rattle.glob_automaton.specs.inner.Building.{IsRecordOf}
 use Rattle.glob_automaton.proofs.EndRecords.{end_record}
 use Rattle.glob_automaton.proofs.building.record_of.Goals as goal

@@ -1,7 +1,7 @@
 use Rattle.std.proofs.Common.{◌≡◌, ◌≢◌, ◌↔◌, List, refl, sym, ap, ◌∙◌, subst}
 use Rattle.rule_globs.specs.Rules.{RuleValue}
 use Rattle.rule_globs.specs.Verdict.{IsVerdict}
-use Rattle.verdicts.specs.declared.verdict.Verdict.TheVariants.{Allowed}
+use Rattle.names.specs.declared.verdict.Verdict.TheVariants.{Allowed}
 use Rattle.subject_rules.specs.declared.effect.Change.{Change}
 use Rattle.subject_rules.specs.declared.effect.Change.TheVariants.{Exact, Wider, Narrower}
 use Rattle.subject_rules.specs.declared.effect.Effect.{Effect}

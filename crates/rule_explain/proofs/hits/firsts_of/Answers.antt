@@ -1,9 +1,9 @@
 use Rattle.std.proofs.Common.{◌≡◌, ◌+◌, List, IsTrue, map, get_or, sym, ap, ◌∙◌, subst, true≢false, arith}
 use Rattle.std.proofs.lemmas.List.{length-map}
 use Rattle.names.specs.declared.permissions.Perms.{Perms}
-use Rattle.names.specs.Permissions.{has}
+use Rattle.names.specs.Permissions.{has, held}
 use Rattle.rule_globs.specs.PlainVerdict.{takes}
-use Rattle.rule_globs.specs.Rules.{RuleValue, pattern}
+use Rattle.rule_globs.specs.Rules.{RuleValue, holds, pattern}
 use Rattle.rule_profile.specs.Profile.{rule_value}
 use Rattle.rule_explain.specs.Reasons.{reason}
 use Rattle.rule_explain.specs.declared.hits.Firsts.{Firsts}
@@ -24,16 +24,17 @@ loop-i-preserved c = λ p asked.
     c.rule-item.is in
     elim c.if-concerns.branch [
       | then-concerns w ↦
-          let holding = ap (λ (r : RuleValue). has r.perms p) at ∙ ap (λ (s : Perms). has s p) (sym w.perms.ensures) in
+          let holding = ap (λ (r : RuleValue). holds r p) at
+          ∙ ap (λ (s : Perms). has s p) (sym (w.held.ensures ∙ ap held w.perms.ensures)) in
           let taking = subst (λ (r : RuleValue). IsTrue (takes (pattern r) name)) (sym at) (c.concerns.ensures.0 w.if-concerns.true).1 in
           subst (AreSoFar rules name p (i + 1)) (sym (ap (λ (f : Firsts). hits_of f p) w.firsts-is ∙ w.with-firsts.ensures p))
-          (one_hit rules name p (has w.perms.result p) w.kind.result i before
+          (one_hit rules name p (has w.held.result p) w.kind.result i before
           (omega (arith, length-map items rule_value, c.loop-i-test.true)) (c.loop-i.invariant p asked)
           (ap (λ (r : RuleValue). r.kind) at ∙ sym w.kind.ensures) holding taking)
       | else-concerns w ↦
           subst (AreSoFar rules name p (i + 1)) (ap (λ (f : Firsts). hits_of f p) (sym w.firsts-is))
           (none_more rules name p i before (c.loop-i.invariant p asked) (λ holding taking.
-          let holds = subst (λ (r : RuleValue). IsTrue (has r.perms p)) at holding in
+          let holds = subst (λ (r : RuleValue). IsTrue (holds r p)) at holding in
           let takes = subst (λ (r : RuleValue). IsTrue (takes (pattern r) name)) at taking in
           true≢false (sym (c.concerns.ensures.1 ((p, asked, holds), takes)) ∙ w.if-concerns.false)))
     ]

@@ -4,13 +4,13 @@ use Rattle.std.proofs.lemmas.List.{length-map}
 use Rattle.names.specs.declared.permissions.Permission.{Permission}
 use Rattle.names.specs.declared.permissions.Perms.{Perms}
 use Rattle.std.specs.Prelude.{◌&&◌, not}
-use Rattle.names.specs.Permissions.{has, set_of}
+use Rattle.names.specs.Permissions.{has, held, set_of}
 use Rattle.rule_profile.specs.Profile.{RuleValue, rule_value, profile_value}
 use Rattle.rule_globs.specs.PlainVerdict.{verdict}
 use Rattle.rule_globs.specs.inner.RuleHits.{HitsSome}
 use Rattle.rule_globs.specs.Verdict.{IsRuleAt, IsVerdict}
 use Rattle.rule_profile.specs.declared.profile.Rule.{Rule}
-use Rattle.verdicts.specs.declared.verdict.Verdict.TheVariants.{Denied, NoRule, Allowed}
+use Rattle.names.specs.declared.verdict.Verdict.TheVariants.{Denied, NoRule, Allowed}
 use Rattle.names.proofs.PermsLaws.{some_member}
 use Rattle.rule_judge.proofs.VerdictSteps.{IsQuiet, IsMissingAfter, rule_at, quiet-skip, quiet-allow, missing-skip, missing-allow, denied}
 use Rattle.rule_judge.proofs.VerdictSteps.{at_end-quiet, at_end-missing}
@@ -68,7 +68,7 @@ loop-i-preserved c =
             left = λ p. missing-allow values c.args.name.now c.args.ask c.loop-i.i rule c.loop-i.missing c.if-hits.missing p at
                 (sym w.kind.ensures ∙ w.in-Allow.is) some
                 (w.missing-is ∙ w.without-missing.ensures ∙ ap (λ perms. set_of (λ q. has c.loop-i.missing q && not (has perms q)))
-                w.perms.ensures) (c.loop-i.invariant.left p);
+                (w.held.ensures ∙ ap held w.perms.ensures)) (c.loop-i.invariant.left p);
           }
       | else-hits w ↦
           let none = λ (h : HitsSome rule c.args.name.now c.args.ask). true≢false (sym (c.hits.ensures.1 h) ∙ w.if-hits.false) in

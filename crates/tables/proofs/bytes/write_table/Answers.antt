@@ -2,7 +2,7 @@
 use Rattle.std.proofs.Common.{rules, ◌++◌, ap, ◌∙◌}
 use Rattle.tables.specs.Images.{header_of}
 use Rattle.tables.specs.Tables.{table_value}
-use Rattle.tables.proofs.Heads.{bound_fits, depths_fit, image_joined}
+use Rattle.tables.proofs.Heads.{bound_fits, depths_fit, image_joined, records_fit}
 use Rattle.tables.proofs.bytes.write_table.Goals as goal
 
 pub returns : goal.returns
@@ -17,7 +17,7 @@ returns c =
         accepts = search rules;
         nexts = search rules;
         checks = search rules;
-        records = search rules;
+        records = records_fit v t c.requires.fits (search rules);
         bound = bound_fits v t c.requires.fits c.in_ok-push_header.ensures.room;
         depths = depths_fit v t c.requires.fits c.in_ok-push_depths.ensures.room;
       };

@@ -1,6 +1,6 @@
-use Rattle.std.proofs.Common.{inr, refl, subst, sym}
-use Rattle.tables.specs.Images.{IsVersionOf}
+use Rattle.std.proofs.Common.{inr, refl}
 use Rattle.tables.specs.Tables.{table_value}
+use Rattle.tables.specs.declared.header.Version.TheVariants.{Second}
 use Rattle.trace_commands.proofs.OneOutput.{second_asked}
 use Rattle.trace_commands.proofs.compiling.chained_image.Goals as goal
 
@@ -16,8 +16,10 @@ returns-in-Ok c =
         of_rules = made.rules;
         bounds = made.bounds;
         depth_asked = made.depth;
+        version = Second;
+        version_asked = second_asked c.args.depth table c.requires;
         bytes = bytes;
-        image = subst (λ v. IsVersionOf v bytes table) (sym (second_asked c.args.depth c.requires)) c.in-Ok.ensures;
+        image = c.in-Ok.ensures;
         is = refl;
       },
     )

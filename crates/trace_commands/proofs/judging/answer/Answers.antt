@@ -1,5 +1,5 @@
 use Rattle.std.proofs.Common.{◌≡◌, rules}
-use Rattle.verdicts.specs.VerdictText.{verdict_text}
+use Rattle.names.specs.VerdictText.{verdict_text}
 use Rattle.trace_report.specs.Output.{line}
 use Rattle.trace_commands.proofs.judging.answer.Goals as goal
 

@@ -1,6 +1,6 @@
 use Rattle.std.proofs.Common.{◌≡◌, ◌∙◌, ◌++◌, length, sym, rules}
 use Rattle.std.specs.Prelude.{codes, decimal}
-use Rattle.verdicts.specs.VerdictText.{verdict_text}
+use Rattle.names.specs.VerdictText.{verdict_text}
 use Rattle.tables.specs.Tables.{look_ups_after}
 use Rattle.trace_commands.specs.Tables.{match_text, steps_text}
 use Rattle.trace_commands.proofs.ImageAnswers.{chained_text, flat_text}

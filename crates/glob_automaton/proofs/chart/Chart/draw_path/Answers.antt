@@ -1,7 +1,7 @@
 -- The rule's end is pushed, and its items are drawn before it.
 use Rattle.std.proofs.Common.{◌≡◌, ◌++◌, ◌∷◌, [], length, ap, ◌∙◌, refl, subst}
 use Rattle.rule_profile.specs.Profile.{rule_value, pattern}
-use Rattle.verdicts.specs.declared.kind.RuleKind.TheVariants.{Allow}
+use Rattle.names.specs.declared.kind.RuleKind.TheVariants.{Allow}
 use Rattle.glob_automaton.specs.inner.Drawing.{IsDrawn}
 use Rattle.glob_automaton.specs.inner.Leaves.{reading}
 use Rattle.glob_automaton.proofs.ChartRules.{chart_more}

@@ -1,12 +1,12 @@
 -- The path's automaton, found or built, has the hits of the rule.
-use Rattle.std.proofs.Common.{◌≡◌, ◌+◌, zero, suc, [], ◌∷◌, IsTrue, subst}
+use Rattle.std.proofs.Common.{◌≡◌, ◌+◌, zero, suc, [], ◌∷◌, IsTrue, ap, ◌∙◌, subst}
 use Rattle.std.proofs.lemmas.Option.{none-some, same_Some}
 use Rattle.rule_profile.specs.Profile.{RuleValue, rule_value}
 use Rattle.rule_profile.specs.Readable.{begins_with_slash}
 use Rattle.glob_automaton.specs.Parts.{IsAutomatonOfPart}
 use Rattle.glob_automaton.specs.inner.Drawing.{IsChartOf}
 use Rattle.glob_automaton.specs.inner.Leaves.{hits_alone, reading, IsWithHits}
-use Rattle.glob_automaton.proofs.BuiltPaths.{hits_are, one_more_built}
+use Rattle.glob_automaton.proofs.BuiltPaths.{one_more_built}
 use Rattle.glob_automaton.proofs.Compiled.{built, not_built}
 use Rattle.glob_automaton.proofs.LeafLaws.{leaf_part, fault_up}
 use Rattle.glob_automaton.proofs.NamePrefixes.{EachWithSlash}
@@ -27,10 +27,7 @@ returns-in-Some-clause-ok c rules before e at =
     let its : IsAutomatonOfPart (reading rule ∷ []) 0 1 path.dfa =
     built live.begin live.step c.live_is_left_first.ensures (reading rule ∷ []) path.chart chart path.dfa c.in-Some.ensures.1
     c.records_are_their_hits.ensures.same in
-    let hits : c.with_rule-hits.result ≡ hits_alone rule (before + 1) =
-    hits_are rule c.none.result c.with_rule-hits.result c.kind.result c.perms.result c.args.number before c.none.ensures
-    c.kind.ensures c.perms.ensures e
-    c.with_rule-hits.ensures in
+    let hits : c.hits_alone-hits.result ≡ hits_alone rule (before + 1) = c.hits_alone-hits.ensures ∙ ap (hits_alone rule) e in
     leaf_part rules rule before at c.records_are_their_hits.ensures.made c.records_are_their_hits.ensures.same path.dfa
     c.in_ok-with_hits.field-0 its (subst (λ z. IsWithHits z path.dfa c.in_ok-with_hits.field-0) hits c.in_ok-with_hits.ensures)
 
@@ -50,10 +47,7 @@ returns-clause-ok c rules before e at =
     built live.begin live.step c.live_is_left_first.ensures (reading rule ∷ []) c.in_ok-chart.chart c.in_ok-chart.ensures.chart
     c.in-Ok.dfa c.in-Ok.ensures.ok
     c.records_are_their_hits.ensures.same in
-    let hits : c.with_rule-hits.result ≡ hits_alone rule (before + 1) =
-    hits_are rule c.none.result c.with_rule-hits.result c.kind.result c.perms.result c.args.number before c.none.ensures
-    c.kind.ensures c.perms.ensures e
-    c.with_rule-hits.ensures in
+    let hits : c.hits_alone-hits.result ≡ hits_alone rule (before + 1) = c.hits_alone-hits.ensures ∙ ap (hits_alone rule) e in
     leaf_part rules rule before at c.records_are_their_hits.ensures.made c.records_are_their_hits.ensures.same c.in-Ok.dfa
     c.in_ok-leaf.leaf its (subst (λ z. IsWithHits z c.in-Ok.dfa c.in_ok-leaf.leaf) hits c.in_ok-leaf.ensures)
 

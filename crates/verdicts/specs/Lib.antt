@@ -1,5 +1,0 @@
-pub mod Least
-pub mod Hits
-pub mod Records
-pub mod VerdictText
-pub mod Grounds
