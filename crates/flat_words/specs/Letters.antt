@@ -1,4 +1,5 @@
--- The letters of a rule's permissions (apparmor.d(5), "Access Modes"): r w a l k m in either case, and exec modes.
+-- The letters of a rule's permissions (apparmor.d(5), "Access Modes"): r w a l k m in either case (apparmor_parser refuses
+-- A and K), and exec modes.
 use Rattle.std.specs.Prelude.{ℕ, List, [], ◌∷◌, Option, Some, None, Bool, true, false, not, ◌&&◌, ◌||◌, ◌==◌, if◌then◌else◌, option_map}
 use Rattle.std.specs.Char.{to_ascii_lowercase}
 use Rattle.names.specs.declared.permissions.Permission.{Permission}

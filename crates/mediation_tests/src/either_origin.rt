@@ -67,8 +67,7 @@ fn opens(rt: &impl Abort, alloc: Global, profile: &AnyProfile) -> Result<(), Fai
     let mut tree = tree(alloc)?;
     let mut scratch = Scratch::new();
     let mut room = [0; 4096];
-    // Who may write may append.
-    let write = Perms::from_letters(b"wa").ok_or("letters")?;
+    let write = Perms::from_letters(b"w").ok_or("letters")?;
     let cases: [(&[u8], &[u8], Opened<'_>); 5] = [
         (b"/l/f", b"r", Ok((Verdict::Allowed, b"/d/f"))),
         (

@@ -1,5 +1,5 @@
 -- The verdict on a hard link: the new name must be one to link to, and may not allow more than the old name does, link
--- itself aside (apparmor.d(5), "Access Modes", link mode).
+-- itself aside (apparmor.d(5), "Access Modes Details", link mode).
 use Rattle.std.specs.Prelude.{◌≢◌, ◌&&◌, ◌++◌, ℕ, Bool, not, true, false, List, codes, IsTrue, if◌then◌else◌}
 use Rattle.std.specs.List.{list_any}
 use Rattle.names.specs.declared.permissions.Permission.{Permission}

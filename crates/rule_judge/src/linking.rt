@@ -16,7 +16,7 @@ use rule_globs::one_verdict_is_right;
 use rule_profile::Profile;
 use std::fmt;
 
-/// What the rules say of a hard link (apparmor.d(5), "Access Modes", link mode). It is printed as the verdict on the new
+/// What the rules say of a hard link (apparmor.d(5), "Access Modes Details", link mode). It is printed as the verdict on the new
 /// name, as `wider by X`, or as `allowed`.
 #[derive(Clone, Copy, Debug, PartialEq, Eq)]
 pub enum LinkVerdict {
