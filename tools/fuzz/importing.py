@@ -312,9 +312,10 @@ class Import:
             self.line(part, "narrower" if is_open else "exact")
 
     def additions(self):
-        """The rules that AppArmor adds for change_profile and for hats, which say nothing to others than owners."""
+        """The rules that AppArmor adds for change_profile and for hats, which say nothing to others than owners, and let these write
+        but not append, which restated rules do."""
         found = []
-        effect = self.effect({OTHER[self.options.subject]}, self.options.is_keep)
+        effect = "wider" if self.options.is_keep else self.effect({OTHER[self.options.subject]}, False)
         if self.chosen.what == b"hat":
             found.append((b"hat", self.chosen.start))
             length = 1 if self.text[self.chosen.start] == ord("^") else len(b"hat")

@@ -12,10 +12,12 @@ use Rattle.flat_rules.specs.RuleParts.{part_whats, part_effect, no_effect}
 use Rattle.import_account.specs.declared.what.What.{What}
 use Rattle.import_account.specs.declared.what.What.TheVariants as whats
 use Rattle.import_account.specs.Whats.{statement_what}
+use Rattle.subject_rules.specs.declared.effect.Change.TheVariants.{Wider}
 use Rattle.subject_rules.specs.declared.effect.Effect.{Effect}
 use Rattle.subject_rules.specs.declared.shape.RuleShape.{RuleShape}
 use Rattle.subject_rules.specs.declared.subject.AppliesTo.TheVariants.{Owners}
 use Rattle.subject_rules.specs.declared.subject.Subject.{Subject}
+use Rattle.subject_rules.specs.declared.subject.Subject.TheVariants.{Owner, Other}
 use Rattle.subject_rules.specs.Changes.{effect, mode_effect}
 use Rattle.import_cut.specs.declared.reading.RuleReading.{RuleReading}
 use Rattle.import_cut.specs.declared.span.SpanKind.{SpanKind}
@@ -30,13 +32,14 @@ told all effect = Told (record { whats = all; effect = effect })
 -- ---- what AppArmor adds
 
 -- To a profile with hats, or with a rule change_profile, apparmor_parser adds rules by which owners may write some files in
--- /proc. They are restated like those of the text, with w, which holds append, too (our choice: the parser adds write alone).
+-- /proc, and not append to them. They are restated with w, which holds append, too (our choice).
 abbrev pub added_rule : RuleShape
 added_rule = record { kind = Allow; applies_to = Owners; perms = only Write; has_target = false; is_read = true; has_priority = false }
 
--- what restating them changes
+-- what restating them changes: who is restated for may append there, too
 abbrev pub added_effect : Subject → Effect
-added_effect chosen = effect chosen added_rule
+added_effect Owner = record { chosen = Owner; on_chosen = Wider; on_other = Wider }
+added_effect Other = effect Other added_rule
 
 -- ---- statements
 

@@ -29,7 +29,7 @@ pub(crate) enum PartTelling {
 }
 
 /// The effect of restating the rules that AppArmor adds to a profile with a hat or a rule `change_profile`: those by which
-/// owners may write some files in `/proc`.
+/// owners may write some files in `/proc`, and not append to them, which a restated rule lets everybody.
 pub fn added_effect(chosen: Subject) -> Effect
     ensures { result ≡ added_effect chosen }
 {
@@ -41,7 +41,14 @@ pub fn added_effect(chosen: Subject) -> Effect
         is_read: true,
         has_priority: false,
     };
-    Effect::of(chosen, added)
+    match chosen {
+        Subject::Owner => Effect {
+            chosen,
+            on_chosen: Change::Wider,
+            on_other: Change::Wider,
+        },
+        Subject::Other => Effect::of(chosen, added),
+    }
 }
 
 /// Whether a head of these parts is a hat's.

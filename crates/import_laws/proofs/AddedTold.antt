@@ -16,13 +16,14 @@ use Rattle.flat_rules.specs.RuleWords.{has_part}
 use Rattle.import_account.specs.declared.what.What.{What}
 use Rattle.import_account.specs.declared.what.What.TheVariants as whats
 use Rattle.subject_rules.specs.declared.effect.Change.{Change}
-use Rattle.subject_rules.specs.declared.effect.Change.TheVariants.{Exact}
+use Rattle.subject_rules.specs.declared.effect.Change.TheVariants.{Exact, Wider}
 use Rattle.subject_rules.specs.declared.effect.Effect.{Effect}
 use Rattle.subject_rules.specs.declared.subject.AppliesTo.TheVariants.{Owners}
 use Rattle.subject_rules.specs.declared.subject.Subject.{Subject}
+use Rattle.subject_rules.specs.declared.subject.Subject.TheVariants.{Owner, Other}
 use Rattle.subject_rules.specs.Changes.{change, effect, gained, lost}
 use Rattle.subject_rules.specs.Restating.{has_some, is_restated, shape_of}
-use Rattle.subject_rules.specs.Subjects.{applies_to}
+use Rattle.subject_rules.specs.Subjects.{applies_to, other_subject}
 use Rattle.names.specs.declared.kind.RuleKind.TheVariants.{Allow}
 use Rattle.import_cut.specs.declared.cut.Phase.{Phase}
 use Rattle.import_cut.specs.declared.cut.Phase.TheVariants.{Outer, Skipping, Chosen}
@@ -49,6 +50,17 @@ use Rattle.import_laws.proofs.SpansBefore.{rule_part}
 abbrev IsAdding : Phase → Type 0
 IsAdding (Skipping run) = (chosen : Subject) → run_effect chosen run.what ≡ added_effect chosen
 IsAdding _ = ⊥
+
+-- what is reported of rules that are added, where it says no more of wider than of exact
+pub added_for_chosen : (R : Change → Type 0) (eases : R Wider → R Exact) (chosen : Subject) → R (added_effect chosen).on_chosen →
+    R (change chosen chosen added_rule)
+added_for_chosen R eases Owner h = eases h
+added_for_chosen R eases Other h = h
+
+pub added_for_other : (R : Change → Type 0) (chosen : Subject) → R (added_effect chosen).on_other →
+    R (change chosen (other_subject chosen) added_rule)
+added_for_other R Owner h = h
+added_for_other R Other h = h
 
 module _ (on : Effect → Change) (R : Change → Type 0) (c : Choice) where
   -- what adds rules is reported
@@ -359,25 +371,25 @@ module _ (on : Effect → Change) (R : Change → Type 0) (c : Choice) where
   any_told reading items whole h = from_here reading items (at_start c) whole
       (record { choice = refl; fits = omega arith; changes = inl refl; hats = inl (inl refl) }) h
 
-  module _ (subject : Subject) (reads_off : on (added_effect c.subject) ≡ change c.subject subject added_rule) where
+  module _ (subject : Subject) (reads_off : R (on (added_effect c.subject)) → R (change c.subject subject added_rule)) where
     abbrev IsTold : PlacedRule → Type 0
     IsTold r = R (change c.subject subject (shape_of r.rule))
 
     -- all rules that are added change the same
-    same_change : (place : ℕ) (perms : Perms) (path : List ℕ) → has_some perms ≡ true → on (added_effect c.subject)
+    same_change : (place : ℕ) (perms : Perms) (path : List ℕ) → has_some perms ≡ true → change c.subject subject added_rule
         ≡ change c.subject subject (shape_of (added_at place perms path).rule)
-    same_change place perms path some = reads_off
-        ∙ ap (λ (b : Bool). cond (applies_to Owners c.subject && true && b) (cond (not (applies_to Owners subject)) (gained Allow) Exact)
+    same_change place perms path some =
+        ap (λ (b : Bool). cond (applies_to Owners c.subject && true && b) (cond (not (applies_to Owners subject)) (gained Allow) Exact)
         (cond (applies_to Owners subject && b) (lost Allow) Exact)) (sym some)
 
     each_told : (change_at hat_at : Option ℕ) → IfAny change_at → IfAny hat_at → Each IsTold (added_rules change_at hat_at)
     each_told None None a b = tt
     each_told (Some place) hat_at (inl none) b = absurd cc
     each_told (Some place) hat_at (inr added) b = of_each_added IsTold
-        (λ place perms path some. subst R (same_change place perms path some) added) (Some place) hat_at
+        (λ place perms path some. subst R (same_change place perms path some) (reads_off added)) (Some place) hat_at
     each_told None (Some place) a (inl none) = absurd cc
     each_told None (Some place) a (inr added) = of_each_added IsTold
-        (λ place perms path some. subst R (same_change place perms path some) added) None (Some place)
+        (λ place perms path some. subst R (same_change place perms path some) (reads_off added)) None (Some place)
 
     pub added_told : (reading : ItemValue → RuleReading) (items : List ItemValue) → Each IsItem items →
         Tells on R (cut_of reading c items).spans

@@ -21,7 +21,8 @@ use Rattle.import_laws.proofs.ExactRules.{RulesAreTold, all_told}
 use Rattle.import_laws.proofs.SpansBefore.{Tells}
 
 pub all_rules_told : (on : Effect → Change) (subject : Subject) (R : Change → Type 0) (variables : List Variable) (choice : Choice) →
-    RulesAreTold on subject R variables choice → (on (added_effect choice.subject) ≡ change choice.subject subject added_rule) →
+    RulesAreTold on subject R variables choice →
+    (R (on (added_effect choice.subject)) → R (change choice.subject subject added_rule)) →
     (items : List ItemValue) → Each IsItem items → Tells on R (cut_for variables choice items).spans
     → All (λ rule. R (change choice.subject subject (shape_of rule))) (plain_rules (all_rules variables choice items))
 all_rules_told on subject R variables choice law reads_off items whole h =

@@ -1,6 +1,7 @@
 -- The rules that AppArmor's parser (3.0.8) adds to a profile that may be changed by the task itself, as in its compiled tables:
 -- all are for owners. With a rule change_profile, or a hat or a child, there are three: two files to read, and one to write. There
--- the tables have write without append, which no letter gives; with w these rules hold append, too (our choice).
+-- the tables have write without append, which no letter gives; with w these rules hold append, too (our choice), which is
+-- reported as wider.
 use Rattle.std.specs.Prelude.{ℕ, List, [], ◌∷◌, ◌++◌, codes, Option, Some, None, nat_le, if◌then◌else◌}
 use Rattle.names.specs.declared.permissions.Permission.TheVariants.{Read, Write}
 use Rattle.names.specs.declared.permissions.Perms.{Perms}

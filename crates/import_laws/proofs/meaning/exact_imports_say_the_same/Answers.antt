@@ -12,6 +12,7 @@ use Rattle.subject_rules.specs.SubjectRules.{SubjectRule}
 use Rattle.import_cut.specs.declared.span.Span.{Span}
 use Rattle.profile_import.specs.FileRules.{item_reading}
 use Rattle.profile_import.specs.Imports.{choice_of}
+use Rattle.import_laws.proofs.AddedTold.{added_for_chosen}
 use Rattle.import_laws.proofs.AllTold.{all_rules_told}
 use Rattle.import_laws.proofs.Opened.{known}
 use Rattle.import_laws.proofs.SpansBefore.{Tells}
@@ -31,7 +32,8 @@ returns-clause-exact c options text value rules mode i m exact unknown name ask 
     let all : AreExact options.subject options.subject rules =
     subst (λ (r : List SubjectRule). AreExact options.subject options.subject r) (sym m.rules_are)
     (all_rules_told on options.subject (λ (x : Change). x ≡ Exact) variables choice
-    (c.exact_spans_mean_exact_rules.ensures.exact reading choice) refl m.items items told) in
+    (c.exact_spans_mean_exact_rules.ensures.exact reading choice)
+    (added_for_chosen (λ (x : Change). x ≡ Exact) (λ e. absurd cc) options.subject) m.items items told) in
     let mode_exact : mode_change mode ≡ Exact = ap mode_change m.mode_is
     ∙ mode_told on (λ chosen mode. refl) (λ (x : Change). x ≡ Exact) refl choice reading m.items items told in
     subst (λ (r : List RuleValue). IsVerdict r name ask Allowed ↔ IsAllowedTo unknown mode options.subject rules name ask)
@@ -48,7 +50,8 @@ returns-clause-narrower c options text value rules mode i m none_wider unknown n
     let all : NoneIsWider options.subject options.subject rules =
     subst (λ (r : List SubjectRule). NoneIsWider options.subject options.subject r) (sym m.rules_are)
     (all_rules_told on options.subject (λ (x : Change). x ≢ Wider) variables choice
-    (c.exact_spans_mean_exact_rules.ensures.not_wider reading choice) refl m.items items told) in
+    (c.exact_spans_mean_exact_rules.ensures.not_wider reading choice)
+    (added_for_chosen (λ (x : Change). x ≢ Wider) (λ isnt. absurd (isnt refl)) options.subject) m.items items told) in
     c.narrower_rules_allow_no_more.ensures.allowed unknown mode options.subject options.subject rules name ask all
     (subst (λ (r : List RuleValue). IsVerdict r name ask Allowed) (c.imports_are_restated_rules.ensures.rules options text value
     rules mode i m) allowed)
@@ -63,7 +66,8 @@ returns-clause-wider c options text value rules mode i m none_narrower unknown n
     let all : NoneIsNarrower options.subject options.subject rules =
     subst (λ (r : List SubjectRule). NoneIsNarrower options.subject options.subject r) (sym m.rules_are)
     (all_rules_told on options.subject (λ (x : Change). x ≢ Narrower) variables choice
-    (c.exact_spans_mean_exact_rules.ensures.not_narrower reading choice) refl m.items items told) in
+    (c.exact_spans_mean_exact_rules.ensures.not_narrower reading choice)
+    (added_for_chosen (λ (x : Change). x ≢ Narrower) (λ isnt e. cc) options.subject) m.items items told) in
     let not_narrower : mode_change mode ≢ Narrower = subst (λ (x : Mode). mode_change x ≢ Narrower) (sym m.mode_is)
     (mode_told on (λ chosen mode. refl) (λ (x : Change). x ≢ Narrower) (λ e. cc) choice reading m.items items told) in
     subst (λ (r : List RuleValue). IsVerdict r name ask Allowed)
