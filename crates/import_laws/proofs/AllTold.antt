@@ -1,5 +1,5 @@
 -- What holds of the changes that are reported for all spans holds of the change of each rule of an import.
-use Rattle.std.proofs.Common.{◌≡◌, List}
+use Rattle.std.proofs.Common.{List}
 use Rattle.std.specs.List.{All}
 use Rattle.rule_globs.specs.Each.{Each}
 use Rattle.flat_text.specs.Laws.{IsItem}
