@@ -1,0 +1,8 @@
+pub mod Lists
+pub mod Orders
+pub mod NameLaws
+pub mod TrailNames
+pub mod WalkLaws
+pub mod WalkSteps
+pub mod ThreeStates
+pub mod VisitLaws

@@ -1,0 +1,67 @@
+//! All that names lead three automata to.
+ghost use Rattle.std.specs.Prelude.{◌≡◌, ◌<◌, IfErr, IfOk, Some, length, slice_get};
+ghost use Rattle.automaton_search.specs.Visits.{AreAllVisits, IsSearchFault};
+ghost use Rattle.automaton_search.specs.inner.Trails.{visits_of, GoBack};
+
+use crate::fault::SearchFault;
+use crate::naming::name_of;
+use crate::states::States;
+use crate::walking::{Walk, walk_all};
+use automata::Dfa;
+use std::alloc::{AllocError, Global};
+use std::marker::Model;
+
+/// The most different states that names may lead to.
+pub const MOST_VISITS: usize = crate::walking::MOST_VISITS;
+
+/// All states of three automata that names lead to, each with the least name that leads there, in the order of these names.
+#[derive(Drop)]
+pub struct Visits {
+    walk: Walk,
+}
+
+impl Model for Visits {
+    ghost use Rattle.std.specs.Prelude.{◌≡◌, length};
+    ghost use Rattle.automaton_search.specs.Visits.{VisitsValue};
+    ghost use Rattle.automaton_search.specs.inner.Trails.{visits_of, GoBack};
+
+    ghost Value = { VisitsValue };
+
+    ghost view = { λ v. visits_of v.walk };
+
+    ghost invariant = { λ v. (length v.walk.states.keys ≡ length v.walk.trails.items) × GoBack v.walk.trails.items };
+}
+
+impl Visits {
+    /// Runs three automata at once on all names. Refused exactly if these lead to more than 4,194,304 different states, memory
+    /// aside.
+    pub fn of(alloc: Global, first: &Dfa, second: &Dfa, third: &Dfa) -> Result<Visits, SearchFault>
+        ensures ok { IfOk result (AreAllVisits first.now second.now third.now) }
+        ensures err { IfErr result (IsSearchFault first.now second.now third.now) }
+    {
+        let walk = walk_all(alloc, first, second, third)?;
+        Ok(Visits { walk })
+    }
+
+    /// How many there are.
+    pub fn len(&self) -> usize
+        ensures { result ≡ length self.now.states }
+    {
+        self.walk.states.len()
+    }
+
+    /// The states of the visit with this index, if there is one.
+    pub fn states(&self, index: usize) -> Option<States>
+        ensures { result ≡ slice_get self.now.states index }
+    {
+        self.walk.get(index)
+    }
+
+    /// The name of the visit with this index.
+    pub fn name(&self, alloc: Global, index: usize) -> Result<Vec<u8>, AllocError>
+        requires { index < length self.now.states }
+        ensures { IfOk result (λ name. slice_get self.now.names index ≡ Some name.items) }
+    {
+        name_of(alloc, &self.walk.trails, index)
+    }
+}

@@ -1,0 +1,5 @@
+//! Tests of questions about whole profiles.
+#![tactic(auto)]
+
+#[cfg(test)]
+mod least;
