@@ -226,7 +226,7 @@ module _ {K : Type 0} where
           let w : List ℕ = slice_index_or names i [] in
           let at : slice_get names i ≡ Some w = slice_get-get_or names i [] (omega (arith, slice_get_within names (i + 1) x here)) in
           less_through u (w ++ 256 ∷ []) (x ++ 1 ∷ []) (is.below j u w one at)
-        (less_with w x 256 1 (is.ascending i (i + 1) w x (omega arith) at here));
+          (less_with w x 256 1 (is.ascending i (i + 1) w x (omega arith) at here));
       closed = λ j c x u here byte way. ⊎_elim
           (λ lt. ⊎_elim
           (λ less. is.closed j c x u here byte (inl less))

@@ -12,7 +12,7 @@ use std::alloc::Global;
 
 // Whether a record allows all that is asked.
 fn allows(record: &Record, ask: Perms) -> bool
-    ensures { IsTrue result ↔ IsTold record.now ask Allowed }
+    ensures { IsTrue result ↔ IsTold «record».now ask Allowed }
 {
     match told(record, ask) {
         Verdict::Allowed => true,
@@ -23,7 +23,7 @@ fn allows(record: &Record, ask: Perms) -> bool
 
 // Whether a record says what is wanted.
 fn says(record: &Record, answer: Answer) -> bool
-    ensures { IsTrue result ↔ IsToldAs answer record.now }
+    ensures { IsTrue result ↔ IsToldAs answer «record».now }
 {
     match answer {
         Answer::Any => true,
