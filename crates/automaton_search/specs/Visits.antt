@@ -31,7 +31,7 @@ IsVisit visits i s name = (slice_get visits.states i ≡ Some s) × (slice_get v
 abbrev pub AreStatesOf : Automaton → Automaton → Automaton → States → Type 0
 AreStatesOf a b c s = (s.first < length a.rows) × (s.second < length b.rows) × (s.third < length c.rows)
 
--- All that names lead to, each once and by the least name that leads there, in the order of these names.
+-- All that names lead to, by names in ascending order: the first visit of some states has the least name that leads there.
 pub record AreAllVisits (a b c : Automaton) (visits : VisitsValue) : Type 0 where
   pub each : length visits.names ≡ length visits.states
   pub named : (i : ℕ) (s : States) (name : List ℕ) → IsVisit visits i s name → IsName name × (s ≡ states_after a b c name)
