@@ -1,4 +1,5 @@
 pub mod Lists
+pub mod Places
 pub mod Orders
 pub mod NameLaws
 pub mod TrailNames

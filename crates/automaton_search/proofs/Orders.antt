@@ -1,16 +1,17 @@
--- The order of names: by length, and in byte order where the lengths are equal.
+-- The order of names: by length, and by the places of bytes where the lengths are equal.
 use Rattle.std.proofs.Common.{◌≡◌, ◌⊎◌, inl, inr, ⊎_elim, ℕ, ◌+◌, ◌<◌, ◌≤◌, List, [], ◌∷◌, ◌++◌, length, refl, sym, ap, ◌∙◌, subst, arith}
 use Rattle.std.proofs.lemmas.Bool.{cases_lt}
 use Rattle.std.proofs.lemmas.List.{length-append}
-use Rattle.automaton_search.specs.Order.{IsBefore, IsLess, IsAtMost}
+use Rattle.automaton_search.specs.Order.{IsBefore, IsLess, IsAtMost, place_of}
+use Rattle.automaton_search.proofs.Places.{one_place}
 
 before_through : (u v w : List ℕ) → IsBefore u v → IsBefore v w → IsBefore u w
 before_through [] v w h k = absurd h
 before_through (a ∷ u) [] w h k = absurd h
 before_through (a ∷ u) (b ∷ v) [] h k = absurd k
 before_through (a ∷ u) (b ∷ v) (c ∷ w) (inl h) (inl k) = inl (omega (arith, h, k))
-before_through (a ∷ u) (b ∷ v) (c ∷ w) (inl h) (inr k) = inl (omega (arith, h, k.0))
-before_through (a ∷ u) (b ∷ v) (c ∷ w) (inr h) (inl k) = inl (omega (arith, h.0, k))
+before_through (a ∷ u) (b ∷ v) (c ∷ w) (inl h) (inr k) = inl (subst (λ z. place_of a < place_of z) k.0 h)
+before_through (a ∷ u) (b ∷ v) (c ∷ w) (inr h) (inl k) = inl (omega (arith, ap place_of h.0, k))
 before_through (a ∷ u) (b ∷ v) (c ∷ w) (inr h) (inr k) = inr (h.0 ∙ k.0, before_through u v w h.1 k.1)
 
 before_stays : (u v s t : List ℕ) → IsBefore u v → IsBefore (u ++ s) (v ++ t)
@@ -19,7 +20,7 @@ before_stays (a ∷ u) [] s t h = absurd h
 before_stays (a ∷ u) (b ∷ v) s t (inl h) = inl h
 before_stays (a ∷ u) (b ∷ v) s t (inr h) = inr (h.0, before_stays u v s t h.1)
 
-before_last : (u : List ℕ) (x y : ℕ) → x < y → IsBefore (u ++ x ∷ []) (u ++ y ∷ [])
+before_last : (u : List ℕ) (x y : ℕ) → place_of x < place_of y → IsBefore (u ++ x ∷ []) (u ++ y ∷ [])
 before_last [] x y lt = inl lt
 before_last (a ∷ u) x y lt = inr (refl, before_last u x y lt)
 
@@ -37,7 +38,7 @@ pub less_with : (u v : List ℕ) (x y : ℕ) → IsLess u v → IsLess (u ++ x �
 less_with u v x y (inl h) = inl (omega (arith, h, one_longer u x, one_longer v y))
 less_with u v x y (inr h) = inr (omega (arith, h.0, one_longer u x, one_longer v y), before_stays u v (x ∷ []) (y ∷ []) h.1)
 
-pub less_by_last : (u : List ℕ) (x y : ℕ) → x < y → IsLess (u ++ x ∷ []) (u ++ y ∷ [])
+pub less_by_last : (u : List ℕ) (x y : ℕ) → place_of x < place_of y → IsLess (u ++ x ∷ []) (u ++ y ∷ [])
 less_by_last u x y lt = inr (one_longer u x ∙ sym (one_longer u y), before_last u x y lt)
 
 pub less_than_more : (u : List ℕ) (x : ℕ) → IsLess u (u ++ x ∷ [])
@@ -52,11 +53,11 @@ pub at_most_with : (u v : List ℕ) (x : ℕ) → IsAtMost u v → IsAtMost (u +
 at_most_with u v x (inl e) = inl (ap (λ z. z ++ x ∷ []) e)
 at_most_with u v x (inr h) = inr (less_with u v x x h)
 
-pub at_most_by_last : (u : List ℕ) (x y : ℕ) → x ≤ y → IsAtMost (u ++ x ∷ []) (u ++ y ∷ [])
+pub at_most_by_last : (u : List ℕ) (x y : ℕ) → place_of x ≤ place_of y → IsAtMost (u ++ x ∷ []) (u ++ y ∷ [])
 at_most_by_last u x y le = ⊎_elim
     (λ lt. inr (less_by_last u x y lt))
-    (λ ge. let e : x ≡ y = omega (arith, le, ge) in inl (ap (λ z. u ++ z ∷ []) e))
-    (cases_lt x y)
+    (λ ge. let e : x ≡ y = one_place x y (omega (arith, le, ge)) in inl (ap (λ z. u ++ z ∷ []) e))
+    (cases_lt (place_of x) (place_of y))
 
 never_before : (u : List ℕ) → IsBefore u u → ⊥
 never_before [] h = h
@@ -76,13 +77,13 @@ one_before (a ∷ u) (b ∷ v) long = ⊎_elim
     (λ le. ⊎_elim
     (λ gt. inr (inr (inl gt)))
     (λ ge.
-    let e : a ≡ b = omega (arith, le, ge) in
+    let e : a ≡ b = one_place a b (omega (arith, le, ge)) in
     ⊎_elim
     (λ same. inl (ap (λ z. z ∷ u) e ∙ ap (λ z. b ∷ z) same))
     (λ h. inr (⊎_elim (λ g. inl (inr (e, g))) (λ g. inr (inr (sym e, g))) h))
     (one_before u v (omega (arith, long))))
-    (cases_lt b a))
-    (cases_lt a b)
+    (cases_lt (place_of b) (place_of a)))
+    (cases_lt (place_of a) (place_of b))
 
 pub less_or_same : (u v : List ℕ) → (u ≡ v) ⊎ (IsLess u v ⊎ IsLess v u)
 less_or_same u v = ⊎_elim

@@ -4,7 +4,7 @@ use Rattle.std.proofs.lemmas.Option.{slice_get-get_or}
 use Rattle.automata.specs.Automata.{Automaton}
 use Rattle.automaton_search.specs.declared.states.States.{States}
 use Rattle.automaton_search.specs.declared.walking.Trail.{Trail}
-use Rattle.automaton_search.specs.Visits.{AreAllVisits, AreStatesOf, next_states, start_states}
+use Rattle.automaton_search.specs.Visits.{AreAllVisits, AreDistinct, AreStatesOf, next_states, start_states}
 use Rattle.automaton_search.specs.inner.Trails.{GoBack, names_from}
 use Rattle.automaton_search.specs.inner.Walks.{IsAt, IsWalk, IsWalkAt}
 use Rattle.automaton_search.proofs.ThreeStates.{led_all, states}
@@ -12,13 +12,13 @@ use Rattle.automaton_search.proofs.TrailNames.{are_named, goes_back, same_names}
 use Rattle.automaton_search.proofs.WalkLaws.{all_met}
 
 module _ (a b c : Automaton) (all : List States) (trails : List Trail) (some : 0 < length all)
-    (walk : IsWalkAt (next_states a b c) (start_states a b c) all trails (length all) 1) where
+    (walk : IsWalkAt (next_states a b c) (start_states a b c) all trails (length all) 0) where
   pub back : GoBack trails
   back = (walk.1.slash, λ j t lt at. goes_back trails walk.0 walk.1.named j t lt at)
 
   -- by the computed names
-  named : IsWalk (next_states a b c) (start_states a b c) all trails (names_from [] trails) (length all) 1
-  named = subst (λ (names : List (List ℕ)). IsWalk (next_states a b c) (start_states a b c) all trails names (length all) 1)
+  named : IsWalk (next_states a b c) (start_states a b c) all trails (names_from [] trails) (length all) 0
+  named = subst (λ (names : List (List ℕ)). IsWalk (next_states a b c) (start_states a b c) all trails names (length all) 0)
       (same_names trails walk.0 (names_from [] trails) walk.1.named
       (are_named trails (omega (arith, some, walk.1.each)) back)) walk.1
 
@@ -28,12 +28,13 @@ module _ (a b c : Automaton) (all : List States) (trails : List Trail) (some : 0
       let at : slice_get all 0 ≡ Some s = slice_get-get_or all 0 (states 0 0 0) some in
       (at ∙ ap Some (sym (named.leads 0 s (47 ∷ []) (at, named.named.first)).1), named.named.first)
 
-  pub all_visits : ((i : ℕ) (s : States) → slice_get all i ≡ Some s → AreStatesOf a b c s) →
+  pub all_visits : ((i : ℕ) (s : States) → slice_get all i ≡ Some s → AreStatesOf a b c s) → AreDistinct all →
       AreAllVisits a b c (record { states = all; names = names_from [] trails })
-  all_visits there = record {
+  all_visits there distinct = record {
     each = named.named.each ∙ sym named.each;
     named = λ i s name at. let h = named.leads i s name at in (h.0, sym h.1 ∙ led_all a b c (start_states a b c) name);
     there = there;
+    distinct = distinct;
     ascending = λ i j name other lt at other_at. named.ascending i j name other lt at other_at;
     complete = λ name is.
         let h = all_met (next_states a b c) (start_states a b c) all trails (names_from [] trails) (length all) named first

@@ -18,7 +18,7 @@ led_one_more {K} next s [] b = refl
 led_one_more {K} next s (c ∷ bytes) b = led_one_more next (next s c) bytes b
 
 module _ {K : Type 0} (next : K → ℕ → K) (start : K) (states : List K) (trails : List Trail) (names : List (List ℕ)) (i : ℕ)
-    (is : IsWalk next start states trails names i 1) where
+    (is : IsWalk next start states trails names i 0) where
   -- the name of the next visit is no greater
   abbrev IsLater : List ℕ → Type 0
   IsLater name = (next : List ℕ) × (slice_get names i ≡ Some next) × IsAtMost next name
@@ -78,7 +78,7 @@ module _ {K : Type 0} (next : K → ℕ → K) (start : K) (states : List K) (tr
 
 -- A walk that is past the last visit is at its end. (Nothing is said of a visit that isn't there.)
 pub at_end : {K : Type 0} (next : K → ℕ → K) (start : K) (states : List K) (trails : List Trail) (i : ℕ) → length states ≤ i →
-    IsWalkAt next start states trails i 1 → IsWalkAt next start states trails (length states) 1
+    IsWalkAt next start states trails i 0 → IsWalkAt next start states trails (length states) 0
 at_end {K} next start states trails i all (names, is) = (
   names,
   record {
@@ -87,7 +87,9 @@ at_end {K} next start states trails i all (names, is) = (
     each = is.each;
     leads = is.leads;
     ascending = is.ascending;
-    below = λ j u w one here. let lt = slice_get_within names (length states) w here in absurd (omega (arith, lt, is.named.each, is.each));
+    below = λ j d u w one here later.
+        let lt = slice_get_within names (length states) w here in
+        absurd (omega (arith, lt, is.named.each, is.each));
     closed = λ j c s w at byte way.
         let lt = slice_get_within states j s at.0 in is.closed j c s w at byte (inl (omega (arith, lt, all)));
   },

@@ -31,11 +31,16 @@ IsVisit visits i s name = (slice_get visits.states i ≡ Some s) × (slice_get v
 abbrev pub AreStatesOf : Automaton → Automaton → Automaton → States → Type 0
 AreStatesOf a b c s = (s.first < length a.rows) × (s.second < length b.rows) × (s.third < length c.rows)
 
--- All that names lead to, by names in ascending order: the first visit of some states has the least name that leads there.
+-- no two are the same
+abbrev pub AreDistinct : {K : Type 0} → List K → Type 0
+AreDistinct {K} all = (i j : ℕ) (s : K) → i < j → slice_get all i ≡ Some s → ¬ (slice_get all j ≡ Some s)
+
+-- All that names lead to, each once, with the least name that leads there, by names in ascending order.
 pub record AreAllVisits (a b c : Automaton) (visits : VisitsValue) : Type 0 where
   pub each : length visits.names ≡ length visits.states
   pub named : (i : ℕ) (s : States) (name : List ℕ) → IsVisit visits i s name → IsName name × (s ≡ states_after a b c name)
   pub there : (i : ℕ) (s : States) → slice_get visits.states i ≡ Some s → AreStatesOf a b c s
+  pub distinct : AreDistinct visits.states
   pub ascending : (i j : ℕ) (name other : List ℕ) → i < j → slice_get visits.names i ≡ Some name →
       slice_get visits.names j ≡ Some other → IsLess name other
   pub complete : (name : List ℕ) → IsName name → (i : ℕ) × (least : List ℕ) × IsVisit visits i (states_after a b c name) least
@@ -45,9 +50,9 @@ pub record AreAllVisits (a b c : Automaton) (visits : VisitsValue) : Type 0 wher
 abbrev pub most_visits : ℕ
 most_visits = 4194304
 
--- no two are the same, and names lead to each
+-- different states, and names lead to each
 pub record AreReached (a b c : Automaton) (all : List States) : Type 0 where
-  pub distinct : (i j : ℕ) (s : States) → i < j → slice_get all i ≡ Some s → ¬ (slice_get all j ≡ Some s)
+  pub distinct : AreDistinct all
   pub reached : (i : ℕ) (s : States) → slice_get all i ≡ Some s → (name : List ℕ) × IsName name × (s ≡ states_after a b c name)
 
 -- why there is none

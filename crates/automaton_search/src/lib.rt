@@ -1,5 +1,5 @@
 //! What names lead three automata to, all at once, each with the least name that leads there: shorter names are less, and names
-//! of one length are in byte order. By it a question about all names is a question about a list.
+//! of one length are in byte order begun at `a`. By it a question about all names is a question about a list.
 //!
 //! The definitions to believe are those in `specs/`; those in `specs/inner/` are of private contracts and proofs.
 #![tactic(auto)]
@@ -8,6 +8,7 @@ mod fault;
 mod laws;
 mod naming;
 mod states;
+mod steps;
 mod visits;
 mod walking;
 

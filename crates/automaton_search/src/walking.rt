@@ -1,15 +1,16 @@
 //! The walk over the states of three automata, breadth first.
 ghost use Rattle.std.specs.Prelude.{◌≡◌, ℕ, ◌<◌, ◌≤◌, ◌+◌, ◌++◌, ◌∷◌, [], IfOk, IfErr, OnOk, Some, length, slice_get};
 ghost use Rattle.automata.specs.Automata.{IsWhole};
-ghost use Rattle.automata.specs.Rows.{IsRowFrom, ends_at, target_in};
 ghost use Rattle.automaton_search.specs.declared.states.States.{States as SomeStates};
-ghost use Rattle.automaton_search.specs.Visits.{AreStatesOf, IsSearchFault, most_visits, next_states, start_states};
-ghost use Rattle.automaton_search.specs.inner.Walks.{AreKept, IsVisited, IsVisitFault, IsWalkAt, states_of};
+ghost use Rattle.automaton_search.specs.Order.{place_of};
+ghost use Rattle.automaton_search.specs.Visits.{AreDistinct, AreStatesOf, IsSearchFault, most_visits, next_states, start_states};
+ghost use Rattle.automaton_search.specs.inner.Walks.{AreKept, IsStretch, IsVisited, IsVisitFault, IsWalkAt, states_of};
 
 use crate::fault::SearchFault;
 use crate::laws::equal_states_are_one;
 use crate::states::States;
-use automata::{Dfa, TargetRange, head, rest_after};
+use crate::steps::{Stretch, row_from, step_from};
+use automata::{Dfa, rest_after};
 use indexmap::IndexSet;
 use std::alloc::{AllocError, Global};
 
@@ -57,6 +58,7 @@ impl Walk {
         requires { length (states_of self.old) ≤ most_visits }
         ensures visited { OnOk result (IsVisited (states_of self.old) self.old.trails.items (states_of self.new)
             self.new.trails.items states trail) }
+        ensures distinct { OnOk result (AreDistinct (states_of self.new)) }
         ensures few { OnOk result (length (states_of self.new) ≤ most_visits) }
         ensures err { IfErr result (IsVisitFault (states_of self.old) states) }
     {
@@ -93,8 +95,9 @@ fn begin(
     third: &Dfa,
 ) -> Result<Walk, SearchFault>
     ensures walk { IfOk result (λ walk. IsWalkAt (next_states first.now second.now third.now)
-        (start_states first.now second.now third.now) (states_of walk) walk.trails.items 0 1) }
+        (start_states first.now second.now third.now) (states_of walk) walk.trails.items 0 0) }
     ensures few { IfOk result (λ walk. length (states_of walk) ≤ most_visits) }
+    ensures distinct { IfOk result (λ walk. AreDistinct (states_of walk)) }
     ensures some { IfOk result (λ walk. 0 < length (states_of walk)) }
     ensures err { IfErr result (IsSearchFault first.now second.now third.now) }
 {
@@ -120,9 +123,10 @@ pub(crate) fn walk_all(
     third: &Dfa,
 ) -> Result<Walk, SearchFault>
     ensures walk { IfOk result (λ walk. IsWalkAt (next_states first.now second.now third.now)
-        (start_states first.now second.now third.now) (states_of walk) walk.trails.items (length (states_of walk)) 1) }
+        (start_states first.now second.now third.now) (states_of walk) walk.trails.items (length (states_of walk)) 0) }
     ensures there { IfOk result (λ walk. (i : ℕ) (s : SomeStates) → slice_get (states_of walk) i ≡ Some s →
         AreStatesOf first.now second.now third.now s) }
+    ensures distinct { IfOk result (λ walk. AreDistinct (states_of walk)) }
     ensures some { IfOk result (λ walk. 0 < length (states_of walk)) }
     ensures err { IfErr result (IsSearchFault first.now second.now third.now) }
 {
@@ -138,41 +142,54 @@ pub(crate) fn walk_all(
     Ok(walk)
 }
 
-// Bytes that lead three states to the same states each.
-#[derive(Clone, Copy)]
-struct Step {
-    // The last of the bytes.
-    last: u8,
-    target: States,
-}
-
-// The step of a byte and of those after it, as far as they lead to the same states, by what is left of three rows.
-fn step_from(first: &[TargetRange], second: &[TargetRange], third: &[TargetRange], from: u8) -> Step
-    requires first { IsRowFrom from first.now }
-    requires second { IsRowFrom from second.now }
-    requires third { IsRowFrom from third.now }
-    ensures here { from ≤ result.last }
-    ensures first { (c : ℕ) → c ≤ result.last → target_in first.now c ≡ result.target.first }
-    ensures second { (c : ℕ) → c ≤ result.last → target_in second.now c ≡ result.target.second }
-    ensures third { (c : ℕ) → c ≤ result.last → target_in third.now c ≡ result.target.third }
-    ensures within_first { result.last ≤ ends_at first.now }
-    ensures within_second { result.last ≤ ends_at second.now }
-    ensures within_third { result.last ≤ ends_at third.now }
+// Visits what a visit leads to by the bytes of a stretch.
+fn reach_stretch(
+    first: &Dfa,
+    second: &Dfa,
+    third: &Dfa,
+    walk: &mut Walk,
+    index: u32,
+    states: States,
+    stretch: Stretch,
+) -> Result<(), SearchFault>
+    requires first { states.first < length first.now.rows }
+    requires second { states.second < length second.now.rows }
+    requires third { states.third < length third.now.rows }
+    requires few { length (states_of walk.old) ≤ most_visits }
+    requires some { 0 < stretch.first }
+    requires stretch { IsStretch stretch.first stretch.last }
+    requires walk { IsWalkAt (next_states first.now second.now third.now) (start_states first.now second.now third.now)
+        (states_of walk.old) walk.old.trails.items index (place_of stretch.first) }
+    requires here { slice_get (states_of walk.old) index ≡ Some states }
+    ensures walk { OnOk result (IsWalkAt (next_states first.now second.now third.now)
+        (start_states first.now second.now third.now) (states_of walk.new) walk.new.trails.items index (place_of stretch.last + 1)) }
+    ensures kept { OnOk result (AreKept (states_of walk.old) (states_of walk.new)) }
+    ensures distinct { OnOk result (AreDistinct (states_of walk.new)) }
+    ensures few { OnOk result (length (states_of walk.new) ≤ most_visits) }
+    ensures err { IfErr result (IsSearchFault first.now second.now third.now) }
 {
-    let one = head(first, from);
-    let two = head(second, from);
-    let three = head(third, from);
-    Step {
-        last: one.last.min(two.last).min(three.last),
-        target: States {
-            first: u32::from(one.target),
-            second: u32::from(two.target),
-            third: u32::from(three.target),
-        },
+    let mut one = row_from(first.row(states.first), stretch.first);
+    let mut two = row_from(second.row(states.second), stretch.first);
+    let mut three = row_from(third.row(states.third), stretch.first);
+    let mut from = stretch.first;
+    loop {
+        let step = step_from(one, two, three, from);
+        let trail = Trail {
+            parent: index,
+            byte: from,
+        };
+        walk.reach(step.target, trail)?;
+        if step.last >= stretch.last {
+            return Ok(());
+        }
+        one = rest_after(one, from, step.last);
+        two = rest_after(two, from, step.last);
+        three = rest_after(three, from, step.last);
+        from = step.last + 1;
     }
 }
 
-// Visits what a visit leads to, by its bytes in ascending order. Byte 0 is in no name.
+// Visits what a visit leads to, by its bytes in the order of names. Byte 0 is in no name.
 fn reach_all(
     first: &Dfa,
     second: &Dfa,
@@ -186,31 +203,24 @@ fn reach_all(
     requires third { states.third < length third.now.rows }
     requires few { length (states_of walk.old) ≤ most_visits }
     requires walk { IsWalkAt (next_states first.now second.now third.now) (start_states first.now second.now third.now)
-        (states_of walk.old) walk.old.trails.items index 1 }
+        (states_of walk.old) walk.old.trails.items index 0 }
     requires here { slice_get (states_of walk.old) index ≡ Some states }
     ensures walk { OnOk result (IsWalkAt (next_states first.now second.now third.now)
-        (start_states first.now second.now third.now) (states_of walk.new) walk.new.trails.items (index + 1) 1) }
+        (start_states first.now second.now third.now) (states_of walk.new) walk.new.trails.items (index + 1) 0) }
     ensures kept { OnOk result (AreKept (states_of walk.old) (states_of walk.new)) }
+    ensures distinct { OnOk result (AreDistinct (states_of walk.new)) }
     ensures few { OnOk result (length (states_of walk.new) ≤ most_visits) }
     ensures err { IfErr result (IsSearchFault first.now second.now third.now) }
 {
-    let mut one = rest_after(first.row(states.first), 0, 0);
-    let mut two = rest_after(second.row(states.second), 0, 0);
-    let mut three = rest_after(third.row(states.third), 0, 0);
-    let mut from = 1;
-    loop {
-        let step = step_from(one, two, three, from);
-        let trail = Trail {
-            parent: index,
-            byte: from,
-        };
-        walk.reach(step.target, trail)?;
-        if step.last == 255 {
-            return Ok(());
-        }
-        one = rest_after(one, from, step.last);
-        two = rest_after(two, from, step.last);
-        three = rest_after(three, from, step.last);
-        from = step.last + 1;
-    }
+    let from_a = Stretch {
+        first: b'a',
+        last: 255,
+    };
+    let below_a = Stretch {
+        first: 1,
+        last: b'a' - 1,
+    };
+    reach_stretch(first, second, third, walk, index, states, from_a)?;
+    reach_stretch(first, second, third, walk, index, states, below_a)?;
+    Ok(())
 }

@@ -10,7 +10,7 @@ use Rattle.automaton_search.specs.declared.states.States.{States}
 use Rattle.automaton_search.specs.Visits.{VisitsValue, states_after}
 use Rattle.automaton_search.proofs.Orders.{at_most_through}
 use Rattle.profile_questions.specs.declared.answer.Answers.{Answers}
-use Rattle.profile_questions.specs.declared.rules.CompiledRules.{CompiledRules}
+use Rattle.profile_questions.specs.Names.{CompiledValue}
 use Rattle.profile_questions.specs.Questions.{IsFound, IsShortest}
 use Rattle.profile_questions.specs.inner.Comparing.{IsComparison, compared}
 use Rattle.profile_questions.specs.inner.Marks.{AreMarked, all_marked}
@@ -24,12 +24,12 @@ NoneMarked all one two three i =
 pub name_bytes : (name : List ℕ) → IsName name → are_bytes name
 name_bytes name is = λ k d lt. (is.1 k d lt).1
 
-module _ (first second third : CompiledRules) (all : VisitsValue) (is : IsComparison first second third all) (answers : Answers)
+module _ (first second third : CompiledValue) (all : VisitsValue) (is : IsComparison first second third all) (answers : Answers)
     (one two three : List Bool) (in_first : AreMarked first.automaton answers.first one)
     (in_second : AreMarked second.automaton answers.second two) (in_third : AreMarked third.automaton answers.third three) where
   marked_found : (name : List ℕ) → IsName name →
       all_marked one two three (states_after first.automaton second.automaton third.automaton name) ≡ true →
-      IsFound (compared first second third) answers name
+      IsFound (compared first second third all) answers name
   marked_found name is_name marked =
       let bytes = name_bytes name is_name in
       let both = and_parts (slice_index_or one (state_after first.automaton name) false
@@ -44,7 +44,7 @@ module _ (first second third : CompiledRules) (all : VisitsValue) (is : IsCompar
         third = (marked_answer _ third.automaton answers.third three name is.third in_third bytes).0 both.1;
       }
 
-  found_marked : (name : List ℕ) → IsFound (compared first second third) answers name →
+  found_marked : (name : List ℕ) → IsFound (compared first second third all) answers name →
       all_marked one two three (states_after first.automaton second.automaton third.automaton name) ≡ true
   found_marked name found =
       let bytes = name_bytes name found.is_name in
@@ -58,7 +58,8 @@ module _ (first second third : CompiledRules) (all : VisitsValue) (is : IsCompar
       ((marked_answer _ third.automaton answers.third three name is.third in_third bytes).1 found.third)
 
   -- all visits have been gone over
-  pub none_found : (i : ℕ) → length all.states ≤ i → NoneMarked all one two three i → IsShortest (compared first second third) answers None
+  pub none_found : (i : ℕ) → length all.states ≤ i → NoneMarked all one two three i →
+      IsShortest (compared first second third all) answers None
   none_found i whole none = λ name found.
       let visit = is.visits.complete name found.is_name in
       let lt = slice_get_within all.states visit.0 _ visit.2.0 in
@@ -66,7 +67,7 @@ module _ (first second third : CompiledRules) (all : VisitsValue) (is : IsCompar
 
   -- the first visit of marked states
   pub first_found : (i : ℕ) (s : States) (name : List ℕ) → slice_get all.states i ≡ Some s → slice_get all.names i ≡ Some name →
-      all_marked one two three s ≡ true → NoneMarked all one two three i → IsShortest (compared first second third) answers (Some name)
+      all_marked one two three s ≡ true → NoneMarked all one two three i → IsShortest (compared first second third all) answers (Some name)
   first_found i s name at named marked none =
       let by = is.visits.named i s name (at, named) in (
         marked_found name by.0 (subst (λ (t : States). all_marked one two three t ≡ true) by.1 marked),

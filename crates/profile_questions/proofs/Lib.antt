@@ -1,3 +1,4 @@
 pub mod RecordAnswers
 pub mod LeastNames
 pub mod ReachedNames
+pub mod Representatives

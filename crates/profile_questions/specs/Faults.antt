@@ -1,24 +1,22 @@
 -- Why questions aren't answered.
-use Rattle.std.specs.Prelude.{◌≡◌, ◌⊎◌, ℕ, ◌<◌, List, length, Some, slice_get}
+use Rattle.std.specs.Prelude.{◌≡◌, ℕ, ◌<◌, List, length, Some, slice_get}
 use Rattle.std.specs.List.{All}
 use Rattle.names.specs.Paths.{IsName}
 use Rattle.rule_globs.specs.Rules.{RuleValue}
-use Rattle.automata.specs.Automata.{most_sets}
-use Rattle.automata.specs.declared.fault.CompileFault.{CompileFault}
-use Rattle.automata.specs.declared.fault.CompileFault.TheVariants as compiling
 use Rattle.automaton_search.specs.declared.fault.SearchFault.{SearchFault}
 use Rattle.automaton_search.specs.declared.fault.SearchFault.TheVariants as searching
 use Rattle.automaton_search.specs.Visits.{most_visits}
-use Rattle.glob_automaton.specs.Sets.{AreMoreThan, SameSet}
+use Rattle.glob_automaton.specs.Sets.{SameSet}
 use Rattle.profile_questions.specs.declared.fault.QuestionFault.{QuestionFault}
-use Rattle.profile_questions.specs.declared.fault.QuestionFault.TheVariants.{TooManyStates, TooManyVisits, NoMemory}
+use Rattle.profile_questions.specs.declared.fault.QuestionFault.TheVariants.{TooManyStates, NoMemory}
 
-abbrev pub of_compiling : CompileFault → QuestionFault
-of_compiling compiling.TooManyStates = TooManyStates
-of_compiling compiling.NoMemory = NoMemory
+-- the number that a fault is reported by
+abbrev pub fault_number : QuestionFault → ℕ
+fault_number TooManyStates = 1
+fault_number NoMemory = 2
 
 abbrev pub of_search : SearchFault → QuestionFault
-of_search searching.TooManyStates = TooManyVisits
+of_search searching.TooManyStates = TooManyStates
 of_search searching.NoMemory = NoMemory
 
 -- after two names the same places are live in all rules
@@ -32,6 +30,5 @@ pub record AreApart (one two three : List RuleValue) (names : List (List ℕ)) :
       ¬ (IsSameEverywhere one two three name other)
 
 abbrev pub IsQuestionFault : List RuleValue → List RuleValue → List RuleValue → QuestionFault → Type 0
-IsQuestionFault one two three TooManyStates = AreMoreThan most_sets one ⊎ (AreMoreThan most_sets two ⊎ AreMoreThan most_sets three)
-IsQuestionFault one two three TooManyVisits = (names : List (List ℕ)) × AreApart one two three names × (most_visits < length names)
+IsQuestionFault one two three TooManyStates = (names : List (List ℕ)) × AreApart one two three names × (most_visits < length names)
 IsQuestionFault one two three NoMemory = Unit {0}

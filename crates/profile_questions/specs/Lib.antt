@@ -1,3 +1,4 @@
+pub mod Names
 pub mod Questions
 pub mod Faults
 pub mod inner

@@ -1,20 +1,19 @@
 -- Questions about all names, by the verdicts of rules.
-use Rattle.std.specs.Prelude.{ℕ, List, Option, Some, None, Vec}
+use Rattle.std.specs.Prelude.{◌≡◌, ℕ, IsTrue, List, Option, Some, None, Vec}
 use Rattle.std.specs.declared.alloc.Global.{Global}
 use Rattle.names.specs.Paths.{IsName}
+use Rattle.names.specs.Permissions.{has}
+use Rattle.names.specs.declared.kind.RuleKind.TheVariants.{Allow}
+use Rattle.names.specs.declared.permissions.Permission.{Permission}
+use Rattle.names.specs.declared.permissions.Perms.{Perms}
 use Rattle.names.specs.declared.verdict.Verdict.TheVariants.{Allowed}
-use Rattle.rule_globs.specs.Rules.{RuleValue}
+use Rattle.rule_globs.specs.Rules.{RuleValue, holds}
 use Rattle.rule_globs.specs.Verdict.{IsVerdict}
 use Rattle.automaton_search.specs.Order.{IsAtMost}
 use Rattle.profile_questions.specs.declared.answer.Answer.{Answer}
 use Rattle.profile_questions.specs.declared.answer.Answer.TheVariants as answer
 use Rattle.profile_questions.specs.declared.answer.Answers.{Answers}
-
--- the rules that are compared
-pub record ComparisonValue : Type 0 where
-  pub first : List RuleValue
-  pub second : List RuleValue
-  pub third : List RuleValue
+use Rattle.profile_questions.specs.Names.{ComparisonValue}
 
 -- the rules say of the name what is wanted
 abbrev pub IsAnswer : Answer → List RuleValue → List ℕ → Type 0
@@ -37,3 +36,10 @@ IsShortest c answers (Some name) = IsFound c answers name × ((other : List ℕ)
 abbrev pub found_name : Option (Vec ℕ Global) → Option (List ℕ)
 found_name None = None
 found_name (Some name) = Some name.items
+
+-- A rule that stands for its pattern where this is asked: something is, and the rule allows all of it. Alone it allows this of the
+-- names that the pattern takes, and of no other (the law `pattern_rules_allow_what_they_take`).
+pub record IsPatternRule (rule : RuleValue) (ask : Perms) : Type 0 where
+  pub allows : rule.kind ≡ Allow
+  pub asked : (p : Permission) × IsTrue (has ask p)
+  pub holds_all : (p : Permission) → IsTrue (has ask p) → IsTrue (holds rule p)

@@ -1,7 +1,7 @@
 //! Three lists of rules, and all that they say of names.
-ghost use Rattle.std.specs.Prelude.{◌≡◌, ◌<◌, IfErr, IfOk, length, slice_get};
-ghost use Rattle.rule_profile.specs.Profile.{profile_value};
+ghost use Rattle.std.specs.Prelude.{◌≡◌, ◌<◌, ◌≤◌, ℕ, IfErr, IfOk, IfSome, List, None, Some, length, slice_get};
 ghost use Rattle.profile_questions.specs.Faults.{IsQuestionFault};
+ghost use Rattle.profile_questions.specs.Names.{AreLeastHits, AreRepresentatives};
 ghost use Rattle.profile_questions.specs.Questions.{IsShortest, found_name};
 
 use crate::answer::Answers;
@@ -9,52 +9,59 @@ use crate::fault::QuestionFault;
 use crate::marks::{Marks, marks_of};
 use crate::rules::CompiledRules;
 use automaton_search::Visits;
-use names::NoMemory;
-use rule_profile::Profile;
+use names::{NoMemory, Record};
+use rule_globs::{end_is_live, live_is_left_first};
 use std::alloc::Global;
 use std::marker::Model;
 
-/// Three profiles, and all states that names lead their automata to. Questions about all names are answered by it. One that isn't
-/// needed has no rules.
+/// Three lists of rules, and names that represent all names: no rule distinguishes a name from its representative. A list that
+/// isn't needed has no rules.
 #[derive(Drop)]
-pub struct Comparison {
-    first: CompiledRules,
-    second: CompiledRules,
-    third: CompiledRules,
+pub struct Comparison<'a> {
+    first: &'a CompiledRules,
+    second: &'a CompiledRules,
+    third: &'a CompiledRules,
     visits: Visits,
 }
 
-impl Model for Comparison {
-    ghost use Rattle.profile_questions.specs.Questions.{ComparisonValue};
+impl<'a> Model for Comparison<'a> {
+    ghost use Rattle.profile_questions.specs.Names.{ComparisonValue};
     ghost use Rattle.profile_questions.specs.inner.Comparing.{IsComparison, compared};
 
     ghost Value = { ComparisonValue };
 
-    ghost view = { λ c. compared c.first c.second c.third };
+    ghost view = { λ c. compared c.first.now c.second.now c.third.now c.visits };
 
-    ghost invariant = { λ c. IsComparison c.first c.second c.third c.visits };
+    ghost invariant = { λ c. IsComparison c.first.now c.second.now c.third.now c.visits };
 }
 
-impl Comparison {
-    /// Compiles three profiles and runs all names through them at once. Refused exactly if one has too many states, or all three
-    /// together have, memory aside.
+/// The least hits of a name by each of three lists of rules.
+#[derive(Clone, Copy, Debug, PartialEq, Eq)]
+pub struct Records {
+    pub first: Record,
+    pub second: Record,
+    pub third: Record,
+}
+
+impl<'a> Comparison<'a> {
+    /// Runs all names through three lists of rules at once. Refused exactly if these have too many states together, memory aside.
     pub fn of(
         alloc: Global,
-        first: Profile,
-        second: Profile,
-        third: Profile,
-    ) -> Result<Comparison, QuestionFault>
-        ensures ok { IfOk result (λ c. c ≡ record {
-          first = (profile_value first).rules;
-          second = (profile_value second).rules;
-          third = (profile_value third).rules;
-        }) }
-        ensures err { IfErr result (IsQuestionFault (profile_value first).rules (profile_value second).rules (profile_value third).rules) }
+        first: &'a CompiledRules,
+        second: &'a CompiledRules,
+        third: &'a CompiledRules,
+    ) -> Result<Comparison<'a>, QuestionFault>
+        ensures first { IfOk result (λ c. c.first ≡ first.now.rules) }
+        ensures second { IfOk result (λ c. c.second ≡ second.now.rules) }
+        ensures third { IfOk result (λ c. c.third ≡ third.now.rules) }
+        ensures err { IfErr result (IsQuestionFault first.now.rules second.now.rules third.now.rules) }
     {
-        let first = CompiledRules::of(alloc, first)?;
-        let second = CompiledRules::of(alloc, second)?;
-        let third = CompiledRules::of(alloc, third)?;
-        let visits = Visits::of(alloc, &first.automaton, &second.automaton, &third.automaton)?;
+        let visits = Visits::of(
+            alloc,
+            first.automaton(),
+            second.automaton(),
+            third.automaton(),
+        )?;
         Ok(Comparison {
             first,
             second,
@@ -63,15 +70,51 @@ impl Comparison {
         })
     }
 
+    /// How many representatives there are: at least one.
+    pub fn len(&self) -> usize
+        ensures len { result ≡ length self.now.names }
+        ensures names { AreRepresentatives self.now }
+        ensures some { 1 ≤ result }
+    {
+        end_is_live();
+        live_is_left_first();
+        self.visits.len()
+    }
+
+    /// The least hits of the representative with this index, if there is one.
+    pub fn records(&self, index: usize) -> Option<Records>
+        ensures none { result ≡ None → length self.now.names ≤ index }
+        ensures some { IfSome result (λ records. (name : List ℕ) × (slice_get self.now.names index ≡ Some name)
+            × AreLeastHits self.now name records) }
+    {
+        let states = self.visits.states(index)?;
+        Some(Records {
+            first: self.first.automaton().record_at(states.first),
+            second: self.second.automaton().record_at(states.second),
+            third: self.third.automaton().record_at(states.third),
+        })
+    }
+
+    /// The representative with this index.
+    pub fn name(&self, alloc: Global, index: usize) -> Result<Vec<u8>, NoMemory>
+        requires { index < length self.now.names }
+        ensures { IfOk result (λ name. slice_get self.now.names index ≡ Some name.items) }
+    {
+        match self.visits.name(alloc, index) {
+            Ok(name) => Ok(name),
+            Err(_) => Err(NoMemory),
+        }
+    }
+
     /// The least name of which all three say what is wanted: none is shorter, and of those of its length it is the first in byte
-    /// order. None if there is no such name.
+    /// order begun at `a`. None if there is no such name.
     pub fn shortest(&self, alloc: Global, answers: Answers) -> Result<Option<Vec<u8>>, NoMemory>
         ensures { IfOk result (λ found. IsShortest self.now answers (found_name found)) }
     {
         let marks = Marks {
-            first: marks_of(alloc, &self.first.automaton, answers.first)?,
-            second: marks_of(alloc, &self.second.automaton, answers.second)?,
-            third: marks_of(alloc, &self.third.automaton, answers.third)?,
+            first: marks_of(alloc, self.first.automaton(), answers.first)?,
+            second: marks_of(alloc, self.second.automaton(), answers.second)?,
+            third: marks_of(alloc, self.third.automaton(), answers.third)?,
         };
         for index in 0..self.visits.len() {
             let Some(states) = self.visits.states(index) else {

@@ -7,9 +7,14 @@
 mod answer;
 mod comparison;
 mod fault;
+mod laws;
 mod marks;
 mod rules;
 
 pub use answer::{Answer, Answers};
-pub use comparison::Comparison;
+pub use comparison::{Comparison, Records};
 pub use fault::QuestionFault;
+pub use laws::{
+    alike_names_have_the_same_hits, one_shortest_name, pattern_rules_allow_what_they_take,
+};
+pub use rules::CompiledRules;

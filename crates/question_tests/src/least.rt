@@ -1,18 +1,10 @@
 //! The least names that profiles answer as is wanted, each worked out by hand.
+use crate::rules::compiled;
 use names::Perms;
 use profile_questions::{Answer, Answers, Comparison};
-use rule_reader::{Profile, read};
 use std::alloc::Global;
 use std::process::Abort;
 use std::test::Fail;
-
-// The profile of these rules.
-fn profile(alloc: Global, rules: &[u8]) -> Result<Profile, Fail> {
-    let mut text = Vec::from_slice(alloc, b"profile p {\n")?;
-    text.extend_from_slice(rules)?;
-    text.extend_from_slice(b"\n}\n")?;
-    Ok(read(alloc, &text)?)
-}
 
 fn perms(letters: &[u8]) -> Result<Perms, Fail> {
     Ok(Perms::from_letters(letters).ok_or("letters")?)
@@ -28,10 +20,10 @@ struct Row<'a> {
 }
 
 fn expect_row(rt: &impl Abort, alloc: Global, row: Row<'_>) -> Result<(), Fail> {
-    let first = profile(alloc, row.first.0)?;
-    let second = profile(alloc, row.second.0)?;
-    let third = profile(alloc, row.third.0)?;
-    let comparison = Comparison::of(alloc, first, second, third)?;
+    let first = compiled(alloc, row.first.0)?;
+    let second = compiled(alloc, row.second.0)?;
+    let third = compiled(alloc, row.third.0)?;
+    let comparison = Comparison::of(alloc, &first, &second, &third)?;
     let answers = Answers {
         first: row.first.1,
         second: row.second.1,
@@ -67,6 +59,31 @@ fn some_name_of_a_pattern(rt: HostRuntime) -> Result<(), Fail> {
         let row = Row {
             first: (rules, answer),
             second: (pattern, taken),
+            third: ANY,
+            least,
+        };
+        expect_row(&rt, alloc, row)?;
+    }
+    Ok(())
+}
+
+// The least names of patterns: shorter ones are less, and bytes from `a` on come before those below it.
+#[test]
+fn least_name_of_a_pattern(rt: HostRuntime) -> Result<(), Fail> {
+    let alloc = rt.alloc();
+    let taken = Answer::Allowed(perms(b"r")?);
+    let rows: [(&[u8], Option<&[u8]>); 6] = [
+        (b"/etc/** r,", Some(b"/etc/a")),
+        (b"/etc/[^a]* r,", Some(b"/etc/b")),
+        (b"/etc/[0-9Z]{,z} r,", Some(b"/etc/0")),
+        (b"/etc/[0-9~] r,", Some(b"/etc/~")),
+        (b"/etc/{Z,`,0}{y,1} r,", Some(b"/etc/0y")),
+        (b"/etc/{Z,`,z9}{y,z} r,", Some(b"/etc/Zy")),
+    ];
+    for (pattern, least) in rows {
+        let row = Row {
+            first: (pattern, taken),
+            second: ANY,
             third: ANY,
             least,
         };
@@ -116,14 +133,7 @@ fn what_two_profiles_allow(rt: HostRuntime) -> Result<(), Fail> {
         (new, allowed, old, refused, b"/** r,", Some(b"/a/d")),
         (old, allowed, new, refused, b"/** r,", None),
         (new, allowed, old, refused, b"/a/?* r,", Some(b"/a/d")),
-        (
-            new,
-            allowed,
-            old,
-            refused,
-            b"/a/?? r,",
-            Some(b"/a/\x01\x01"),
-        ),
+        (new, allowed, old, refused, b"/a/?? r,", Some(b"/a/aa")),
         (
             new,
             allowed,

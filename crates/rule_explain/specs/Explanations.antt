@@ -22,6 +22,10 @@ line_of_rule text spans n = (place_at text (option_map_or (λ span. span.start) 
 abbrev pub text_of_rule : List RuleValue → ℕ → List ℕ
 text_of_rule rules n = option_map_or rule_text (slice_get rules (n - 1)) []
 
+-- `rule 3, line 7`
+abbrev pub rule_place : List ℕ → List Span → ℕ → List ℕ
+rule_place text spans n = codes "rule " ++ (decimal n ++ (codes ", line " ++ decimal (line_of_rule text spans n)))
+
 -- `rule 3, line 7: "/home/*/**" rw,`
 abbrev pub rule_told : List ℕ → List RuleValue → List Span → ℕ → List ℕ
 rule_told text rules spans n =
@@ -37,8 +41,12 @@ abbrev pub reason_line : List ℕ → List RuleValue → List Span → List ℕ 
 reason_line text rules spans name p =
     letter p ∷ (codes ": " ++ (reason_text text rules spans (reason rules name p) ++ codes "\n"))
 
--- the line of the verdict, and a line for each permission that is asked, in the order in which a set is printed
+-- a line for each permission that is asked, in the order in which a set is printed
+abbrev pub reason_lines : List ℕ → List RuleValue → List Span → List ℕ → Perms → List ℕ
+reason_lines text rules spans name ask = flat_map (reason_line text rules spans name) (filter (has ask) all_permissions)
+
+-- the line of the verdict, and those lines
 unfoldable pub explanation : List ℕ → List RuleValue → List Span → List ℕ → Perms → List ℕ
 explanation text rules spans name ask =
     verdict_text (verdict rules name ask)
-    ++ (codes "\n" ++ flat_map (reason_line text rules spans name) (filter (has ask) all_permissions))
+    ++ (codes "\n" ++ reason_lines text rules spans name ask)

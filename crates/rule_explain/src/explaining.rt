@@ -1,7 +1,8 @@
 //! What is said about a name, and why.
 ghost use Rattle.std.specs.Prelude.{◌≡◌, ◌≤◌, ◌++◌, ◌∷◌, IfOk, codes, decimal, length, map, string_bytes};
 ghost use Rattle.names.specs.Permissions.{letter};
-ghost use Rattle.rule_explain.specs.Explanations.{explanation, reason_text, rule_told};
+ghost use Rattle.rule_explain.specs.Explanations.{explanation, reason_lines, reason_text, rule_place, rule_told};
+ghost use Rattle.rule_explain.specs.Reasons.{reason};
 ghost use Rattle.rule_explain.specs.inner.Numbers.{TellsRuleOf};
 ghost use Rattle.rule_profile.specs.Profile.{rule_value, profile_value};
 ghost use Rattle.rule_profile.specs.RuleSpans.{profile_spans, rule_span};
@@ -9,16 +10,15 @@ ghost use Rattle.names.specs.VerdictText.{verdict_text};
 
 use crate::hits::firsts_of;
 use crate::place::place_at;
-use crate::reason::Reason;
+use crate::reason::{Reason, reason_of};
 use names::{NoMemory, Permission, Perms, Verdict};
 use rule_judge::judge_slow;
 use rule_profile::{Profile, Rule};
 use rule_writer::write_rule;
 use std::alloc::Global;
 
-/// Says what a profile makes of a name and of the permissions that are asked for it, and why: a line with the verdict, and for each
-/// permission that is asked a line with the least rule that denies it, or otherwise the least that allows it, by its number, its
-/// line in the text that the profile was read from, and its text.
+/// Says what a profile makes of a name and of the permissions that are asked for it, and why: a line with the verdict, and then a
+/// line for each permission ([`reason_lines`]).
 #[tactic(auto, unfolding(crate::specs::Explanations::explanation))]
 pub fn explain(
     alloc: Global,
@@ -31,6 +31,23 @@ pub fn explain(
         ≡ explanation text.now (profile_value profile.now).rules (profile_spans profile.now) name.now ask) }
 {
     let mut lines = verdict_line(alloc, judge_slow(profile, name, ask))?;
+    put(&mut lines, &reason_lines(alloc, text, profile, name, ask)?)?;
+    Ok(lines)
+}
+
+/// For each permission that is asked a line with the least rule that denies it, or otherwise the least that allows it, by its
+/// number, its line in the text that the profile was read from, and its text.
+pub fn reason_lines(
+    alloc: Global,
+    text: &[u8],
+    profile: &Profile,
+    name: &[u8],
+    ask: Perms,
+) -> Result<Vec<u8>, NoMemory>
+    ensures { IfOk result (λ lines. lines.items
+        ≡ reason_lines text.now (profile_value profile.now).rules (profile_spans profile.now) name.now ask) }
+{
+    let mut lines = Vec::new(alloc);
     let firsts = firsts_of(profile, name, ask);
     for permission in Permission::ALL {
         if ask.contains(permission) {
@@ -39,6 +56,42 @@ pub fn explain(
         }
     }
     Ok(lines)
+}
+
+/// Why a permission is allowed to a name, or not, as a line of an explanation says it, without the permission's letter.
+pub fn reason_text(
+    alloc: Global,
+    text: &[u8],
+    profile: &Profile,
+    name: &[u8],
+    permission: Permission,
+) -> Result<Vec<u8>, NoMemory>
+    ensures { IfOk result (λ told. told.items ≡ reason_text text.now (profile_value profile.now).rules (profile_spans profile.now)
+        (reason (profile_value profile.now).rules name.now permission)) }
+{
+    let mut told = Vec::new(alloc);
+    let reason = reason_of(profile, name, permission);
+    put_reason(&mut told, alloc, text, profile, reason)?;
+    Ok(told)
+}
+
+/// Where the rule with this number is: `rule 3, line 7`.
+pub fn rule_place(
+    alloc: Global,
+    text: &[u8],
+    profile: &Profile,
+    number: u16,
+) -> Result<String, NoMemory>
+    requires some { 1 ≤ number }
+    requires most { number ≤ length (profile_value profile.now).rules }
+    ensures { IfOk result (λ told. string_bytes told ≡ rule_place text.now (profile_spans profile.now) number) }
+{
+    let rule = &profile.rules()[usize::from(number) - 1];
+    let line = place_at(text, rule.span().start).line;
+    match format!(in alloc; "rule {number}, line {line}") {
+        Ok(told) => Ok(told),
+        Err(_) => Err(NoMemory),
+    }
 }
 
 fn verdict_line(alloc: Global, verdict: Verdict) -> Result<Vec<u8>, NoMemory>

@@ -11,7 +11,7 @@ mod place;
 mod reason;
 mod refusal;
 
-pub use explaining::explain;
+pub use explaining::{explain, reason_lines, reason_text, rule_place};
 pub use laws::{explanations_are_right, reasons_are_right, verdicts_agree_with_reasons};
 pub use place::{Place, place_at};
 pub use reason::{Reason, reason_of};

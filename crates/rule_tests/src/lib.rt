@@ -9,6 +9,8 @@ mod components;
 #[cfg(test)]
 mod cuts;
 #[cfg(test)]
+mod derived;
+#[cfg(test)]
 mod errors;
 #[cfg(test)]
 mod fronts;

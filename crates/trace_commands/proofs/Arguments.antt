@@ -6,7 +6,8 @@ use Rattle.rule_reader.specs.declared.fault.ReadFault.{ReadFault}
 use Rattle.rule_reader.specs.Reading.{outcome_of}
 use Rattle.trace_report.specs.declared.status.Status.TheVariants.{BadArguments}
 use Rattle.trace_report.specs.declared.fault.Fault.{Fault}
-use Rattle.trace_report.specs.declared.fault.Fault.TheVariants.{Permissions, Name, Text, Compiling, Image, Input, Memory}
+use Rattle.trace_report.specs.declared.fault.Fault.TheVariants.{Permissions, Name, Pattern, Text, Compiling, Image, Question}
+use Rattle.trace_report.specs.declared.fault.Fault.TheVariants.{Input, Memory}
 use Rattle.trace_report.specs.Fault.{fault_text, IsFaultOf}
 use Rattle.trace_commands.specs.Judge.{ask_of, verdict_output, judge_output}
 
@@ -21,6 +22,10 @@ asked_in_vain perms name text Memory e (inl p) = cc
 asked_in_vain perms name text Memory e (inr p) = cc
 asked_in_vain perms name text (Text f) e (inl p) = cc
 asked_in_vain perms name text (Text f) e (inr p) = cc
+asked_in_vain perms name text Pattern e (inl p) = cc
+asked_in_vain perms name text Pattern e (inr p) = cc
+asked_in_vain perms name text Question e (inl p) = cc
+asked_in_vain perms name text Question e (inr p) = cc
 asked_in_vain perms name text (Compiling f) e (inl p) = cc
 asked_in_vain perms name text (Compiling f) e (inr p) = cc
 asked_in_vain perms name text (Image f) e (inl p) = cc

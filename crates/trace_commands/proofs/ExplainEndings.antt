@@ -18,7 +18,8 @@ use Rattle.names.specs.VerdictText.{verdict_text}
 use Rattle.trace_report.specs.declared.status.Status.{Status}
 use Rattle.trace_report.specs.declared.status.Status.TheVariants.{BadArguments, NoMemory, Refused}
 use Rattle.trace_report.specs.declared.fault.Fault.{Fault}
-use Rattle.trace_report.specs.declared.fault.Fault.TheVariants.{Permissions, Name, Text, Compiling, Image, Input, Memory}
+use Rattle.trace_report.specs.declared.fault.Fault.TheVariants.{Permissions, Name, Pattern, Text, Compiling, Image, Question}
+use Rattle.trace_report.specs.declared.fault.Fault.TheVariants.{Input, Memory}
 use Rattle.trace_report.specs.Fault.{fault_text, IsFaultOf}
 use Rattle.trace_report.specs.Output.{Output, fault, line, refusal, whole_answer}
 use Rattle.trace_report.specs.Streams.{Ends, IsTold, Streams}
@@ -39,6 +40,10 @@ asked_in_vain perms name text Memory e (inl p) = cc
 asked_in_vain perms name text Memory e (inr p) = cc
 asked_in_vain perms name text (Text f) e (inl p) = cc
 asked_in_vain perms name text (Text f) e (inr p) = cc
+asked_in_vain perms name text Pattern e (inl p) = cc
+asked_in_vain perms name text Pattern e (inr p) = cc
+asked_in_vain perms name text Question e (inl p) = cc
+asked_in_vain perms name text Question e (inr p) = cc
 asked_in_vain perms name text (Compiling f) e (inl p) = cc
 asked_in_vain perms name text (Compiling f) e (inr p) = cc
 asked_in_vain perms name text (Image f) e (inl p) = cc

@@ -9,7 +9,8 @@ use Rattle.tables.specs.Images.{HasImageFault, IsFirstImageFault}
 use Rattle.tables.specs.declared.fault.ImageFault.{ImageFault}
 use Rattle.tables.specs.declared.fault.ImageFault.TheVariants as fault_here
 use Rattle.trace_report.specs.declared.fault.Fault.{Fault}
-use Rattle.trace_report.specs.declared.fault.Fault.TheVariants.{Permissions, Name, Text, Compiling, Image, Input, Memory}
+use Rattle.trace_report.specs.declared.fault.Fault.TheVariants.{Permissions, Name, Pattern, Text, Compiling, Image, Question}
+use Rattle.trace_report.specs.declared.fault.Fault.TheVariants.{Input, Memory}
 use Rattle.trace_report.specs.declared.status.Status.TheVariants.{Refused}
 use Rattle.trace_report.specs.Fault.{IsFaultOfReading, fault_of_image}
 use Rattle.trace_report.specs.Output.{Output, fault, image_refusal}
@@ -17,7 +18,8 @@ use Rattle.trace_report.specs.Streams.{IsTextOf}
 use Rattle.trace_report.proofs.Endings.{text_of}
 use Rattle.trace_commands.specs.Reading.{ReadsImage}
 use Rattle.trace_commands.specs.Tables.{IsImageRefused}
-use Rattle.trace_commands.specs.inner.Answers.{AreGood, IsFaultOfOne, IsRefusedText, IsUnread}
+use Rattle.trace_report.specs.Fault.{AreGood, IsFaultOfOne}
+use Rattle.trace_commands.specs.inner.Answers.{IsRefusedText, IsUnread}
 use Rattle.trace_commands.proofs.Consuming.{all_read, consumes_more, consumes_nothing, text_begins}
 use Rattle.trace_commands.proofs.OneOutput.{unread_one}
 
@@ -90,6 +92,8 @@ read_failed left error Input h = inl refl
 read_failed left error Memory h = inr (inl refl)
 read_failed left error Permissions h = absurd h
 read_failed left error Name h = absurd h
+read_failed left error Pattern h = absurd h
+read_failed left error Question h = absurd h
 read_failed left error (Text k) h = absurd h
 read_failed left error (Compiling k) h = absurd h
 read_failed left error (Image k) h = absurd h

@@ -12,7 +12,8 @@ use Rattle.names.specs.declared.permissions.Perms.{Perms}
 use Rattle.rule_profile.specs.Profile.{ProfileValue}
 use Rattle.rule_reader.specs.Reading.{outcome_of}
 use Rattle.rule_reader.specs.declared.fault.ReadFault.{ReadFault}
-use Rattle.trace_commands.specs.inner.Answers.{AreGood, IsAnswered, IsFaultOfOne}
+use Rattle.trace_report.specs.Fault.{AreGood, IsFaultOfOne}
+use Rattle.trace_commands.specs.inner.Answers.{IsAnswered}
 use Rattle.trace_report.specs.Fault.{fault_of_image, fault_text, fault_status}
 use Rattle.trace_commands.specs.Judge.{ask_of}
 use Rattle.trace_report.specs.Output.{Output, compile_refusal, fault, image_refusal, refusal, whole_answer}
@@ -20,7 +21,8 @@ use Rattle.trace_report.specs.Streams.{Ends, EndsInOne, IsTold, Streams}
 use Rattle.trace_commands.specs.Tables.{IsCheckOutput, IsCompileOutput, IsCompileOutputOf, IsImageRefused, IsMatchOutput, IsMemoryOfWhole}
 use Rattle.trace_commands.specs.Tables.{IsMatchOutputOf, IsMatchedOutput, IsVersionAsked}
 use Rattle.trace_report.specs.declared.fault.Fault.{Fault}
-use Rattle.trace_report.specs.declared.fault.Fault.TheVariants.{Permissions, Name, Text, Compiling, Image, Input, Memory}
+use Rattle.trace_report.specs.declared.fault.Fault.TheVariants.{Permissions, Name, Pattern, Text, Compiling, Image, Question}
+use Rattle.trace_report.specs.declared.fault.Fault.TheVariants.{Input, Memory}
 use Rattle.trace_report.specs.declared.status.Status.{Status}
 use Rattle.trace_report.specs.declared.status.Status.TheVariants.{BadArguments, Done, FaultsFailed, InputFailed, NoMemory, OutputFailed}
 use Rattle.trace_report.specs.declared.status.Status.TheVariants.{Refused, Unmet}
@@ -64,24 +66,6 @@ one_given streams Wanted output NoMemory good of h = record { answers = h.answer
 one_given streams Wanted output OutputFailed good of h = (output, of, h)
 one_given streams Wanted output FaultsFailed good of h = inr (output, of, h)
 
--- a command that reported its fault ends as it should
-pub one_told : (answers before after : Option (List ℕ)) (Wanted : Output → Type 0) (f : Fault) (status : Status)
-    → IsFaultOfOne Wanted f → IsTold before after (fault_text f) (fault_status f) status →
-    EndsInOne (told_alone answers before after) Wanted status
-one_told answers before after Wanted f status of (inl e) = rw e (inl (keeps answers))
-one_told answers before after Wanted Permissions status of (inr h) =
-    rw h.0 (fault (fault_text Permissions) BadArguments, of, written answers before after _ (fault_text Permissions) BadArguments refl h.1)
-one_told answers before after Wanted Name status of (inr h) =
-    rw h.0 (fault (fault_text Name) BadArguments, of, written answers before after _ (fault_text Name) BadArguments refl h.1)
-one_told answers before after Wanted (Text f) status of (inr h) =
-    rw h.0 (fault (fault_text (Text f)) Refused, of, written answers before after _ (fault_text (Text f)) Refused refl h.1)
-one_told answers before after Wanted (Compiling f) status of (inr h) =
-    rw h.0 (fault (fault_text (Compiling f)) Refused, of, written answers before after _ (fault_text (Compiling f)) Refused refl h.1)
-one_told answers before after Wanted (Image f) status of (inr h) =
-    rw h.0 (fault (fault_text (Image f)) Refused, of, written answers before after _ (fault_text (Image f)) Refused refl h.1)
-one_told answers before after Wanted Input status of (inr h) = rw h.0 (record { answers = keeps answers; faults = h.1; arguments = of })
-one_told answers before after Wanted Memory status of (inr h) = rw h.0 (record { answers = keeps answers; faults = h.1; arguments = of })
-
 -- a fault that hides the text says only that the arguments are good
 pub unread_one : (Wanted : Output → Type 0) (f : Fault) → AreGood Wanted → (f ≡ Input) ⊎ (f ≡ Memory) → IsFaultOfOne Wanted f
 unread_one Wanted f good (inl h) = rw h good
@@ -98,6 +82,10 @@ asked_one asked name image Memory e (inl h) = cc
 asked_one asked name image Memory e (inr h) = cc
 asked_one asked name image (Text f) e (inl h) = cc
 asked_one asked name image (Text f) e (inr h) = cc
+asked_one asked name image Pattern e (inl h) = cc
+asked_one asked name image Pattern e (inr h) = cc
+asked_one asked name image Question e (inl h) = cc
+asked_one asked name image Question e (inr h) = cc
 asked_one asked name image (Compiling f) e (inl h) = cc
 asked_one asked name image (Compiling f) e (inr h) = cc
 asked_one asked name image (Image f) e (inl h) = cc

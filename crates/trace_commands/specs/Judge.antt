@@ -1,7 +1,6 @@
 -- What `judge` writes, memory and failures of the streams aside.
 use Rattle.std.specs.Prelude.{ℕ, Bool, false, List, [], ◌∷◌, ◌==◌, Option, Some, None, Result, Ok, Err, codes, if◌then◌else◌}
 use Rattle.names.specs.declared.permissions.Perms.{Perms}
-use Rattle.names.specs.Permissions.{perms_of}
 use Rattle.rule_reader.specs.declared.fault.ReadFault.{ReadFault}
 use Rattle.rule_globs.specs.PlainVerdict.{verdict}
 use Rattle.rule_profile.specs.Profile.{ProfileValue}
@@ -9,11 +8,7 @@ use Rattle.rule_reader.specs.Reading.{outcome_of}
 use Rattle.names.specs.VerdictText.{verdict_text}
 use Rattle.trace_report.specs.declared.status.Status.TheVariants.{BadArguments, Refused}
 use Rattle.trace_report.specs.Output.{Output, answer, fault, refusal}
-
--- the permissions asked for: one letter or more
-abbrev pub asked_by : List ℕ → Option Perms
-asked_by [] = None
-asked_by (b ∷ letters) = perms_of (b ∷ letters)
+use Rattle.trace_report.specs.Reading.{asked_by}
 
 -- the name begins with a slash
 abbrev pub is_absolute : List ℕ → Bool

@@ -9,7 +9,6 @@ ghost use Rattle.tables.specs.Images.{IsVersionOf};
 ghost use Rattle.tables.specs.Tables.{table_value};
 ghost use Rattle.tables.specs.declared.header.Version.{Version};
 
-use crate::judging::read_all;
 use matcher::{chained_table_of, table_of};
 use names::NoMemory;
 use rule_profile::Profile;
@@ -17,7 +16,7 @@ use rule_reader::read;
 use std::alloc::Global;
 use std::io::{Read, Write};
 use tables::{RawTable, to_bytes, to_bytes_v1};
-use trace_report::{Fault, Status, fail, write_answer};
+use trace_report::{Fault, Status, fail, read_all, write_answer};
 
 /// Reads a profile from `input` and writes the image of its table to `answers`, in which no state has a greater depth: for a depth
 /// of 0 in version 1, if that can hold the table, and else in version 2. A fault is reported on `faults` instead.

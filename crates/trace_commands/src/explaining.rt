@@ -8,13 +8,13 @@ ghost use Rattle.trace_commands.specs.Judge.{ask_of};
 ghost use Rattle.trace_commands.specs.inner.Answers.{IsTextAsked};
 ghost use Rattle.trace_report.specs.Streams.{Ends, IsTextOf, IsTold};
 
-use crate::judging::{ask_of, read_all};
+use crate::judging::ask_of;
 use names::{NoMemory, Perms};
 use rule_explain::fault_lines;
 use rule_reader::{ReadFault, read};
 use std::alloc::Global;
 use std::io::{Read, Write};
-use trace_report::{Fault, Status, fail, write_answer};
+use trace_report::{Fault, Status, fail, read_all, write_answer};
 
 /// Reads a profile from `input` and writes to `answers` its verdict on the name for the permissions asked for, and the reason for
 /// each of them. A text that is refused is reported on `faults` instead, with the line that has its fault. The arguments are

@@ -3,17 +3,17 @@ ghost use Rattle.std.specs.Prelude.{◌≡◌, ◌≢◌, ◌↔◌, ℕ, List, 
 ghost use Rattle.std.specs.Io.KnownBytes.{Keeps};
 ghost use Rattle.names.specs.declared.permissions.Perms.{Perms};
 ghost use Rattle.names.specs.VerdictText.{verdict_text};
-ghost use Rattle.trace_commands.specs.Judge.{ask_of, asked_by, is_absolute, judge_output};
+ghost use Rattle.trace_commands.specs.Judge.{ask_of, is_absolute, judge_output};
 ghost use Rattle.trace_report.specs.Output.{answer};
 ghost use Rattle.trace_report.specs.Streams.{Ends, IsTextOf};
-ghost use Rattle.trace_commands.specs.inner.Answers.{IsJudged, IsAsked, IsTextRead};
+ghost use Rattle.trace_commands.specs.inner.Answers.{IsJudged, IsAsked};
 
 use names::{NoMemory, Perms, Verdict};
 use rule_judge::judge_slow;
 use rule_reader::{ReadFault, read};
 use std::alloc::Global;
 use std::io::{Read, Write};
-use trace_report::{Fault, Status, fail, write_answer};
+use trace_report::{Fault, Status, asked_by, fail, read_all, write_answer};
 
 /// Reads a profile from `input` and writes to `answers` its verdict on the name for the permissions asked for. A fault is
 /// reported on `faults` instead of an answer. The arguments are tested before anything is read.
@@ -95,23 +95,4 @@ pub(crate) fn ask_of(perms: &str, name: &str) -> Result<Perms, Fault>
     } else {
         Err(Fault::Name)
     }
-}
-
-/// The permissions that a word asks for: one letter or more.
-fn asked_by(perms: &str) -> Option<Perms>
-    ensures { result ≡ asked_by perms.now }
-{
-    if perms.is_empty() {
-        return None;
-    }
-    Perms::from_letters(perms.as_bytes())
-}
-
-/// All that is left to read.
-pub(crate) fn read_all<R: Read>(alloc: Global, input: &mut R) -> Result<Vec<u8>, Fault>
-    ensures { IsTextRead (R.remaining input.old) result }
-{
-    let mut text = Vec::new(alloc);
-    input.read_to_end(&mut text)?;
-    Ok(text)
 }

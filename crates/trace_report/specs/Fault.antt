@@ -13,24 +13,29 @@ use Rattle.tables.specs.declared.fault.ImageFault.TheVariants as image
 use Rattle.trace_report.specs.declared.status.Status.{Status}
 use Rattle.trace_report.specs.declared.status.Status.TheVariants.{BadArguments, Refused, InputFailed, NoMemory}
 use Rattle.trace_report.specs.declared.fault.Fault.{Fault}
-use Rattle.trace_report.specs.declared.fault.Fault.TheVariants.{Permissions, Name, Text, Compiling, Image, Input, Memory}
-use Rattle.trace_report.specs.Output.{Output, fault, refusal, compile_refusal, image_refusal}
+use Rattle.trace_report.specs.declared.fault.Fault.TheVariants.{Permissions, Name, Pattern, Text, Compiling, Image, Question}
+use Rattle.trace_report.specs.declared.fault.Fault.TheVariants.{Input, Memory}
+use Rattle.trace_report.specs.Output.{Output, fault, refusal, compile_refusal, image_refusal, question_refusal}
 
 abbrev pub fault_text : Fault → List ℕ
 fault_text Permissions = codes "bad permissions"
 fault_text Name = codes "bad name"
+fault_text Pattern = codes "bad pattern"
 fault_text (Text f) = refusal f
 fault_text (Compiling f) = compile_refusal f
 fault_text (Image f) = image_refusal f
+fault_text Question = question_refusal
 fault_text Input = codes "refused: input"
 fault_text Memory = no_memory_text
 
 abbrev pub fault_status : Fault → Status
 fault_status Permissions = BadArguments
 fault_status Name = BadArguments
+fault_status Pattern = BadArguments
 fault_status (Text f) = Refused
 fault_status (Compiling f) = Refused
 fault_status (Image f) = Refused
+fault_status Question = Refused
 fault_status Input = InputFailed
 fault_status Memory = NoMemory
 
@@ -39,6 +44,21 @@ abbrev pub IsFaultOf : Output → Fault → Type 0
 IsFaultOf output Input = output.status ≢ BadArguments
 IsFaultOf output Memory = output.status ≢ BadArguments
 IsFaultOf output f = output ≡ fault (fault_text f) (fault_status f)
+
+-- no wanted output reports bad arguments
+abbrev pub AreGood : (Output → Type 0) → Type 0
+AreGood Wanted = (output : Output) → Wanted output → output.status ≢ BadArguments
+
+-- the fault is one of the wanted outputs, or hides them, the arguments being good
+abbrev pub IsFaultOfOne : (Output → Type 0) → Fault → Type 0
+IsFaultOfOne Wanted Input = AreGood Wanted
+IsFaultOfOne Wanted Memory = AreGood Wanted
+IsFaultOfOne Wanted f = Wanted (fault (fault_text f) (fault_status f))
+
+-- the same for a question, of which memory may hide everything
+abbrev pub IsFaultOfAnswer : (Output → Type 0) → Fault → Type 0
+IsFaultOfAnswer Wanted Memory = Unit {0}
+IsFaultOfAnswer Wanted f = IsFaultOfOne Wanted f
 
 -- what an error of a reader is reported as
 abbrev pub IsFaultOfReading : Error → Fault → Type 0

@@ -1,5 +1,5 @@
 -- What a command writes and how it ends, memory and failures of the streams aside.
-use Rattle.std.specs.Prelude.{ℕ, List, [], ◌++◌, Option, Some, None, codes, decimal, unwrap_or}
+use Rattle.std.specs.Prelude.{ℕ, Bool, List, [], ◌++◌, Option, Some, None, codes, decimal, unwrap_or, if◌then◌else◌}
 use Rattle.matcher.specs.declared.fault.MakeFault.{MakeFault}
 use Rattle.matcher.specs.Making.{fault_number as compile_number}
 use Rattle.rule_reader.specs.declared.fault.ReadFault.{ReadFault}
@@ -7,7 +7,7 @@ use Rattle.rule_reader.specs.FaultNumber.{fault_number, fault_offset}
 use Rattle.tables.specs.Bounds.{fault_index, fault_number as image_number}
 use Rattle.tables.specs.declared.fault.ImageFault.{ImageFault}
 use Rattle.trace_report.specs.declared.status.Status.{Status}
-use Rattle.trace_report.specs.declared.status.Status.TheVariants.{Done}
+use Rattle.trace_report.specs.declared.status.Status.TheVariants.{Done, Unmet}
 
 pub record Output : Type 0 where
   -- on standard output
@@ -25,6 +25,10 @@ answer text = record { answers = line text; faults = []; status = Done }
 -- an answer of bytes, which needn't be lines
 abbrev pub whole_answer : List ℕ → Output
 whole_answer bytes = record { answers = bytes; faults = []; status = Done }
+
+-- the answer to a question whose exit status says whether something was found
+abbrev pub finding : List ℕ → Bool → Output
+finding bytes found = record { answers = bytes; faults = []; status = if found then Unmet else Done }
 
 abbrev pub fault : List ℕ → Status → Output
 fault text status = record { answers = []; faults = line text; status = status }
@@ -45,3 +49,7 @@ compile_refusal f = codes "refused: compile " ++ decimal (compile_number f)
 -- `refused: image N`, with the number of the fault, and with its state or cell as in `refused: image N at INDEX`
 abbrev pub image_refusal : ImageFault → List ℕ
 image_refusal f = codes "refused: image " ++ decimal (image_number f) ++ at_index (fault_index f)
+
+-- names have too many sets of live places of all rules that a question is about: a fault of its own, with the number 1
+abbrev pub question_refusal : List ℕ
+question_refusal = codes "refused: too many states (question 1)"

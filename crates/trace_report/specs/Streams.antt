@@ -78,3 +78,22 @@ EndsInOne streams Wanted NoMemory = AreCutShort streams Wanted no_memory_text
 EndsInOne streams Wanted OutputFailed = (output : Output) × Wanted output × IsUnanswered streams output
 EndsInOne streams Wanted FaultsFailed = Keeps streams.answers_before streams.answers_after
     ⊎ ((output : Output) × Wanted output × IsUntold streams output)
+
+-- the answer to a question couldn't be written whole: a prefix of it was written
+pub record IsUnreported (streams : Streams) (output : Output) : Type 0 where
+  pub faults : Appends streams.faults_before streams.faults_after (line (codes "refused: output"))
+  pub answers : AppendsFront streams.answers_before streams.answers_after output.answers
+  pub answer : (output.status ≡ Done) ⊎ (output.status ≡ Unmet)
+
+-- no answer was written, and standard error has `no memory`
+pub record IsOutOfMemory (streams : Streams) : Type 0 where
+  pub answers : Keeps streams.answers_before streams.answers_after
+  pub faults : Appends streams.faults_before streams.faults_after (line no_memory_text)
+
+-- How a question ends that is to be answered by one of several outputs, in which something is found or nothing is. Memory may be
+-- refused already where its arguments are read.
+abbrev pub EndsAnswered : Streams → (Output → Type 0) → Status → Type 0
+EndsAnswered streams Wanted Unmet = (output : Output) × Wanted output × IsWritten streams output Unmet
+EndsAnswered streams Wanted NoMemory = IsOutOfMemory streams
+EndsAnswered streams Wanted OutputFailed = (output : Output) × Wanted output × IsUnreported streams output
+EndsAnswered streams Wanted status = EndsInOne streams Wanted status

@@ -17,12 +17,16 @@ pub enum Fault {
     Permissions,
     /// The name to be judged doesn't begin with a slash.
     Name,
+    /// The text that names are to be matched with isn't a path of a rule.
+    Pattern,
     /// The text that was read is refused.
     Text(ReadFault),
     /// The profile that was read is refused.
     Compiling(MakeFault),
     /// The image that was read is refused.
     Image(ImageFault),
+    /// Names have too many sets of live places of all rules that a question is about.
+    Question,
     /// Reading failed.
     Input,
     /// Memory was refused.
@@ -35,8 +39,9 @@ impl Fault {
         ensures { result ≡ fault_status self }
     {
         match self {
-            Fault::Permissions | Fault::Name => Status::BadArguments,
-            Fault::Text(_) | Fault::Compiling(_) | Fault::Image(_) => Status::Refused,
+            Fault::Permissions | Fault::Name | Fault::Pattern => Status::BadArguments,
+            Fault::Text(_) | Fault::Compiling(_) | Fault::Image(_) | Fault::Question =>
+                Status::Refused,
             Fault::Input => Status::InputFailed,
             Fault::Memory => Status::NoMemory,
         }
@@ -97,6 +102,7 @@ impl fmt::Display for Fault {
         match self {
             Fault::Permissions => write!(f, "bad permissions"),
             Fault::Name => write!(f, "bad name"),
+            Fault::Pattern => write!(f, "bad pattern"),
             Fault::Text(fault) => {
                 let number = fault.number();
                 // Only running out of memory has no offset, and that is reported as such.
@@ -114,6 +120,7 @@ impl fmt::Display for Fault {
                     None => write!(f, "refused: image {number}"),
                 }
             }
+            Fault::Question => write!(f, "refused: too many states (question 1)"),
             Fault::Input => write!(f, "refused: input"),
             Fault::Memory => write!(f, "{}", NoMemory),
         }

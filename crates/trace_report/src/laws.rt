@@ -1,9 +1,9 @@
 //! Laws of how commands end. The functions do nothing: each stands for its contract.
-ghost use Rattle.std.specs.Prelude.{◌≡◌, ◌≢◌, ◌++◌, ℕ, List, Option, Some};
+ghost use Rattle.std.specs.Prelude.{◌≡◌, ◌≢◌, ◌++◌, ℕ, Bool, List, Option, Some, false, true};
 ghost use Rattle.trace_report.specs.Fault.{fault_status};
-ghost use Rattle.trace_report.specs.Output.{Output, whole_answer};
+ghost use Rattle.trace_report.specs.Output.{Output, finding, whole_answer};
 ghost use Rattle.trace_report.specs.Status.{status_code};
-ghost use Rattle.trace_report.specs.Streams.{Ends, IsTold, Streams};
+ghost use Rattle.trace_report.specs.Streams.{Ends, EndsAnswered, IsTold, Streams};
 ghost use Rattle.trace_report.specs.declared.fault.Fault.{Fault};
 ghost use Rattle.trace_report.specs.declared.status.Status.{Status};
 ghost use Rattle.trace_report.specs.declared.status.Status.TheVariants.{Done, Unmet, BadArguments, Refused, InputFailed, NoMemory};
@@ -34,4 +34,14 @@ pub fn commands_end_as_they_are_to()
         (whole_answer bytes) Done → ⊥ }
     ensures message_as_done { (before after : Option (List ℕ)) (text : List ℕ) (status : Status) → status ≢ Done →
         IsTold before after text status Done → ⊥ }
+{}
+
+/// A question ends as done only with an answer in which nothing is found, and as unmet only with one in which something is.
+pub fn questions_end_as_they_are_answered()
+    ensures found_as_done { (streams : Streams) (bytes : List ℕ) →
+        EndsAnswered streams (λ output. output ≡ finding bytes true) Done → ⊥ }
+    ensures nothing_as_unmet { (streams : Streams) (bytes : List ℕ) →
+        EndsAnswered streams (λ output. output ≡ finding bytes false) Unmet → ⊥ }
+    ensures answer_as_refused { (streams : Streams) (bytes : List ℕ) (found : Bool) →
+        EndsAnswered streams (λ output. output ≡ finding bytes found) Refused → ⊥ }
 {}

@@ -5,10 +5,12 @@
 
 mod fault;
 mod laws;
+mod reading;
 mod status;
 mod telling;
 
 pub use fault::Fault;
-pub use laws::{commands_end_as_they_are_to, zero_is_done};
+pub use laws::{commands_end_as_they_are_to, questions_end_as_they_are_answered, zero_is_done};
+pub use reading::{asked_by, read_all};
 pub use status::Status;
-pub use telling::{fail, write_answer, write_through};
+pub use telling::{fail, write_answer, write_finding, write_through};

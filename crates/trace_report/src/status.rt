@@ -7,7 +7,8 @@ ghost use Rattle.trace_report.specs.Status.{status_code};
 pub enum Status {
     /// The answer was written.
     Done,
-    /// The answer was written, and says that not all expectations of a test hold.
+    /// The answer was written, and isn't the one that a check expects: not all expectations of a test hold, or a question about all
+    /// names found something.
     Unmet,
     /// The command line can't be followed, and nothing was read.
     BadArguments,

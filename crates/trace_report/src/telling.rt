@@ -1,8 +1,9 @@
 //! Lines on the output streams.
-ghost use Rattle.std.specs.Prelude.{◌≡◌, ◌⊎◌, OnOk, OnErr, IfSome, Some};
+ghost use Rattle.std.specs.Prelude.{◌≡◌, ◌⊎◌, [], OnOk, OnErr, IfSome, Some, codes};
 ghost use Rattle.std.specs.Io.KnownBytes.{Appends};
-ghost use Rattle.trace_report.specs.Output.{line, whole_answer};
-ghost use Rattle.trace_report.specs.Streams.{Ends, IsTold, AppendsFront};
+ghost use Rattle.trace_report.specs.Output.{Output, finding, line, whole_answer};
+ghost use Rattle.trace_report.specs.Streams.{Ends, EndsAnswered, IsTold, AppendsFront};
+ghost use Rattle.trace_report.specs.declared.status.Status.TheVariants.{OutputFailed};
 
 use crate::status::Status;
 use std::fmt::Display;
@@ -65,6 +66,43 @@ pub fn write_answer<A: Write, F: Write>(answers: &mut A, faults: &mut F, bytes: 
 {
     match write_through(answers, bytes) {
         Ok(()) => Status::Done,
-        Err(_) => fail(faults, "refused: output", Status::OutputFailed),
+        Err(_) => unwritten(faults),
     }
+}
+
+/// Writes the answer to a question, and returns the status that says whether something was found. If that fails, a prefix of the
+/// answer was written.
+pub fn write_finding<A: Write, F: Write>(
+    answers: &mut A,
+    faults: &mut F,
+    bytes: &[u8],
+    found: bool,
+) -> Status
+    ensures { EndsAnswered
+        (record {
+          answers_before = A.contents answers.old;
+          answers_after = A.contents answers.new;
+          faults_before = F.contents faults.old;
+          faults_after = F.contents faults.new;
+        })
+        (λ output. output ≡ finding bytes.now found) result }
+{
+    match write_through(answers, bytes) {
+        Ok(()) => found_status(found),
+        Err(_) => unwritten(faults),
+    }
+}
+
+// Reports that an answer couldn't be written whole.
+fn unwritten<F: Write>(faults: &mut F) -> Status
+    ensures { IsTold (F.contents faults.old) (F.contents faults.new) (codes "refused: output") OutputFailed result }
+{
+    fail(faults, "refused: output", Status::OutputFailed)
+}
+
+// The status of an answer that was written.
+fn found_status(found: bool) -> Status
+    ensures { result ≡ (finding [] found).status }
+{
+    if found { Status::Unmet } else { Status::Done }
 }

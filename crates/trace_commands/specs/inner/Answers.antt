@@ -11,7 +11,7 @@ use Rattle.trace_report.specs.declared.fault.Fault.TheVariants.{Permissions, Nam
 use Rattle.tables.specs.Images.{IsFirstImageFault}
 use Rattle.tables.specs.declared.fault.ImageFault.{ImageFault}
 use Rattle.trace_report.specs.Streams.{IsTextOf}
-use Rattle.trace_report.specs.Fault.{IsFaultOf, fault_text, fault_status}
+use Rattle.trace_report.specs.Fault.{IsFaultOf, IsFaultOfOne, fault_text}
 use Rattle.trace_report.specs.Output.{Output, answer, fault, whole_answer}
 
 -- the verdict that is to be written, or a fault in its place
@@ -23,11 +23,6 @@ IsJudged output (Err f) = IsFaultOf output f
 abbrev pub IsAsked : Result Perms (List ℕ) → Result Perms Fault → Type 0
 IsAsked wanted (Ok ask) = wanted ≡ Ok ask
 IsAsked wanted (Err f) = (wanted ≡ Err (fault_text f)) × (f ≡ Permissions ⊎ f ≡ Name)
-
--- all that was left where it's known, or a failure of the stream or of memory
-abbrev pub IsTextRead : Option (List ℕ) → Result (Vec ℕ Global) Fault → Type 0
-IsTextRead left (Ok text) = IfSome left (λ known. text.items ≡ known)
-IsTextRead left (Err f) = f ≡ Input ⊎ f ≡ Memory
 
 -- all that was left has this first fault
 abbrev pub IsRefusedText : Option (List ℕ) → Fault → Type 0
@@ -41,16 +36,6 @@ IsUnread left f = (f ≡ Input) ⊎ ((f ≡ Memory) ⊎ IsRefusedText left f)
 abbrev pub IsImageRead : Option (List ℕ) → Result (Vec ℕ Global) Fault → Type 0
 IsImageRead left (Ok image) = IsTextOf left image.items
 IsImageRead left (Err f) = IsUnread left f
-
--- no wanted output reports bad arguments
-abbrev pub AreGood : (Output → Type 0) → Type 0
-AreGood Wanted = (output : Output) → Wanted output → output.status ≢ BadArguments
-
--- the fault is one of the wanted outputs, or hides them, the arguments being good
-abbrev pub IsFaultOfOne : (Output → Type 0) → Fault → Type 0
-IsFaultOfOne Wanted Input = AreGood Wanted
-IsFaultOfOne Wanted Memory = AreGood Wanted
-IsFaultOfOne Wanted f = Wanted (fault (fault_text f) (fault_status f))
 
 -- the bytes of a wanted answer, or a fault in its place
 abbrev pub IsAnswered : (Output → Type 0) → Result (Vec ℕ Global) Fault → Type 0

@@ -12,12 +12,12 @@ use Rattle.automaton_search.proofs.walking.begin.Goals as goal
 
 module _ {K : Type 0} (next : K → ℕ → K) (start : K) (t : Trail) (slashed : t.byte ≡ 47) (states new : List K) (trails more : List Trail)
     (none : length states ≡ 0) (empty : length trails ≡ 0) (way : IsVisited states trails new more (next start 47) t) where
-  begun : IsWalkAt next start new more 0 1
+  begun : IsWalkAt next start new more 0 0
   begun = ⊎_elim
       (λ h. let lt = slice_get_within states h.0.0 (next start 47) h.0.1 in absurd (omega (arith, lt, none)))
-      (λ h. subst (λ (z : List K). IsWalkAt next start z more 0 1)
+      (λ h. subst (λ (z : List K). IsWalkAt next start z more 0 0)
       (sym (h.0 ∙ ap (λ (z : List K). z ++ next start 47 ∷ []) (is_empty states none)))
-      (subst (λ (z : List Trail). IsWalkAt next start (next start 47 ∷ []) z 0 1)
+      (subst (λ (z : List Trail). IsWalkAt next start (next start 47 ∷ []) z 0 0)
       (sym (h.1 ∙ ap (λ (z : List Trail). z ++ t ∷ []) (is_empty trails empty)))
       (first_visit next start t slashed)))
       way

@@ -16,7 +16,7 @@ states_there : (c : goal.After-walk-in-loop-index-2-1) → (c.in-Some.states.fir
     × (c.in-Some.states.second < length c.args.second.now.rows) × (c.in-Some.states.third < length c.args.third.now.rows)
 states_there c =
     there c.args.first.now c.args.second.now c.args.third.now (states_of c.loop-index.walk) c.loop-index.walk.trails.items
-    c.loop-index.index 1
+    c.loop-index.index 0
     c.loop-index.invariant.walk c.states.ensures.whole c.states-2.ensures.whole c.states-3.ensures.whole
     c.loop-index.index c.in-Some.states
     (sym c.get.ensures ∙ c.in-Some.is)
@@ -38,11 +38,11 @@ returns-clause-walk c =
 pub returns-in_default-clause-there : goal.returns-in_default-clause-there
 returns-in_default-clause-there c i s at =
     there c.args.first.now c.args.second.now c.args.third.now (states_of c.loop-index.walk) c.loop-index.walk.trails.items
-    c.loop-index.index 1
+    c.loop-index.index 0
     c.loop-index.invariant.walk c.states.ensures.whole c.states-2.ensures.whole c.states-3.ensures.whole i s at
 
 pub returns-clause-there : goal.returns-clause-there
 returns-clause-there c i s at =
     there c.args.first.now c.args.second.now c.args.third.now (states_of c.loop-index.walk) c.loop-index.walk.trails.items
-    c.loop-index.index 1
+    c.loop-index.index 0
     c.loop-index.invariant.walk c.states.ensures.whole c.states-2.ensures.whole c.states-3.ensures.whole i s at

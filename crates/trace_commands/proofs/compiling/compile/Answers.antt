@@ -1,6 +1,7 @@
 use Rattle.trace_report.specs.Output.{whole_answer}
 use Rattle.trace_commands.specs.Tables.{IsCompileOutput}
-use Rattle.trace_commands.proofs.OneOutput.{compile_arguments, one_given, one_told}
+use Rattle.trace_report.proofs.Endings.{one_told}
+use Rattle.trace_commands.proofs.OneOutput.{compile_arguments, one_given}
 use Rattle.trace_commands.proofs.compiling.compile.Goals as goal
 
 pub returns-in-Ok : goal.returns-in-Ok

@@ -14,3 +14,4 @@ pub returns-clause-ok : goal.returns-clause-ok
 returns-clause-ok c =
     all_visits c.args.first.now c.args.second.now c.args.third.now (states_of c.in_ok-walk.walk)
     c.in_ok-walk.walk.trails.items c.in_ok-walk.ensures.some c.in_ok-walk.ensures.walk c.in_ok-walk.ensures.there
+    c.in_ok-walk.ensures.distinct

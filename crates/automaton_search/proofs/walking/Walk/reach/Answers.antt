@@ -23,3 +23,13 @@ returns-then-count-eq-MOST_VISITS-clause-err c = (
   not_there states_impl.eq-value.it c.equal_states_are_one.ensures.one c.equal_states_are_one.ensures.itself
       c.args.self.now.states.keys c.args.states (sym c.in_default.ensures.found),
 )
+
+pub returns-in-Some-clause-distinct : goal.returns-in-Some-clause-distinct
+returns-in-Some-clause-distinct c =
+    all_distinct states_impl.eq-value.it c.equal_states_are_one.ensures.one c.equal_states_are_one.ensures.itself
+    c.args.self.now.states.keys c.len-count.ensures.unique
+
+pub returns-in-Ok-clause-distinct : goal.returns-in-Ok-clause-distinct
+returns-in-Ok-clause-distinct c =
+    all_distinct states_impl.eq-value.it c.equal_states_are_one.ensures.one c.equal_states_are_one.ensures.itself
+    c.insert_full.new.self.keys c.insert_full.ensures.unique

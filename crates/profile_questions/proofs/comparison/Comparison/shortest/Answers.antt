@@ -3,13 +3,20 @@ use Rattle.std.proofs.Common.{◌≡◌, ◌∙◌, ⊎_elim, ◌+◌, ◌≤◌
 use Rattle.std.proofs.Common.{length, slice_get, slice_index_or, sym, ap, subst, arith}
 use Rattle.std.proofs.lemmas.Bool.{cases_lt}
 use Rattle.std.proofs.lemmas.Option.{none-some, same_Some, slice_get_within, slice_get-get_or}
+use Rattle.automata.specs.Automata.{Automaton}
 use Rattle.automaton_search.specs.declared.states.States.{States}
 use Rattle.automaton_search.specs.Visits.{VisitsValue}
+use Rattle.profile_questions.specs.declared.answer.Answer.{Answer}
 use Rattle.profile_questions.specs.declared.answer.Answers.{Answers}
-use Rattle.profile_questions.specs.Questions.{ComparisonValue, IsShortest, found_name}
-use Rattle.profile_questions.specs.inner.Marks.{all_marked}
+use Rattle.profile_questions.specs.Names.{ComparisonValue}
+use Rattle.profile_questions.specs.Questions.{IsShortest, found_name}
+use Rattle.profile_questions.specs.inner.Marks.{AreMarked, all_marked}
 use Rattle.profile_questions.proofs.LeastNames.{NoneMarked, first_found, none_found}
 use Rattle.profile_questions.proofs.comparison.Comparison.shortest.Goals as goal
+
+-- the marks are of the automaton itself
+marked : (a b : Automaton) (wanted : Answer) (marks : List Bool) → a ≡ b → AreMarked a wanted marks → AreMarked b wanted marks
+marked a b wanted marks e are = subst (λ (z : Automaton). AreMarked z wanted marks) e are
 
 -- past the last visit
 past_last : (states : List States) (i : ℕ) → slice_get states i ≡ None → length states ≤ i
@@ -39,26 +46,29 @@ loop-index-init c j s lt at = absurd (omega (arith, lt))
 pub returns-in_default : goal.returns-in_default
 returns-in_default c =
     subst (λ (z : ComparisonValue). IsShortest z c.args.answers None) c.self.view_is
-    (none_found c.self.inside.first c.self.inside.second c.self.inside.third c.self.inside.visits c.self.invariant c.args.answers
+    (none_found c.self.inside.first.now c.self.inside.second.now c.self.inside.third.now c.self.inside.visits c.self.invariant
+    c.args.answers
     c.in_ok-marks_of.field-0.items c.in_ok-marks_of-2.field-0.items c.in_ok-marks_of-3.field-0.items
-    c.in_ok-marks_of.ensures.marks c.in_ok-marks_of-2.ensures.marks c.in_ok-marks_of-3.ensures.marks
+    (marked _ _ c.args.answers.first c.in_ok-marks_of.field-0.items c.automaton.ensures.automaton c.in_ok-marks_of.ensures.marks)
+    (marked _ _ c.args.answers.second c.in_ok-marks_of-2.field-0.items c.automaton-2.ensures.automaton c.in_ok-marks_of-2.ensures.marks)
+    (marked _ _ c.args.answers.third c.in_ok-marks_of-3.field-0.items c.automaton-3.ensures.automaton c.in_ok-marks_of-3.ensures.marks)
     c.loop-index.index (past_last c.self.inside.visits.states c.loop-index.index (sym c.states.ensures ∙ c.in_default.is))
     c.loop-index.invariant)
 
 pub are_set-requires-clause-first : goal.are_set-requires-clause-first
 are_set-requires-clause-first c =
     let there = (c.self.invariant.visits.there c.loop-index.index c.in-Some.states (sym c.states.ensures ∙ c.in-Some.is)).0 in
-    omega (arith, there, c.in_ok-marks_of.ensures.long)
+    omega (arith, there, c.in_ok-marks_of.ensures.long, ap (λ (a : Automaton). length a.rows) c.automaton.ensures.automaton)
 
 pub are_set-requires-clause-second : goal.are_set-requires-clause-second
 are_set-requires-clause-second c =
     let there = (c.self.invariant.visits.there c.loop-index.index c.in-Some.states (sym c.states.ensures ∙ c.in-Some.is)).1 in
-    omega (arith, there, c.in_ok-marks_of-2.ensures.long)
+    omega (arith, there, c.in_ok-marks_of-2.ensures.long, ap (λ (a : Automaton). length a.rows) c.automaton-2.ensures.automaton)
 
 pub are_set-requires-clause-third : goal.are_set-requires-clause-third
 are_set-requires-clause-third c =
     let there = (c.self.invariant.visits.there c.loop-index.index c.in-Some.states (sym c.states.ensures ∙ c.in-Some.is)).2 in
-    omega (arith, there, c.in_ok-marks_of-3.ensures.long)
+    omega (arith, there, c.in_ok-marks_of-3.ensures.long, ap (λ (a : Automaton). length a.rows) c.automaton-3.ensures.automaton)
 
 pub returns-then-are_set : goal.returns-then-are_set
 returns-then-are_set c =
@@ -70,9 +80,12 @@ returns-then-are_set c =
     if_name c.name_at.result c.args.self.now c.args.answers (slice_get all.names c.loop-index.index) c.name_at.ensures
     (subst (λ (o : Option (List ℕ)). IsShortest c.args.self.now c.args.answers o) (sym named)
     (subst (λ (z : ComparisonValue). IsShortest z c.args.answers (Some name)) c.self.view_is
-    (first_found c.self.inside.first c.self.inside.second c.self.inside.third all c.self.invariant c.args.answers
+    (first_found c.self.inside.first.now c.self.inside.second.now c.self.inside.third.now all c.self.invariant
+    c.args.answers
     c.in_ok-marks_of.field-0.items c.in_ok-marks_of-2.field-0.items c.in_ok-marks_of-3.field-0.items
-    c.in_ok-marks_of.ensures.marks c.in_ok-marks_of-2.ensures.marks c.in_ok-marks_of-3.ensures.marks
+    (marked _ _ c.args.answers.first c.in_ok-marks_of.field-0.items c.automaton.ensures.automaton c.in_ok-marks_of.ensures.marks)
+    (marked _ _ c.args.answers.second c.in_ok-marks_of-2.field-0.items c.automaton-2.ensures.automaton c.in_ok-marks_of-2.ensures.marks)
+    (marked _ _ c.args.answers.third c.in_ok-marks_of-3.field-0.items c.automaton-3.ensures.automaton c.in_ok-marks_of-3.ensures.marks)
     c.loop-index.index c.in-Some.states name at named (sym c.are_set.ensures ∙ c.if-are_set.true) c.loop-index.invariant)))
 
 pub loop-index-preserved : goal.loop-index-preserved
@@ -84,7 +97,10 @@ loop-index-preserved c =
 pub returns : goal.returns
 returns c =
     subst (λ (z : ComparisonValue). IsShortest z c.args.answers None) c.self.view_is
-    (none_found c.self.inside.first c.self.inside.second c.self.inside.third c.self.inside.visits c.self.invariant c.args.answers
+    (none_found c.self.inside.first.now c.self.inside.second.now c.self.inside.third.now c.self.inside.visits c.self.invariant
+    c.args.answers
     c.in_ok-marks_of.field-0.items c.in_ok-marks_of-2.field-0.items c.in_ok-marks_of-3.field-0.items
-    c.in_ok-marks_of.ensures.marks c.in_ok-marks_of-2.ensures.marks c.in_ok-marks_of-3.ensures.marks
+    (marked _ _ c.args.answers.first c.in_ok-marks_of.field-0.items c.automaton.ensures.automaton c.in_ok-marks_of.ensures.marks)
+    (marked _ _ c.args.answers.second c.in_ok-marks_of-2.field-0.items c.automaton-2.ensures.automaton c.in_ok-marks_of-2.ensures.marks)
+    (marked _ _ c.args.answers.third c.in_ok-marks_of-3.field-0.items c.automaton-3.ensures.automaton c.in_ok-marks_of-3.ensures.marks)
     c.loop-index.index (omega (arith, c.loop-index-test.false, c.len-index-end.ensures)) c.loop-index.invariant)

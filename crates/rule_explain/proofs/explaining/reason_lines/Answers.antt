@@ -12,8 +12,8 @@ use Rattle.rule_profile.specs.RuleSpans.{profile_spans}
 use Rattle.rule_explain.specs.declared.reason.Reason.{Reason}
 use Rattle.rule_explain.specs.Explanations.{reason_line, reason_text}
 use Rattle.rule_explain.proofs.SoFar.{of_rules}
-use Rattle.rule_explain.proofs.explaining.explain.Goals as goal
-use Rattle.rule_explain.proofs.explaining.explain.Goals.{then-contains+in_ok-put_line, else-contains}
+use Rattle.rule_explain.proofs.explaining.reason_lines.Goals as goal
+use Rattle.rule_explain.proofs.explaining.reason_lines.Goals.{then-contains+in_ok-put_line, else-contains}
 
 -- what one more permission adds
 abbrev added : (Permission → List ℕ) → Bool → Permission → List ℕ
@@ -52,14 +52,14 @@ loop-permission-preserved c =
           let line : Reason → List ℕ = λ r. letter p ∷ (codes ": "
           ++ (reason_text c.args.text.now (profile_value c.args.profile.now).rules (profile_spans c.args.profile.now) r ++ codes "\n")) in
           let is = w.reason-reason.ensures ∙ c.firsts_of-firsts.ensures p asked in
-          step f (has c.args.ask) all_permissions i Read true c.in_ok-lines.lines.items c.loop-permission.lines.items
+          step f (has c.args.ask) all_permissions i Read true [] c.loop-permission.lines.items
           c.if-contains.lines.items c.loop-permission-test.true (sym w.if-contains.true ∙ c.contains.ensures)
           c.loop-permission.invariant
           (ap (λ (v : Vec ℕ Global). v.items) w.lines-is ∙ w.in_ok-put_line.ensures
           ∙ ap (λ (r : Reason). c.loop-permission.lines.items ++ line r) is
           ∙ ap (λ (x : List ℕ). c.loop-permission.lines.items ++ x) (sym (append-nil (f p))))
       | else-contains w ↦
-          step f (has c.args.ask) all_permissions i Read false c.in_ok-lines.lines.items c.loop-permission.lines.items
+          step f (has c.args.ask) all_permissions i Read false [] c.loop-permission.lines.items
           c.if-contains.lines.items c.loop-permission-test.true (sym w.if-contains.false ∙ c.contains.ensures)
           c.loop-permission.invariant
           (ap (λ (v : Vec ℕ Global). v.items) w.lines-is ∙ sym (append-nil c.loop-permission.lines.items))

@@ -2,13 +2,15 @@
 use Rattle.std.proofs.Common.{◌≡◌, ◌-◌, ◌<◌, ◌≤◌, ℕ, Some, length, slice_get}
 use Rattle.automata.specs.Automata.{target}
 use Rattle.automata.specs.Rows.{target_in, IsRowFrom}
+use Rattle.automaton_search.specs.Order.{place_of}
 use Rattle.automaton_search.specs.Visits.{most_visits, next_states, start_states}
 use Rattle.automaton_search.specs.inner.Walks.{AreKept, IsWalkAt, states_of}
-use Rattle.automaton_search.proofs.walking.reach_all.Given as goal
+use Rattle.automaton_search.proofs.walking.reach_stretch.Given as goal
 
 abbrev pub invariant-loop-one : goal.invariant-loop-one
 invariant-loop-one l = record {
-  some : 0 < l.from;
+  after : l.stretch.first ≤ l.from;
+  before : l.from ≤ l.stretch.last;
   one : IsRowFrom l.from l.one;
   two : IsRowFrom l.from l.two;
   three : IsRowFrom l.from l.three;
@@ -17,7 +19,7 @@ invariant-loop-one l = record {
   three_targets : (c : ℕ) → l.from ≤ c → c < 256 → target_in l.three c ≡ target l.third l.fn.states.third c;
   few : length (states_of l.walk) ≤ most_visits;
   walk : IsWalkAt (next_states l.first l.second l.third) (start_states l.first l.second l.third) (states_of l.walk)
-      l.walk.trails.items l.index l.from;
+      l.walk.trails.items l.index (place_of l.from);
   here : slice_get (states_of l.walk) l.index ≡ Some l.fn.states;
   kept : AreKept (states_of l.fn.walk) (states_of l.walk);
 }

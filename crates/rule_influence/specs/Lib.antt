@@ -1,0 +1,2 @@
+pub mod Influence
+pub mod inner

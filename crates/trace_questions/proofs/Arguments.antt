@@ -1,0 +1,74 @@
+-- Arguments that are bad, input that failed, and good arguments.
+use Rattle.std.proofs.Common.{◌≡◌, ◌≢◌, ◌⊎◌, inl, inr, ℕ, Bool, true, false, List, Result, Ok, Err, refl, sym, ap, subst, ◌∙◌, rules}
+use Rattle.matcher.specs.declared.fault.MakeFault.TheVariants.{TooManyStates}
+use Rattle.names.specs.declared.permissions.Perms.{Perms}
+use Rattle.rule_globs.specs.Rules.{RuleValue, ProfileValue}
+use Rattle.rule_globs.specs.Tokens.{Token}
+use Rattle.rule_profile.specs.declared.profile.Span.{Span}
+use Rattle.rule_reader.specs.Reading.{outcome_of}
+use Rattle.rule_reader.specs.Spans.{spans_of}
+use Rattle.rule_reader.specs.declared.fault.ReadFault.{ReadFault}
+use Rattle.trace_questions.specs.Asked.{asked_of}
+use Rattle.trace_questions.specs.Search.{IsSearchOutput, IsSearchOutputFor, IsSearchOutputOf, search_text}
+use Rattle.trace_questions.specs.Search.{Finding, least, no_name, nothing}
+use Rattle.trace_questions.specs.declared.answer.Answer.{Answer}
+use Rattle.trace_questions.specs.declared.searching.Quantifier.{Quantifier}
+use Rattle.trace_questions.specs.inner.Asking.{IsAnswered}
+use Rattle.trace_report.specs.Fault.{AreGood, IsFaultOfAnswer, fault_text}
+use Rattle.trace_report.specs.Output.{Output, compile_refusal, fault, finding, question_refusal, refusal}
+use Rattle.trace_report.specs.declared.fault.Fault.{Fault}
+use Rattle.trace_report.specs.declared.fault.Fault.TheVariants.{Input, Memory, Pattern, Permissions}
+use Rattle.trace_report.specs.declared.status.Status.TheVariants.{BadArguments, Done, Refused, Unmet}
+
+-- refusals don't report bad arguments
+refused : (output : Output) (text : List ℕ) → output ≡ fault text Refused → output.status ≢ BadArguments
+refused output text e = rw e (λ bad. cc)
+
+module _ (q : Quantifier) where
+  found_good : (text : List ℕ) (rules : List RuleValue) (spans : List Span) (ask : Perms) (output : Output) (found : Finding) →
+      output ≡ search_text q text rules spans ask found → output.status ≢ BadArguments
+  found_good text rules spans ask output no_name e = rw e (λ bad. cc)
+  found_good text rules spans ask output nothing e = rw e (λ bad. cc)
+  found_good text rules spans ask output (least name) e = rw e (λ bad. cc)
+
+  of_good : (ask : Perms) (path : List Token) (text : List ℕ) (outcome : Result ProfileValue ReadFault) →
+      AreGood (IsSearchOutputOf q ask path text outcome)
+  of_good ask path text (Err f) output e = refused output (refusal f) e
+  of_good ask path text (Ok profile) output (inl (inl h)) = refused output (compile_refusal TooManyStates) h.1
+  of_good ask path text (Ok profile) output (inl (inr h)) = refused output question_refusal h.1
+  of_good ask path text (Ok profile) output (inr h) = found_good text profile.rules (spans_of text) ask output h.0 h.2
+
+  -- where there is an answer, the arguments are good
+  answer_good : (asked : Result (Perms × List Token) (List ℕ)) (text bytes : List ℕ) (found : Bool) →
+      IsSearchOutputFor q asked text (finding bytes found) → AreGood (IsSearchOutputFor q asked text)
+  answer_good (Err told) text bytes true e = let bad : Unmet ≡ BadArguments = ap (λ (o : Output). o.status) e in absurd cc
+  answer_good (Err told) text bytes false e = let bad : Done ≡ BadArguments = ap (λ (o : Output). o.status) e in absurd cc
+  answer_good (Ok asked) text bytes found h = of_good asked.0 asked.1 text (outcome_of text)
+
+  pub good_by_answer : (perms pattern text bytes : List ℕ) (found : Bool) → IsSearchOutput q perms pattern text (finding bytes found) →
+      AreGood (IsSearchOutput q perms pattern text)
+  good_by_answer perms pattern text bytes found h = answer_good (asked_of perms pattern) text bytes found h
+
+  module _ (perms pattern text : List ℕ) where
+    -- bad arguments are reported as such, whatever the text
+    pub asked_in_vain : (f : Fault) →
+        ((asked_of perms pattern ≡ Err (fault_text f)) × ((f ≡ Permissions) ⊎ (f ≡ Pattern))) ⊎ (f ≡ Memory) →
+        IsFaultOfAnswer (IsSearchOutput q perms pattern text) f
+    asked_in_vain f (inr e) = subst (IsFaultOfAnswer (IsSearchOutput q perms pattern text)) (sym e) tt
+    asked_in_vain f (inl (e, inl p)) = subst (IsFaultOfAnswer (IsSearchOutput q perms pattern text)) (sym p)
+        (subst (λ a. IsSearchOutputFor q a text (fault (fault_text Permissions) BadArguments))
+        (sym (e ∙ ap (λ g. Err (fault_text g)) p)) refl)
+    asked_in_vain f (inl (e, inr p)) = subst (IsFaultOfAnswer (IsSearchOutput q perms pattern text)) (sym p)
+        (subst (λ a. IsSearchOutputFor q a text (fault (fault_text Pattern) BadArguments))
+        (sym (e ∙ ap (λ g. Err (fault_text g)) p)) refl)
+
+    module _ (ask : Perms) (path : List Token) (asked : asked_of perms pattern ≡ Ok (ask, path)) where
+      -- a fault that hides the text says only that the arguments are good
+      pub text_unread : (f : Fault) → (f ≡ Input) ⊎ (f ≡ Memory) → IsFaultOfAnswer (IsSearchOutput q perms pattern text) f
+      text_unread f (inr e) = subst (IsFaultOfAnswer (IsSearchOutput q perms pattern text)) (sym e) tt
+      text_unread f (inl e) = subst (IsFaultOfAnswer (IsSearchOutput q perms pattern text)) (sym e)
+          (subst (λ a. AreGood (IsSearchOutputFor q a text)) (sym asked) (of_good ask path text (outcome_of text)))
+
+      pub text_answered : (r : Result Answer Fault) → IsAnswered (IsSearchOutputOf q ask path text (outcome_of text)) r →
+          IsAnswered (IsSearchOutput q perms pattern text) r
+      text_answered r h = subst (λ a. IsAnswered (IsSearchOutputFor q a text) r) (sym asked) h

@@ -1,0 +1,7 @@
+pub mod Shown
+pub mod Asked
+pub mod Below
+pub mod Refusals
+pub mod Search
+pub mod Differences
+pub mod inner

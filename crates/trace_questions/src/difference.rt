@@ -1,0 +1,145 @@
+//! `diff OLD NEW`: the names that only one of two profiles allows something to.
+ghost use Rattle.std.specs.Prelude.{◌≡◌, ℕ, List, Option, IfErr, IfOk, IsErr, option_map};
+ghost use Rattle.std.specs.Io.KnownBytes.{Keeps};
+ghost use Rattle.rule_reader.specs.Reading.{outcome_of};
+ghost use Rattle.rule_globs.specs.Tokens.{Token};
+ghost use Rattle.rule_profile.specs.Profile.{profile_value};
+ghost use Rattle.rule_profile.specs.RuleSpans.{profile_spans};
+ghost use Rattle.trace_questions.specs.Differences.{IsDiffOutput, IsDiffOutputOf, below_asked};
+ghost use Rattle.trace_questions.specs.inner.Differing.{IsBelowAsked, IsCompileRefusalIn, IsDiffAnswer, IsOfBelow, IsProfileIn};
+ghost use Rattle.trace_report.specs.Streams.{EndsAnswered, IsTextOf};
+
+use crate::answer::Answer;
+use crate::asking::pattern_of;
+use crate::changes::{Versions, changes};
+use crate::comparing::{compared, compiled};
+use crate::sides::{Side, SideFault};
+use derived_profiles::without_rules;
+use names::NoMemory;
+use profile_questions::CompiledRules;
+use rule_profile::Profile;
+use rule_reader::read;
+use std::alloc::Global;
+use std::io::{Read, Write};
+use trace_report::{Fault, Status, fail, read_all, write_finding};
+
+/// Reads two profiles and writes to `answers`, for each permission, the least name that the new one alone allows it to, and the
+/// least that the old one alone does, with the reasons by both; or `same`. With a pattern, only names that it takes are compared.
+/// Faults are reported on `faults` instead. The pattern is tested before anything is read, and the old profile is read first.
+pub fn differ<O: Read, N: Read, A: Write, F: Write>(
+    alloc: Global,
+    below: Option<&str>,
+    old: &mut O,
+    new: &mut N,
+    answers: &mut A,
+    faults: &mut F,
+) -> Status
+    ensures output { (before after : List ℕ) × IsTextOf (O.remaining old.old) before × IsTextOf (N.remaining new.old) after
+        × EndsAnswered
+        (record {
+          answers_before = A.contents answers.old;
+          answers_after = A.contents answers.new;
+          faults_before = F.contents faults.old;
+          faults_after = F.contents faults.new;
+        })
+        (IsDiffOutput (option_map (λ pattern. pattern.now) below.entry) before after) result }
+    ensures unread { IsErr (below_asked (option_map (λ pattern. pattern.now) below.entry))
+        → Keeps (O.remaining old.old) (O.remaining old.new) × Keeps (N.remaining new.old) (N.remaining new.new) }
+{
+    match answer(alloc, below, old, new) {
+        Ok(answer) => write_finding(answers, faults, &answer.text, answer.found),
+        Err(fault) => fail(faults, fault, fault.status()),
+    }
+}
+
+// The answer, or why there is none.
+fn answer<O: Read, N: Read>(
+    alloc: Global,
+    below: Option<&str>,
+    old: &mut O,
+    new: &mut N,
+) -> Result<Answer, SideFault>
+    ensures output { (before after : List ℕ) × IsTextOf (O.remaining old.old) before × IsTextOf (N.remaining new.old) after
+        × IsDiffAnswer (IsDiffOutput (option_map (λ pattern. pattern.now) below.entry) before after) result }
+    ensures unread { IsErr (below_asked (option_map (λ pattern. pattern.now) below.entry))
+        → Keeps (O.remaining old.old) (O.remaining old.new) × Keeps (N.remaining new.old) (N.remaining new.new) }
+{
+    let below = Below::of(alloc, below)?;
+    let before = read_all(alloc, old)?;
+    let after = read_all(alloc, new)?;
+    answer_on(alloc, below, &before, &after)
+}
+
+// Names that are compared: those that a profile's one rule takes, or all.
+#[derive(Drop)]
+struct Below {
+    profile: Profile,
+    // Whether there is a rule.
+    restricted: bool,
+}
+
+impl Below {
+    // The names that are to be compared.
+    fn of(alloc: Global, pattern: Option<&str>) -> Result<Below, Fault>
+        ensures { IsBelowAsked (option_map (λ pattern. pattern.now) pattern.entry) result }
+    {
+        match pattern {
+            Some(pattern) => Ok(Below {
+                profile: pattern_of(alloc, pattern)?,
+                restricted: true,
+            }),
+            None => match without_rules(alloc) {
+                Ok(profile) => Ok(Below {
+                    profile,
+                    restricted: false,
+                }),
+                Err(NoMemory) => Err(Fault::Memory),
+            },
+        }
+    }
+}
+
+// The answer by two texts.
+fn answer_on(alloc: Global, below: Below, before: &[u8], after: &[u8]) -> Result<Answer, SideFault>
+    ensures { (path : Option (List Token)) → IsOfBelow path below →
+        IsDiffAnswer (IsDiffOutputOf path before.now after.now (outcome_of before.now) (outcome_of after.now)) result }
+{
+    let one = profile_in(alloc, before, Side::Old)?;
+    let two = profile_in(alloc, after, Side::New)?;
+    let old = compiled_in(alloc, one, Side::Old)?;
+    let new = compiled_in(alloc, two, Side::New)?;
+    let names = compiled(alloc, below.profile)?;
+    let comparison = compared(alloc, &old, &new, &names)?;
+    let versions = Versions {
+        before,
+        old: old.profile(),
+        after,
+        new: new.profile(),
+    };
+    match changes(alloc, &comparison, &versions, below.restricted) {
+        Ok(answer) => Ok(answer),
+        Err(NoMemory) => Err(SideFault::Neither(Fault::Memory)),
+    }
+}
+
+// The profile of one of two texts.
+fn profile_in(alloc: Global, text: &[u8], side: Side) -> Result<Profile, SideFault>
+    ensures { IsProfileIn side text.now result }
+{
+    match read(alloc, text) {
+        Ok(profile) => Ok(profile),
+        Err(fault) => Err(SideFault::of(side, Fault::from(fault))),
+    }
+}
+
+// The compiled rules of one of two profiles.
+fn compiled_in(alloc: Global, profile: Profile, side: Side) -> Result<CompiledRules, SideFault>
+    ensures rules { IfOk result (λ compiled. compiled.rules ≡ (profile_value profile).rules) }
+    ensures spans { IfOk result (λ compiled. compiled.spans ≡ profile_spans profile) }
+    ensures err { IfErr result (IsCompileRefusalIn side (profile_value profile).rules) }
+{
+    match compiled(alloc, profile) {
+        Ok(rules) => Ok(rules),
+        Err(fault) => Err(SideFault::of(side, fault)),
+    }
+}

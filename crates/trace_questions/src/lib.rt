@@ -1,0 +1,20 @@
+//! Questions about all names, as commands: whether a pattern has a name that a profile allows something to, or one that it doesn't;
+//! what only one of two profiles allows; and which rules decide nothing.
+//!
+//! The definitions to believe are those in `specs/`; those in `specs/inner/` are of private contracts and proofs.
+#![tactic(auto)]
+
+mod answer;
+mod asking;
+mod changes;
+mod comparing;
+mod difference;
+mod finding;
+mod least;
+mod searching;
+mod shown;
+mod sides;
+
+pub use difference::differ;
+pub use searching::{Quantifier, search};
+pub use sides::Side;

@@ -1,0 +1,154 @@
+//! `any PERMS PATTERN` and `all PERMS PATTERN`: whether some name, or each name, that a pattern takes is allowed what is asked.
+ghost use Rattle.std.specs.Prelude.{◌≡◌, ℕ, List, IfOk, IsErr};
+ghost use Rattle.std.specs.Io.KnownBytes.{Keeps};
+ghost use Rattle.rule_globs.specs.Tokens.{Token};
+ghost use Rattle.rule_profile.specs.Profile.{profile_value};
+ghost use Rattle.rule_profile.specs.RuleSpans.{profile_spans};
+ghost use Rattle.rule_reader.specs.Reading.{outcome_of};
+ghost use Rattle.trace_questions.specs.Search.{IsSearchOutput, IsSearchOutputOf, nothing_text, search_text, word_text};
+ghost use Rattle.trace_questions.specs.Asked.{asked_of};
+ghost use Rattle.trace_questions.specs.inner.Asking.{IsAnswered, IsOfPath};
+ghost use Rattle.trace_questions.specs.inner.Finding.{finding_value};
+ghost use Rattle.trace_report.specs.Output.{finding};
+ghost use Rattle.trace_report.specs.Streams.{EndsAnswered, IsTextOf};
+
+use crate::answer::{Answer, put};
+use crate::asking::Asked;
+use crate::comparing::{compared, compiled, no_rules};
+use crate::finding::{Finding, find};
+use crate::shown::shown_name;
+use names::{NoMemory, Perms};
+use rule_explain::reason_lines;
+use rule_profile::Profile;
+use rule_reader::read;
+use std::alloc::Global;
+use std::io::{Read, Write};
+use trace_report::{Fault, Status, fail, read_all, write_finding};
+
+/// Which of the names that a pattern takes are to be allowed what is asked.
+#[derive(Clone, Copy, Debug, PartialEq, Eq)]
+pub enum Quantifier {
+    /// Some name: the least one is found.
+    Any,
+    /// Each name: the least one that isn't is found.
+    All,
+}
+
+/// Reads a profile from `input` and writes to `answers` the least name that the pattern takes and that the profile allows all of
+/// the permissions to, or, for all names, the least that it doesn't, and the reason for each permission. Faults are reported on
+/// `faults` instead. The arguments are tested before anything is read.
+pub fn search<R: Read, A: Write, F: Write>(
+    alloc: Global,
+    quantifier: Quantifier,
+    perms: &str,
+    pattern: &str,
+    input: &mut R,
+    answers: &mut A,
+    faults: &mut F,
+) -> Status
+    ensures output { (text : List ℕ) × IsTextOf (R.remaining input.old) text × EndsAnswered
+        (record {
+          answers_before = A.contents answers.old;
+          answers_after = A.contents answers.new;
+          faults_before = F.contents faults.old;
+          faults_after = F.contents faults.new;
+        })
+        (IsSearchOutput quantifier perms.now pattern.now text) result }
+    ensures unread { IsErr (asked_of perms.now pattern.now)
+        → Keeps (R.remaining input.old) (R.remaining input.new) }
+{
+    match answer(alloc, quantifier, perms, pattern, input) {
+        Ok(answer) => write_finding(answers, faults, &answer.text, answer.found),
+        Err(fault) => fail(faults, fault, fault.status()),
+    }
+}
+
+// The answer, or why there is none.
+fn answer<R: Read>(
+    alloc: Global,
+    quantifier: Quantifier,
+    perms: &str,
+    pattern: &str,
+    input: &mut R,
+) -> Result<Answer, Fault>
+    ensures output { (text : List ℕ) × IsTextOf (R.remaining input.old) text
+        × IsAnswered (IsSearchOutput quantifier perms.now pattern.now text) result }
+    ensures unread { IsErr (asked_of perms.now pattern.now)
+        → Keeps (R.remaining input.old) (R.remaining input.new) }
+{
+    let asked = Asked::of(alloc, perms, pattern)?;
+    let text = read_all(alloc, input)?;
+    answer_on(alloc, quantifier, asked, &text)
+}
+
+// The answer by a text.
+fn answer_on(
+    alloc: Global,
+    quantifier: Quantifier,
+    asked: Asked,
+    text: &[u8],
+) -> Result<Answer, Fault>
+    ensures { (path : List Token) → IsOfPath path asked.pattern →
+        IsAnswered (IsSearchOutputOf quantifier asked.ask path text.now (outcome_of text.now)) result }
+{
+    let profile = read(alloc, text)?;
+    let rules = compiled(alloc, profile)?;
+    let nothing = no_rules(alloc)?;
+    let names = compiled(alloc, asked.pattern)?;
+    let comparison = compared(alloc, &rules, &nothing, &names)?;
+    let Ok(found) = find(alloc, &comparison, quantifier, asked.ask) else {
+        return Err(Fault::Memory);
+    };
+    match search_text(alloc, quantifier, text, rules.profile(), asked.ask, found) {
+        Ok(answer) => Ok(answer),
+        Err(NoMemory) => Err(Fault::Memory),
+    }
+}
+
+// What is said of what is found.
+fn search_text(
+    alloc: Global,
+    quantifier: Quantifier,
+    text: &[u8],
+    profile: &Profile,
+    ask: Perms,
+    found: Finding,
+) -> Result<Answer, NoMemory>
+    ensures { IfOk result (λ answer. finding answer.text.items answer.found ≡ search_text quantifier text.now
+        (profile_value profile.now).rules (profile_spans profile.now) ask (finding_value found)) }
+{
+    match found {
+        Finding::NoName => Answer::of(alloc, b"no name matches\n", false),
+        Finding::Nothing => Answer::of(alloc, nothing_text(quantifier), false),
+        Finding::Name(name) => {
+            let mut lines = Answer::of(alloc, word_text(quantifier), true)?;
+            put(&mut lines.text, &shown_name(alloc, &name)?)?;
+            put(&mut lines.text, b"\n")?;
+            put(
+                &mut lines.text,
+                &reason_lines(alloc, text, profile, &name, ask)?,
+            )?;
+            Ok(lines)
+        }
+    }
+}
+
+// What is said where no name is found.
+fn nothing_text(quantifier: Quantifier) -> &'static [u8]
+    ensures { result.now ≡ nothing_text quantifier }
+{
+    match quantifier {
+        Quantifier::Any => b"none\n",
+        Quantifier::All => b"all\n",
+    }
+}
+
+// What comes before a name that is found.
+fn word_text(quantifier: Quantifier) -> &'static [u8]
+    ensures { result.now ≡ word_text quantifier }
+{
+    match quantifier {
+        Quantifier::Any => b"any ",
+        Quantifier::All => b"not ",
+    }
+}
