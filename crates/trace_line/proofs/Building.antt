@@ -1,13 +1,13 @@
 -- Building a command of options, one after the other, and a program of commands.
 use Rattle.std.proofs.Common.{◌≡◌, ◌∙◌, ◌+◌, ◌<◌, ◌≤◌, Bool, true, false, not, refl, ℕ, suc, List, [], ◌∷◌, map, length, drop, get_or, ap}
-use Rattle.std.proofs.Common.{sym, add-one, drop-cons, drop_of_length-le}
+use Rattle.std.proofs.Common.{ap₂, sym, add-one, drop-cons, drop_of_length-le}
 use Rattle.std.specs.Prelude.{fold}
 use Rattle.clap.proofs.WalkLemmas.{both}
-use Rattle.clap.specs.Words.{App, Rule, app_of, new_app, with_rule}
+use Rattle.clap.specs.Words.{App, Rule, app_of, new_app, with_rule, with_subcommand}
 use Rattle.clap.specs.declared.builder.command.Command.{Command}
 use Rattle.clap.specs.declared.builder.command.Command.TheViews.{out-Command}
 use Rattle.trace_line.specs.CommandLine.{NumberOption}
-use Rattle.trace_line.specs.declared.parser.NumberOption as declared
+use Rattle.trace_line.specs.declared.options.NumberOption as declared
 use Rattle.trace_line.specs.inner.Parser.{number_option, number_rule, numbers_app}
 
 -- the command with the options from i on
@@ -50,3 +50,12 @@ rules_are_plain app (rule ∷ rules) = rules_are_plain (with_rule app rule) rule
 -- a command of options is plain
 pub numbers_are_plain : (name : List ℕ) (options : List NumberOption) → (numbers_app name options).top.is_plain ≡ true
 numbers_are_plain name options = rules_are_plain (new_app name) (map number_rule options)
+
+abbrev pub more_with : App → App → App
+more_with program command = with_subcommand program command.top
+
+-- a command that is added, by what both are
+pub command_added : (program before command form after : App) → program ≡ before → command ≡ form →
+    after ≡ more_with program command
+    → after ≡ more_with before form
+command_added program before command form after is form_is to = to ∙ ap₂ more_with is form_is

@@ -1,20 +1,9 @@
--- The options of `import`, by the theorem about any list of them, and lines that they give.
-use Rattle.std.proofs.Common.{◌≡◌, false, true, List, [], ◌∷◌, Some, None, refl}
+-- Lines of `import`.
+use Rattle.std.proofs.Common.{◌≡◌, false, true, [], ◌∷◌, Some, None, refl}
 use Rattle.std.specs.Prelude.{codes}
 use Rattle.std.specs.Str.{chars}
-use Rattle.clap.specs.Walk.{Text, nothing_held, idle}
-use Rattle.trace_line.specs.CommandLine.{given_by, import_options, import_text, line_of}
+use Rattle.trace_line.specs.CommandLine.{import_text, line_of}
 use Rattle.trace_line.specs.declared.import.OwnerRules.TheVariants.{Drop, Keep}
-use Rattle.trace_line.proofs.LeafWalk.{ComesTo, leaf_shape, walk_at}
-use Rattle.trace_line.proofs.OptionEnds.{EndsAs}
-use Rattle.trace_line.proofs.OptionRules.{built_rules}
-use Rattle.trace_line.proofs.OptionWalk.{options_walk}
-
--- clap reads the words after the command's name as `given_by` says
-import_walk : (name : Text) (words : List Text)
-    → ComesTo (EndsAs import_options) (leaf_shape name (built_rules import_options)) [] (walk_at idle 1 false nothing_held) words
-    (given_by import_options [] words)
-import_walk name words = options_walk name import_options refl words
 
 -- no option is given
 bare : line_of (codes "aa-trace" ∷ codes "import" ∷ []) ≡ Some (import_text None Keep [] false)

@@ -1,13 +1,13 @@
--- The outcome of clap's walk over the words at a program with commands of two arguments and commands of options.
+-- The outcome of clap's walk over the words at a program with commands.
 use Rattle.std.proofs.Common.{◌≡◌, ◌≢◌, ◌∙◌, ◌&&◌, ◌++◌, Bool, true, false, not, List, [], ◌∷◌, map, Option, Some, None, refl, ap, ap₂}
 use Rattle.std.proofs.Common.{subst, sym, drop, inl, inr, ◌⊎◌, append_assoc, append-nil}
-use Rattle.std.specs.Prelude.{is_some, codes, find, fold, option_and_then, option_map}
+use Rattle.std.specs.Prelude.{if◌then◌else◌, is_some, codes, find, fold, option_and_then, option_map}
 use Rattle.std.specs.List.{list_all}
 use Rattle.std.specs.Option.{option_map_or, option_or}
 use Rattle.std.specs.Str.{bytes_eq}
 use Rattle.std.proofs.lemmas.Slice.Eq.{bytes_eq-Decides}
 use Rattle.clap.specs.Lexer.{name_and_value}
-use Rattle.clap.specs.Walk.{answers_to, arg_by_long, Names, Row, Rule, Text, idle, stop_after, subcommand_met, Walk, walked, walk_from}
+use Rattle.clap.specs.Walk.{answers_to, arg_by_long, Names, Row, Text, idle, stop_after, subcommand_met, Walk, walked, walk_from}
 use Rattle.clap.specs.Walk.{finished, nothing_held, settled}
 use Rattle.clap.specs.Simple.{App, Shape, built, built_leaf, help_shape, label_of, names_of, rows_at, entered}
 use Rattle.clap.specs.Kinds.{Kinds, or_else}
@@ -15,17 +15,16 @@ use Rattle.clap.proofs.FaultLemmas.{stopped_fault}
 use Rattle.clap.proofs.WalkLemmas.{both, find-map}
 use Rattle.clap.specs.Faults.{built_fault, walk_fault, settle_fault, defaults_fault, check_fault, entered_fault, level_fault, turn_fault}
 use Rattle.clap.specs.declared.error.kind.ErrorKind.TheVariants.{DisplayHelp, InvalidSubcommand, MissingSubcommand, UnknownArgument}
-use Rattle.trace_line.specs.CommandLine.{Arguments, CommandForm, Given, LineValue, arguments_of, asks, command_named, commands, given_by}
-use Rattle.trace_line.specs.CommandLine.{line_by, line_of, number_form, number_of, numbers, pair, pair_of}
-use Rattle.trace_line.specs.inner.Parser.{GivesLine, program_app}
+use Rattle.trace_line.specs.CommandLine.{CommandForm, Given, LineValue, command_named, commands, given_by, has_required, line_by, line_of}
+use Rattle.trace_line.specs.inner.Parser.{GivesLine, IsGiven, forms_of, program_app}
 use Rattle.trace_line.proofs.Named.{find_made, found_name, found_passes, or_false}
 use Rattle.trace_line.proofs.WordKinds.{Kind, is_dashes, is_long, is_short, is_plain, kind_of_word}
 use Rattle.trace_line.proofs.LeafWalk.{ComesTo, Some_of, comes_as, end_of, faults_from, in_first, leaf_shape, long_is_fault, long_turn}
 use Rattle.trace_line.proofs.LeafWalk.{or_else-nil, plain_turn, short_turn, some_fault, told_long, told_short, walk_at}
-use Rattle.trace_line.proofs.PairWalk.{HasPair, pair_rules, pair_walk}
-use Rattle.trace_line.proofs.OptionEnds.{EndsAs, numbers_found, texts_found}
-use Rattle.trace_line.proofs.OptionRules.{are_sound, built_rules}
-use Rattle.trace_line.proofs.OptionWalk.{options_walk}
+use Rattle.trace_line.proofs.CommandEnds.{texts_found}
+use Rattle.trace_line.proofs.CommandRules.{is_few, rules_for}
+use Rattle.trace_line.proofs.CommandWalk.{HasGiven, checked, command_walk}
+use Rattle.trace_line.proofs.OptionRules.{are_sound}
 
 -- where a walk begins
 abbrev start : Walk
@@ -33,65 +32,47 @@ start = walk_at idle 1 false nothing_held
 
 -- ---- one command
 
-abbrev pub rules_by : Arguments → List Rule
-rules_by (pair line) = pair_rules
-rules_by (numbers options line) = built_rules (map number_form options)
-rules_by (asks options line) = built_rules options
-
-abbrev has_sound_options : Arguments → Bool
-has_sound_options (pair line) = true
-has_sound_options (numbers options line) = are_sound (map number_form options)
-has_sound_options (asks options line) = are_sound options
-
 -- a command as it is built
 abbrev pub leaf : CommandForm → Shape
-leaf command = leaf_shape command.name (rules_by command.takes)
+leaf command = leaf_shape command.name (rules_for command)
+
+-- its options and arguments have different names, and are few
+abbrev is_sound_command : CommandForm → Bool
+is_sound_command command = are_sound (forms_of command) && is_few command
 
 -- what clap accepts of the words after a command's name, with the line that they give, if they give one
-abbrev pub parsed_by : Arguments → List Text → Option (Option LineValue)
-parsed_by (pair line) words = option_map (λ asked. Some (line asked.0 asked.1)) (pair_of (arguments_of words))
-parsed_by (numbers options line) words = option_map (λ given. Some (line (number_of given))) (given_by (map number_form options) [] words)
-parsed_by (asks options line) words = option_map line (given_by options [] words)
+abbrev pub parsed_by : CommandForm → List Text → Option (Option LineValue)
+parsed_by command words = option_map command.line (checked command (given_by command [] None words))
 
 -- the line, where there is one
 abbrev pub flat : Option (Option LineValue) → Option LineValue
 flat None = None
 flat (Some line) = line
 
-pair_flat : (line : Text → Text → LineValue) (asked : Option (Text × Text))
-    → option_map (λ asked. line asked.0 asked.1) asked ≡ flat (option_map (λ asked. Some (line asked.0 asked.1)) asked)
-pair_flat line None = refl
-pair_flat line (Some asked) = refl
+given_flat : (command : CommandForm) (found : Option Given)
+    → option_and_then (λ given. if has_required command.arguments given then command.line given else None) found
+    ≡ flat (option_map command.line (checked command found))
+given_flat command None = refl
+given_flat command (Some given) = go (has_required command.arguments given)
+  where
+    go : (whole : Bool) → (if whole then command.line given else None)
+        ≡ flat (option_map command.line (if whole then Some given else None))
+    go true = refl
+    go false = refl
 
-given_flat : (line : Given → LineValue) (given : Option Given) → option_map line given
-    ≡ flat (option_map (λ given. Some (line given)) given)
-given_flat line None = refl
-given_flat line (Some given) = refl
-
-asked_flat : (line : Given → Option LineValue) (given : Option Given) → option_and_then line given ≡ flat (option_map line given)
-asked_flat line None = refl
-asked_flat line (Some given) = refl
-
-line_flat : (takes : Arguments) (words : List Text) → line_by takes words ≡ flat (parsed_by takes words)
-line_flat (pair line) words = pair_flat line (pair_of (arguments_of words))
-line_flat (numbers options line) words = given_flat (λ given. line (number_of given)) (given_by (map number_form options) [] words)
-line_flat (asks options line) words = asked_flat line (given_by options [] words)
+line_flat : (command : CommandForm) (words : List Text) → line_by command words ≡ flat (parsed_by command words)
+line_flat command words = given_flat command (given_by command [] None words)
 
 -- clap reads the words after a command's name as `line_by` says
-takes_walk : (name : Text) (takes : Arguments) → has_sound_options takes ≡ true → (words : List Text)
-    → ComesTo (GivesLine takes) (leaf_shape name (rules_by takes)) [] start words (parsed_by takes words)
-takes_walk name (pair line) sound words =
-    comes_as HasPair (GivesLine (pair line)) (λ asked. Some (line asked.0 asked.1)) (leaf_shape name pair_rules) start words
-    (λ rows asked h. (asked.0, asked.1, h.0, h.1, refl)) (pair_of (arguments_of words)) (pair_walk name words)
-takes_walk name (numbers options line) sound words =
-    let forms = map number_form options in
-    comes_as (EndsAs forms) (GivesLine (numbers options line)) (λ given. Some (line (number_of given)))
-    (leaf_shape name (built_rules forms)) start words (λ rows given h. (number_of given, numbers_found options rows given sound h, refl))
-    (given_by forms [] words) (options_walk name forms sound words)
-takes_walk name (asks options line) sound words =
-    comes_as (EndsAs options) (GivesLine (asks options line)) line (leaf_shape name (built_rules options)) start words
-    (λ rows given h. (given, texts_found options rows given sound h, refl)) (given_by options [] words)
-    (options_walk name options sound words)
+line_walk : (command : CommandForm) → is_sound_command command ≡ true → (words : List Text)
+    → ComesTo (GivesLine command) (leaf command) [] start words (parsed_by command words)
+line_walk command sound words =
+    let both_are = both (are_sound (forms_of command)) (is_few command) sound in
+    let is_given : (rows : List Row) (given : Given) → HasGiven command rows given → IsGiven command rows given =
+    λ rows given h. record { texts = texts_found (forms_of command) rows given both_are.0 h.0; required = h.1 } in
+    comes_as (HasGiven command) (GivesLine command) command.line (leaf command) start words (λ rows given h.
+    (given, is_given rows given h, refl))
+    (checked command (given_by command [] None words)) (command_walk command both_are.0 both_are.1 words)
 
 -- ---- a program with these commands, as it is built
 
@@ -109,12 +90,12 @@ program_is = refl
 
 -- whether the form is of a command that is read as its definition says
 abbrev is_good : CommandForm → Bool
-is_good command = not (bytes_eq command.name (codes "help")) && has_sound_options command.takes
+is_good command = not (bytes_eq command.name (codes "help")) && is_sound_command command
 
 -- what clap accepts of the words after the program's name, with these commands
 abbrev parsed_in : List CommandForm → List Text → Option (Option LineValue)
 parsed_in forms [] = None
-parsed_in forms (name ∷ words) = option_and_then (λ command. parsed_by command.takes words) (command_named forms name)
+parsed_in forms (name ∷ words) = option_and_then (λ command. parsed_by command words) (command_named forms name)
 
 find_leaf : (word : Text) (forms : List CommandForm)
     → find (λ t. answers_to word (label_of t)) (map leaf forms ++ help_leaf ∷ [])
@@ -173,8 +154,8 @@ module _ (forms : List CommandForm) (good : list_all is_good forms ≡ true) whe
   behind name words = ap₂ whole (stopped_walk (met name) name [] words) (stopped_fault top names (met name) (name, []) words)
 
   module _ (command : CommandForm) (is : command_named forms command.name ≡ Some command) where
-    parts : (not (bytes_eq command.name (codes "help")) ≡ true) × (has_sound_options command.takes ≡ true)
-    parts = both (not (bytes_eq command.name (codes "help"))) (has_sound_options command.takes)
+    parts : (not (bytes_eq command.name (codes "help")) ≡ true) × (is_sound_command command ≡ true)
+    parts = both (not (bytes_eq command.name (codes "help"))) (is_sound_command command)
         (found_passes is_good _ forms command good is)
 
     not_help : bytes_eq command.name (codes "help") ≡ false
@@ -213,7 +194,7 @@ module _ (forms : List CommandForm) (good : list_all is_good forms ≡ true) whe
 
     -- the program's matches are the command's
     matches_behind : (words : List Text)
-        → entered_by (command.name ∷ words) ≡ Some (command.name, finished (rules_by command.takes) (end_of (leaf command) start words))
+        → entered_by (command.name ∷ words) ≡ Some (command.name, finished (rules_for command) (end_of (leaf command) start words))
     matches_behind words =
         let over : Walk → Option (Text × List Row) = λ w. entered program (fold (walked top.rules names) w words).stopped in
         ap over walks ∙ ap (λ (w : Walk). entered program w.stopped) (stopped_walk (met command.name) command.name [] words)
@@ -267,18 +248,18 @@ module _ (forms : List CommandForm) (good : list_all is_good forms ≡ true) whe
   ReadsAs words None = faults words ≢ []
   ReadsAs words (Some line) = (faults words ≡ [])
       × ((command : CommandForm) × (rows : List Row) × (command_named forms command.name ≡ Some command)
-      × (entered_by words ≡ Some (command.name, rows)) × GivesLine command.takes rows line)
+      × (entered_by words ≡ Some (command.name, rows)) × GivesLine command rows line)
 
   behind_read : (command : CommandForm) → command_named forms command.name ≡ Some command →
       (words : List Text) (line : Option (Option LineValue))
-      → ComesTo (GivesLine command.takes) (leaf command) [] start words line → ReadsAs (command.name ∷ words) line
+      → ComesTo (GivesLine command) (leaf command) [] start words line → ReadsAs (command.name ∷ words) line
   behind_read command is words None h = rw (faults_behind command is words) h
   behind_read command is words (Some line) h = (
     faults_behind command is words
         ∙ h.0,
     (
       command,
-      finished (rules_by command.takes) (end_of (leaf command) start words),
+      finished (rules_for command) (end_of (leaf command) start words),
       is,
       matches_behind
           command is words,
@@ -287,9 +268,9 @@ module _ (forms : List CommandForm) (good : list_all is_good forms ≡ true) whe
   )
 
   command_read : (command : CommandForm) → command_named forms command.name ≡ Some command → (words : List Text)
-      → ReadsAs (command.name ∷ words) (parsed_by command.takes words)
-  command_read command is words = behind_read command is words (parsed_by command.takes words)
-      (takes_walk command.name command.takes (parts command is).1 words)
+      → ReadsAs (command.name ∷ words) (parsed_by command words)
+  command_read command is words = behind_read command is words (parsed_by command words)
+      (line_walk command (parts command is).1 words)
 
   other_read : (word : Text) (words : List Text) → subcommand_met names idle word ≡ None → faults (word ∷ words) ≢ []
   other_read word words none = elim (no_command word none words (kind_of_word word)) [
@@ -308,11 +289,11 @@ module _ (forms : List CommandForm) (good : list_all is_good forms ≡ true) whe
   help_or_other word words false e none = other_read word words (met_by word None none ∙ rw e refl)
 
   first_read : (word : Text) (words : List Text) (command : Option CommandForm) → command_named forms word ≡ command
-      → ReadsAs (word ∷ words) (option_and_then (λ command. parsed_by command.takes words) command)
+      → ReadsAs (word ∷ words) (option_and_then (λ command. parsed_by command words) command)
   first_read word words None is = help_or_other word words (bytes_eq (codes "help") word) refl is
   first_read word words (Some command) is =
       let name : command.name ≡ word = found_name (λ (c : CommandForm). c.name) word forms command is in
-      subst (λ w. ReadsAs (w ∷ words) (parsed_by command.takes words)) name
+      subst (λ w. ReadsAs (w ∷ words) (parsed_by command words)) name
       (command_read command (ap (command_named forms) name ∙ is) words)
 
   -- clap reads the words as the forms of the commands say
@@ -323,14 +304,14 @@ module _ (forms : List CommandForm) (good : list_all is_good forms ≡ true) whe
 
 -- what clap accepts of the words of a command line
 abbrev pub parsed_of : List Text → Option (Option LineValue)
-parsed_of (first ∷ name ∷ words) = option_and_then (λ command. parsed_by command.takes words) (command_named commands name)
+parsed_of (first ∷ name ∷ words) = option_and_then (λ command. parsed_by command words) (command_named commands name)
 parsed_of _ = None
 
 named_flat : (words : List Text) (command : Option CommandForm)
-    → option_and_then (λ command. line_by command.takes words) command
-    ≡ flat (option_and_then (λ command. parsed_by command.takes words) command)
+    → option_and_then (λ command. line_by command words) command
+    ≡ flat (option_and_then (λ command. parsed_by command words) command)
 named_flat words None = refl
-named_flat words (Some command) = line_flat command.takes words
+named_flat words (Some command) = line_flat command words
 
 -- the words' line is the one that they are parsed to
 pub line_parsed : (words : List Text) → line_of words ≡ flat (parsed_of words)

@@ -51,3 +51,10 @@ find_made {A} {B} made test passes same (x ∷ xs) rest = rw (same x) (go (passe
         (find test rest)
     go true e = refl
     go false e = e
+
+pub not_same : (a b : List ℕ) → (a ≡ b → ⊥) → bytes_eq a b ≡ false
+not_same a b other = go (bytes_eq a b) refl
+  where
+    go : (same : Bool) → bytes_eq a b ≡ same → bytes_eq a b ≡ false
+    go true e = absurd (other ((bytes_eq-Decides a b).0 e))
+    go false e = e

@@ -11,7 +11,7 @@ use Rattle.std.proofs.lemmas.List.Folds.{find-append}
 use Rattle.std.proofs.lemmas.Slice.Eq.{bytes_eq-Decides}
 use Rattle.clap.specs.Faults.{repeat_fault, use_fault, values_fault}
 use Rattle.clap.specs.Simple.{new_rule}
-use Rattle.clap.specs.Walk.{Row, Rule, Text, arg_by_id, arg_by_index, arg_by_long, arg_by_short, has_row, more_values, reading_by}
+use Rattle.clap.specs.Walk.{Row, Rule, Text, has_row, more_values, reading_by}
 use Rattle.clap.specs.Walk.{stronger, used, with_values, without}
 use Rattle.clap.specs.declared.builder.action.ArgAction.{ArgAction}
 use Rattle.clap.specs.declared.builder.action.ArgAction.TheVariants.{Append, Set, SetTrue}
@@ -24,8 +24,8 @@ use Rattle.clap.specs.declared.parser.matches.ValueSource.TheVariants.{CommandLi
 use Rattle.clap.proofs.WalkLemmas.{both}
 use Rattle.trace_line.specs.CommandLine.{Given, NumberOption, OptionForm, Wants, is_number_of, many_texts, may_come, no_text, one_more}
 use Rattle.trace_line.specs.CommandLine.{one_number, one_text, option_named, text_given, texts_given}
-use Rattle.trace_line.proofs.Named.{find_made, or_false, same_name}
-use Rattle.trace_line.proofs.LeafWalk.{IsToldOrNone, Some_of, help, help_long, in_second}
+use Rattle.trace_line.proofs.Named.{same_name}
+use Rattle.trace_line.proofs.LeafWalk.{Some_of, help, in_second}
 
 -- ---- the rules
 
@@ -67,34 +67,6 @@ built_rule option = record (new_rule option.name) {
 
 abbrev pub built_rules : List OptionForm → List Rule
 built_rules options = map built_rule options ++ help ∷ []
-
--- a search that passes over the options
-pass_rules : (test : Rule → Bool) → ((o : OptionForm) → test (built_rule o) ≡ false) → (options : List OptionForm)
-    → find test (built_rules options) ≡ find test (help ∷ [])
-pass_rules test none [] = refl
-pass_rules test none (o ∷ options) = rw (none o) (pass_rules test none options)
-
-pub by_short : (options : List OptionForm) (x : ℕ) → arg_by_short (built_rules options) x ≡ arg_by_short (help ∷ []) x
-by_short options x = pass_rules _ (λ o. refl) options
-
-pub by_index : (options : List OptionForm) (i : ℕ) → arg_by_index (built_rules options) i ≡ None
-by_index options i = pass_rules _ (λ o. refl) options
-
-pub by_id : (options : List OptionForm) (name : Text) (o : OptionForm) → option_named options name ≡ Some o
-    → arg_by_id (built_rules options) name ≡ Some (built_rule o)
-by_id options name o is = find_made built_rule _ (λ o. bytes_eq o.name name) (λ o. refl) options (help ∷ []) ∙ rw is refl
-
-pub by_long : (options : List OptionForm) (name : Text) (o : OptionForm) → option_named options name ≡ Some o
-    → arg_by_long (built_rules options) name ≡ Some (built_rule o)
-by_long options name o is = find_made built_rule _ (λ o. bytes_eq o.name name) (λ o. or_false (bytes_eq o.name name)) options (help ∷ [])
-    ∙ rw is refl
-
-pub no_long : (options : List OptionForm) (name : Text) → option_named options name ≡ None →
-    IsToldOrNone (arg_by_long (built_rules options) name)
-no_long options name none =
-    let same : arg_by_long (built_rules options) name ≡ arg_by_long (help ∷ []) name =
-    find_made built_rule _ (λ o. bytes_eq o.name name) (λ o. or_false (bytes_eq o.name name)) options (help ∷ []) ∙ rw none refl in
-    rw same (help_long name)
 
 -- ---- options of different names, whose defaults are numbers of theirs
 
@@ -217,7 +189,7 @@ pub none_are : (options : List OptionForm) → are_sound options ≡ true → Ar
 none_are options sound o is = no_row o.name o.wants (sound_named options o sound is)
 
 -- one more is given, of this name and of others
-text_new : (given : Given) (name text : Text) → text_given given name ≡ None → text_given (given ++ (name, text) ∷ []) name ≡ Some text
+pub text_new : (given : Given) (name text : Text) → text_given given name ≡ None → text_given (given ++ (name, text) ∷ []) name ≡ Some text
 text_new given name text none =
     rw (find-append (λ (pair : Text × Text). bytes_eq pair.0 name) given ((name, text) ∷ []))
     (go (find (λ pair. bytes_eq pair.0 name) given) none)
@@ -228,7 +200,7 @@ text_new given name text none =
     go None e = rw (same_name name) refl
     go (Some pair) e = absurd (cc e)
 
-text_other : (given : Given) (name text other : Text) → bytes_eq name other ≡ false → text_given (given ++ (name, text) ∷ []) other
+pub text_other : (given : Given) (name text other : Text) → bytes_eq name other ≡ false → text_given (given ++ (name, text) ∷ []) other
     ≡ text_given given other
 text_other given name text other is =
     rw (find-append (λ (pair : Text × Text). bytes_eq pair.0 other) given ((name, text) ∷ []), is)
@@ -308,7 +280,7 @@ pub data Use (options : List OptionForm) (given : Given) (rows : List Row) (o : 
   bad : one_more options given (Some o.name) said ≡ None → Some_of (use_fault false (built_rule o) (said_values said) rows) →
       Use options given rows o said
 
-one_more_if : (options : List OptionForm) (given : Given) (o : OptionForm) (said : Option Text) (may : Bool) →
+pub one_more_if : (options : List OptionForm) (given : Given) (o : OptionForm) (said : Option Text) (may : Bool) →
     option_named options o.name ≡ Some o
     → may_come given said o ≡ may → one_more options given (Some o.name) said ≡ (if may then Some (more_given given o said) else None)
 one_more_if options given o said may at is = rw (at, is) refl

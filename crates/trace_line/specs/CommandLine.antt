@@ -8,29 +8,40 @@ use Rattle.std.specs.Str.{bytes_eq, chars}
 use Rattle.std.specs.Str.Parse.{digits_value, without_leading_sign}
 use Rattle.clap.specs.Lexer.{long_of, name_and_value}
 use Rattle.clap.specs.ValueTests.{is_signed_in}
+use Rattle.trace_report.specs.declared.format.Format.{Format}
+use Rattle.trace_report.specs.declared.format.Format.TheVariants.{Text, Json}
 use Rattle.trace_line.specs.declared.import.Define.{Define}
 use Rattle.trace_line.specs.declared.import.ImportOptions.{ImportOptions}
 use Rattle.trace_line.specs.declared.import.OwnerRules.{OwnerRules}
 use Rattle.trace_line.specs.declared.import.OwnerRules.TheVariants.{Keep, Drop}
 use Rattle.trace_line.specs.declared.line.Line.{Line}
-use Rattle.trace_line.specs.declared.line.Line.TheVariants.{Judge, Explain, Run, Compile, Check, Match, Steps, Storm, Test, Import}
+use Rattle.trace_line.specs.declared.line.Line.TheVariants.{Judge, Explain, Any, All, Diff, Lint, Run, Compile, Check, Match, Steps, Storm}
+use Rattle.trace_line.specs.declared.line.Line.TheVariants.{Test, Import}
 use Rattle.trace_line.specs.declared.line.LineFault.{LineFault}
 use Rattle.trace_line.specs.declared.line.LineFault.TheVariants.{Usage, NoMemory}
 
 -- a command, with what it is asked for
 pub data LineValue : Type 0 where
-  -- PERMS and NAME
-  judge : List ℕ → List ℕ → LineValue
-  -- PERMS and NAME
-  explain : List ℕ → List ℕ → LineValue
+  -- PERMS and NAME, and how the answer is written
+  judge : List ℕ → List ℕ → Format → LineValue
+  explain : List ℕ → List ℕ → Format → LineValue
+  -- PERMS and PATTERN, whether a name is wanted for each rule, and how the answer is written
+  any_name : List ℕ → List ℕ → Bool → Format → LineValue
+  -- PERMS and PATTERN, and how the answer is written
+  all_names : List ℕ → List ℕ → Format → LineValue
+  -- OLD, NEW, the pattern of the names that are compared, whether a name is wanted for each pair of reasons, and how the answer is written
+  diff : List ℕ → Option (List ℕ) → Option (List ℕ) → Bool → Format → LineValue
+  -- how the answer is written
+  lint : Format → LineValue
   -- how many entries the tree has room for
   run : ℕ → LineValue
-  test : ℕ → LineValue
+  -- how many entries the tree has room for, and how the answer is written
+  test : ℕ → Format → LineValue
   -- at how many defaults a byte may be looked up again
   compile : ℕ → LineValue
   check : LineValue
-  -- PERMS and NAME
-  match_name : List ℕ → List ℕ → LineValue
+  -- PERMS and NAME, and how the answer is written
+  match_name : List ℕ → List ℕ → Format → LineValue
   -- how many entries the tree has room for
   steps : ℕ → LineValue
   -- how many sessions, opens of each, and changes of the tree and of the policy
@@ -46,13 +57,18 @@ import_value asked = import_text (option_map (λ name. name.now) asked.profile) 
     asked.strict
 
 abbrev pub line_value : Line → LineValue
-line_value (Judge perms name) = judge perms.now name.now
-line_value (Explain perms name) = explain perms.now name.now
+line_value (Judge perms name format) = judge perms.now name.now format
+line_value (Explain perms name format) = explain perms.now name.now format
+line_value (Any perms pattern each_rule format) = any_name perms.now pattern.now each_rule format
+line_value (All perms pattern format) = all_names perms.now pattern.now format
+line_value (Diff old new below each_rule format) =
+    diff old.now (option_map (λ new. new.now) new) (option_map (λ below. below.now) below) each_rule format
+line_value (Lint format) = lint format
 line_value (Run capacity) = run capacity
-line_value (Test capacity) = test capacity
+line_value (Test capacity format) = test capacity format
 line_value (Compile depth) = compile depth
 line_value Check = check
-line_value (Match perms name) = match_name perms.now name.now
+line_value (Match perms name format) = match_name perms.now name.now format
 line_value (Steps capacity) = steps capacity
 line_value (Storm sessions opens changes) = storm sessions opens changes
 line_value (Import asked) = import_value asked
@@ -61,20 +77,6 @@ line_value (Import asked) = import_value asked
 abbrev pub is_option : List ℕ → Bool
 is_option [] = false
 is_option (b ∷ rest) = b == 45 && is_some (slice_get (chars rest) 0)
-
--- ---- arguments
-
--- The arguments among the words, none of which may be an option. The first `--` isn't an argument; after it any word is one.
-abbrev pub arguments_of : List (List ℕ) → Option (List (List ℕ))
-arguments_of [] = Some []
-arguments_of (word ∷ words) =
-    if bytes_eq word (codes "--") then Some words
-    else (if is_option word then None else option_map (λ others. word ∷ others) (arguments_of words))
-
--- two arguments, and no other number of them
-abbrev pub pair_of : Option (List (List ℕ)) → Option (List ℕ × List ℕ)
-pair_of (Some (first ∷ second ∷ [])) = Some (first, second)
-pair_of _ = None
 
 -- ---- options
 
@@ -125,7 +127,14 @@ abbrev pub comes_again : Wants → Bool
 comes_again many_texts = true
 comes_again _ = false
 
--- the names of the options that are given, each with its text; that of one that takes nothing is empty
+-- ---- what is given
+
+-- an argument, which is known by its place among the words that aren't options
+pub record ArgumentForm : Type 0 where
+  pub name : List ℕ
+  pub is_required : Bool
+
+-- the names of the options and arguments that are given, each with its text; that of an option that takes nothing is empty
 abbrev pub Given : Type 0
 Given = List (List ℕ × List ℕ)
 
@@ -135,15 +144,32 @@ text_given given name = option_map (λ pair. pair.1) (find (λ pair. bytes_eq pa
 abbrev pub texts_given : Given → List ℕ → List (List ℕ)
 texts_given given name = map (λ pair. pair.1) (filter (λ pair. bytes_eq pair.0 name) given)
 
+abbrev pub has : Given → List ℕ → Bool
+has given name = is_some (text_given given name)
+
 -- whether the option may be given once more, with this text or with none
 abbrev pub may_come : Given → Option (List ℕ) → OptionForm → Bool
-may_come given said option = is_wanted option.wants said && (comes_again option.wants || not (is_some (text_given given option.name)))
+may_come given said option = is_wanted option.wants said && (comes_again option.wants || not (has given option.name))
 
 -- one more option after those given, if there is a name, and the command accepts it
 abbrev pub one_more : List OptionForm → Given → Option (List ℕ) → Option (List ℕ) → Option Given
 one_more options given None said = None
 one_more options given (Some name) said =
     if option_map_or (may_come given said) (option_named options name) false then Some (given ++ (name, unwrap_or said []) ∷ []) else None
+
+-- the word is the first argument that isn't given yet, if there is one
+abbrev pub one_argument : List ArgumentForm → Given → List ℕ → Option Given
+one_argument arguments given word =
+    option_map (λ argument. given ++ (argument.name, word) ∷ []) (find (λ argument. not (has given argument.name)) arguments)
+
+-- each of the words is an argument
+abbrev pub arguments_by : List ArgumentForm → Given → List (List ℕ) → Option Given
+arguments_by arguments given [] = Some given
+arguments_by arguments given (word ∷ words) =
+    option_and_then (λ more. arguments_by arguments more words) (one_argument arguments given word)
+
+abbrev pub has_required : List ArgumentForm → Given → Bool
+has_required arguments given = list_all (λ argument. not argument.is_required || has given argument.name) arguments
 
 -- the name in a word `--NAME=TEXT` or `--NAME`, and the text in the first
 abbrev pub name_in : List ℕ → Option (List ℕ)
@@ -156,26 +182,51 @@ text_in word = option_and_then (λ cut. cut.1) (long_of word)
 abbrev pub text_behind : List ℕ → Option (List ℕ)
 text_behind word = if is_option word then None else Some word
 
--- The word is a complete option: it has the text, or none is wanted.
-abbrev pub is_whole : List OptionForm → List ℕ → Bool
-is_whole options word =
-    is_some (text_in word) || option_map_or (λ option. is_wanted option.wants None) (option_and_then (option_named options) (name_in word))
-    false
+-- the word is `--NAME` of an option that wants a text
+abbrev pub is_open : List OptionForm → List ℕ → Bool
+is_open options word = not (is_some (text_in word))
+    && option_map_or (λ option. not (is_wanted option.wants None)) (option_and_then (option_named options) (name_in word)) false
 
--- The options that the words give after those given: `--NAME=TEXT`, or `--NAME` and `TEXT`, or `--NAME` alone, in any order. A `--`
--- as the last word means nothing.
-abbrev pub given_by : List OptionForm → Given → List (List ℕ) → Option Given
-given_by options given [] = Some given
-given_by options given (word ∷ []) = if bytes_eq word (codes "--") then Some given else one_more options given
-    (name_in word) (text_in word)
-given_by options given (word ∷ next ∷ words) =
-    if is_whole options word then option_and_then (λ more. given_by options more (next ∷ words))
-    (one_more options given (name_in word) (text_in word))
-    else option_and_then (λ more. given_by options more words) (one_more options given (name_in word) (text_behind next))
+pub record CommandForm : Type 0 where
+  pub name : List ℕ
+  pub options : List OptionForm
+  -- in their order
+  pub arguments : List ArgumentForm
+  -- the line that it is by what is given, if that makes one
+  pub line : Given → Option LineValue
+
+-- an option that is complete in one word, or an argument
+abbrev pub one_word : CommandForm → Given → List ℕ → Option Given
+one_word command given word =
+    if is_option word then one_more command.options given (name_in word) (text_in word) else one_argument command.arguments given word
+
+-- What the words give in addition to what is given: options, as `--NAME=TEXT`, as `--NAME` and `TEXT` or as `--NAME` alone, and
+-- arguments, in any order. After `--` each word is an argument. `waiting`: the option whose text is the next word.
+abbrev pub given_by : CommandForm → Given → Option (List ℕ) → List (List ℕ) → Option Given
+given_by command given None [] = Some given
+given_by command given (Some waiting) [] = None
+given_by command given (Some waiting) (word ∷ words) =
+    option_and_then (λ more. given_by command more None words) (one_more command.options given (Some waiting) (text_behind word))
+given_by command given None (word ∷ words) =
+    if bytes_eq word (codes "--") then arguments_by command.arguments given words
+    else (if is_open command.options word then given_by command given (name_in word) words
+    else option_and_then (λ more. given_by command more None words) (one_word command given word))
+
+-- the line of a command by the words after its name
+abbrev pub line_by : CommandForm → List (List ℕ) → Option LineValue
+line_by command words =
+    option_and_then (λ given. if has_required command.arguments given then command.line given else None) (given_by command [] None words)
 
 -- the number of an option, by the text that is given or by its default
+abbrev pub number_by : NumberOption → Option (List ℕ) → ℕ
+number_by option said = digits_value 10 (without_leading_sign (unwrap_or said option.default))
+
 abbrev pub number_of : Given → NumberOption → ℕ
-number_of given option = digits_value 10 (without_leading_sign (unwrap_or (text_given given option.name) option.default))
+number_of given option = number_by option (text_given given option.name)
+
+-- the text of an argument that must be given
+abbrev pub text_of : Given → List ℕ → List ℕ
+text_of given name = unwrap_or (text_given given name) []
 
 -- ---- an import
 
@@ -226,7 +277,7 @@ import_of profile owner defines strict =
 abbrev pub import_by : Given → Option LineValue
 import_by given =
     import_of (text_given given (codes "profile")) (text_given given (codes "owner")) (texts_given given (codes "define"))
-    (is_some (text_given given (codes "strict")))
+    (has given (codes "strict"))
 
 abbrev pub import_options : List OptionForm
 import_options = record { name = codes "profile"; wants = one_text }
@@ -235,19 +286,6 @@ import_options = record { name = codes "profile"; wants = one_text }
     ∷ record { name = codes "strict"; wants = no_text } ∷ []
 
 -- ---- the commands
-
--- what the words after a command's name are
-pub data Arguments : Type 0 where
-  -- two arguments, which give the line
-  pair : (List ℕ → List ℕ → LineValue) → Arguments
-  -- options, whose numbers give the line
-  numbers : List NumberOption → ((NumberOption → ℕ) → LineValue) → Arguments
-  -- options, of which those that are given make the line, if they make one
-  asks : List OptionForm → (Given → Option LineValue) → Arguments
-
-pub record CommandForm : Type 0 where
-  pub name : List ℕ
-  pub takes : Arguments
 
 abbrev pub capacity : NumberOption
 capacity = record { name = codes "capacity"; default = codes "1024"; least = 1; most = 16384 }
@@ -264,45 +302,130 @@ changes = record { name = codes "changes"; default = codes "1000"; least = 0; mo
 abbrev pub depth : NumberOption
 depth = record { name = codes "depth"; default = codes "0"; least = 0; most = 64 }
 
-abbrev pub storm_by : (NumberOption → ℕ) → LineValue
-storm_by number = storm (number sessions) (number opens) (number changes)
+abbrev pub json : OptionForm
+json = record { name = codes "json"; wants = no_text }
 
--- the commands of a profile in this program's language
+abbrev pub each_rule : OptionForm
+each_rule = record { name = codes "each-rule"; wants = no_text }
+
+abbrev pub below : OptionForm
+below = record { name = codes "below"; wants = one_text }
+
+abbrev pub format_by : Bool → Format
+format_by true = Json
+format_by false = Text
+
+abbrev pub format_of : Given → Format
+format_of given = format_by (has given (codes "json"))
+
+abbrev pub required : List ℕ → ArgumentForm
+required name = record { name = name; is_required = true }
+
+abbrev pub optional : List ℕ → ArgumentForm
+optional name = record { name = name; is_required = false }
+
+-- a command of PERMS and one more argument
+abbrev pub pair_command : List ℕ → List ℕ → (List ℕ → List ℕ → Format → LineValue) → CommandForm
+pair_command name second line = record {
+  name = name;
+  options = json ∷ [];
+  arguments = required (codes "PERMS") ∷ required second ∷ [];
+  line = λ given. Some (line (text_of given (codes "PERMS")) (text_of given second) (format_of given));
+}
+
+-- a command whose options are numbers
+abbrev pub numbers_command : List ℕ → List NumberOption → ((NumberOption → ℕ) → LineValue) → CommandForm
+numbers_command name options line =
+    record { name = name; options = map number_form options; arguments = []; line = λ given. Some (line (number_of given)) }
+
+abbrev pub judge_command : CommandForm
+judge_command = pair_command (codes "judge") (codes "NAME") judge
+
+abbrev pub explain_command : CommandForm
+explain_command = pair_command (codes "explain") (codes "NAME") explain
+
+abbrev pub any_command : CommandForm
+any_command = record {
+  name = codes "any";
+  options = each_rule ∷ json ∷ [];
+  arguments = required (codes "PERMS") ∷ required (codes "PATTERN") ∷ [];
+  line = λ given. Some (any_name (text_of given (codes "PERMS")) (text_of given (codes "PATTERN")) (has given (codes "each-rule"))
+      (format_of given));
+}
+
+abbrev pub all_command : CommandForm
+all_command = pair_command (codes "all") (codes "PATTERN") all_names
+
+abbrev pub diff_command : CommandForm
+diff_command = record {
+  name = codes "diff";
+  options = below ∷ each_rule ∷ json ∷ [];
+  arguments = required (codes "OLD") ∷ optional (codes "NEW") ∷ [];
+  line = λ given. Some (diff (text_of given (codes "OLD")) (text_given given (codes "NEW")) (text_given given (codes "below"))
+      (has given (codes "each-rule")) (format_of given));
+}
+
+abbrev pub lint_command : CommandForm
+lint_command = record { name = codes "lint"; options = json ∷ []; arguments = []; line = λ given. Some (lint (format_of given)) }
+
+abbrev pub run_command : CommandForm
+run_command = numbers_command (codes "run") (capacity ∷ []) (λ number. run (number capacity))
+
+abbrev pub test_command : CommandForm
+test_command = record {
+  name = codes "test";
+  options = number_form capacity ∷ json ∷ [];
+  arguments = [];
+  line = λ given. Some (test (number_of given capacity) (format_of given));
+}
+
+abbrev pub compile_command : CommandForm
+compile_command = numbers_command (codes "compile") (depth ∷ []) (λ number. compile (number depth))
+
+abbrev pub check_command : CommandForm
+check_command = numbers_command (codes "check") [] (λ number. check)
+
+abbrev pub match_command : CommandForm
+match_command = pair_command (codes "match") (codes "NAME") match_name
+
+abbrev pub steps_command : CommandForm
+steps_command = numbers_command (codes "steps") (capacity ∷ []) (λ number. steps (number capacity))
+
+abbrev pub storm_command : CommandForm
+storm_command = numbers_command (codes "storm") (sessions ∷ opens ∷ changes ∷ [])
+    (λ number. storm (number sessions) (number opens) (number changes))
+
+abbrev pub import_command : CommandForm
+import_command = record { name = codes "import"; options = import_options; arguments = []; line = import_by }
+
+-- the commands of one name and a profile in this program's language
 abbrev pub profile_commands : List CommandForm
-profile_commands = record { name = codes "judge"; takes = pair judge } ∷ record { name = codes "explain"; takes = pair explain } ∷ []
+profile_commands = judge_command ∷ explain_command ∷ []
+
+-- the commands of all names
+abbrev pub question_commands : List CommandForm
+question_commands = any_command ∷ all_command ∷ diff_command ∷ lint_command ∷ []
 
 abbrev pub script_commands : List CommandForm
-script_commands = record { name = codes "run"; takes = numbers (capacity ∷ []) (λ number. run (number capacity)) }
-    ∷ record { name = codes "test"; takes = numbers (capacity ∷ []) (λ number. test (number capacity)) } ∷ []
+script_commands = run_command ∷ test_command ∷ []
 
 -- the commands of the image of a profile
 abbrev pub image_commands : List CommandForm
-image_commands = record { name = codes "compile"; takes = numbers (depth ∷ []) (λ number. compile (number depth)) }
-    ∷ record { name = codes "check"; takes = numbers [] (λ number. check) }
-    ∷ record { name = codes "match"; takes = pair match_name } ∷ []
+image_commands = compile_command ∷ check_command ∷ match_command ∷ []
 
 -- the commands of single events, and of threads
 abbrev pub event_commands : List CommandForm
-event_commands = record { name = codes "steps"; takes = numbers (capacity ∷ []) (λ number. steps (number capacity)) }
-    ∷ record { name = codes "storm"; takes = numbers (sessions ∷ opens ∷ changes ∷ []) storm_by } ∷ []
-
-abbrev pub import_command : CommandForm
-import_command = record { name = codes "import"; takes = asks import_options import_by }
+event_commands = steps_command ∷ storm_command ∷ []
 
 abbrev pub commands : List CommandForm
-commands = profile_commands ++ script_commands ++ image_commands ++ event_commands ++ import_command ∷ []
+commands = profile_commands ++ question_commands ++ script_commands ++ image_commands ++ event_commands ++ import_command ∷ []
 
 abbrev pub command_named : List CommandForm → List ℕ → Option CommandForm
 command_named commands name = find (λ command. bytes_eq command.name name) commands
 
-abbrev pub line_by : Arguments → List (List ℕ) → Option LineValue
-line_by (pair line) words = option_map (λ asked. line asked.0 asked.1) (pair_of (arguments_of words))
-line_by (numbers options line) words = option_map (λ given. line (number_of given)) (given_by (map number_form options) [] words)
-line_by (asks options line) words = option_and_then line (given_by options [] words)
-
 -- the program's name, a command's name and its arguments
 abbrev pub line_of : List (List ℕ) → Option LineValue
-line_of (program ∷ name ∷ words) = option_and_then (λ command. line_by command.takes words) (command_named commands name)
+line_of (program ∷ name ∷ words) = option_and_then (λ command. line_by command words) (command_named commands name)
 line_of _ = None
 
 abbrev pub line_fault_number : LineFault → ℕ

@@ -6,6 +6,7 @@ ghost use Rattle.trace_line.specs.CommandLine.{begins_with_letter, define_of, de
 ghost use Rattle.trace_line.specs.CommandLine.{is_name_byte, is_value, is_variable, owners_of};
 ghost use Rattle.trace_line.specs.inner.Parser.{flag_read, import_read};
 
+use crate::found::flag_in;
 use crate::line::LineFault;
 use crate::parser::import_command;
 use clap::ArgMatches;
@@ -81,14 +82,6 @@ fn text_fault(alloc: Global, told: &str) -> LineFault {
 fn text_error(alloc: Global, told: &str) -> Result<clap::Error, AllocError> {
     let mut command = import_command(alloc)?.bin_name("aa-trace import")?;
     command.error(ErrorKind::ValueValidation, told)
-}
-
-/// Whether an option is given that takes no text.
-fn flag_in(found: &ArgMatches, name: &str) -> bool
-    requires { is_some (flag_read name.now (rows_of (found_of found.now))) ≡ true }
-    ensures { flag_read name.now (rows_of (found_of found.now)) ≡ Some result }
-{
-    found.get_flag(name)
 }
 
 /// What becomes of rules for owners by the text of `--owner`.

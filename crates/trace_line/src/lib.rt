@@ -4,9 +4,13 @@
 //! proofs.
 #![tactic(auto)]
 
+mod found;
 mod import;
 mod line;
+mod lines;
+mod options;
 mod parser;
 
 pub use import::{Define, ImportOptions, OwnerRules};
 pub use line::{Line, LineFault, command_line};
+pub use trace_report::Format;

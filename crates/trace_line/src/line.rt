@@ -1,38 +1,70 @@
 //! What the words of a command line ask for.
-ghost use Rattle.std.specs.Prelude.{◌≡◌, IfOk, IfErr, is_some, Some, true, map, codes};
-ghost use Rattle.clap.specs.Words.{first_value, found_of, rows_of};
+ghost use Rattle.std.specs.Prelude.{◌≡◌, IfOk, IfErr, is_some, Some, true, map};
 ghost use Rattle.trace_line.specs.CommandLine.{line_of, line_value, line_fault_number};
-ghost use Rattle.trace_line.specs.inner.Parser.{IsLineFaultOf, IsReadAs, IsStormOf, number_read};
+ghost use Rattle.trace_line.specs.inner.Parser.{IsLineFaultOf, IsReadAs};
 
 use crate::import::{ImportOptions, import_in};
-use crate::parser::{CAPACITY, CHANGES, DEPTH, OPENS, SESSIONS, program};
+use crate::lines::{
+    all_in, any_in, compile_in, diff_in, explain_in, judge_in, lint_in, match_in, run_in, steps_in,
+    storm_in, test_in,
+};
+use crate::parser::program;
 use clap::ArgMatches;
 use clap::error::ErrorKind;
 use names::NoMemory;
 use std::alloc::{AllocError, Global};
 use std::convert::AsStr;
 use thiserror::Error;
+use trace_report::Format;
 
 /// A command, with what it is asked for.
 #[derive(Debug, Drop, PartialEq, Eq)]
 pub enum Line<'a> {
-    /// `judge PERMS NAME`
+    /// `judge [--json] PERMS NAME`
     Judge {
         perms: &'a str,
         name: &'a str,
+        format: Format,
     },
-    /// `explain PERMS NAME`
+    /// `explain [--json] PERMS NAME`
     Explain {
         perms: &'a str,
         name: &'a str,
+        format: Format,
+    },
+    /// `any [--each-rule] [--json] PERMS PATTERN`
+    Any {
+        perms: &'a str,
+        pattern: &'a str,
+        each_rule: bool,
+        format: Format,
+    },
+    /// `all [--json] PERMS PATTERN`
+    All {
+        perms: &'a str,
+        pattern: &'a str,
+        format: Format,
+    },
+    /// `diff [--below PATTERN] [--each-rule] [--json] OLD [NEW]`
+    Diff {
+        old: &'a str,
+        new: Option<&'a str>,
+        below: Option<&'a str>,
+        each_rule: bool,
+        format: Format,
+    },
+    /// `lint [--json]`
+    Lint {
+        format: Format,
     },
     /// `run --capacity N`
     Run {
         capacity: u32,
     },
-    /// `test --capacity N`
+    /// `test --capacity N [--json]`
     Test {
         capacity: u32,
+        format: Format,
     },
     /// `compile --depth N`
     Compile {
@@ -40,10 +72,11 @@ pub enum Line<'a> {
     },
     /// `check`
     Check,
-    /// `match PERMS NAME`
+    /// `match [--json] PERMS NAME`
     Match {
         perms: &'a str,
         name: &'a str,
+        format: Format,
     },
     /// `steps --capacity N`
     Steps {
@@ -113,32 +146,18 @@ pub fn command_line<'a, S: AsStr>(alloc: Global, words: &'a [S]) -> Result<Line<
     let matches = matches_of(alloc, words)?;
     let (command, found) = matches.subcommand().unwrap();
     match command {
-        "judge" => {
-            let (perms, name) = pair_in(found);
-            Ok(Line::Judge { perms, name })
-        }
-        "explain" => {
-            let (perms, name) = pair_in(found);
-            Ok(Line::Explain { perms, name })
-        }
-        "run" => Ok(Line::Run {
-            capacity: number_in(found, CAPACITY.name),
-        }),
-        "test" => Ok(Line::Test {
-            capacity: number_in(found, CAPACITY.name),
-        }),
-        "compile" => Ok(Line::Compile {
-            // The parser takes no depth over 64.
-            depth: number_in(found, DEPTH.name) as u16,
-        }),
+        "judge" => Ok(judge_in(found)),
+        "explain" => Ok(explain_in(found)),
+        "any" => Ok(any_in(found)),
+        "all" => Ok(all_in(found)),
+        "diff" => Ok(diff_in(found)),
+        "lint" => Ok(lint_in(found)),
+        "run" => Ok(run_in(found)),
+        "test" => Ok(test_in(found)),
+        "compile" => Ok(compile_in(found)),
         "check" => Ok(Line::Check),
-        "match" => {
-            let (perms, name) = pair_in(found);
-            Ok(Line::Match { perms, name })
-        }
-        "steps" => Ok(Line::Steps {
-            capacity: number_in(found, CAPACITY.name),
-        }),
+        "match" => Ok(match_in(found)),
+        "steps" => Ok(steps_in(found)),
         "storm" => Ok(storm_in(found)),
         "import" => Ok(Line::Import(import_in(alloc, found)?)),
         _ => unreachable!(),
@@ -153,38 +172,4 @@ fn matches_of<'a, S: AsStr>(alloc: Global, words: &'a [S]) -> Result<ArgMatches<
 {
     let matches = program(alloc)?.try_get_matches_from(words)?;
     Ok(matches)
-}
-
-/// The two arguments of a command, PERMS and NAME.
-fn pair_in<'a>(found: &ArgMatches<'a>) -> (&'a str, &'a str)
-    requires perms { is_some (first_value (found_of found.now) (codes "PERMS")) ≡ true }
-    requires name { is_some (first_value (found_of found.now) (codes "NAME")) ≡ true }
-    ensures perms { first_value (found_of found.now) (codes "PERMS") ≡ Some result.0.now }
-    ensures name { first_value (found_of found.now) (codes "NAME") ≡ Some result.1.now }
-{
-    let perms = found.get_str("PERMS").unwrap();
-    let name = found.get_str("NAME").unwrap();
-    (perms, name)
-}
-
-/// The number of an option.
-fn number_in(found: &ArgMatches, name: &str) -> u32
-    requires { is_some (number_read name.now (rows_of (found_of found.now))) ≡ true }
-    ensures { number_read name.now (rows_of (found_of found.now)) ≡ Some result }
-{
-    found.get_one::<u32>(name).unwrap()
-}
-
-/// A storm by its numbers.
-fn storm_in<'a>(found: &ArgMatches<'a>) -> Line<'a>
-    requires sessions { is_some (number_read (codes "sessions") (rows_of (found_of found.now))) ≡ true }
-    requires opens { is_some (number_read (codes "opens") (rows_of (found_of found.now))) ≡ true }
-    requires changes { is_some (number_read (codes "changes") (rows_of (found_of found.now))) ≡ true }
-    ensures { IsStormOf (rows_of (found_of found.now)) (line_value result) }
-{
-    Line::Storm {
-        sessions: number_in(found, SESSIONS.name),
-        opens: number_in(found, OPENS.name),
-        changes: number_in(found, CHANGES.name),
-    }
 }

@@ -1,73 +1,26 @@
 //! The commands of the program, as their parser knows them.
-ghost use Rattle.std.specs.Prelude.{◌≡◌, IfOk, true, false, map, fold, codes};
-ghost use Rattle.clap.specs.Words.{app_of, rule_of, with_subcommand};
-ghost use Rattle.trace_line.specs.CommandLine.{import_options, profile_commands, script_commands, image_commands, event_commands};
-ghost use Rattle.trace_line.specs.inner.Parser.{flag_rule, number_option, number_rule, numbers_app, options_app, pair_app, program_app};
-ghost use Rattle.trace_line.specs.inner.Parser.{required_rule, text_rule, texts_rule, with_command};
+ghost use Rattle.std.specs.Prelude.{◌≡◌, IfOk, true, map, fold, codes};
+ghost use Rattle.clap.specs.Words.{app_of, with_subcommand};
+ghost use Rattle.trace_line.specs.CommandLine.{any_command, diff_command, event_commands, image_commands, import_command, lint_command};
+ghost use Rattle.trace_line.specs.CommandLine.{profile_commands, question_commands, script_commands, test_command};
+ghost use Rattle.trace_line.specs.inner.Parser.{app_by, number_option, numbers_app, pair_app, program_app, with_command};
 
-use clap::builder::ValueParser;
-use clap::{Arg, ArgAction, Command};
+use crate::options::{
+    CAPACITY, CHANGES, DEPTH, NumberOption, OPENS, SESSIONS, each_rule_argument, flag_argument,
+    json_argument, number_argument, optional_argument, perms_argument, required_argument,
+    text_argument, texts_argument,
+};
+use clap::Command;
 use std::alloc::{AllocError, Global};
-
-/// An option of a command, whose value is a number.
-#[derive(Clone, Copy)]
-pub(crate) struct NumberOption {
-    /// Its name, which follows two hyphens.
-    pub(crate) name: &'static str,
-    /// Its number if it isn't given, in decimal digits.
-    default: &'static str,
-    least: u32,
-    most: u32,
-    help: &'static str,
-}
 
 /// The version that `--version` prints.
 const VERSION: &str = "0.1.0";
 
-/// How many entries the tree of `run`, `test` and `steps` has room for.
-pub(crate) const CAPACITY: NumberOption = NumberOption {
-    name: "capacity",
-    default: "1024",
-    least: 1,
-    most: 16384,
-    help: "The number of entries that the tree has room for, 1 to 16384",
-};
+/// What PATTERN is.
+const PATTERN: &str = "A path as rules have it, such as /etc/**";
 
-/// At how many defaults a byte may be looked up again, in the image that `compile` writes.
-pub(crate) const DEPTH: NumberOption = NumberOption {
-    name: "depth",
-    default: "0",
-    least: 0,
-    most: 64,
-    help: "The number of defaults at which a byte may be looked up again, 0 to 64; 0 writes version 1 if that can hold the profile",
-};
-
-/// How many sessions there are in a storm.
-pub(crate) const SESSIONS: NumberOption = NumberOption {
-    name: "sessions",
-    default: "4",
-    least: 1,
-    most: 16,
-    help: "The number of sessions, each in a thread, 1 to 16",
-};
-
-/// How often each of them opens.
-pub(crate) const OPENS: NumberOption = NumberOption {
-    name: "opens",
-    default: "1000",
-    least: 1,
-    most: 100000,
-    help: "The number of opens of each session, 1 to 100000",
-};
-
-/// How often the tree is changed meanwhile, and the policy.
-pub(crate) const CHANGES: NumberOption = NumberOption {
-    name: "changes",
-    default: "1000",
-    least: 0,
-    most: 100000,
-    help: "The number of renames meanwhile, and of new profiles, 0 to 100000",
-};
+/// What NAME is.
+const NAME: &str = "The name that is judged, from its first slash on";
 
 /// The commands of the program. Each is added to the program before the next one is made, so that only one command at a time
 /// has to be dropped if memory is refused.
@@ -79,100 +32,155 @@ pub(crate) fn program<'a>(alloc: Global) -> Result<Command<'a>, AllocError>
         .version(VERSION)
         .subcommand_required(true);
     let judging = with_profile_commands(bare, alloc)?;
-    let running = with_script_commands(judging, alloc)?;
+    let asking = with_question_commands(judging, alloc)?;
+    let running = with_script_commands(asking, alloc)?;
     let compiling = with_image_commands(running, alloc)?;
     let stepping = with_event_commands(compiling, alloc)?;
     let import = import_command(alloc)?;
-    stepping.subcommand(import)
+    with_one(stepping, import)
 }
 
-/// The program with the commands of a profile in its own language.
+/// The program with one more command.
+fn with_one<'a>(program: Command<'a>, command: Command<'a>) -> Result<Command<'a>, AllocError>
+    requires { (app_of command).top.is_plain ≡ true }
+    ensures { IfOk result (λ more. app_of more ≡ with_subcommand (app_of program.entry) (app_of command.entry).top) }
+{
+    program.subcommand(command)
+}
+
+/// The program with the commands of one name and a profile in its own language.
 fn with_profile_commands<'a>(program: Command<'a>, alloc: Global) -> Result<Command<'a>, AllocError>
     ensures { IfOk result (λ command. app_of command ≡ fold with_command (app_of program.entry) profile_commands) }
 {
-    let judging = with_pair(
-        program,
-        alloc,
-        "judge",
-        "Judges a name by the profile on standard input",
-    )?;
-    with_pair(
-        judging,
-        alloc,
-        "explain",
-        "Judges a name by the profile on standard input, and says why",
-    )
+    let about_judge = "Judges a name by the profile on standard input";
+    let about_explain = "Judges a name by the profile on standard input, and says why";
+    let judge = pair_command(alloc, "judge", about_judge, "NAME", NAME)?;
+    let judging = with_one(program, judge)?;
+    let explain = pair_command(alloc, "explain", about_explain, "NAME", NAME)?;
+    with_one(judging, explain)
+}
+
+/// The program with the commands of all names.
+fn with_question_commands<'a>(
+    program: Command<'a>,
+    alloc: Global,
+) -> Result<Command<'a>, AllocError>
+    ensures { IfOk result (λ command. app_of command ≡ fold with_command (app_of program.entry) question_commands) }
+{
+    let about_all =
+        "Tests that the profile on standard input allows all names that a pattern matches";
+    let any = any_command(alloc)?;
+    let finding = with_one(program, any)?;
+    let all = pair_command(alloc, "all", about_all, "PATTERN", PATTERN)?;
+    let testing = with_one(finding, all)?;
+    let diff = diff_command(alloc)?;
+    let comparing = with_one(testing, diff)?;
+    let lint = lint_command(alloc)?;
+    with_one(comparing, lint)
 }
 
 /// The program with the commands of a script.
 fn with_script_commands<'a>(program: Command<'a>, alloc: Global) -> Result<Command<'a>, AllocError>
     ensures { IfOk result (λ command. app_of command ≡ fold with_command (app_of program.entry) script_commands) }
 {
-    let running = with_numbers(
-        program,
-        alloc,
-        "run",
-        "Runs a script of tree changes, policies and opens on standard input",
-        &[CAPACITY],
-    )?;
-    with_numbers(
-        running,
-        alloc,
-        "test",
-        "Compares the answers of the script on standard input with those that it expects",
-        &[CAPACITY],
-    )
+    let about = "Runs a script of tree changes, policies and opens on standard input";
+    let running = with_numbers(program, alloc, "run", about, &[CAPACITY])?;
+    let test = test_command(alloc)?;
+    with_one(running, test)
 }
 
 /// The program with the commands of the image of a profile.
 fn with_image_commands<'a>(program: Command<'a>, alloc: Global) -> Result<Command<'a>, AllocError>
     ensures { IfOk result (λ command. app_of command ≡ fold with_command (app_of program.entry) image_commands) }
 {
-    let compiling = with_numbers(
-        program,
-        alloc,
-        "compile",
-        "Writes the image of the profile on standard input",
-        &[DEPTH],
-    )?;
-    let checking = with_numbers(
-        compiling,
-        alloc,
-        "check",
-        "Tests the image on standard input",
-        &[],
-    )?;
-    with_pair(
-        checking,
-        alloc,
-        "match",
-        "Judges a name by the image on standard input",
-    )
+    let about_compile = "Writes the image of the profile on standard input";
+    let about_check = "Tests the image on standard input";
+    let about_match = "Judges a name by the image on standard input";
+    let compiling = with_numbers(program, alloc, "compile", about_compile, &[DEPTH])?;
+    let checking = with_numbers(compiling, alloc, "check", about_check, &[])?;
+    let matching = pair_command(alloc, "match", about_match, "NAME", NAME)?;
+    with_one(checking, matching)
 }
 
 /// The program with the commands of single events and of threads.
 fn with_event_commands<'a>(program: Command<'a>, alloc: Global) -> Result<Command<'a>, AllocError>
     ensures { IfOk result (λ command. app_of command ≡ fold with_command (app_of program.entry) event_commands) }
 {
-    let stepping = with_numbers(
-        program,
-        alloc,
-        "steps",
-        "Runs a script of single events on standard input",
-        &[CAPACITY],
-    )?;
-    with_numbers(
-        stepping,
-        alloc,
-        "storm",
-        "Opens a file in threads beside renames and new profiles, and counts the answers that aren't justified",
-        &[SESSIONS, OPENS, CHANGES],
-    )
+    let about_steps = "Runs a script of single events on standard input";
+    let about_storm =
+        "Opens a file in threads beside renames and new profiles, and counts the answers that aren't justified";
+    let stepping = with_numbers(program, alloc, "steps", about_steps, &[CAPACITY])?;
+    let options = &[SESSIONS, OPENS, CHANGES];
+    with_numbers(stepping, alloc, "storm", about_storm, options)
+}
+
+/// A command that takes PERMS and one more argument, which has this help.
+fn pair_command<'a>(
+    alloc: Global,
+    name: &'a str,
+    about: &'a str,
+    second: &'a str,
+    help: &'a str,
+) -> Result<Command<'a>, AllocError>
+    ensures { IfOk result (λ command. app_of command ≡ pair_app name.now second.now) }
+{
+    Command::new(alloc, name)
+        .about(about)
+        .arg(json_argument(alloc))?
+        .arg(perms_argument(alloc))?
+        .arg(required_argument(alloc, second, help))
+}
+
+/// The command that finds a name.
+fn any_command<'a>(alloc: Global) -> Result<Command<'a>, AllocError>
+    ensures { IfOk result (λ command. app_of command ≡ app_by any_command) }
+{
+    Command::new(alloc, "any")
+        .about("Finds a name that a pattern matches and the profile on standard input allows")
+        .arg(each_rule_argument(alloc))?
+        .arg(json_argument(alloc))?
+        .arg(perms_argument(alloc))?
+        .arg(required_argument(alloc, "PATTERN", PATTERN))
+}
+
+/// The command that compares two profiles.
+fn diff_command<'a>(alloc: Global) -> Result<Command<'a>, AllocError>
+    ensures { IfOk result (λ command. app_of command ≡ app_by diff_command) }
+{
+    let below = "Only names that this path of a rule matches";
+    let old = "The file of the old profile";
+    let new = "The file of the new profile; standard input if it is left out";
+    Command::new(alloc, "diff")
+        .about("Finds the shortest names that only one of two profiles allows")
+        .arg(text_argument(alloc, "below", "PATTERN", below))?
+        .arg(each_rule_argument(alloc))?
+        .arg(json_argument(alloc))?
+        .arg(required_argument(alloc, "OLD", old))?
+        .arg(optional_argument(alloc, "NEW", new))
+}
+
+/// The command that finds rules that decide nothing.
+fn lint_command<'a>(alloc: Global) -> Result<Command<'a>, AllocError>
+    ensures { IfOk result (λ command. app_of command ≡ app_by lint_command) }
+{
+    Command::new(alloc, "lint")
+        .about("Finds rules of the profile on standard input that decide nothing")
+        .arg(json_argument(alloc))
+}
+
+/// The command that compares the answers of a script.
+fn test_command<'a>(alloc: Global) -> Result<Command<'a>, AllocError>
+    ensures { IfOk result (λ command. app_of command ≡ app_by test_command) }
+{
+    Command::new(alloc, "test")
+        .about("Compares the answers of the script on standard input with those that it expects")
+        .arg(number_argument(alloc, CAPACITY))?
+        .arg(json_argument(alloc))
 }
 
 /// The command that imports a profile into this program's language.
 pub(crate) fn import_command<'a>(alloc: Global) -> Result<Command<'a>, AllocError>
-    ensures { IfOk result (λ command. app_of command ≡ options_app (codes "import") import_options) }
+    ensures { IfOk result (λ command. app_of command ≡ app_by import_command) }
 {
     let about =
         "Brings the flattened AppArmor profile on standard input into this program's language, and gives an account of the rest";
@@ -188,49 +196,6 @@ pub(crate) fn import_command<'a>(alloc: Global) -> Result<Command<'a>, AllocErro
         .arg(flag_argument(alloc, "strict", strict))
 }
 
-/// An option with a text, as the parser knows it.
-fn text_argument<'a>(alloc: Global, name: &'a str, value: &'a str, help: &'a str) -> Arg<'a>
-    ensures rule { rule_of result ≡ text_rule name.now }
-    ensures global { result.global ≡ false }
-{
-    Arg::new(alloc, name)
-        .long(name)
-        .value_name(value)
-        .help(help)
-}
-
-/// An option with a text each time that it is given, as the parser knows it.
-fn texts_argument<'a>(alloc: Global, name: &'a str, value: &'a str, help: &'a str) -> Arg<'a>
-    ensures rule { rule_of result ≡ texts_rule name.now }
-    ensures global { result.global ≡ false }
-{
-    text_argument(alloc, name, value, help).action(ArgAction::Append)
-}
-
-/// An option that is given or not, as the parser knows it.
-fn flag_argument<'a>(alloc: Global, name: &'a str, help: &'a str) -> Arg<'a>
-    ensures rule { rule_of result ≡ flag_rule name.now }
-    ensures global { result.global ≡ false }
-{
-    Arg::new(alloc, name)
-        .long(name)
-        .action(ArgAction::SetTrue)
-        .help(help)
-}
-
-/// The program with one more command, which takes PERMS and NAME.
-fn with_pair<'a>(
-    program: Command<'a>,
-    alloc: Global,
-    name: &'a str,
-    about: &'a str,
-) -> Result<Command<'a>, AllocError>
-    ensures { IfOk result (λ command. app_of command ≡ with_subcommand (app_of program.entry) (pair_app name.now).top) }
-{
-    let command = pair_command(alloc, name, about)?;
-    program.subcommand(command)
-}
-
 /// The program with one more command, which takes options with numbers.
 fn with_numbers<'a>(
     program: Command<'a>,
@@ -243,27 +208,7 @@ fn with_numbers<'a>(
         ≡ with_subcommand (app_of program.entry) (numbers_app name.now (map number_option options.now)).top) }
 {
     let command = numbers_command(alloc, name, about, options)?;
-    program.subcommand(command)
-}
-
-/// A command that takes PERMS and NAME.
-fn pair_command<'a>(alloc: Global, name: &'a str, about: &'a str) -> Result<Command<'a>, AllocError>
-    ensures { IfOk result (λ command. app_of command ≡ pair_app name.now) }
-{
-    let perms = "The permissions that are asked, by their letters: r, w, l, k, m, a";
-    let judged = "The name that is judged, from its first slash on";
-    Command::new(alloc, name)
-        .about(about)
-        .arg(required_argument(alloc, "PERMS", perms))?
-        .arg(required_argument(alloc, "NAME", judged))
-}
-
-/// An argument that must be given, as the parser knows it.
-fn required_argument<'a>(alloc: Global, name: &'a str, help: &'a str) -> Arg<'a>
-    ensures rule { rule_of result ≡ required_rule name.now }
-    ensures global { result.global ≡ false }
-{
-    Arg::new(alloc, name).required(true).help(help)
+    with_one(program, command)
 }
 
 /// A command that takes options with numbers.
@@ -280,18 +225,4 @@ fn numbers_command<'a>(
         command = command.arg(number_argument(alloc, *option))?;
     }
     Ok(command)
-}
-
-/// An option as the parser knows it.
-fn number_argument<'a>(alloc: Global, option: NumberOption) -> Arg<'a>
-    ensures rule { rule_of result ≡ number_rule (number_option option) }
-    ensures global { result.global ≡ false }
-{
-    let bounds = ValueParser::signed(i64::from(option.least), i64::from(option.most));
-    Arg::new(alloc, option.name)
-        .long(option.name)
-        .value_name("N")
-        .value_parser(bounds)
-        .default_value(option.default)
-        .help(option.help)
 }

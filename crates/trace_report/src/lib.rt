@@ -1,15 +1,18 @@
-//! How commands end: exit statuses, why a command has no answer and how that is reported, and what goes to the output streams.
+//! How commands end: exit statuses, why a command has no answer and how that is reported, and what goes to the output streams;
+//! and the format that an answer is written in.
 //!
 //! The definitions to believe are those in `specs/`.
 #![tactic(auto)]
 
 mod fault;
+mod format;
 mod laws;
 mod reading;
 mod status;
 mod telling;
 
 pub use fault::Fault;
+pub use format::Format;
 pub use laws::{commands_end_as_they_are_to, questions_end_as_they_are_answered, zero_is_done};
 pub use reading::{asked_by, read_all};
 pub use status::Status;

@@ -1,6 +1,6 @@
 -- The program as its parser knows it, and what the parser finds.
-use Rattle.std.specs.Prelude.{◌≡◌, ◌≤◌, ℕ, Bool, true, false, List, [], ◌∷◌, map, fold, Option, Some, None, codes, option_and_then}
-use Rattle.std.specs.Prelude.{option_map, pos, unwrap_or, is_some, ⊤, if◌then◌else◌}
+use Rattle.std.specs.Prelude.{◌≡◌, ◌≤◌, ℕ, Bool, true, false, List, [], ◌∷◌, ◌++◌, map, fold, Option, Some, None, codes}
+use Rattle.std.specs.Prelude.{option_and_then, option_map, pos, unwrap_or, if◌then◌else◌}
 use Rattle.std.specs.Str.{bytes_eq}
 use Rattle.std.specs.Str.Parse.{digits_value, without_leading_plus}
 use Rattle.clap.specs.ValueTests.{is_unsigned_in}
@@ -12,12 +12,12 @@ use Rattle.clap.specs.declared.parser.matches.Found.{Found}
 use Rattle.clap.specs.declared.builder.value_parser.ValueParser.TheVariants.{Signed}
 use Rattle.clap.specs.declared.error.Error.{Error}
 use Rattle.clap.specs.declared.error.kind.ErrorKind.TheVariants.{OutOfMemory}
-use Rattle.trace_line.specs.CommandLine.{CommandForm, Given, LineValue, NumberOption, OptionForm, Arguments, Wants, asks, command_named}
-use Rattle.trace_line.specs.CommandLine.{commands, import_of, line_of, many_texts, no_text, number_form, numbers, one_number, one_text}
-use Rattle.trace_line.specs.CommandLine.{option_named, pair, storm, text_given, texts_given}
+use Rattle.trace_line.specs.CommandLine.{ArgumentForm, CommandForm, Given, LineValue, NumberOption, OptionForm, Wants, command_named}
+use Rattle.trace_line.specs.CommandLine.{commands, has, has_required, import_of, json, line_of, many_texts, no_text, number_by, one_number}
+use Rattle.trace_line.specs.CommandLine.{one_text, option_named, required, text_given, texts_given}
 use Rattle.trace_line.specs.declared.line.LineFault.{LineFault}
 use Rattle.trace_line.specs.declared.line.LineFault.TheVariants.{Usage, NoMemory}
-use Rattle.trace_line.specs.declared.parser.NumberOption as declared
+use Rattle.trace_line.specs.declared.options.NumberOption as declared
 
 -- an out-of-memory error is a fault of memory, and any other is one of usage
 abbrev pub IsLineFaultOf : Error → LineFault → Type 0
@@ -25,9 +25,6 @@ IsLineFaultOf error NoMemory = kind_of error ≡ OutOfMemory
 IsLineFaultOf error (Usage told) = (told ≡ error) × (kind_of error ≡ OutOfMemory → ⊥)
 
 -- ---- the program
-
-abbrev pub required_rule : List ℕ → Rule
-required_rule id = record (new_rule id) { required = true }
 
 -- an option, whose value is a number between its bounds
 abbrev pub number_rule : NumberOption → Rule
@@ -62,22 +59,24 @@ rule_by name no_text = flag_rule name
 abbrev pub option_rule : OptionForm → Rule
 option_rule option = rule_by option.name option.wants
 
-abbrev pub options_app : List ℕ → List OptionForm → App
-options_app name options = fold with_rule (new_app name) (map option_rule options)
+abbrev pub argument_rule : ArgumentForm → Rule
+argument_rule argument = record (new_rule argument.name) { required = argument.is_required }
 
-abbrev pub pair_app : List ℕ → App
-pair_app name = with_rule (with_rule (new_app name) (required_rule (codes "PERMS"))) (required_rule (codes "NAME"))
+abbrev pub command_app : List ℕ → List OptionForm → List ArgumentForm → App
+command_app name options arguments = fold with_rule (new_app name) (map option_rule options ++ map argument_rule arguments)
+
+-- of PERMS and one more argument
+abbrev pub pair_app : List ℕ → List ℕ → App
+pair_app name second = command_app name (json ∷ []) (required (codes "PERMS") ∷ required second ∷ [])
 
 abbrev pub numbers_app : List ℕ → List NumberOption → App
 numbers_app name options = fold with_rule (new_app name) (map number_rule options)
 
-abbrev pub app_by : List ℕ → Arguments → App
-app_by name (pair line) = pair_app name
-app_by name (numbers options line) = numbers_app name options
-app_by name (asks options line) = options_app name options
+abbrev pub app_by : CommandForm → App
+app_by command = command_app command.name command.options command.arguments
 
 abbrev pub with_command : App → CommandForm → App
-with_command program command = with_subcommand program (app_by command.name command.takes).top
+with_command program command = with_subcommand program (app_by command).top
 
 abbrev pub wanted_app : App
 wanted_app =
@@ -97,17 +96,6 @@ small_number text = if is_unsigned_in 0 4294967295 text then Some (digits_value 
 abbrev pub number_read : List ℕ → List Row → Option ℕ
 number_read name rows = option_and_then small_number (one_of name rows)
 
--- the numbers that are found for the options are these, and none is over the greatest that its option takes
-abbrev pub HasNumbers : List NumberOption → List Row → (NumberOption → ℕ) → Type 0
-HasNumbers options rows number = (option : NumberOption) → option_named (map number_form options) option.name ≡ Some (number_form option)
-    → (number_read option.name rows ≡ Some (number option)) × (number option ≤ option.most)
-
--- the three numbers of a storm are found
-abbrev pub IsStormOf : List Row → LineValue → Type 0
-IsStormOf rows value = (sessions : ℕ) × (opens : ℕ) × (changes : ℕ) × (number_read (codes "sessions") rows ≡ Some sessions)
-    × (number_read (codes "opens") rows ≡ Some opens) × (number_read (codes "changes") rows ≡ Some changes)
-    × (value ≡ storm sessions opens changes)
-
 abbrev pub flag_of : List ℕ → Option Bool
 flag_of text = if bytes_eq text (codes "true") then Some true else (if bytes_eq text (codes "false") then Some false else None)
 
@@ -122,21 +110,38 @@ import_read found =
     (unwrap_or (option_map raw_values (matched_of found (codes "define"))) [])
     (unwrap_or (flag_read (codes "strict") (rows_of found)) false)
 
--- for an option, the rows have the texts that are given
+-- for an option, the rows have what is given
 abbrev pub HasTexts : List Row → Given → List ℕ → Wants → Type 0
-HasTexts rows given name (one_number option) = ⊤
+HasTexts rows given name (one_number option) =
+    let number = number_by option (text_given given name) in
+    (number_read name rows ≡ Some number) × (number ≤ option.most)
 HasTexts rows given name one_text = first_of name rows ≡ text_given given name
 HasTexts rows given name many_texts = unwrap_or (all_of name rows) [] ≡ texts_given given name
-HasTexts rows given name no_text = flag_read name rows ≡ Some (is_some (text_given given name))
+HasTexts rows given name no_text = flag_read name rows ≡ Some (has given name)
+
+-- an argument, as an option that has a text
+abbrev pub argument_form : ArgumentForm → OptionForm
+argument_form argument = record { name = argument.name; wants = one_text }
+
+abbrev pub forms_of : CommandForm → List OptionForm
+forms_of command = command.options ++ map argument_form command.arguments
+
+-- the rows have what is given of a command, and what it requires is given
+pub record IsGiven (command : CommandForm) (rows : List Row) (given : Given) : Type 0 where
+  pub texts : (form : OptionForm) → option_named (forms_of command) form.name ≡ Some form → HasTexts rows given form.name form.wants
+  pub required : has_required command.arguments given ≡ true
+
+-- the rows are of a command that has what it requires
+abbrev pub IsAsked : CommandForm → List Row → Type 0
+IsAsked command rows = (given : Given) × IsGiven command rows given
+
+-- the line is the command's by what the rows have
+abbrev pub IsLineBy : CommandForm → List Row → LineValue → Type 0
+IsLineBy command rows value = (given : Given) → IsGiven command rows given → command.line given ≡ Some value
 
 -- the rows of a command's matches give this line, or none
-abbrev pub GivesLine : Arguments → List Row → Option LineValue → Type 0
-GivesLine (pair line) rows value = (perms : List ℕ) × (name : List ℕ) × (first_of (codes "PERMS") rows ≡ Some perms)
-    × (first_of (codes "NAME") rows ≡ Some name) × (value ≡ Some (line perms name))
-GivesLine (numbers options line) rows value = (number : NumberOption → ℕ) × HasNumbers options rows number × (value ≡ Some (line number))
-GivesLine (asks options line) rows value = (given : Given)
-    × ((option : OptionForm) → option_named options option.name ≡ Some option → HasTexts rows given option.name option.wants)
-    × (value ≡ line given)
+abbrev pub GivesLine : CommandForm → List Row → Option LineValue → Type 0
+GivesLine command rows value = (given : Given) × IsGiven command rows given × (value ≡ command.line given)
 
 -- what the parser finds in words that it accepts: the command's name, and matches that give the line, if the words are one
 pub record IsReadAs (words : List (List ℕ)) (matches : ArgMatches) : Type 0 where
@@ -145,4 +150,4 @@ pub record IsReadAs (words : List (List ℕ)) (matches : ArgMatches) : Type 0 wh
   pub entered : subcommand_rows_of matches ≡ Some (command, rows)
   pub form : CommandForm
   pub form_is : command_named commands command ≡ Some form
-  pub gives : GivesLine form.takes rows (line_of words)
+  pub gives : GivesLine form rows (line_of words)

@@ -1,129 +1,134 @@
-use Rattle.std.proofs.Common.{arith, codes, refl, sym, [], ◌∙◌}
-use Rattle.trace_line.specs.CommandLine.{check, explain, judge, match_name, run, steps, test}
-use Rattle.trace_line.proofs.CommandLine.{capacity_asked, capacity_line, changes_asked, depth_asked, depth_line, depth_low}
-use Rattle.trace_line.proofs.CommandLine.{import_fault, import_flag, import_line}
-use Rattle.trace_line.proofs.CommandLine.{known_command, numbers_line, opened_line, opens_asked, pair_first, pair_line, pair_second}
-use Rattle.trace_line.proofs.CommandLine.{sessions_asked, storm_line}
+use Rattle.std.proofs.Common.{refl, sym, ◌∙◌}
+use Rattle.trace_line.specs.CommandLine.{all_command, any_command, compile_command, diff_command, explain_command, judge_command}
+use Rattle.trace_line.specs.CommandLine.{lint_command, match_command, run_command, steps_command, storm_command, test_command}
+use Rattle.trace_line.proofs.CommandLine.{asked, check_line, import_fault, import_flag}
+use Rattle.trace_line.proofs.CommandLine.{import_line, known_command, line_given, opened_line}
 use Rattle.trace_line.proofs.line.command_line.Goals as goal
 
-pub pair_in-requires-clause-perms : goal.pair_in-requires-clause-perms
-pair_in-requires-clause-perms g c =
+pub judge_in-requires : goal.judge_in-requires
+judge_in-requires g c =
     let line = opened_line _ _ _ _ c.in_ok-matches.ensures.ok c.unwrap.ensures c.subcommand.ensures.name c.subcommand.ensures.rows in
-    pair_first _ _ _ line (codes "judge") judge c.in-judge.is refl
-
-pub pair_in-requires-clause-name : goal.pair_in-requires-clause-name
-pair_in-requires-clause-name g c =
-    let line = opened_line _ _ _ _ c.in_ok-matches.ensures.ok c.unwrap.ensures c.subcommand.ensures.name c.subcommand.ensures.rows in
-    pair_second _ _ _ line (codes "judge") judge c.in-judge.is refl
+    asked _ _ _ line judge_command c.in-judge.is refl
 
 pub returns-in-judge-clause-ok : goal.returns-in-judge-clause-ok
 returns-in-judge-clause-ok g c =
     let line = opened_line _ _ _ _ c.in_ok-matches.ensures.ok c.unwrap.ensures c.subcommand.ensures.name c.subcommand.ensures.rows in
-    pair_line _ _ _ line (codes "judge") judge c.in-judge.is refl c.pair_in.result.0.now c.pair_in.result.1.now c.pair_in.ensures.perms
-    c.pair_in.ensures.name
+    line_given _ _ _ line judge_command c.in-judge.is refl _ c.judge_in.ensures
 
-pub pair_in-requires-in-explain-clause-perms : goal.pair_in-requires-in-explain-clause-perms
-pair_in-requires-in-explain-clause-perms g c =
+pub explain_in-requires : goal.explain_in-requires
+explain_in-requires g c =
     let line = opened_line _ _ _ _ c.in_ok-matches.ensures.ok c.unwrap.ensures c.subcommand.ensures.name c.subcommand.ensures.rows in
-    pair_first _ _ _ line (codes "explain") explain c.in-explain.is refl
-
-pub pair_in-requires-in-explain-clause-name : goal.pair_in-requires-in-explain-clause-name
-pair_in-requires-in-explain-clause-name g c =
-    let line = opened_line _ _ _ _ c.in_ok-matches.ensures.ok c.unwrap.ensures c.subcommand.ensures.name c.subcommand.ensures.rows in
-    pair_second _ _ _ line (codes "explain") explain c.in-explain.is refl
+    asked _ _ _ line explain_command c.in-explain.is refl
 
 pub returns-in-explain-clause-ok : goal.returns-in-explain-clause-ok
 returns-in-explain-clause-ok g c =
     let line = opened_line _ _ _ _ c.in_ok-matches.ensures.ok c.unwrap.ensures c.subcommand.ensures.name c.subcommand.ensures.rows in
-    pair_line _ _ _ line (codes "explain") explain c.in-explain.is refl c.pair_in-in-explain.result.0.now c.pair_in-in-explain.result.1.now
-    c.pair_in-in-explain.ensures.perms c.pair_in-in-explain.ensures.name
+    line_given _ _ _ line explain_command c.in-explain.is refl _ c.explain_in.ensures
 
-pub pair_in-requires-in-match-clause-perms : goal.pair_in-requires-in-match-clause-perms
-pair_in-requires-in-match-clause-perms g c =
+pub any_in-requires : goal.any_in-requires
+any_in-requires g c =
     let line = opened_line _ _ _ _ c.in_ok-matches.ensures.ok c.unwrap.ensures c.subcommand.ensures.name c.subcommand.ensures.rows in
-    pair_first _ _ _ line (codes "match") match_name c.in-match.is refl
+    asked _ _ _ line any_command c.in-any.is refl
 
-pub pair_in-requires-in-match-clause-name : goal.pair_in-requires-in-match-clause-name
-pair_in-requires-in-match-clause-name g c =
+pub returns-in-any-clause-ok : goal.returns-in-any-clause-ok
+returns-in-any-clause-ok g c =
     let line = opened_line _ _ _ _ c.in_ok-matches.ensures.ok c.unwrap.ensures c.subcommand.ensures.name c.subcommand.ensures.rows in
-    pair_second _ _ _ line (codes "match") match_name c.in-match.is refl
+    line_given _ _ _ line any_command c.in-any.is refl _ c.any_in.ensures
 
-pub returns-in-match-clause-ok : goal.returns-in-match-clause-ok
-returns-in-match-clause-ok g c =
+pub all_in-requires : goal.all_in-requires
+all_in-requires g c =
     let line = opened_line _ _ _ _ c.in_ok-matches.ensures.ok c.unwrap.ensures c.subcommand.ensures.name c.subcommand.ensures.rows in
-    pair_line _ _ _ line (codes "match") match_name c.in-match.is refl c.pair_in-in-match.result.0.now c.pair_in-in-match.result.1.now
-    c.pair_in-in-match.ensures.perms c.pair_in-in-match.ensures.name
+    asked _ _ _ line all_command c.in-all.is refl
 
-pub number_in-requires : goal.number_in-requires
-number_in-requires g c =
+pub returns-in-all-clause-ok : goal.returns-in-all-clause-ok
+returns-in-all-clause-ok g c =
     let line = opened_line _ _ _ _ c.in_ok-matches.ensures.ok c.unwrap.ensures c.subcommand.ensures.name c.subcommand.ensures.rows in
-    capacity_asked _ _ _ line (codes "run") run c.in-run.is refl
+    line_given _ _ _ line all_command c.in-all.is refl _ c.all_in.ensures
+
+pub diff_in-requires : goal.diff_in-requires
+diff_in-requires g c =
+    let line = opened_line _ _ _ _ c.in_ok-matches.ensures.ok c.unwrap.ensures c.subcommand.ensures.name c.subcommand.ensures.rows in
+    asked _ _ _ line diff_command c.in-diff.is refl
+
+pub returns-in-diff-clause-ok : goal.returns-in-diff-clause-ok
+returns-in-diff-clause-ok g c =
+    let line = opened_line _ _ _ _ c.in_ok-matches.ensures.ok c.unwrap.ensures c.subcommand.ensures.name c.subcommand.ensures.rows in
+    line_given _ _ _ line diff_command c.in-diff.is refl _ c.diff_in.ensures
+
+pub lint_in-requires : goal.lint_in-requires
+lint_in-requires g c =
+    let line = opened_line _ _ _ _ c.in_ok-matches.ensures.ok c.unwrap.ensures c.subcommand.ensures.name c.subcommand.ensures.rows in
+    asked _ _ _ line lint_command c.in-lint.is refl
+
+pub returns-in-lint-clause-ok : goal.returns-in-lint-clause-ok
+returns-in-lint-clause-ok g c =
+    let line = opened_line _ _ _ _ c.in_ok-matches.ensures.ok c.unwrap.ensures c.subcommand.ensures.name c.subcommand.ensures.rows in
+    line_given _ _ _ line lint_command c.in-lint.is refl _ c.lint_in.ensures
+
+pub run_in-requires : goal.run_in-requires
+run_in-requires g c =
+    let line = opened_line _ _ _ _ c.in_ok-matches.ensures.ok c.unwrap.ensures c.subcommand.ensures.name c.subcommand.ensures.rows in
+    asked _ _ _ line run_command c.in-run.is refl
 
 pub returns-in-run-clause-ok : goal.returns-in-run-clause-ok
 returns-in-run-clause-ok g c =
     let line = opened_line _ _ _ _ c.in_ok-matches.ensures.ok c.unwrap.ensures c.subcommand.ensures.name c.subcommand.ensures.rows in
-    capacity_line _ _ _ line (codes "run") run c.in-run.is refl c.number_in.result c.number_in.ensures
+    line_given _ _ _ line run_command c.in-run.is refl _ c.run_in.ensures
 
-pub number_in-requires-in-test : goal.number_in-requires-in-test
-number_in-requires-in-test g c =
+pub test_in-requires : goal.test_in-requires
+test_in-requires g c =
     let line = opened_line _ _ _ _ c.in_ok-matches.ensures.ok c.unwrap.ensures c.subcommand.ensures.name c.subcommand.ensures.rows in
-    capacity_asked _ _ _ line (codes "test") test c.in-test.is refl
+    asked _ _ _ line test_command c.in-test.is refl
 
 pub returns-in-test-clause-ok : goal.returns-in-test-clause-ok
 returns-in-test-clause-ok g c =
     let line = opened_line _ _ _ _ c.in_ok-matches.ensures.ok c.unwrap.ensures c.subcommand.ensures.name c.subcommand.ensures.rows in
-    capacity_line _ _ _ line (codes "test") test c.in-test.is refl c.number_in-in-test.result c.number_in-in-test.ensures
+    line_given _ _ _ line test_command c.in-test.is refl _ c.test_in.ensures
 
-pub number_in-requires-in-steps : goal.number_in-requires-in-steps
-number_in-requires-in-steps g c =
+pub compile_in-requires : goal.compile_in-requires
+compile_in-requires g c =
     let line = opened_line _ _ _ _ c.in_ok-matches.ensures.ok c.unwrap.ensures c.subcommand.ensures.name c.subcommand.ensures.rows in
-    capacity_asked _ _ _ line (codes "steps") steps c.in-steps.is refl
-
-pub returns-in-steps-clause-ok : goal.returns-in-steps-clause-ok
-returns-in-steps-clause-ok g c =
-    let line = opened_line _ _ _ _ c.in_ok-matches.ensures.ok c.unwrap.ensures c.subcommand.ensures.name c.subcommand.ensures.rows in
-    capacity_line _ _ _ line (codes "steps") steps c.in-steps.is refl c.number_in-in-steps.result c.number_in-in-steps.ensures
-
-pub number_in-requires-in-compile : goal.number_in-requires-in-compile
-number_in-requires-in-compile g c =
-    let line = opened_line _ _ _ _ c.in_ok-matches.ensures.ok c.unwrap.ensures c.subcommand.ensures.name c.subcommand.ensures.rows in
-    depth_asked _ _ _ line c.in-compile.is
-
-pub overflow_cast-result : goal.overflow_cast-result
-overflow_cast-result g c =
-    let line = opened_line _ _ _ _ c.in_ok-matches.ensures.ok c.unwrap.ensures c.subcommand.ensures.name c.subcommand.ensures.rows in
-    let low = depth_low _ _ _ line c.in-compile.is c.number_in-in-compile.result c.number_in-in-compile.ensures in
-    omega (arith, low)
+    asked _ _ _ line compile_command c.in-compile.is refl
 
 pub returns-in-compile-clause-ok : goal.returns-in-compile-clause-ok
 returns-in-compile-clause-ok g c =
     let line = opened_line _ _ _ _ c.in_ok-matches.ensures.ok c.unwrap.ensures c.subcommand.ensures.name c.subcommand.ensures.rows in
-    depth_line _ _ _ line c.in-compile.is c.number_in-in-compile.result c.number_in-in-compile.ensures
+    line_given _ _ _ line compile_command c.in-compile.is refl _ c.compile_in.ensures
 
-pub returns-in-check-clause-ok : goal.returns-in-check-clause-ok
-returns-in-check-clause-ok g c =
+pub match_in-requires : goal.match_in-requires
+match_in-requires g c =
     let line = opened_line _ _ _ _ c.in_ok-matches.ensures.ok c.unwrap.ensures c.subcommand.ensures.name c.subcommand.ensures.rows in
-    (numbers_line _ _ _ line (codes "check") [] (λ number. check) c.in-check.is refl).2
+    asked _ _ _ line match_command c.in-match.is refl
 
-pub storm_in-requires-clause-sessions : goal.storm_in-requires-clause-sessions
-storm_in-requires-clause-sessions g c =
+pub returns-in-match-clause-ok : goal.returns-in-match-clause-ok
+returns-in-match-clause-ok g c =
     let line = opened_line _ _ _ _ c.in_ok-matches.ensures.ok c.unwrap.ensures c.subcommand.ensures.name c.subcommand.ensures.rows in
-    sessions_asked _ _ _ line c.in-storm.is
+    line_given _ _ _ line match_command c.in-match.is refl _ c.match_in.ensures
 
-pub storm_in-requires-clause-opens : goal.storm_in-requires-clause-opens
-storm_in-requires-clause-opens g c =
+pub steps_in-requires : goal.steps_in-requires
+steps_in-requires g c =
     let line = opened_line _ _ _ _ c.in_ok-matches.ensures.ok c.unwrap.ensures c.subcommand.ensures.name c.subcommand.ensures.rows in
-    opens_asked _ _ _ line c.in-storm.is
+    asked _ _ _ line steps_command c.in-steps.is refl
 
-pub storm_in-requires-clause-changes : goal.storm_in-requires-clause-changes
-storm_in-requires-clause-changes g c =
+pub returns-in-steps-clause-ok : goal.returns-in-steps-clause-ok
+returns-in-steps-clause-ok g c =
     let line = opened_line _ _ _ _ c.in_ok-matches.ensures.ok c.unwrap.ensures c.subcommand.ensures.name c.subcommand.ensures.rows in
-    changes_asked _ _ _ line c.in-storm.is
+    line_given _ _ _ line steps_command c.in-steps.is refl _ c.steps_in.ensures
+
+pub storm_in-requires : goal.storm_in-requires
+storm_in-requires g c =
+    let line = opened_line _ _ _ _ c.in_ok-matches.ensures.ok c.unwrap.ensures c.subcommand.ensures.name c.subcommand.ensures.rows in
+    asked _ _ _ line storm_command c.in-storm.is refl
 
 pub returns-in-storm-clause-ok : goal.returns-in-storm-clause-ok
 returns-in-storm-clause-ok g c =
     let line = opened_line _ _ _ _ c.in_ok-matches.ensures.ok c.unwrap.ensures c.subcommand.ensures.name c.subcommand.ensures.rows in
-    storm_line _ _ _ line c.in-storm.is _ c.storm_in.ensures
+    line_given _ _ _ line storm_command c.in-storm.is refl _ c.storm_in.ensures
+
+pub returns-in-check-clause-ok : goal.returns-in-check-clause-ok
+returns-in-check-clause-ok g c =
+    let line = opened_line _ _ _ _ c.in_ok-matches.ensures.ok c.unwrap.ensures c.subcommand.ensures.name c.subcommand.ensures.rows in
+    check_line _ _ _ line c.in-check.is
 
 pub import_in-requires : goal.import_in-requires
 import_in-requires g c =
@@ -144,6 +149,7 @@ returns-in_err-import_in-in-import-clause-err g c =
 pub unreachable-requires : goal.unreachable-requires
 unreachable-requires g c =
     let line = opened_line _ _ _ _ c.in_ok-matches.ensures.ok c.unwrap.ensures c.subcommand.ensures.name c.subcommand.ensures.rows in
-    known_command _ _ _ line c.in_default.not-judge c.in_default.not-explain c.in_default.not-run c.in_default.not-test
-    c.in_default.not-compile c.in_default.not-check c.in_default.not-match c.in_default.not-steps c.in_default.not-storm
-    c.in_default.not-import
+    known_command _ _ _ line c.in_default.not-judge c.in_default.not-explain c.in_default.not-any c.in_default.not-all
+    c.in_default.not-diff
+    c.in_default.not-lint c.in_default.not-run c.in_default.not-test c.in_default.not-compile c.in_default.not-check
+    c.in_default.not-match c.in_default.not-steps c.in_default.not-storm c.in_default.not-import

@@ -1,12 +1,15 @@
-use Rattle.std.proofs.Common.{◌≡◌, ◌∙◌, ap, true, refl, codes}
+use Rattle.std.proofs.Common.{◌≡◌, ◌∙◌, ap, ap₂, true, codes}
 use Rattle.std.specs.Prelude.{fold}
 use Rattle.std.proofs.lemmas.Result.{IfOk-weaker}
-use Rattle.clap.specs.Words.{App, app_of, new_app, with_subcommand}
+use Rattle.clap.specs.Words.{App, app_of, new_app}
 use Rattle.clap.specs.Simple.{app_of_fields}
-use Rattle.trace_line.specs.CommandLine.{event_commands, image_commands, import_options, profile_commands, script_commands}
-use Rattle.trace_line.specs.inner.Parser.{options_app, wanted_app, with_command}
-use Rattle.trace_line.proofs.Building.{is_local}
+use Rattle.trace_line.specs.CommandLine.{event_commands, image_commands, profile_commands, question_commands, script_commands}
+use Rattle.trace_line.specs.inner.Parser.{wanted_app, with_command}
+use Rattle.trace_line.proofs.Building.{more_with}
 use Rattle.trace_line.proofs.parser.program.Goals as goal
+
+pub with_one-requires : goal.with_one-requires
+with_one-requires c = ap (λ (a : App). a.top.is_plain) c.in_ok-import.ensures
 
 pub returns : goal.returns
 returns c =
@@ -20,11 +23,8 @@ returns c =
     ap app_of_fields c.subcommand_required-bare.ensures ∙ ap (λ (a : App). record a { top = record a.top { subcommand_required = true } })
     told in
     let judging = c.in_ok-judging.ensures ∙ ap (λ (a : App). fold with_command a profile_commands) wanted in
-    let running = c.in_ok-running.ensures ∙ ap (λ (a : App). fold with_command a script_commands) judging in
+    let asking = c.in_ok-asking.ensures ∙ ap (λ (a : App). fold with_command a question_commands) judging in
+    let running = c.in_ok-running.ensures ∙ ap (λ (a : App). fold with_command a script_commands) asking in
     let compiling = c.in_ok-compiling.ensures ∙ ap (λ (a : App). fold with_command a image_commands) running in
     let stepping = c.in_ok-stepping.ensures ∙ ap (λ (a : App). fold with_command a event_commands) compiling in
-    let import_app : App = options_app (codes "import") import_options in
-    IfOk-weaker c.subcommand.result _ _
-    (λ program h. h.shape (is_local _ import_app c.in_ok-import.ensures refl)
-    ∙ ap (λ (a : App). with_subcommand (app_of c.in_ok-stepping.stepping) a.top) c.in_ok-import.ensures
-    ∙ ap (λ (a : App). with_subcommand a import_app.top) stepping) c.subcommand.ensures
+    IfOk-weaker c.with_one.result _ _ (λ program h. h ∙ ap₂ more_with stepping c.in_ok-import.ensures) c.with_one.ensures

@@ -1,12 +1,14 @@
-use Rattle.std.proofs.Common.{◌∙◌, ap, codes, []}
+use Rattle.std.proofs.Common.{◌∙◌, ap, ap₂, codes, []}
 use Rattle.std.proofs.lemmas.Result.{IfOk-weaker}
-use Rattle.clap.specs.Words.{App, with_subcommand}
-use Rattle.trace_line.specs.inner.Parser.{numbers_app, pair_app}
+use Rattle.clap.specs.Words.{App}
+use Rattle.trace_line.specs.inner.Parser.{numbers_app}
+use Rattle.trace_line.proofs.Building.{more_with}
 use Rattle.trace_line.proofs.parser.with_image_commands.Goals as goal
+
+pub with_one-requires : goal.with_one-requires
+with_one-requires c = ap (λ (a : App). a.top.is_plain) c.in_ok-matching.ensures
 
 pub returns : goal.returns
 returns c =
-    let checking = c.in_ok-checking.ensures ∙ ap (λ (a : App). with_subcommand a (numbers_app (codes "check") []).top)
-    c.in_ok-compiling.ensures in
-    IfOk-weaker c.with_pair.result _ _
-    (λ command h. h ∙ ap (λ (a : App). with_subcommand a (pair_app (codes "match")).top) checking) c.with_pair.ensures
+    let checking = c.in_ok-checking.ensures ∙ ap (λ (a : App). more_with a (numbers_app (codes "check") [])) c.in_ok-compiling.ensures in
+    IfOk-weaker c.with_one.result _ _ (λ more h. h ∙ ap₂ more_with checking c.in_ok-matching.ensures) c.with_one.ensures

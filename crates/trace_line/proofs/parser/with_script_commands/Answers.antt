@@ -1,12 +1,11 @@
-use Rattle.std.proofs.Common.{◌∙◌, ap, codes, [], ◌∷◌}
+use Rattle.std.proofs.Common.{◌∙◌, ap, ap₂}
 use Rattle.std.proofs.lemmas.Result.{IfOk-weaker}
-use Rattle.clap.specs.Words.{App, with_subcommand}
-use Rattle.trace_line.specs.CommandLine.{capacity}
-use Rattle.trace_line.specs.inner.Parser.{numbers_app}
+use Rattle.clap.specs.Words.{App}
+use Rattle.trace_line.proofs.Building.{more_with}
 use Rattle.trace_line.proofs.parser.with_script_commands.Goals as goal
 
+pub with_one-requires : goal.with_one-requires
+with_one-requires c = ap (λ (a : App). a.top.is_plain) c.in_ok-test.ensures
+
 pub returns : goal.returns
-returns c =
-    IfOk-weaker c.with_numbers-2.result _ _
-    (λ command h. h ∙ ap (λ (a : App). with_subcommand a (numbers_app (codes "test") (capacity ∷ [])).top) c.in_ok-running.ensures)
-    c.with_numbers-2.ensures
+returns c = IfOk-weaker c.with_one.result _ _ (λ more h. h ∙ ap₂ more_with c.in_ok-running.ensures c.in_ok-test.ensures) c.with_one.ensures

@@ -1,7 +1,7 @@
 use Rattle.std.proofs.Common.{◌∙◌}
 use Rattle.clap.specs.Words.{found_of}
 use Rattle.trace_line.proofs.Numbers.{number_given}
-use Rattle.trace_line.proofs.line.number_in.Goals as goal
+use Rattle.trace_line.proofs.found.number_in.Goals as goal
 
 pub unwrap-requires : goal.unwrap-requires
 unwrap-requires c =

@@ -1,6 +1,7 @@
--- The rows of a list of options after the last word, with the defaults of those that aren't given.
-use Rattle.std.proofs.Common.{◌≡◌, ◌∙◌, ◌&&◌, ◌||◌, Bool, cond, true, false, not, List, [], ◌∷◌, map, Option, Some, None, refl, ap, sym}
-use Rattle.std.specs.Prelude.{if◌then◌else◌, fold, is_some, nat_lt, unwrap_or}
+-- The rows of a command after the last word, with the defaults of options that aren't given.
+use Rattle.std.proofs.Common.{◌≡◌, ◌∙◌, ◌&&◌, ◌||◌, ◌++◌, ℕ, Bool, cond, true, false, not, List, [], ◌∷◌, map, Option, Some, None, refl}
+use Rattle.std.proofs.Common.{suc, ap, sym}
+use Rattle.std.specs.Prelude.{if◌then◌else◌, fold, is_some, nat_lt, slice_get, unwrap_or}
 use Rattle.std.specs.List.{list_any}
 use Rattle.std.specs.Str.{bytes_eq}
 use Rattle.clap.specs.Lexer.{without_minus}
@@ -8,15 +9,18 @@ use Rattle.clap.specs.Kinds.{Kinds, or_else}
 use Rattle.clap.specs.Faults.{check_fault, default_fault, defaults_fault, given_default_fault}
 use Rattle.clap.specs.Walk.{Row, Rule, Text, all_of, default_rows, first_of, has_row, one_of, with_default}
 use Rattle.clap.specs.Takes.{is_given}
+use Rattle.clap.specs.declared.error.kind.ErrorKind.TheVariants.{MissingRequiredArgument}
 use Rattle.clap.specs.declared.parser.matches.ValueSource.TheVariants.{DefaultValue}
 use Rattle.clap.proofs.WalkLemmas.{both}
-use Rattle.trace_line.specs.CommandLine.{Given, NumberOption, OptionForm, Wants, is_number_of, many_texts, no_text, number_form, number_of}
-use Rattle.trace_line.specs.CommandLine.{one_number, one_text, option_named, text_given, texts_given}
-use Rattle.trace_line.specs.inner.Parser.{HasNumbers, HasTexts, flag_read}
+use Rattle.trace_line.specs.CommandLine.{ArgumentForm, CommandForm, Given, NumberOption, OptionForm}
+use Rattle.trace_line.specs.CommandLine.{Wants, has, has_required, is_number_of}
+use Rattle.trace_line.specs.CommandLine.{many_texts, no_text, one_number, one_text, option_named, text_given, texts_given}
+use Rattle.trace_line.specs.inner.Parser.{HasTexts, argument_form, flag_read, forms_of}
 use Rattle.trace_line.proofs.Numbers.{taken_most, taken_read}
 use Rattle.trace_line.proofs.LeafWalk.{help, leaf_shape}
-use Rattle.trace_line.proofs.OptionRules.{Are, are_sound, built_rule, built_rules, defaults_by, found_row, is_sound, reading_to, row_by}
-use Rattle.trace_line.proofs.OptionRules.{row_named, row_with, rows_often, rows_once, sound_named, with_other, with_same}
+use Rattle.trace_line.proofs.OptionRules.{Are, are_sound, built_rule, built_rules, defaults_by, found_row, is_passed, is_sound, reading_to}
+use Rattle.trace_line.proofs.OptionRules.{row_by, row_named, row_with, rows_often, rows_once, sound_named, with_other, with_same}
+use Rattle.trace_line.proofs.CommandRules.{argument_in, place, places, rules_for}
 
 -- ---- defaults
 
@@ -135,39 +139,34 @@ flag_end : (rows : List Row) (name : Text) (said : Option Text) → row_named ro
 flag_end rows name None found = rw found refl
 flag_end rows name (Some text) found = rw found refl
 
-texts_by : (name : Text) (wants : Wants) (rows : List Row) (given : Given)
-    → row_named rows name ≡ ended (record { name = name; wants = wants }) (row_by name wants given) → HasTexts rows given name wants
-texts_by name (one_number n) rows given found = tt
-texts_by name one_text rows given found = first_end rows name (text_given given name) found
-texts_by name many_texts rows given found = texts_end rows name (texts_given given name) found
-texts_by name no_text rows given found = flag_end rows name (text_given given name) found
+number_end : (rows : List Row) (name : Text) (n : NumberOption) (said : Option Text)
+    → row_named rows name ≡ ended (record { name = name; wants = one_number n }) (rows_once name (one_number n) said)
+    → one_of name rows ≡ Some (without_minus (unwrap_or said n.default))
+number_end rows name n None found = rw found refl
+number_end rows name n (Some text) found = rw found refl
 
--- the rows have the texts that are given
+texts_by : (name : Text) (wants : Wants) (rows : List Row) (given : Given) → is_sound wants ≡ true
+    → is_passed wants (text_given given name)
+    ≡ true
+    → row_named rows name ≡ ended (record { name = name; wants = wants }) (row_by name wants given) → HasTexts rows given name wants
+texts_by name (one_number n) rows given sound passed found =
+    let said : Option Text = text_given given name in
+    let bounds = both (is_number_of n n.default) (nat_lt n.most 4294967296) sound in (
+      rw (number_end rows name n said found) (taken_read n (unwrap_or said n.default) bounds.1 passed),
+      taken_most n (unwrap_or said n.default) passed,
+    )
+texts_by name one_text rows given sound passed found = first_end rows name (text_given given name) found
+texts_by name many_texts rows given sound passed found = texts_end rows name (texts_given given name) found
+texts_by name no_text rows given sound passed found = flag_end rows name (text_given given name) found
+
+-- the rows have what is given
 pub texts_found : (options : List OptionForm) (rows : List Row) (given : Given) → are_sound options ≡ true → EndsAs options rows given →
     (o : OptionForm)
     → option_named options o.name ≡ Some o → HasTexts rows given o.name o.wants
-texts_found options rows given sound ends o at = texts_by o.name o.wants rows given (found_end options rows given o sound ends at)
+texts_found options rows given sound ends o at =
+    texts_by o.name o.wants rows given (sound_named options o sound at) (ends.2 o at).1 (found_end options rows given o sound ends at)
 
-number_end : (rows : List Row) (n : NumberOption) (said : Option Text) → row_named rows n.name ≡ ended (number_form n)
-    (rows_once n.name (one_number n) said)
-    → one_of n.name rows ≡ Some (without_minus (unwrap_or said n.default))
-number_end rows n None found = rw found refl
-number_end rows n (Some text) found = rw found refl
-
--- the rows have the numbers
-pub numbers_found : (options : List NumberOption) (rows : List Row) (given : Given) → are_sound (map number_form options) ≡ true
-    → EndsAs (map number_form options) rows given → HasNumbers options rows (number_of given)
-numbers_found options rows given sound ends n at =
-    let form : OptionForm = number_form n in
-    let text : Text = unwrap_or (text_given given n.name) n.default in
-    let bounds = both (is_number_of n n.default) (nat_lt n.most 4294967296) (sound_named (map number_form options) form sound at) in
-    let is_number = (ends.2 form at).1 in (
-      rw (number_end rows n (text_given given n.name) (found_end (map number_form options) rows given form sound ends at))
-          (taken_read n text bounds.1 is_number),
-      taken_most n text is_number,
-    )
-
--- ---- no fault
+-- ---- the rules of a command, of which those of arguments have no default
 
 abbrev nothing : Kinds
 nothing = []
@@ -196,24 +195,97 @@ default_quiet o rows sound = by_wants o.name o.wants sound
     by_wants name many_texts is = none_if (has_row name rows)
     by_wants name no_text is = flag_if (has_row name rows)
 
-no_default_fault : (options : List OptionForm) (rows : List Row) → are_sound options ≡ true →
-    defaults_fault rows (built_rules options) ≡ []
-unfolding defaults_fault
-no_default_fault [] rows sound = go (has_row help.id rows)
+help_quiet : (rows : List Row) → default_fault rows help ≡ []
+help_quiet rows = go (has_row help.id rows)
   where
-    go : (has : Bool) → or_else (if has || true then [] else given_default_fault help []) [] ≡ []
+    go : (has : Bool) → (if has || true then nothing else given_default_fault help []) ≡ []
     go true = refl
     go false = refl
-no_default_fault (o ∷ options) rows sound =
-    let here = both (is_sound o.wants) (not (is_some (option_named options o.name)) && are_sound options) sound in
-    let rest = both (not (is_some (option_named options o.name))) (are_sound options) here.1 in
-    rw (default_quiet o rows here.0) (no_default_fault options (with_default rows (built_rule o)) rest.1)
 
-no_required : (options : List OptionForm) (rows : List Row) → list_any (λ a. a.required && not (is_given a.id rows))
-    (built_rules options) ≡ false
-no_required [] rows = refl
-no_required (o ∷ options) rows = no_required options rows
+place_quiet : (a : ArgumentForm) (i : ℕ) (rows : List Row) → default_fault rows (place a i) ≡ []
+place_quiet a i rows = go (has_row a.name rows)
+  where
+    go : (has : Bool) → (if has || true then nothing else given_default_fault (place a i) []) ≡ []
+    go true = refl
+    go false = refl
 
-pub no_end_fault : (name : Text) (options : List OptionForm) (rows end : List Row) → are_sound options ≡ true
-    → or_else (defaults_fault rows (built_rules options)) (check_fault (leaf_shape name (built_rules options)) end false) ≡ []
-no_end_fault name options rows end sound = rw (no_default_fault options rows sound, no_required options end) refl
+places_quiet : (i : ℕ) (arguments : List ArgumentForm) (rows : List Row) → defaults_fault rows (places i arguments ++ help ∷ []) ≡ []
+unfolding defaults_fault
+places_quiet i [] rows = rw (help_quiet rows) refl
+places_quiet i (a ∷ arguments) rows =
+    rw (place_quiet a i rows) (places_quiet (suc i) arguments (with_default rows (place a i)))
+
+rules_quiet : (options : List OptionForm) (arguments : List ArgumentForm) (rows : List Row)
+    → are_sound (options ++ map argument_form arguments) ≡ true
+    → defaults_fault rows (map built_rule options ++ (places 1 arguments ++ help ∷ [])) ≡ []
+unfolding defaults_fault
+rules_quiet [] arguments rows sound = places_quiet 1 arguments rows
+rules_quiet (o ∷ options) arguments rows sound =
+    let others : List OptionForm = options ++ map argument_form arguments in
+    let here = both (is_sound o.wants) (not (is_some (option_named others o.name)) && are_sound others) sound in
+    let rest = both (not (is_some (option_named others o.name))) (are_sound others) here.1 in
+    rw (default_quiet o rows here.0) (rules_quiet options arguments (with_default rows (built_rule o)) rest.1)
+
+places_end : (i : ℕ) (arguments : List ArgumentForm) (rows : List Row) → fold with_default rows (places i arguments ++ help ∷ [])
+    ≡ end_rows (map argument_form arguments) rows
+places_end i [] rows = refl
+places_end i (a ∷ arguments) rows = places_end (suc i) arguments (with_default rows (place a i))
+
+rules_end : (options : List OptionForm) (arguments : List ArgumentForm) (rows : List Row)
+    → fold with_default rows (map built_rule options ++ (places 1 arguments ++ help ∷ []))
+    ≡ end_rows (options ++ map argument_form arguments) rows
+rules_end [] arguments rows = places_end 1 arguments rows
+rules_end (o ∷ options) arguments rows = rules_end options arguments (with_default rows (built_rule o))
+
+pub command_end : (command : CommandForm) (rows : List Row) → fold with_default rows (rules_for command) ≡ end_rows (forms_of command) rows
+command_end command rows = rules_end command.options command.arguments rows
+
+-- ---- what is required
+
+abbrev is_missing : List Row → Rule → Bool
+is_missing rows a = a.required && not (is_given a.id rows)
+
+none_missing : (options : List OptionForm) (rows : List Row) (rest : List Rule)
+    → list_any (is_missing rows) (map built_rule options ++ rest)
+    ≡ list_any (is_missing rows) rest
+none_missing [] rows rest = refl
+none_missing (o ∷ options) rows rest = none_missing options rows rest
+
+argument_end : (rows : List Row) (name : Text) (said : Option Text)
+    → row_named rows name ≡ ended (record { name = name; wants = one_text }) (rows_once name one_text said)
+    → is_given name rows ≡ is_some said
+argument_end rows name None found = rw found refl
+argument_end rows name (Some text) found = rw found refl
+
+missing_if : (required given : Bool) (rest all : Bool) → rest ≡ not all
+    → (required && not given || rest) ≡ not ((not required || given) && all)
+missing_if true true rest all e = e
+missing_if true false rest all e = refl
+missing_if false true rest all e = e
+missing_if false false rest all e = e
+
+places_missing : (i : ℕ) (arguments : List ArgumentForm) (rows : List Row) (given : Given)
+    → ((n : ℕ) (a : ArgumentForm) → slice_get arguments n ≡ Some a → is_given a.name rows ≡ has given a.name)
+    → list_any (is_missing rows) (places i arguments ++ help ∷ []) ≡ not (has_required arguments given)
+places_missing i [] rows given are = refl
+places_missing i (a ∷ arguments) rows given are =
+    rw (are 0 a refl) (missing_if a.is_required (has given a.name) _ (has_required arguments given)
+    (places_missing (suc i) arguments rows given (λ n b at. are (suc n) b at)))
+
+pub required_end : (command : CommandForm) (rows : List Row) (given : Given) → are_sound (forms_of command) ≡ true →
+    EndsAs (forms_of command) rows given
+    → list_any (is_missing rows) (rules_for command) ≡ not (has_required command.arguments given)
+required_end command rows given sound ends =
+    none_missing command.options rows (places 1 command.arguments ++ help ∷ [])
+    ∙ places_missing 1 command.arguments rows given (λ n a at. argument_end rows a.name (text_given given a.name)
+    (found_end (forms_of command) rows given (argument_form a) sound ends (argument_in command sound n a at)))
+
+-- the faults after the last word
+pub end_faults : (command : CommandForm) (rows end : List Row) (given : Given) (whole : Bool) → are_sound (forms_of command) ≡ true
+    → EndsAs (forms_of command) end given → has_required command.arguments given ≡ whole
+    → or_else (defaults_fault rows (rules_for command)) (check_fault (leaf_shape command.name (rules_for command)) end false)
+    ≡ (if whole then nothing else MissingRequiredArgument ∷ [])
+end_faults command rows end given true sound ends is =
+    rw (rules_quiet command.options command.arguments rows sound, required_end command end given sound ends, is) refl
+end_faults command rows end given false sound ends is =
+    rw (rules_quiet command.options command.arguments rows sound, required_end command end given sound ends, is) refl
