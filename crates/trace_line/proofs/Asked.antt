@@ -1,5 +1,5 @@
 -- What the parser found of what is given.
-use Rattle.std.proofs.Common.{◌≡◌, ◌≤◌, ◌∙◌, ◌&&◌, ℕ, Bool, true, [], Option, Some, ap, ap₂, refl, sym}
+use Rattle.std.proofs.Common.{◌≡◌, ◌≤◌, ◌∙◌, ◌&&◌, ℕ, Bool, true, [], Option, Some, ap, ap₂, refl, subst, sym}
 use Rattle.std.specs.Prelude.{codes, is_some, option_map, unwrap_or}
 use Rattle.clap.proofs.WalkLemmas.{both, first_value-rows}
 use Rattle.clap.specs.Walk.{Text}
@@ -49,6 +49,10 @@ module _ (command : CommandForm) (found : Found) (given : Given) (is : IsGiven c
   pub number_said : (n : NumberOption) (number : ℕ) → option_named (forms_of command) n.name ≡ Some (number_form n)
       → number_read n.name (rows_of found) ≡ Some number → number_of given n ≡ number
   number_said n number at read = let same : Some (number_of given n) ≡ Some number = sym (number_is n at).0 ∙ read in cc same
+
+  pub number_most : (n : NumberOption) (number : ℕ) → option_named (forms_of command) n.name ≡ Some (number_form n)
+      → number_read n.name (rows_of found) ≡ Some number → number ≤ n.most
+  number_most n number at read = subst (λ (m : ℕ). m ≤ n.most) (number_said n number at read) (number_is n at).1
 
 module _ (command : CommandForm) (found : Found) (asked : IsAsked command (rows_of found)) where
   pub text_asked : (name : Text) → option_named (forms_of command) name ≡ Some (text_form name) → has asked.0 name ≡ true →

@@ -73,6 +73,13 @@ line_value (Steps capacity) = steps capacity
 line_value (Storm sessions opens changes) = storm sessions opens changes
 line_value (Import asked) = import_value asked
 
+-- how many entries a tree has room for, where the command has one
+abbrev pub capacity_of : LineValue → ℕ
+capacity_of (run capacity) = capacity
+capacity_of (test capacity format) = capacity
+capacity_of (steps capacity) = capacity
+capacity_of _ = 0
+
 -- the word is an option: a hyphen followed by a character
 abbrev pub is_option : List ℕ → Bool
 is_option [] = false

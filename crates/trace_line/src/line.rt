@@ -1,6 +1,6 @@
 //! What the words of a command line ask for.
-ghost use Rattle.std.specs.Prelude.{◌≡◌, IfOk, IfErr, is_some, Some, true, map};
-ghost use Rattle.trace_line.specs.CommandLine.{line_of, line_value, line_fault_number};
+ghost use Rattle.std.specs.Prelude.{◌≡◌, ◌≤◌, IfOk, IfErr, is_some, Some, true, map};
+ghost use Rattle.trace_line.specs.CommandLine.{capacity, capacity_of, line_of, line_value, line_fault_number};
 ghost use Rattle.trace_line.specs.inner.Parser.{IsLineFaultOf, IsReadAs};
 
 use crate::import::{ImportOptions, import_in};
@@ -140,6 +140,7 @@ impl From<AllocError> for LineFault {
 /// Reads the words of a command line, of which the first is the program's name.
 pub fn command_line<'a, S: AsStr>(alloc: Global, words: &'a [S]) -> Result<Line<'a>, LineFault>
     ensures ok { IfOk result (λ line. line_of (map S.text words.now) ≡ Some (line_value line)) }
+    ensures capacity { IfOk result (λ line. capacity_of (line_value line) ≤ capacity.most) }
     ensures err { IfErr result (λ fault.
         is_some (line_of (map S.text words.now)) ≡ true → fault ≡ LineFault.NoMemory) }
 {

@@ -1,8 +1,9 @@
 //! The line of each command, by what the parser found.
+ghost use Rattle.std.specs.Prelude.{◌≤◌};
 ghost use Rattle.clap.specs.Words.{found_of, rows_of};
 ghost use Rattle.trace_line.specs.CommandLine.{all_command, any_command, compile_command, diff_command, explain_command, judge_command};
 ghost use Rattle.trace_line.specs.CommandLine.{line_value, lint_command, match_command, run_command, steps_command, storm_command};
-ghost use Rattle.trace_line.specs.CommandLine.{test_command};
+ghost use Rattle.trace_line.specs.CommandLine.{capacity, capacity_of, test_command};
 ghost use Rattle.trace_line.specs.inner.Parser.{IsAsked, IsLineBy};
 
 use crate::found::{each_rule_in, format_in, number_in, text_in};
@@ -86,7 +87,8 @@ pub(crate) fn lint_in<'a>(found: &ArgMatches<'a>) -> Line<'a>
 /// The line of `run`.
 pub(crate) fn run_in<'a>(found: &ArgMatches<'a>) -> Line<'a>
     requires { IsAsked run_command (rows_of (found_of found.now)) }
-    ensures { IsLineBy run_command (rows_of (found_of found.now)) (line_value result) }
+    ensures line { IsLineBy run_command (rows_of (found_of found.now)) (line_value result) }
+    ensures capacity { capacity_of (line_value result) ≤ capacity.most }
 {
     Line::Run {
         capacity: number_in(found, CAPACITY.name),
@@ -96,7 +98,8 @@ pub(crate) fn run_in<'a>(found: &ArgMatches<'a>) -> Line<'a>
 /// The line of `test`.
 pub(crate) fn test_in<'a>(found: &ArgMatches<'a>) -> Line<'a>
     requires { IsAsked test_command (rows_of (found_of found.now)) }
-    ensures { IsLineBy test_command (rows_of (found_of found.now)) (line_value result) }
+    ensures line { IsLineBy test_command (rows_of (found_of found.now)) (line_value result) }
+    ensures capacity { capacity_of (line_value result) ≤ capacity.most }
 {
     Line::Test {
         capacity: number_in(found, CAPACITY.name),
@@ -130,7 +133,8 @@ pub(crate) fn match_in<'a>(found: &ArgMatches<'a>) -> Line<'a>
 /// The line of `steps`.
 pub(crate) fn steps_in<'a>(found: &ArgMatches<'a>) -> Line<'a>
     requires { IsAsked steps_command (rows_of (found_of found.now)) }
-    ensures { IsLineBy steps_command (rows_of (found_of found.now)) (line_value result) }
+    ensures line { IsLineBy steps_command (rows_of (found_of found.now)) (line_value result) }
+    ensures capacity { capacity_of (line_value result) ≤ capacity.most }
 {
     Line::Steps {
         capacity: number_in(found, CAPACITY.name),

@@ -73,7 +73,7 @@ run_in-requires g c =
 pub returns-in-run-clause-ok : goal.returns-in-run-clause-ok
 returns-in-run-clause-ok g c =
     let line = opened_line _ _ _ _ c.in_ok-matches.ensures.ok c.unwrap.ensures c.subcommand.ensures.name c.subcommand.ensures.rows in
-    line_given _ _ _ line run_command c.in-run.is refl _ c.run_in.ensures
+    line_given _ _ _ line run_command c.in-run.is refl _ c.run_in.ensures.line
 
 pub test_in-requires : goal.test_in-requires
 test_in-requires g c =
@@ -83,7 +83,7 @@ test_in-requires g c =
 pub returns-in-test-clause-ok : goal.returns-in-test-clause-ok
 returns-in-test-clause-ok g c =
     let line = opened_line _ _ _ _ c.in_ok-matches.ensures.ok c.unwrap.ensures c.subcommand.ensures.name c.subcommand.ensures.rows in
-    line_given _ _ _ line test_command c.in-test.is refl _ c.test_in.ensures
+    line_given _ _ _ line test_command c.in-test.is refl _ c.test_in.ensures.line
 
 pub compile_in-requires : goal.compile_in-requires
 compile_in-requires g c =
@@ -113,7 +113,7 @@ steps_in-requires g c =
 pub returns-in-steps-clause-ok : goal.returns-in-steps-clause-ok
 returns-in-steps-clause-ok g c =
     let line = opened_line _ _ _ _ c.in_ok-matches.ensures.ok c.unwrap.ensures c.subcommand.ensures.name c.subcommand.ensures.rows in
-    line_given _ _ _ line steps_command c.in-steps.is refl _ c.steps_in.ensures
+    line_given _ _ _ line steps_command c.in-steps.is refl _ c.steps_in.ensures.line
 
 pub storm_in-requires : goal.storm_in-requires
 storm_in-requires g c =
