@@ -12,8 +12,7 @@ returns-in-Ok-clause-output g c =
     let pattern = option_map (λ pattern. pattern.now) c.args.below in
     let found = c.in-Ok.answer.found in
     let of : IsDiffOutput pattern h.0 h.1 (finding c.deref.result.now found) =
-    subst (λ (bytes : List ℕ). IsDiffOutput pattern h.0 h.1 (finding bytes found)) (sym c.deref.ensures.value) h.4 in
-    (
+    subst (λ (bytes : List ℕ). IsDiffOutput pattern h.0 h.1 (finding bytes found)) (sym c.deref.ensures.value) h.4 in (
       h.0,
       h.1,
       h.2,
@@ -25,8 +24,7 @@ returns-in-Ok-clause-output g c =
 pub returns-in-Err-clause-output : goal.returns-in-Err-clause-output
 returns-in-Err-clause-output g c =
     let h = c.in-Err.ensures.output in
-    let pattern = option_map (λ pattern. pattern.now) c.args.below in
-    (
+    let pattern = option_map (λ pattern. pattern.now) c.args.below in (
       h.0,
       h.1,
       h.2,
