@@ -5,8 +5,8 @@
 #                 hostile input of each reader; the loop that runs names through a table, and many names side by side, next to
 #                 loops in C; images with chains of defaults, next to those without; names judged from C; plans and walks over a
 #                 row, and changes and walks over the row that threads share; reads of published profiles, and opens in threads,
-#                 both next to a lock; opens of the same files again and again, with and without kept verdicts; stat(2) and
-#                 open(2) of the files that sessions open
+#                 both next to a lock; opens of the same files again and again, with and without kept verdicts; questions about
+#                 all names of real profiles; stat(2) and open(2) of the files that sessions open
 # make tour       runs every command of README.md and docs/TOUR.md, and compares what it prints
 # make calls      calls the library for C, and compares its answers with those of ./aa-trace
 # make embed      builds the examples for embedders, ./embed in C and ./embed_rs in Rust, and runs them
@@ -85,6 +85,7 @@ bench: aa-trace
 	sh bench/registry.sh
 	sh bench/open.sh
 	sh bench/kept.sh
+	sh bench/questions.sh
 	sh bench/linux.sh
 
 calls: aa-trace $(LIBRARY)

@@ -3,7 +3,7 @@
 # What the words before the cursor say: the command, how many arguments it has so far, which options with a number were given,
 # and whether options have come to an end. A redirection and its file are no words of the program.
 _aa_trace_read_words() {
-    local index word is_file=
+    local index word is_file= is_text=
     for ((index = 1; index < COMP_CWORD; index++)); do
         word=${COMP_WORDS[index]}
         if [[ -n $is_file ]]; then
@@ -14,10 +14,14 @@ _aa_trace_read_words() {
             : # the 2 of 2>, which bash gives as a word of its own
         elif [[ -z $command ]]; then
             command=$word
+        elif [[ -n $is_text ]]; then
+            # A = between an option and its text is a word of its own.
+            [[ $word == = ]] || is_text=
         elif [[ -z $literal && $word == -- ]]; then
             literal=yes
-        elif [[ -z $literal && $word == --@(capacity|depth|sessions|opens|changes|profile|owner|strict) ]]; then
+        elif [[ -z $literal && $word == --@(capacity|depth|sessions|opens|changes|profile|owner|strict|below|each-rule|json) ]]; then
             given+=" $word"
+            [[ $word == --below ]] && is_text=yes
         elif [[ -n $literal || $word != -?* ]]; then
             ((arguments += 1))
         fi
@@ -61,7 +65,7 @@ _aa_trace_files() {
 _aa_trace() {
     local cur=${COMP_WORDS[COMP_CWORD]} previous=${COMP_WORDS[COMP_CWORD - 1]}
     local command='' given='' literal='' arguments=0
-    local commands='judge explain import run test steps storm compile check match help'
+    local commands='judge explain any all diff lint import run test steps storm compile check match help'
     COMPREPLY=()
     if [[ $previous == *[\<\>]* ]]; then
         _aa_trace_files "$cur"
@@ -79,17 +83,21 @@ _aa_trace() {
         return
     fi
     # The text of an option is nothing to complete.
-    [[ $command == @(run|test|steps|storm|compile|import) &&
-        ($previous == --@(capacity|depth|sessions|opens|changes|profile|define) || $previous == = || $cur == =) ]] && return
+    [[ $command == @(run|test|steps|storm|compile|import|diff) &&
+        ($previous == --@(capacity|depth|sessions|opens|changes|profile|define|below) || $previous == = || $cur == =) ]] && return
     if [[ -z $literal && $cur == -* ]]; then
         local options='-h --help'
         case $command in
         '') options+=' --version' ;;
-        run | test | steps) options+=$(_aa_trace_left --capacity) ;;
+        run | steps) options+=$(_aa_trace_left --capacity) ;;
+        test) options+=$(_aa_trace_left --capacity --json) ;;
         storm) options+=$(_aa_trace_left --sessions --opens --changes) ;;
         compile) options+=$(_aa_trace_left --depth) ;;
         import) options+="$(_aa_trace_left --profile --owner --strict) --define" ;;
-        judge | explain | check | match) ;;
+        judge | explain | match | all | lint) options+=$(_aa_trace_left --json) ;;
+        any) options+=$(_aa_trace_left --each-rule --json) ;;
+        diff) options+=$(_aa_trace_left --below --each-rule --json) ;;
+        check) ;;
         *) return ;;
         esac
         _aa_trace_words "$options" "$cur"
@@ -98,13 +106,14 @@ _aa_trace() {
     case $command in
     '') _aa_trace_words "$commands" "$cur" ;;
     help) ((arguments == 0)) && _aa_trace_words "$commands" "$cur" ;;
-    judge | explain | match)
+    judge | explain | match | any | all)
         case $arguments in
         0) _aa_trace_letters "$cur" ;;
-        # A name begins with a slash. What stands in the file system is often one.
+        # A name or a pattern begins with a slash. What stands in the file system is often one.
         1) case $cur in '' | [/~]* | [\"\']/*) _aa_trace_files "${cur:-/}" ;; esac ;;
         esac
         ;;
+    diff) ((arguments < 2)) && _aa_trace_files "$cur" ;;
     esac
 }
 

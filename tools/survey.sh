@@ -7,6 +7,8 @@
 #
 # PACKAGES  the packages to fetch, by default all that are known to ship profiles (400 megabytes; nothing is installed)
 # IMPORT    the program that imports (flattened text in, canonical text and an account out); if empty, that part is left out
+# ASK       the program that answers questions about all names of the imported profiles: how many may write below some folders, and
+#           how many rules decide nothing
 #
 # Needs Python 3, and apparmor_parser (the package apparmor) for the import, which is left out without it. The first part is left
 # out if ./aa-trace isn't built. The status is 1 if an import isn't as it should be (tools/survey-import says what that is).
@@ -16,6 +18,7 @@ work=$(mktemp -d)
 trap 'rm -rf "$work"' EXIT
 
 IMPORT=${IMPORT-./aa-trace import}
+ASK=${ASK-./aa-trace}
 PACKAGES=${PACKAGES:-'akonadi-server anope apparmor apparmor-profiles apparmor-profiles-extra aprx bind9 charon-systemd chrony
     clamav-daemon clamav-freshclam content-hub-testability cups-browsed cups-daemon ejabberd evince firejail fwknop-apparmor-profile
     gpsd haveged i2pd ibus-hangul inspircd ioquake3 ioquake3-server isc-dhcp-client isc-dhcp-server kea-common kea-ctrl-agent
@@ -128,7 +131,10 @@ grep -rhoEs '^[[:space:]]*#?include[[:space:]]+<local/[^>]+>' "$profiles" "$fold
 status=0
 for owner in keep drop; do
     echo "Imported with --owner $owner:"
-    xargs -d '\n' tools/survey-import --program "$IMPORT" --base "$work/base" --owner "$owner" <"$work/files" || status=1
+    # Asked are the profiles of owners, who may do more.
+    asked=$ASK
+    if [ "$owner" = drop ]; then asked=; fi
+    xargs -d '\n' tools/survey-import --program "$IMPORT" --ask "$asked" --base "$work/base" --owner "$owner" <"$work/files" || status=1
     echo
 done
 exit "$status"

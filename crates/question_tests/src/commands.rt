@@ -7,25 +7,22 @@ use trace_report::Status;
 
 // What a command wrote, and its status.
 #[derive(Drop)]
-struct Ending {
-    status: Status,
-    answers: Vec<u8>,
-    faults: Vec<u8>,
+pub(crate) struct Ending {
+    pub(crate) status: Status,
+    pub(crate) answers: Vec<u8>,
+    pub(crate) faults: Vec<u8>,
 }
 
-// What is asked of a profile's text, and the status and the text that answer it: a fault's text where the status isn't that of an
-// answer.
+// What is asked of a profile's text.
 #[derive(Clone, Copy)]
-struct Row<'a> {
-    quantifier: Quantifier,
-    perms: &'a str,
-    pattern: &'a str,
-    profile: &'a [u8],
-    status: Status,
-    text: &'a [u8],
+pub(crate) struct Row<'a> {
+    pub(crate) quantifier: Quantifier,
+    pub(crate) perms: &'a str,
+    pub(crate) pattern: &'a str,
+    pub(crate) profile: &'a [u8],
 }
 
-fn search_in_memory(alloc: Global, row: Row<'_>) -> Ending {
+pub(crate) fn search_in_memory(alloc: Global, row: Row<'_>) -> Ending {
     let mut input = row.profile;
     let mut answers = Vec::new(alloc);
     let mut faults = Vec::new(alloc);
@@ -87,15 +84,8 @@ fn some_name(rt: HostRuntime) {
             perms,
             pattern,
             profile: WEB,
-            status,
-            text,
         };
-        expect(
-            &rt,
-            &search_in_memory(rt.alloc(), row),
-            row.status,
-            row.text,
-        );
+        expect(&rt, &search_in_memory(rt.alloc(), row), status, text);
     }
 }
 
@@ -119,15 +109,8 @@ fn each_name(rt: HostRuntime) {
             perms,
             pattern,
             profile: WEB,
-            status,
-            text,
         };
-        expect(
-            &rt,
-            &search_in_memory(rt.alloc(), row),
-            row.status,
-            row.text,
-        );
+        expect(&rt, &search_in_memory(rt.alloc(), row), status, text);
     }
 }
 
@@ -161,19 +144,17 @@ fn odd_texts(rt: HostRuntime) {
             perms: "r",
             pattern,
             profile,
-            status,
-            text,
         };
-        expect(
-            &rt,
-            &search_in_memory(rt.alloc(), row),
-            row.status,
-            row.text,
-        );
+        expect(&rt, &search_in_memory(rt.alloc(), row), status, text);
     }
 }
 
-fn differ_in_memory(alloc: Global, below: Option<&str>, old: &[u8], new: &[u8]) -> Ending {
+pub(crate) fn differ_in_memory(
+    alloc: Global,
+    below: Option<&str>,
+    old: &[u8],
+    new: &[u8],
+) -> Ending {
     let mut before = old;
     let mut after = new;
     let mut answers = Vec::new(alloc);

@@ -4,6 +4,8 @@
 #[cfg(test)]
 mod commands;
 #[cfg(test)]
+mod drawn;
+#[cfg(test)]
 mod influence;
 #[cfg(test)]
 mod least;
@@ -11,3 +13,5 @@ mod least;
 mod representatives;
 #[cfg(test)]
 mod rules;
+#[cfg(test)]
+mod short_names;

@@ -7,6 +7,7 @@
 mod importing;
 mod plain;
 mod program;
+mod questions;
 mod script;
 mod steps;
 mod storm;

@@ -1,0 +1,275 @@
+//! Drawn profiles, compared with an oracle that judges all short names one by one.
+use crate::commands::{Ending, Row, differ_in_memory, search_in_memory};
+use crate::short_names::short_names;
+use names::{Permission, Perms, Verdict};
+use rule_judge::judge_slow;
+use rule_profile::Profile;
+use rule_reader::read;
+use std::alloc::Global;
+use std::process::Abort;
+use std::test::Fail;
+use storm_parts::Random;
+use trace_questions::Quantifier;
+use trace_report::Status;
+
+// What paths are made of, after their first slash.
+const PIECES: [&str; 12] = [
+    "a", "b", "/", "a*", "*b", "?", "[ab]", "[^a]", "{a,b}", "{,/b}", "a**", "**/",
+];
+
+const PERMS: [&str; 4] = ["r", "w", "rw", "a"];
+
+// How many bytes the names of the oracle have at most.
+const MOST_BYTES: usize = 5;
+
+// How many pairs of profiles a test compares.
+const PAIRS: u64 = 500;
+
+fn pick<'a>(random: &mut Random, texts: &[&'a str]) -> &'a str {
+    if texts.is_empty() {
+        return "";
+    }
+    texts[random.below(texts.len())]
+}
+
+// A path of one to three pieces.
+fn draw_path(alloc: Global, random: &mut Random) -> Result<String, Fail> {
+    let first = pick(random, &PIECES);
+    let second = pick(random, &PIECES);
+    let third = pick(random, &PIECES);
+    Ok(match random.below(3) {
+        0 => format!(in alloc; "/{first}")?,
+        1 => format!(in alloc; "/{first}{second}")?,
+        _ => format!(in alloc; "/{first}{second}{third}")?,
+    })
+}
+
+// The text of a profile of one to four rules, of which one in four denies.
+fn draw_profile(alloc: Global, random: &mut Random) -> Result<Vec<u8>, Fail> {
+    let mut text = Vec::from_slice(alloc, b"profile p {\n")?;
+    for _ in 0..1 + random.below(4) {
+        let deny = if random.below(4) == 0 { "deny " } else { "" };
+        let path = draw_path(alloc, random)?;
+        let perms = pick(random, &PERMS);
+        let rule = format!(in alloc; "  {deny}{path} {perms},\n")?;
+        text.extend_from_slice(rule.as_bytes())?;
+    }
+    text.extend_from_slice(b"}\n")?;
+    Ok(text)
+}
+
+// A profile with its text.
+#[derive(Drop)]
+struct Drawn {
+    text: Vec<u8>,
+    profile: Profile,
+}
+
+impl Drawn {
+    fn new(alloc: Global, random: &mut Random) -> Result<Drawn, Fail> {
+        let text = draw_profile(alloc, random)?;
+        let profile = read(alloc, &text)?;
+        Ok(Drawn { text, profile })
+    }
+
+    fn allows(&self, name: &[u8], ask: Perms) -> bool {
+        judge_slow(&self.profile, name, ask) == Verdict::Allowed
+    }
+}
+
+// The profile whose one rule allows to read what a pattern takes.
+fn reader_of(alloc: Global, pattern: &str) -> Result<Drawn, Fail> {
+    let text = format!(in alloc; "profile p {{\n  {pattern} r,\n}}\n")?.into_bytes();
+    let profile = read(alloc, &text)?;
+    Ok(Drawn { text, profile })
+}
+
+// What is asked of a profile's names.
+#[derive(Drop)]
+struct Asked {
+    quantifier: Quantifier,
+    letters: &'static str,
+    ask: Perms,
+    pattern: String,
+    taken: Drawn,
+}
+
+impl Asked {
+    fn new(alloc: Global, random: &mut Random, quantifier: Quantifier) -> Result<Asked, Fail> {
+        let letters = pick(random, &PERMS);
+        let pattern = draw_path(alloc, random)?;
+        let taken = reader_of(alloc, &pattern)?;
+        Ok(Asked {
+            quantifier,
+            letters,
+            ask: Perms::from_letters(letters.as_bytes()).ok_or("permissions")?,
+            pattern,
+            taken,
+        })
+    }
+
+    // Whether the name is one that the answer may have.
+    fn wants(&self, drawn: &Drawn, name: &[u8]) -> bool {
+        let read = Perms::NONE.with(Permission::Read);
+        let allowed = drawn.allows(name, self.ask);
+        self.taken.allows(name, read)
+            && match self.quantifier {
+                Quantifier::Any => allowed,
+                Quantifier::All => !allowed,
+            }
+    }
+}
+
+// The line with the name that a question was answered by, if it has one.
+fn line_of(quantifier: Quantifier, name: &[u8], alloc: Global) -> Result<Vec<u8>, Fail> {
+    let word: &[u8] = match quantifier {
+        Quantifier::Any => b"any ",
+        Quantifier::All => b"not ",
+    };
+    let mut line = Vec::from_slice(alloc, word)?;
+    line.extend_from_slice(name)?;
+    line.push(b'\n')?;
+    Ok(line)
+}
+
+// The name on the first line of an answer that found one.
+fn found_name(ending: &Ending) -> Option<&[u8]> {
+    let line = ending.answers.split(|byte| *byte == b'\n').next()?;
+    line.strip_prefix(b"any ")
+        .or_else(|| line.strip_prefix(b"not "))
+}
+
+// The answer to a question: the oracle's name, or, where it has none, a longer one, or none.
+fn expect_answer(
+    rt: &impl Abort,
+    alloc: Global,
+    drawn: &Drawn,
+    asked: &Asked,
+    names: &[Vec<u8>],
+) -> Result<(), Fail> {
+    let ending = search_in_memory(
+        alloc,
+        Row {
+            quantifier: asked.quantifier,
+            perms: asked.letters,
+            pattern: &asked.pattern,
+            profile: &drawn.text,
+        },
+    );
+    match names.iter().find(|name| asked.wants(drawn, name)) {
+        Some(name) => {
+            let line = line_of(asked.quantifier, name, alloc)?;
+            assert!(rt; ending.answers.starts_with(&line));
+            assert!(rt; ending.status == Status::Unmet);
+        }
+        None => match found_name(&ending) {
+            Some(name) => {
+                assert!(rt; name.len() > MOST_BYTES && asked.wants(drawn, name));
+                assert!(rt; ending.status == Status::Unmet);
+            }
+            None => assert!(rt; ending.status == Status::Done),
+        },
+    }
+    Ok(())
+}
+
+// The front of a line of a difference, up to the name.
+fn sign_of(alloc: Global, is_new: bool, permission: Permission) -> Result<Vec<u8>, Fail> {
+    let mut front = Vec::from_slice(alloc, if is_new { b"+ " } else { b"- " })?;
+    front.push(permission.letter())?;
+    front.push(b' ')?;
+    Ok(front)
+}
+
+// The name on the line of a difference that begins so.
+fn name_after<'a>(answers: &'a [u8], front: &[u8]) -> Option<&'a [u8]> {
+    let rest = answers
+        .split(|byte| *byte == b'\n')
+        .find_map(|line| line.strip_prefix(front))?;
+    rest.split(|byte| *byte == b':').next()
+}
+
+// The line of a permission that one of two profiles alone allows to some names: its name is the oracle's, or, where it has none, a
+// longer one, or there is no line.
+fn expect_difference(
+    rt: &impl Abort,
+    ending: &Ending,
+    front: &[u8],
+    names: &[Vec<u8>],
+    wants: impl Fn(&[u8]) -> bool,
+) {
+    let found = name_after(&ending.answers, front);
+    match names.iter().find(|name| wants(name)) {
+        Some(name) => assert!(rt; found == Some(name.as_slice())),
+        None => {
+            if let Some(name) = found {
+                assert!(rt; name.len() > MOST_BYTES && wants(name));
+            }
+        }
+    }
+}
+
+// All lines about two profiles.
+fn expect_differences(
+    rt: &impl Abort,
+    alloc: Global,
+    old: &Drawn,
+    new: &Drawn,
+    names: &[Vec<u8>],
+) -> Result<(), Fail> {
+    let ending = differ_in_memory(alloc, None, &old.text, &new.text);
+    for permission in Permission::ALL {
+        let ask = Perms::NONE.with(permission);
+        let front = sign_of(alloc, true, permission)?;
+        expect_difference(rt, &ending, &front, names, |name| {
+            new.allows(name, ask) && !old.allows(name, ask)
+        });
+        let front = sign_of(alloc, false, permission)?;
+        expect_difference(rt, &ending, &front, names, |name| {
+            old.allows(name, ask) && !new.allows(name, ask)
+        });
+    }
+    let is_same = ending.answers.as_slice() == b"same\n".as_slice();
+    assert!(rt; is_same == (ending.status == Status::Done));
+    Ok(())
+}
+
+// A pair of drawn profiles.
+fn expect_pair(rt: &impl Abort, alloc: Global, seed: u64, names: &[Vec<u8>]) -> Result<(), Fail> {
+    let mut random = Random::new(seed);
+    let old = Drawn::new(alloc, &mut random)?;
+    let new = Drawn::new(alloc, &mut random)?;
+    let any = Asked::new(alloc, &mut random, Quantifier::Any)?;
+    expect_answer(rt, alloc, &old, &any, names)?;
+    let all = Asked::new(alloc, &mut random, Quantifier::All)?;
+    expect_answer(rt, alloc, &new, &all, names)?;
+    expect_differences(rt, alloc, &old, &new, names)
+}
+
+fn expect_pairs(rt: &impl Abort, alloc: Global, first: u64) -> Result<(), Fail> {
+    let names = short_names(alloc, MOST_BYTES)?;
+    for seed in 0..PAIRS {
+        expect_pair(rt, alloc, first.wrapping_add(seed), &names)?;
+    }
+    Ok(())
+}
+
+#[test]
+fn first_pairs(rt: HostRuntime) -> Result<(), Fail> {
+    expect_pairs(&rt, rt.alloc(), 0)
+}
+
+#[test]
+fn second_pairs(rt: HostRuntime) -> Result<(), Fail> {
+    expect_pairs(&rt, rt.alloc(), 500)
+}
+
+#[test]
+fn third_pairs(rt: HostRuntime) -> Result<(), Fail> {
+    expect_pairs(&rt, rt.alloc(), 1_000)
+}
+
+#[test]
+fn fourth_pairs(rt: HostRuntime) -> Result<(), Fail> {
+    expect_pairs(&rt, rt.alloc(), 1_500)
+}
