@@ -4,9 +4,11 @@
 #![tactic(auto)]
 
 mod files;
+mod given;
 mod late;
 mod texts;
 
 pub use files::SystemFiles;
+pub use given::{GivenText, GivenTexts};
 pub use late::LateText;
 pub use texts::NamedTexts;
