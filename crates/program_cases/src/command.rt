@@ -1,6 +1,7 @@
 //! Commands, and what they do with a text.
 use crate::ending::Ending;
 use crate::expand::expanded;
+use named_texts::{GivenText, GivenTexts};
 use std::alloc::{AllocError, Global};
 use std::io;
 use std::sync::Wait;
@@ -51,7 +52,7 @@ fn run_part<H: Threads + Wait + Sync>(
     input: &[u8],
 ) -> io::Result<Ending> {
     match words.first().copied() {
-        Some("aa-trace") => Ok(run_program(rt, alloc, words, input)),
+        Some("aa-trace") => run_program(rt, alloc, words, input),
         Some("parse") => parse(alloc, words),
         Some("plain-bench") => Ok(run_in_memory(alloc, number(words, 1), input)),
         Some("set") => set_byte(alloc, number(words, 1), number(words, 2), input),
@@ -73,18 +74,31 @@ fn run_program<H: Threads + Wait + Sync>(
     alloc: Global,
     words: &[&str],
     input: &[u8],
-) -> Ending {
+) -> io::Result<Ending> {
     let mut ending = Ending::nothing(alloc);
     let mut input = input;
+    let given = given_texts(alloc, words)?;
     ending.status = run_words(
         rt,
         alloc,
+        &GivenTexts { texts: &given },
         words,
         &mut input,
         &mut ending.answers,
         &mut ending.faults,
     );
-    ending
+    Ok(ending)
+}
+
+/// The texts that words may name: each word is the name of itself.
+fn given_texts<'a>(alloc: Global, words: &[&'a str]) -> Result<Vec<GivenText<'a>>, AllocError> {
+    words
+        .iter()
+        .map(|word| GivenText {
+            name: word,
+            text: word.as_bytes(),
+        })
+        .collect(alloc)
 }
 
 /// What the words after the first one ask for, or what is wrong with them.

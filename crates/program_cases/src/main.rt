@@ -4,7 +4,8 @@
 //! A case begins with a line `=== TITLE`. The text follows as it is, and then a line `$ COMMAND` for each command that reads it. The
 //! line break before a command isn't part of the text: where the text ends with one, an empty line stands before the commands.
 //!
-//! - `$ aa-trace WORDS` runs the program with these words. A word is written between blanks, or between double quotes.
+//! - `$ aa-trace WORDS` runs the program with these words. A word is written between blanks, or between double quotes. A file that a
+//!   word names has this word as its text.
 //! - `$ parse aa-trace WORDS` shows what the words ask for, or what the parser says of them.
 //! - `$ plain-bench N` runs a script as `aa-trace run --capacity N` does, on a bench in plain memory.
 //! - `$ ONE | TWO` gives what ONE writes to TWO. Between them may stand `set PLACE BYTE`, which changes a byte of it, and `first N`,

@@ -1,5 +1,6 @@
 //! Scripts of events over streams that fail.
 use crate::running::{Pieces, run_on_pieces};
+use named_texts::GivenTexts;
 use std::alloc::Global;
 use std::io;
 use std::io::{ErrorKind, Write};
@@ -73,7 +74,16 @@ fn status_of(
         writes,
     };
     let mut faults = Vec::new(alloc);
-    let status = run_words(rt, alloc, &WORDS, &mut input, &mut narrow, &mut faults);
+    let texts = GivenTexts { texts: &[] };
+    let status = run_words(
+        rt,
+        alloc,
+        &texts,
+        &WORDS,
+        &mut input,
+        &mut narrow,
+        &mut faults,
+    );
     answers.extend_from_slice(&narrow.taken)?;
     let told = if status == Status::Done {
         b"".as_slice()

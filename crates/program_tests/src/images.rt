@@ -11,7 +11,7 @@ use std::sync::Wait;
 use std::test::Fail;
 use std::thread::Threads;
 use trace_commands::{check, match_name};
-use trace_report::Status;
+use trace_report::{Format, Status};
 
 /// What `check` says of the image of [`PASSWD`].
 const CHECKED: &[u8] = b"ok states 13 cells 258 accepts 2\n";
@@ -163,7 +163,7 @@ fn end_on_endless(alloc: Global, matches: bool, front: &[u8]) -> (Ending, usize)
     let mut answers = Failing::never(alloc);
     let mut faults = Failing::never(alloc);
     let status = if matches {
-        match_name(alloc, "r", "/x", &mut input, &mut answers, &mut faults)
+        match_name(alloc, Format::Text, "r", "/x", &mut input, &mut answers, &mut faults)
     } else {
         check(alloc, &mut input, &mut answers, &mut faults)
     };

@@ -1,4 +1,5 @@
 //! Runs over streams in memory, and over streams that fail.
+use named_texts::{GivenText, GivenTexts};
 use std::alloc::Global;
 use std::io;
 use std::io::{BufRead, BufReader, ErrorKind, Read, Write};
@@ -10,6 +11,18 @@ use trace_program::run_words;
 use trace_report::Status;
 
 pub(crate) const PASSWD: &str = "profile passwd {\n  /etc/passwd r,\n}\n";
+
+/// The files that words may name.
+pub(crate) const TEXTS: [GivenText<'static>; 2] = [
+    GivenText {
+        name: "old",
+        text: b"profile p {\n  /etc/* r,\n  /srv/** rw,\n}\n",
+    },
+    GivenText {
+        name: "cut",
+        text: b"profile p {\n",
+    },
+];
 
 /// Gives its bytes a few at a time, and fails once it has been read from often enough.
 #[derive(Drop)]
@@ -113,7 +126,16 @@ pub(crate) fn run_within<R: BufRead>(
     mut answers: Failing,
     mut faults: Failing,
 ) -> Ending {
-    let status = run_words(rt, alloc, words, input, &mut answers, &mut faults);
+    let texts = GivenTexts { texts: &TEXTS };
+    let status = run_words(
+        rt,
+        alloc,
+        &texts,
+        words,
+        input,
+        &mut answers,
+        &mut faults,
+    );
     Ending {
         status,
         answers: answers.taken,

@@ -18,7 +18,9 @@
 //! `trace_program` does all of this over any streams; here are the command line and the standard streams.
 #![tactic(auto)]
 
+use named_texts::SystemFiles;
 use names::NoMemory;
+use std::fs::Files;
 use std::io::{BufReader, ErrorKind, Input, Print, Write};
 use std::process::ExitCode;
 use std::rt::Env;
@@ -45,7 +47,7 @@ fn main(rt: HostRuntime) -> ExitCode {
 }
 
 /// Does what the words ask for, on standard input and output.
-fn run_on_streams<R: Input + Print + AllocGlobal + Threads + Wait + Sync, F: Write>(
+fn run_on_streams<R: Input + Print + AllocGlobal + Files + Threads + Wait + Sync, F: Write>(
     rt: &R,
     words: &[String],
     faults: &mut F,
@@ -54,6 +56,7 @@ fn run_on_streams<R: Input + Print + AllocGlobal + Threads + Wait + Sync, F: Wri
         Ok(mut input) => run_words(
             rt,
             rt.alloc(),
+            &SystemFiles { files: rt },
             words,
             &mut input,
             &mut io::writer(rt),
