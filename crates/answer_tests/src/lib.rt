@@ -1,0 +1,5 @@
+//! Tests of answers in JSON.
+#![tactic(auto)]
+
+#[cfg(test)]
+mod answers;
