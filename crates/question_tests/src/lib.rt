@@ -15,3 +15,4 @@ mod representatives;
 mod rules;
 #[cfg(test)]
 mod short_names;
+mod stand_ins;

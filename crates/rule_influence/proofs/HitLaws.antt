@@ -20,7 +20,7 @@ pub nothing : RuleValue
 nothing = record { kind = Allow; perms = set_of (λ p. false); items = [] }
 
 -- a rule by its number is the one at its place
-at_place : (rules : List RuleValue) (n : ℕ) (rule : RuleValue) → IsRuleAt rules n rule → rule ≡ get_or rules (n - 1) nothing
+pub at_place : (rules : List RuleValue) (n : ℕ) (rule : RuleValue) → IsRuleAt rules n rule → rule ≡ get_or rules (n - 1) nothing
 at_place rules n rule at = at.2 ∙ get_or_default rules (n - 1) rule nothing (omega (arith, at.0, at.1))
 
 rule_there : (rules : List RuleValue) (n : ℕ) → 1 ≤ n → n ≤ length rules → IsRuleAt rules n (get_or rules (n - 1) nothing)

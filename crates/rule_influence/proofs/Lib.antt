@@ -4,3 +4,9 @@ pub mod LoneHits
 pub mod ReversedSets
 pub mod Entries
 pub mod Scans
+pub mod AddedNumbers
+pub mod CandidateLists
+pub mod StandingRules
+pub mod StandInLists
+pub mod CaseLists
+pub mod IdleStandIns

@@ -39,7 +39,7 @@ module _ (rules : List RuleValue) (name : List ℕ) (p : Permission) where
         (subst (Hits rules kind p name) (sym e) h)
 
     -- the least number of the reversed rules is the greatest of the rules
-    greatest : (n : ℕ) → Hits rules kind p name n →
+    pub greatest : (n : ℕ) → Hits rules kind p name n →
         Hits rules kind p name (count + 1 - reversed) × (1 ≤ reversed) × (reversed ≤ count) × (n ≤ count + 1 - reversed)
     greatest n h =
         let there = least_there (Hits (reverse rules) kind p name) reversed (count + 1 - n) other (back n h) in

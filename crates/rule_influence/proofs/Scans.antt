@@ -29,10 +29,10 @@ module _ (rules : List RuleValue) where
   alike_back x y alike n rule at = let both = alike n rule at in (both.1, both.0)
 
   module _ (p : Permission) (x y : List ℕ) (alike : IsAlike rules x y) where
-    hits_alike : (kind : RuleKind) (n : ℕ) → Hits rules kind p x n → Hits rules kind p y n
+    pub hits_alike : (kind : RuleKind) (n : ℕ) → Hits rules kind p x n → Hits rules kind p y n
     hits_alike kind n h = (h.0, h.1, h.2, h.3, (alike n h.0 h.1).0 h.4)
 
-    hits_back : (kind : RuleKind) (n : ℕ) → Hits rules kind p y n → Hits rules kind p x n
+    pub hits_back : (kind : RuleKind) (n : ℕ) → Hits rules kind p y n → Hits rules kind p x n
     hits_back kind n h = (h.0, h.1, h.2, h.3, (alike n h.0 h.1).1 h.4)
 
     allowed_alike : IsAllowed rules x p → IsAllowed rules y p

@@ -1,2 +1,3 @@
 pub mod Influence
+pub mod StandIns
 pub mod inner

@@ -1,1 +1,3 @@
 pub mod Deciders
+pub mod Candidates
+pub mod Lists

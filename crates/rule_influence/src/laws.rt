@@ -1,14 +1,17 @@
 //! Laws that show the definitions of `specs/` sane. The functions do nothing: each stands for its contract.
-ghost use Rattle.std.specs.Prelude.{◌≡◌, ◌⊎◌, ◌↔◌, ◌+◌, ◌-◌, ◌<◌, ◌≤◌, ◌++◌, ℕ, List, drop, length, reverse, take};
+ghost use Rattle.std.specs.Prelude.{◌≡◌, ◌⊎◌, ◌↔◌, ◌+◌, ◌-◌, ◌<◌, ◌≤◌, ◌++◌, [], ℕ, List, drop, length, reverse, take, true};
 ghost use Rattle.names.specs.declared.kind.RuleKind.{RuleKind};
 ghost use Rattle.names.specs.declared.kind.RuleKind.TheVariants.{Allow, Deny};
 ghost use Rattle.names.specs.declared.permissions.Permission.{Permission};
 ghost use Rattle.names.specs.declared.permissions.Perms.{Perms};
 ghost use Rattle.names.specs.declared.verdict.Verdict.TheVariants.{Allowed};
 ghost use Rattle.names.specs.Paths.{IsName};
+ghost use Rattle.names.specs.Permissions.{has};
 ghost use Rattle.rule_globs.specs.Rules.{RuleValue};
 ghost use Rattle.rule_globs.specs.Verdict.{Hits, IsAllowed, IsVerdict};
 ghost use Rattle.rule_influence.specs.Influence.{Decides, DecidesFor, IsAllowedWithout, IsIdle, IsLoneHit};
+ghost use Rattle.rule_influence.specs.StandIns.{AreTheStandIns, IsStandInAt, Matters};
+ghost use Rattle.rule_influence.specs.declared.standing.IdleCase.{IdleCase};
 
 /// A rule decides exactly where it is the only one that allows and none denies, or the only one that denies and some rule allows.
 pub fn lone_hits_decide()
@@ -42,4 +45,23 @@ pub fn idle_rule_is_left_out()
 pub fn reversed_rules_hit()
     ensures { (rules : List RuleValue) (kind : RuleKind) (p : Permission) (name : List ℕ) (n : ℕ) → 1 ≤ n → n ≤ length rules →
         Hits (reverse rules) kind p name n ↔ Hits rules kind p name (length rules + 1 - n) }
+{}
+
+/// A rule that is idle has another rule of its kind in its place wherever it matters, which hits the name, too. So there are no
+/// stand-ins exactly where no name matters.
+pub fn idle_rules_have_stand_ins()
+    ensures stand_in { (rules : List RuleValue) (kind : RuleKind) (k : ℕ) (p : Permission) (name : List ℕ) → IsName name →
+        IsIdle rules k p → Matters rules kind k p name → (n : ℕ) × IsStandInAt rules kind k p name n }
+    ensures hits { (rules : List RuleValue) (kind : RuleKind) (k : ℕ) (p : Permission) (name : List ℕ) (n : ℕ) →
+        IsStandInAt rules kind k p name n → Hits rules kind p name n }
+    ensures none { (rules : List RuleValue) (idle : IdleCase) (list : List ℕ) → AreTheStandIns rules idle list →
+        ((p : Permission) → has idle.perms p ≡ true → IsIdle rules idle.rule p) →
+        (list ≡ []) ↔ ((kind : RuleKind) (p : Permission) (name : List ℕ) → has idle.perms p ≡ true → IsName name →
+        ¬ (Matters rules kind idle.rule p name)) }
+{}
+
+/// The list of the stand-ins of a case is one list.
+pub fn one_list_of_stand_ins()
+    ensures { (rules : List RuleValue) (idle : IdleCase) (one other : List ℕ) → AreTheStandIns rules idle one →
+        AreTheStandIns rules idle other → one ≡ other }
 {}
