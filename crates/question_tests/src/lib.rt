@@ -15,4 +15,5 @@ mod representatives;
 mod rules;
 #[cfg(test)]
 mod short_names;
+#[cfg(test)]
 mod stand_ins;
