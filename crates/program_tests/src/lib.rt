@@ -15,6 +15,8 @@ mod imports;
 #[cfg(test)]
 mod judging;
 #[cfg(test)]
+mod questions;
+#[cfg(test)]
 mod running;
 #[cfg(test)]
 mod scripts;
