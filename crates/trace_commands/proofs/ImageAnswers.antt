@@ -1,9 +1,8 @@
 -- Each image has one answer.
-use Rattle.std.proofs.Common.{arith, ◌≡◌, ◌≤◌, ℕ, List, [], ◌++◌, Result, Ok, Err, Some, refl, sym, ap, subst, ◌∙◌, inl, inr}
+use Rattle.std.proofs.Common.{arith, ◌≡◌, ◌≤◌, ℕ, Bool, true, false, List, [], ◌++◌, Result, Ok, Err, Some, refl, sym, ap, subst, ◌∙◌, inl, inr}
 use Rattle.std.proofs.Common.{append_assoc, length}
-use Rattle.std.proofs.lemmas.Bool.{ne_eqb}
 use Rattle.std.proofs.lemmas.List.{append-nil}
-use Rattle.std.specs.Prelude.{◌==◌, codes, decimal, if◌then◌else◌}
+use Rattle.std.specs.Prelude.{Option, None, ◌==◌, codes, decimal, if◌then◌else◌}
 use Rattle.std.proofs.lemmas.Option.{same_Some}
 use Rattle.names.specs.Records.{IsTold}
 use Rattle.names.specs.Bytes.{are_bytes}
@@ -19,29 +18,36 @@ use Rattle.tables.specs.Bounds.{InBounds, IsFirstFault}
 use Rattle.tables.specs.Images.{IsFirstImageFault, IsImageOf}
 use Rattle.tables.specs.Tables.{Table, look_ups_after, record_after}
 use Rattle.tables.specs.declared.fault.ImageFault.{ImageFault}
+use Rattle.answer_json.specs.Lines.{json_line}
+use Rattle.answer_json.specs.Values.{match_object}
+use Rattle.trace_commands.specs.inner.Counts.{counted_text}
 use Rattle.trace_commands.specs.Judge.{ask_of}
 use Rattle.trace_report.specs.Output.{Output, fault, image_refusal, line, whole_answer}
 use Rattle.trace_commands.specs.Tables.{IsCheckOutput, IsImageOutput, IsImageRefused, IsMatchOutput, IsMatchOutputOf, IsMatchedOutput}
-use Rattle.trace_commands.specs.Tables.{IsVerdictOf, counts_text, match_text, steps_text}
+use Rattle.trace_commands.specs.Tables.{IsVerdictOf, counts_text, look_ups_of, match_lines, match_text, steps_text}
+use Rattle.trace_report.specs.declared.format.Format.{Format}
+use Rattle.trace_report.specs.declared.format.Format.TheVariants.{Text, Json}
 use Rattle.trace_report.specs.declared.status.Status.TheVariants.{Refused}
 
 -- nothing is written of look-ups where states have no depth
 pub flat_text : (t : Table) (name : List ℕ) (v : Verdict) → t.depth_bound ≡ 0 → match_text t name v ≡ steps_text name v
 flat_text t name v none = rw none (append-nil (steps_text name v))
 
-chained_if : (bound : ℕ) (steps looked : List ℕ) → ¬ (bound ≡ 0) → steps ++ (if bound == 0 then [] else looked) ≡ steps ++ looked
-chained_if bound steps looked some = rw (ne_eqb bound 0 some) refl
+flat_look_ups : (t : Table) (name : List ℕ) → t.depth_bound ≡ 0 → look_ups_of t name ≡ None
+flat_look_ups t name none = rw none refl
 
--- and else their number
-pub chained_text : (t : Table) (name : List ℕ) (v : Verdict) → ¬ (t.depth_bound ≡ 0) →
-    match_text t name v ≡ verdict_text v ++ (codes "\nsteps " ++ (decimal (length name) ++ (codes "\nlookups "
-    ++ (decimal (look_ups_after t name) ++ codes "\n"))))
-chained_text t name v some =
-    let looked : List ℕ = codes "lookups " ++ (decimal (look_ups_after t name) ++ codes "\n") in
-    let steps : List ℕ = decimal (length name) ++ codes "\n" in
-    chained_if t.depth_bound (steps_text name v) looked some
-    ∙ append_assoc (verdict_text v) (codes "\nsteps " ++ steps) looked
-    ∙ ap (λ l. verdict_text v ++ (codes "\nsteps " ++ l)) (append_assoc (decimal (length name)) (codes "\n") looked)
+-- what is written of the numbers
+pub counted : (t : Table) (name : List ℕ) (v : Verdict) → counted_text v (length name) (look_ups_of t name) ≡ match_text t name v
+counted t name v = at (t.depth_bound == 0)
+  where
+    looked : List ℕ
+    looked = codes "lookups " ++ (decimal (look_ups_after t name) ++ codes "\n")
+
+    at : (b : Bool) → counted_text v (length name) (if b then None else Some (look_ups_after t name))
+        ≡ steps_text name v ++ (if b then [] else looked)
+    at true = sym (append-nil (steps_text name v))
+    at false = sym (append_assoc (verdict_text v) (codes "\nsteps " ++ (decimal (length name) ++ codes "\n")) looked
+        ∙ ap (λ (l : List ℕ). verdict_text v ++ (codes "\nsteps " ++ l)) (append_assoc (decimal (length name)) (codes "\n") looked))
 
 -- what the laws of images, of tables and of records say
 module _
@@ -81,54 +87,62 @@ module _
     verdict_of_one t name ask v w (r, at, told) (s, there, so) =
         one_verdict r ask v w told (subst (λ (q : Record). IsTold q ask w) (same_Some s r (sym there ∙ at)) so)
 
-    one_matched : (ask : Perms) (name image : List ℕ) (one other : Output) → IsMatchedOutput ask name image one →
-        IsMatchedOutput ask name image other → one ≡ other
-    one_matched ask name image one other (inl (t, loaded, v, told, e)) (inl (u, so, w, second, h)) =
+    one_matched : (format : Format) (ask : Perms) (name image : List ℕ) (one other : Output) → IsMatchedOutput format ask name image one →
+        IsMatchedOutput format ask name image other → one ≡ other
+    one_matched format ask name image one other (inl (t, loaded, v, told, e)) (inl (u, so, w, second, h)) =
         let here : IsVerdictOf t name ask w = subst (λ (x : Table). IsVerdictOf x name ask w) (one_table image u t so.0 loaded.0) second in
-        e ∙ ap (λ (x : Verdict). whole_answer (match_text t name x)) (verdict_of_one t name ask v w told here)
-        ∙ ap (λ (x : Table). whole_answer (match_text x name w)) (one_table image t u loaded.0 so.0) ∙ sym h
-    one_matched ask name image one other (inl (t, loaded, v, told, e)) (inr (g, first, h)) =
+        e ∙ ap (λ (x : Verdict). whole_answer (match_lines format t name x)) (verdict_of_one t name ask v w told here)
+        ∙ ap (λ (x : Table). whole_answer (match_lines format x name w)) (one_table image t u loaded.0 so.0) ∙ sym h
+    one_matched format ask name image one other (inl (t, loaded, v, told, e)) (inr (g, first, h)) =
         absurd (loaded_or_refused image t g loaded first)
-    one_matched ask name image one other (inr (f, first, e)) (inl (u, so, w, second, h)) = absurd (loaded_or_refused image u f so first)
-    one_matched ask name image one other (inr refused) (inr second) = one_refusal image one other refused second
+    one_matched format ask name image one other (inr (f, first, e)) (inl (u, so, w, second, h)) = absurd (loaded_or_refused image u f so first)
+    one_matched format ask name image one other (inr refused) (inr second) = one_refusal image one other refused second
 
-    one_asked : (asked : Result Perms (List ℕ)) (name image : List ℕ) (one other : Output) → IsMatchOutputOf asked name image one →
-        IsMatchOutputOf asked name image other → one ≡ other
-    one_asked (Err told) name image one other e h = e ∙ sym h
-    one_asked (Ok ask) name image one other e h = one_matched ask name image one other e h
+    one_asked : (format : Format) (asked : Result Perms (List ℕ)) (name image : List ℕ) (one other : Output) → IsMatchOutputOf format asked name image one →
+        IsMatchOutputOf format asked name image other → one ≡ other
+    one_asked format (Err told) name image one other e h = e ∙ sym h
+    one_asked format (Ok ask) name image one other e h = one_matched format ask name image one other e h
 
-    pub one_match : (perms name image : List ℕ) (one other : Output) → IsMatchOutput perms name image one →
-        IsMatchOutput perms name image other → one ≡ other
-    one_match perms name image one other e h = one_asked (ask_of perms name) name image one other e h
+    pub one_match : (format : Format) (perms name image : List ℕ) (one other : Output) → IsMatchOutput format perms name image one →
+        IsMatchOutput format perms name image other → one ≡ other
+    one_match format perms name image one other e h = one_asked format (ask_of perms name) name image one other e h
 
   module _ (right : (rules : List RuleValue) (t : Table) → TellsLeastHits rules t → TellsVerdicts rules t) where
-    matched_right : (profile : ProfileValue) (bytes : List ℕ) (t : Table) (matched : Output) (ask : Perms) (name : List ℕ) → are_bytes name
-        → TellsLeastHits profile.rules t → IsLoaded bytes t → IsMatchedOutput ask name bytes matched
-        → matched ≡ whole_answer (match_text t name (verdict profile.rules name ask))
-    matched_right profile bytes t matched ask name small least loaded (inl (u, so, v, (r, at, told), e)) =
+    matched_right : (format : Format) (profile : ProfileValue) (bytes : List ℕ) (t : Table) (matched : Output) (ask : Perms) (name : List ℕ) → are_bytes name
+        → TellsLeastHits profile.rules t → IsLoaded bytes t → IsMatchedOutput format ask name bytes matched
+        → matched ≡ whole_answer (match_lines format t name (verdict profile.rules name ask))
+    matched_right format profile bytes t matched ask name small least loaded (inl (u, so, v, (r, at, told), e)) =
         let same : u ≡ t = one_table bytes u t so.0 loaded.0 in
         let there : record_after t name ≡ Some r = subst (λ (x : Table). record_after x name ≡ Some r) same at in
-        e ∙ ap (λ (x : Table). whole_answer (match_text x name v)) same
-        ∙ ap (λ (x : Verdict). whole_answer (match_text t name x)) (right profile.rules t least name r ask v small there told)
-    matched_right profile bytes t matched ask name small least loaded (inr (f, first, e)) =
+        e ∙ ap (λ (x : Table). whole_answer (match_lines format x name v)) same
+        ∙ ap (λ (x : Verdict). whole_answer (match_lines format t name x)) (right profile.rules t least name r ask v small there told)
+    matched_right format profile bytes t matched ask name small least loaded (inr (f, first, e)) =
         absurd (loaded_or_refused bytes t f loaded first)
 
-    pub matched_by_image : (depth : ℕ) (profile : ProfileValue) (image matched : Output) (ask : Perms) (name : List ℕ) → are_bytes name
-        → IsImageOutput depth profile image → IsMatchedOutput ask name image.answers matched
+    pub matched_by_image : (format : Format) (depth : ℕ) (profile : ProfileValue) (image matched : Output) (ask : Perms) (name : List ℕ) → are_bytes name
+        → IsImageOutput depth profile image → IsMatchedOutput format ask name image.answers matched
         → (t : Table) × IsLoaded image.answers t × (t.depth_bound ≤ depth)
-        × (matched ≡ whole_answer (match_text t name (verdict profile.rules name ask)))
-    matched_by_image depth profile image matched ask name small made wanted =
+        × (matched ≡ whole_answer (match_lines format t name (verdict profile.rules name ask)))
+    matched_by_image format depth profile image matched ask name small made wanted =
         let loaded : IsLoaded made.bytes made.table = ((made.version, made.image), made.bounds) in (
           made.table,
           subst (λ (o : Output). IsLoaded o.answers made.table) (sym made.is) loaded,
           made.depth_asked,
-          matched_right profile made.bytes made.table matched ask name small made.of_rules.least loaded
-              (subst (λ (o : Output). IsMatchedOutput ask name o.answers matched) made.is wanted),
+          matched_right format profile made.bytes made.table matched ask name small made.of_rules.least loaded
+              (subst (λ (o : Output). IsMatchedOutput format ask name o.answers matched) made.is wanted),
         )
 
     pub matched_by_first : (profile : ProfileValue) (image matched : Output) (ask : Perms) (name : List ℕ) → are_bytes name
-        → IsImageOutput 0 profile image → IsMatchedOutput ask name image.answers matched
+        → IsImageOutput 0 profile image → IsMatchedOutput Text ask name image.answers matched
         → matched ≡ whole_answer (steps_text name (verdict profile.rules name ask))
     matched_by_first profile image matched ask name small made wanted =
-        let (t, loaded, low, told) = matched_by_image 0 profile image matched ask name small made wanted in
+        let (t, loaded, low, told) = matched_by_image Text 0 profile image matched ask name small made wanted in
         told ∙ ap whole_answer (flat_text t name (verdict profile.rules name ask) (omega (arith, low)))
+
+    pub matched_flat : (profile : ProfileValue) (image matched : Output) (ask : Perms) (name : List ℕ) → are_bytes name
+        → IsImageOutput 0 profile image → IsMatchedOutput Json ask name image.answers matched
+        → matched ≡ whole_answer (json_line (match_object (verdict profile.rules name ask) (length name) None))
+    matched_flat profile image matched ask name small made wanted =
+        let (t, loaded, low, told) = matched_by_image Json 0 profile image matched ask name small made wanted in
+        told ∙ ap (λ (o : Option ℕ). whole_answer (json_line (match_object (verdict profile.rules name ask) (length name) o)))
+        (flat_look_ups t name (omega (arith, low)))

@@ -7,26 +7,26 @@ use Rattle.tables.specs.declared.header.Version.TheVariants.{Second}
 use Rattle.std.specs.declared.alloc.Global.{Global}
 use Rattle.tables.specs.declared.fault.ImageFault.{ImageFault}
 use Rattle.tables.specs.declared.fault.ImageFault.TheVariants as fault_here
-use Rattle.std.proofs.Common.{arith, ◌≡◌, ◌≢◌, ◌<◌, ◌⊎◌, ℕ, zero, suc, List, Option, Result, Ok, Err, refl, inl, inr}
+use Rattle.std.proofs.Common.{arith, ◌≡◌, ◌≢◌, ◌<◌, ◌⊎◌, ℕ, zero, suc, List, Result, Ok, Err, refl, inl, inr}
 use Rattle.names.specs.declared.permissions.Perms.{Perms}
 use Rattle.rule_profile.specs.Profile.{ProfileValue}
 use Rattle.rule_reader.specs.Reading.{outcome_of}
 use Rattle.rule_reader.specs.declared.fault.ReadFault.{ReadFault}
 use Rattle.trace_report.specs.Fault.{AreGood, IsFaultOfOne}
 use Rattle.trace_commands.specs.inner.Answers.{IsAnswered}
-use Rattle.trace_report.specs.Fault.{fault_of_image, fault_text, fault_status}
+use Rattle.trace_report.specs.Fault.{fault_of_image, fault_text}
 use Rattle.trace_commands.specs.Judge.{ask_of}
 use Rattle.trace_report.specs.Output.{Output, compile_refusal, fault, image_refusal, refusal, whole_answer}
-use Rattle.trace_report.specs.Streams.{Ends, EndsInOne, IsTold, Streams}
+use Rattle.trace_report.specs.Streams.{Ends, EndsInOne, Streams}
 use Rattle.trace_commands.specs.Tables.{IsCheckOutput, IsCompileOutput, IsCompileOutputOf, IsImageRefused, IsMatchOutput, IsMemoryOfWhole}
 use Rattle.trace_commands.specs.Tables.{IsMatchOutputOf, IsMatchedOutput, IsVersionAsked}
 use Rattle.trace_report.specs.declared.fault.Fault.{Fault}
 use Rattle.trace_report.specs.declared.fault.Fault.TheVariants.{Permissions, Name, Pattern, Text, Compiling, Image, Question}
 use Rattle.trace_report.specs.declared.fault.Fault.TheVariants.{Input, Memory}
+use Rattle.trace_report.specs.declared.format.Format.{Format}
 use Rattle.trace_report.specs.declared.status.Status.{Status}
 use Rattle.trace_report.specs.declared.status.Status.TheVariants.{BadArguments, Done, FaultsFailed, InputFailed, NoMemory, OutputFailed}
 use Rattle.trace_report.specs.declared.status.Status.TheVariants.{Refused, Unmet}
-use Rattle.trace_report.proofs.Endings.{keeps, told_alone, written}
 
 -- answers and refusals don't report bad arguments
 not_bad : (output : Output) (bytes : List ℕ) → output ≡ whole_answer bytes → output.status ≢ BadArguments
@@ -50,9 +50,9 @@ pub check_arguments : (image : List ℕ) → AreGood (IsCheckOutput image)
 check_arguments image output (inl h) = not_bad output _ h.2
 check_arguments image output (inr h) = image_refused image output h
 
-pub matched_arguments : (ask : Perms) (name image : List ℕ) → AreGood (IsMatchedOutput ask name image)
-matched_arguments ask name image output (inl h) = not_bad output _ h.4
-matched_arguments ask name image output (inr h) = image_refused image output h
+pub matched_arguments : (format : Format) (ask : Perms) (name image : List ℕ) → AreGood (IsMatchedOutput format ask name image)
+matched_arguments format ask name image output (inl h) = not_bad output _ h.4
+matched_arguments format ask name image output (inr h) = image_refused image output h
 
 -- a command that gave an answer that is wanted ends as it should
 pub one_given : (streams : Streams) (Wanted : Output → Type 0) (output : Output) (status : Status) → AreGood Wanted → Wanted output
@@ -72,53 +72,53 @@ unread_one Wanted f good (inl h) = rw h good
 unread_one Wanted f good (inr h) = rw h good
 
 -- bad arguments are reported as such, whatever the image
-asked_one : (asked : Result Perms (List ℕ)) (name image : List ℕ) (f : Fault) → asked ≡ Err (fault_text f) → (f ≡ Permissions) ⊎ (f ≡ Name)
-    → IsFaultOfOne (IsMatchOutputOf asked name image) f
-asked_one asked name image Permissions e which = rw e refl
-asked_one asked name image Name e which = rw e refl
-asked_one asked name image Input e (inl h) = cc
-asked_one asked name image Input e (inr h) = cc
-asked_one asked name image Memory e (inl h) = cc
-asked_one asked name image Memory e (inr h) = cc
-asked_one asked name image (Text f) e (inl h) = cc
-asked_one asked name image (Text f) e (inr h) = cc
-asked_one asked name image Pattern e (inl h) = cc
-asked_one asked name image Pattern e (inr h) = cc
-asked_one asked name image Question e (inl h) = cc
-asked_one asked name image Question e (inr h) = cc
-asked_one asked name image (Compiling f) e (inl h) = cc
-asked_one asked name image (Compiling f) e (inr h) = cc
-asked_one asked name image (Image f) e (inl h) = cc
-asked_one asked name image (Image f) e (inr h) = cc
+asked_one : (format : Format) (asked : Result Perms (List ℕ)) (name image : List ℕ) (f : Fault) → asked ≡ Err (fault_text f) → (f ≡ Permissions) ⊎ (f ≡ Name)
+    → IsFaultOfOne (IsMatchOutputOf format asked name image) f
+asked_one format asked name image Permissions e which = rw e refl
+asked_one format asked name image Name e which = rw e refl
+asked_one format asked name image Input e (inl h) = cc
+asked_one format asked name image Input e (inr h) = cc
+asked_one format asked name image Memory e (inl h) = cc
+asked_one format asked name image Memory e (inr h) = cc
+asked_one format asked name image (Text f) e (inl h) = cc
+asked_one format asked name image (Text f) e (inr h) = cc
+asked_one format asked name image Pattern e (inl h) = cc
+asked_one format asked name image Pattern e (inr h) = cc
+asked_one format asked name image Question e (inl h) = cc
+asked_one format asked name image Question e (inr h) = cc
+asked_one format asked name image (Compiling f) e (inl h) = cc
+asked_one format asked name image (Compiling f) e (inr h) = cc
+asked_one format asked name image (Image f) e (inl h) = cc
+asked_one format asked name image (Image f) e (inr h) = cc
 
-pub match_in_vain : (perms name image : List ℕ) (f : Fault) → ask_of perms name ≡ Err (fault_text f) → (f ≡ Permissions) ⊎ (f ≡ Name)
-    → IsFaultOfOne (IsMatchOutput perms name image) f
-match_in_vain perms name image f e which = asked_one (ask_of perms name) name image f e which
+pub match_in_vain : (format : Format) (perms name image : List ℕ) (f : Fault) → ask_of perms name ≡ Err (fault_text f) → (f ≡ Permissions) ⊎ (f ≡ Name)
+    → IsFaultOfOne (IsMatchOutput format perms name image) f
+match_in_vain format perms name image f e which = asked_one format (ask_of perms name) name image f e which
 
 -- good arguments: the wanted outputs are those for the permissions asked for
-asked_arguments : (asked : Result Perms (List ℕ)) (ask : Perms) (name image : List ℕ) → asked ≡ Ok ask →
-    AreGood (IsMatchOutputOf asked name image)
-asked_arguments asked ask name image e = rw e (matched_arguments ask name image)
+asked_arguments : (format : Format) (asked : Result Perms (List ℕ)) (ask : Perms) (name image : List ℕ) → asked ≡ Ok ask →
+    AreGood (IsMatchOutputOf format asked name image)
+asked_arguments format asked ask name image e = rw e (matched_arguments format ask name image)
 
-pub match_arguments : (perms name image : List ℕ) (ask : Perms) → ask_of perms name ≡ Ok ask → AreGood (IsMatchOutput perms name image)
-match_arguments perms name image ask e = asked_arguments (ask_of perms name) ask name image e
+pub match_arguments : (format : Format) (perms name image : List ℕ) (ask : Perms) → ask_of perms name ≡ Ok ask → AreGood (IsMatchOutput format perms name image)
+match_arguments format perms name image ask e = asked_arguments format (ask_of perms name) ask name image e
 
-asked_refused : (asked : Result Perms (List ℕ)) (ask : Perms) (name image : List ℕ) (output : Output) → asked ≡ Ok ask →
-    IsImageRefused image output → IsMatchOutputOf asked name image output
-asked_refused asked ask name image output e h = rw e (inr h)
+asked_refused : (format : Format) (asked : Result Perms (List ℕ)) (ask : Perms) (name image : List ℕ) (output : Output) → asked ≡ Ok ask →
+    IsImageRefused image output → IsMatchOutputOf format asked name image output
+asked_refused format asked ask name image output e h = rw e (inr h)
 
-pub match_refused : (perms name image : List ℕ) (ask : Perms) (output : Output) → ask_of perms name ≡ Ok ask → IsImageRefused image output
-    → IsMatchOutput perms name image output
-match_refused perms name image ask output e h = asked_refused (ask_of perms name) ask name image output e h
+pub match_refused : (format : Format) (perms name image : List ℕ) (ask : Perms) (output : Output) → ask_of perms name ≡ Ok ask → IsImageRefused image output
+    → IsMatchOutput format perms name image output
+match_refused format perms name image ask output e h = asked_refused format (ask_of perms name) ask name image output e h
 
-asked_answer : (asked : Result Perms (List ℕ)) (ask : Perms) (name image : List ℕ) (result : Result (Vec ℕ Global) Fault) → asked ≡ Ok ask
-    → IsAnswered (IsMatchedOutput ask name image) result → IsAnswered (IsMatchOutputOf asked name image) result
-asked_answer asked ask name image result e h = rw e h
+asked_answer : (format : Format) (asked : Result Perms (List ℕ)) (ask : Perms) (name image : List ℕ) (result : Result (Vec ℕ Global) Fault) → asked ≡ Ok ask
+    → IsAnswered (IsMatchedOutput format ask name image) result → IsAnswered (IsMatchOutputOf format asked name image) result
+asked_answer format asked ask name image result e h = rw e h
 
-pub match_answer : (perms name image name_here image_here : List ℕ) (ask : Perms) (result : Result (Vec ℕ Global) Fault)
+pub match_answer : (format : Format) (perms name image name_here image_here : List ℕ) (ask : Perms) (result : Result (Vec ℕ Global) Fault)
     → name_here ≡ name → image_here ≡ image → ask_of perms name ≡ Ok ask
-    → IsAnswered (IsMatchedOutput ask name_here image_here) result → IsAnswered (IsMatchOutput perms name image) result
-match_answer perms name image name_here image_here ask result n i e h = asked_answer (ask_of perms name) ask name image result e
+    → IsAnswered (IsMatchedOutput format ask name_here image_here) result → IsAnswered (IsMatchOutput format perms name image) result
+match_answer format perms name image name_here image_here ask result n i e h = asked_answer format (ask_of perms name) ask name image result e
     (rw (n, i) at h)
 
 -- the first fault of an image is reported

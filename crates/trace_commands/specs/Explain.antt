@@ -1,7 +1,7 @@
 -- What `explain` writes, memory and failures of the streams aside.
 use Rattle.std.specs.Prelude.{◌≡◌, ℕ, List, ◌++◌, Result, Ok, Err}
 use Rattle.names.specs.declared.permissions.Perms.{Perms}
-use Rattle.rule_explain.specs.Explanations.{explanation}
+use Rattle.answer_json.specs.Lines.{explanation}
 use Rattle.rule_explain.specs.FaultLines.{fault_lines}
 use Rattle.rule_reader.specs.declared.fault.ReadFault.{ReadFault}
 use Rattle.rule_profile.specs.Profile.{ProfileValue}
@@ -9,6 +9,7 @@ use Rattle.rule_reader.specs.Reading.{outcome_of}
 use Rattle.rule_reader.specs.Spans.{spans_of}
 use Rattle.trace_commands.specs.Judge.{ask_of}
 use Rattle.trace_report.specs.Output.{Output, fault, line, refusal, whole_answer}
+use Rattle.trace_report.specs.declared.format.Format.{Format}
 use Rattle.trace_report.specs.declared.status.Status.TheVariants.{BadArguments, Refused}
 
 -- for a text that is refused: the line that other commands write, too, and then where the fault is
@@ -16,15 +17,15 @@ abbrev pub refusal_text : List ℕ → ReadFault → List ℕ
 refusal_text text f = line (refusal f) ++ fault_lines text f
 
 -- the explanation for the name by a text that was read, or why there is none
-abbrev pub explained_output : Perms → List ℕ → List ℕ → Result ProfileValue ReadFault → Output
-explained_output ask name text (Ok profile) = whole_answer (explanation text profile.rules (spans_of text) name ask)
-explained_output ask name text (Err f) = fault (refusal_text text f) Refused
+abbrev pub explained_output : Format → Perms → List ℕ → List ℕ → Result ProfileValue ReadFault → Output
+explained_output format ask name text (Ok profile) = whole_answer (explanation format text profile.rules (spans_of text) name ask)
+explained_output format ask name text (Err f) = fault (refusal_text text f) Refused
 
--- what `explain PERMS NAME` writes on a text
-abbrev pub explain_output : List ℕ → List ℕ → List ℕ → Output
-explain_output perms name text = elim (ask_of perms name) [
+-- what `explain PERMS NAME` writes on a text, in either format
+abbrev pub explain_output : Format → List ℕ → List ℕ → List ℕ → Output
+explain_output format perms name text = elim (ask_of perms name) [
   | Err told ↦ fault told BadArguments
-  | Ok ask ↦ explained_output ask name text (outcome_of text)
+  | Ok ask ↦ explained_output format ask name text (outcome_of text)
 ]
 
 -- the same status, and on each stream the same, perhaps with more after it

@@ -1,6 +1,8 @@
 -- What `compile`, `check` and `match` write, memory and failures of the streams aside.
 use Rattle.std.specs.Prelude.{◌≡◌, ◌⊎◌, ◌↔◌, ◌≤◌, ◌==◌, ℕ, zero, suc, List, [], ◌++◌, Result, Ok, Err, Some, codes, decimal, length}
-use Rattle.std.specs.Prelude.{if◌then◌else◌}
+use Rattle.std.specs.Prelude.{Option, None, if◌then◌else◌}
+use Rattle.answer_json.specs.Lines.{json_line}
+use Rattle.answer_json.specs.Values.{match_object}
 use Rattle.glob_automaton.specs.Automata.{most_sets}
 use Rattle.names.specs.Records.{IsTold}
 use Rattle.glob_automaton.specs.Sets.{AreMoreThan}
@@ -24,6 +26,8 @@ use Rattle.trace_report.specs.declared.fault.Fault.{Fault}
 use Rattle.trace_report.specs.declared.fault.Fault.TheVariants.{Memory}
 use Rattle.trace_commands.specs.Judge.{ask_of}
 use Rattle.trace_report.specs.Output.{Output, compile_refusal, fault, image_refusal, line, refusal, whole_answer}
+use Rattle.trace_report.specs.declared.format.Format.{Format}
+use Rattle.trace_report.specs.declared.format.Format.TheVariants.{Text, Json}
 use Rattle.trace_report.specs.declared.status.Status.TheVariants.{BadArguments, Refused}
 
 -- The version of the image that is written where states may have this depth. Without depths it is the first one, if that can hold
@@ -91,22 +95,31 @@ look_ups_text t name =
 abbrev pub match_text : Table → List ℕ → Verdict → List ℕ
 match_text t name verdict = steps_text name verdict ++ look_ups_text t name
 
+-- how many cells were looked up, where states may have a depth
+abbrev pub look_ups_of : Table → List ℕ → Option ℕ
+look_ups_of t name = if t.depth_bound == 0 then None else Some (look_ups_after t name)
+
+-- the verdict and the numbers, in either format
+abbrev pub match_lines : Format → Table → List ℕ → Verdict → List ℕ
+match_lines Text t name verdict = match_text t name verdict
+match_lines Json t name verdict = json_line (match_object verdict (length name) (look_ups_of t name))
+
 -- the verdict by the record of the name in the table
 abbrev pub IsVerdictOf : Table → List ℕ → Perms → Verdict → Type 0
 IsVerdictOf t name ask verdict = (r : Record) × (record_after t name ≡ Some r) × IsTold r ask verdict
 
 -- what is written for a name by an image
-abbrev pub IsMatchedOutput : Perms → List ℕ → List ℕ → Output → Type 0
-IsMatchedOutput ask name image output =
+abbrev pub IsMatchedOutput : Format → Perms → List ℕ → List ℕ → Output → Type 0
+IsMatchedOutput format ask name image output =
     ((t : Table) × IsLoaded image t × (verdict : Verdict) × IsVerdictOf t name ask verdict
-    × (output ≡ whole_answer (match_text t name verdict)))
+    × (output ≡ whole_answer (match_lines format t name verdict)))
     ⊎ IsImageRefused image output
 
 -- the same, for the permissions asked for or the message about the arguments
-abbrev pub IsMatchOutputOf : Result Perms (List ℕ) → List ℕ → List ℕ → Output → Type 0
-IsMatchOutputOf (Err told) name image output = output ≡ fault told BadArguments
-IsMatchOutputOf (Ok ask) name image output = IsMatchedOutput ask name image output
+abbrev pub IsMatchOutputOf : Format → Result Perms (List ℕ) → List ℕ → List ℕ → Output → Type 0
+IsMatchOutputOf format (Err told) name image output = output ≡ fault told BadArguments
+IsMatchOutputOf format (Ok ask) name image output = IsMatchedOutput format ask name image output
 
--- what `match PERMS NAME` writes on an image
-abbrev pub IsMatchOutput : List ℕ → List ℕ → List ℕ → Output → Type 0
-IsMatchOutput perms name image output = IsMatchOutputOf (ask_of perms name) name image output
+-- what `match PERMS NAME` writes on an image, in either format
+abbrev pub IsMatchOutput : Format → List ℕ → List ℕ → List ℕ → Output → Type 0
+IsMatchOutput format perms name image output = IsMatchOutputOf format (ask_of perms name) name image output

@@ -6,21 +6,24 @@ ghost use Rattle.rule_reader.specs.Reading.{outcome_of};
 ghost use Rattle.trace_commands.specs.Explain.{explain_output, explained_output, refusal_text};
 ghost use Rattle.trace_commands.specs.Judge.{ask_of};
 ghost use Rattle.trace_commands.specs.inner.Answers.{IsTextAsked};
+ghost use Rattle.trace_report.specs.declared.format.Format.{Format};
 ghost use Rattle.trace_report.specs.Streams.{Ends, IsTextOf, IsTold};
 
 use crate::judging::ask_of;
+use answer_json::explanation;
 use names::{NoMemory, Perms};
 use rule_explain::fault_lines;
 use rule_reader::{ReadFault, read};
 use std::alloc::Global;
 use std::io::{Read, Write};
-use trace_report::{Fault, Status, fail, read_all, write_answer};
+use trace_report::{Fault, Format, Status, fail, read_all, write_answer};
 
 /// Reads a profile from `input` and writes to `answers` its verdict on the name for the permissions asked for, and the reason for
-/// each of them. A text that is refused is reported on `faults` instead, with the line that has its fault. The arguments are
-/// tested before anything is read.
+/// each of them, in this format. A text that is refused is reported on `faults` instead, as text, with the line that has its
+/// fault. The arguments are tested before anything is read.
 pub fn explain<R: Read, A: Write, F: Write>(
     alloc: Global,
+    format: Format,
     perms: &str,
     name: &str,
     input: &mut R,
@@ -34,12 +37,12 @@ pub fn explain<R: Read, A: Write, F: Write>(
           faults_before = F.contents faults.old;
           faults_after = F.contents faults.new;
         })
-        (explain_output perms.now name.now text) result }
+        (explain_output format perms.now name.now text) result }
     ensures unread { IsErr (ask_of perms.now name.now)
         → Keeps (R.remaining input.old) (R.remaining input.new) }
 {
     match text_asked(alloc, perms, name, input) {
-        Ok((ask, text)) => explain_text(alloc, ask, name, &text, answers, faults),
+        Ok((ask, text)) => explain_text(alloc, format, ask, name, &text, answers, faults),
         Err(fault) => fail(faults, fault, fault.status()),
     }
 }
@@ -52,7 +55,7 @@ fn text_asked<R: Read>(
     input: &mut R,
 ) -> Result<(Perms, Vec<u8>), Fault>
     ensures output { (text : List ℕ) × IsTextOf (R.remaining input.old) text
-        × IsTextAsked perms.now name.now text (explain_output perms.now name.now text) result }
+        × ((format : Format) → IsTextAsked perms.now name.now text (explain_output format perms.now name.now text) result) }
     ensures unread { IsErr (ask_of perms.now name.now)
         → Keeps (R.remaining input.old) (R.remaining input.new) }
 {
@@ -64,6 +67,7 @@ fn text_asked<R: Read>(
 /// Explains the verdict on a name by a text, or reports where the text is refused.
 fn explain_text<A: Write, F: Write>(
     alloc: Global,
+    format: Format,
     ask: Perms,
     name: &str,
     text: &[u8],
@@ -77,11 +81,11 @@ fn explain_text<A: Write, F: Write>(
           faults_before = F.contents faults.old;
           faults_after = F.contents faults.new;
         })
-        (explained_output ask name.now text.now (outcome_of text.now)) result }
+        (explained_output format ask name.now text.now (outcome_of text.now)) result }
 {
     match read(alloc, text) {
         Ok(profile) => {
-            match rule_explain::explain(alloc, text, &profile, name.as_bytes(), ask) {
+            match explanation(alloc, format, text, &profile, name.as_bytes(), ask) {
                 Ok(lines) => write_answer(answers, faults, &lines),
                 Err(NoMemory) => fail(faults, NoMemory, Status::NoMemory),
             }

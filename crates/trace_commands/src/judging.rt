@@ -1,24 +1,26 @@
 //! `judge PERMS NAME`: the verdict on a name by the profile that is read.
-ghost use Rattle.std.specs.Prelude.{◌≡◌, ◌≢◌, ◌↔◌, ℕ, List, IsErr, MatchResult, IfSome, IsTrue, Some, Ok, Err};
+ghost use Rattle.std.specs.Prelude.{ℕ, List, IsErr};
 ghost use Rattle.std.specs.Io.KnownBytes.{Keeps};
-ghost use Rattle.names.specs.declared.permissions.Perms.{Perms};
-ghost use Rattle.names.specs.VerdictText.{verdict_text};
-ghost use Rattle.trace_commands.specs.Judge.{ask_of, is_absolute, judge_output};
-ghost use Rattle.trace_report.specs.Output.{answer};
+ghost use Rattle.answer_json.specs.Lines.{verdict_line};
+ghost use Rattle.trace_commands.specs.Judge.{ask_of, judge_output};
+ghost use Rattle.trace_report.specs.Output.{whole_answer};
 ghost use Rattle.trace_report.specs.Streams.{Ends, IsTextOf};
+ghost use Rattle.trace_report.specs.declared.format.Format.{Format};
 ghost use Rattle.trace_commands.specs.inner.Answers.{IsJudged, IsAsked};
 
+use answer_json::verdict_line;
 use names::{NoMemory, Perms, Verdict};
 use rule_judge::judge_slow;
 use rule_reader::{ReadFault, read};
 use std::alloc::Global;
 use std::io::{Read, Write};
-use trace_report::{Fault, Status, asked_by, fail, read_all, write_answer};
+use trace_report::{Fault, Format, Status, asked_by, fail, read_all, write_answer};
 
-/// Reads a profile from `input` and writes to `answers` its verdict on the name for the permissions asked for. A fault is
-/// reported on `faults` instead of an answer. The arguments are tested before anything is read.
+/// Reads a profile from `input` and writes to `answers` its verdict on the name for the permissions asked for, in this format. A
+/// fault is reported on `faults` instead of an answer, as text. The arguments are tested before anything is read.
 pub fn judge<R: Read, A: Write, F: Write>(
     alloc: Global,
+    format: Format,
     perms: &str,
     name: &str,
     input: &mut R,
@@ -32,12 +34,12 @@ pub fn judge<R: Read, A: Write, F: Write>(
           faults_before = F.contents faults.old;
           faults_after = F.contents faults.new;
         })
-        (judge_output perms.now name.now text) result }
+        (judge_output format perms.now name.now text) result }
     ensures unread { IsErr (ask_of perms.now name.now)
         → Keeps (R.remaining input.old) (R.remaining input.new) }
 {
     match verdict_on(alloc, perms, name, input) {
-        Ok(verdict) => answer(alloc, verdict, answers, faults),
+        Ok(verdict) => answer(alloc, format, verdict, answers, faults),
         Err(fault) => fail(faults, fault, fault.status()),
     }
 }
@@ -45,6 +47,7 @@ pub fn judge<R: Read, A: Write, F: Write>(
 /// Writes the verdict as a line. If that fails, a prefix of the line was written.
 fn answer<A: Write, F: Write>(
     alloc: Global,
+    format: Format,
     verdict: Verdict,
     answers: &mut A,
     faults: &mut F,
@@ -56,12 +59,12 @@ fn answer<A: Write, F: Write>(
           faults_before = F.contents faults.old;
           faults_after = F.contents faults.new;
         })
-        (answer (verdict_text verdict)) result }
+        (whole_answer (verdict_line format verdict)) result }
 {
-    let Ok(line) = format!(in alloc; "{verdict}\n") else {
-        return fail(faults, NoMemory, Status::NoMemory);
-    };
-    write_answer(answers, faults, line.as_bytes())
+    match verdict_line(alloc, format, verdict) {
+        Ok(line) => write_answer(answers, faults, &line),
+        Err(NoMemory) => fail(faults, NoMemory, Status::NoMemory),
+    }
 }
 
 /// The verdict on the name, or why there is none.
@@ -72,7 +75,7 @@ fn verdict_on<R: Read>(
     input: &mut R,
 ) -> Result<Verdict, Fault>
     ensures output { (text : List ℕ) × IsTextOf (R.remaining input.old) text
-        × IsJudged (judge_output perms.now name.now text) result }
+        × ((format : Format) → IsJudged format (judge_output format perms.now name.now text) result) }
     ensures unread { IsErr (ask_of perms.now name.now)
         → Keeps (R.remaining input.old) (R.remaining input.new) }
 {

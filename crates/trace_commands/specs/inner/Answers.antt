@@ -1,23 +1,23 @@
 -- What the parts of a command return, compared with what is to be written.
-use Rattle.std.specs.Prelude.{◌≡◌, ◌≢◌, ◌⊎◌, ℕ, List, Option, Result, Ok, Err, Vec, IfSome}
+use Rattle.std.specs.Prelude.{◌≡◌, ◌⊎◌, ℕ, List, Option, Result, Ok, Err, Vec}
 use Rattle.std.specs.declared.alloc.Global.{Global}
 use Rattle.names.specs.declared.permissions.Perms.{Perms}
 use Rattle.names.specs.declared.verdict.Verdict.{Verdict}
-use Rattle.names.specs.VerdictText.{verdict_text}
+use Rattle.answer_json.specs.Lines.{verdict_line}
 use Rattle.trace_commands.specs.Judge.{ask_of}
-use Rattle.trace_report.specs.declared.status.Status.TheVariants.{BadArguments}
+use Rattle.trace_report.specs.declared.format.Format.{Format}
 use Rattle.trace_report.specs.declared.fault.Fault.{Fault}
 use Rattle.trace_report.specs.declared.fault.Fault.TheVariants.{Permissions, Name, Image, Input, Memory}
 use Rattle.tables.specs.Images.{IsFirstImageFault}
 use Rattle.tables.specs.declared.fault.ImageFault.{ImageFault}
 use Rattle.trace_report.specs.Streams.{IsTextOf}
 use Rattle.trace_report.specs.Fault.{IsFaultOf, IsFaultOfOne, fault_text}
-use Rattle.trace_report.specs.Output.{Output, answer, fault, whole_answer}
+use Rattle.trace_report.specs.Output.{Output, whole_answer}
 
 -- the verdict that is to be written, or a fault in its place
-abbrev pub IsJudged : Output → Result Verdict Fault → Type 0
-IsJudged output (Ok verdict) = output ≡ answer (verdict_text verdict)
-IsJudged output (Err f) = IsFaultOf output f
+abbrev pub IsJudged : Format → Output → Result Verdict Fault → Type 0
+IsJudged format output (Ok verdict) = output ≡ whole_answer (verdict_line format verdict)
+IsJudged format output (Err f) = IsFaultOf output f
 
 -- the permissions asked for, or which of the arguments is bad
 abbrev pub IsAsked : Result Perms (List ℕ) → Result Perms Fault → Type 0

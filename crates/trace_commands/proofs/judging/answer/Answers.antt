@@ -1,9 +1,4 @@
-use Rattle.std.proofs.Common.{◌≡◌, rules}
-use Rattle.names.specs.VerdictText.{verdict_text}
-use Rattle.trace_report.specs.Output.{line}
 use Rattle.trace_commands.proofs.judging.answer.Goals as goal
 
-pub returns : goal.returns
-returns g c =
-    let bytes : c.as_bytes.result.now ≡ line (verdict_text c.args.verdict) = search rules in
-    rw bytes at c.write_answer.ensures
+pub returns-in-Ok : goal.returns-in-Ok
+returns-in-Ok g c = rw c.in-Ok.ensures at (rw c.deref.ensures.value at c.write_answer.ensures)

@@ -1,27 +1,34 @@
-use Rattle.std.proofs.Common.{◌≡◌, ◌∙◌, ◌++◌, length, sym, rules}
-use Rattle.std.specs.Prelude.{codes, decimal}
-use Rattle.names.specs.VerdictText.{verdict_text}
-use Rattle.tables.specs.Tables.{look_ups_after}
-use Rattle.trace_commands.specs.Tables.{match_text, steps_text}
-use Rattle.trace_commands.proofs.ImageAnswers.{chained_text, flat_text}
+use Rattle.std.proofs.Common.{◌≡◌, ◌∙◌, ℕ, length, ap, ap₂, sym, rules}
+use Rattle.std.specs.Prelude.{Option}
+use Rattle.std.proofs.lemmas.Result.{IfOk-weaker}
+use Rattle.answer_json.specs.Lines.{json_line}
+use Rattle.answer_json.specs.Values.{match_object}
+use Rattle.trace_report.specs.declared.format.Format.{Format}
+use Rattle.trace_commands.specs.Tables.{IsVerdictOf, look_ups_of, match_lines}
+use Rattle.trace_commands.specs.inner.Counts.{counted_text}
+use Rattle.trace_commands.proofs.ImageAnswers.{counted}
 use Rattle.trace_commands.proofs.matching.match_lines.Goals as goal
-use Rattle.trace_commands.proofs.matching.match_lines.Goals.{then-depth-eq0, else-depth-eq0}
 
-pub returns-in-Ok : goal.returns-in-Ok
-returns-in-Ok c =
+pub returns-in-Text : goal.returns-in-Text
+returns-in-Text c =
     let t = c.args.image.now in
     let name = c.args.name.now in
     let v = c.told-verdict.result in
-    let bytes = c.into_bytes.result.items in
+    let right : IsVerdictOf t name c.args.ask v = (c.record_by_image.result, c.record_by_image.ensures.«record», c.told-verdict.ensures) in
     let count : c.count-count.result ≡ length name = search rules in
-    let cells : c.count-cells.result ≡ look_ups_after t name = search rules in
-    let text : bytes ≡ match_text t name v = elim c.if-depth-eq0.branch [
-      | then-depth-eq0 w ↦
-          let flat : bytes ≡ steps_text name v = rw (steps_text, sym count) (search rules) in
-          flat ∙ sym (flat_text t name v (sym c.depth_bound-depth.ensures ∙ w.if-depth-eq0.true))
-      | else-depth-eq0 w ↦
-          let looked : bytes ≡ verdict_text v ++ (codes "\nsteps " ++ (decimal (length name) ++ (codes "\nlookups "
-          ++ (decimal (look_ups_after t name) ++ codes "\n")))) = rw (sym count, sym cells) (search rules) in
-          looked ∙ sym (chained_text t name v (λ e. w.if-depth-eq0.false (c.depth_bound-depth.ensures ∙ e)))
-    ] in
-    (v, (c.record_by_image.result, c.record_by_image.ensures.«record», c.told-verdict.ensures), text)
+    let cells : c.known_look_ups-cells.result ≡ look_ups_of t name = search rules in
+    let same = ap₂ (λ (n : ℕ) (o : Option ℕ). counted_text v n o) count cells ∙ counted t name v
+    ∙ ap (λ (f : Format). match_lines f t name v) (sym c.in-Text.is) in
+    IfOk-weaker c.counted_text.result _ _ (λ _ h. (v, right, h ∙ same)) c.counted_text.ensures
+
+pub returns-in-Json : goal.returns-in-Json
+returns-in-Json c =
+    let t = c.args.image.now in
+    let name = c.args.name.now in
+    let v = c.told-verdict.result in
+    let right : IsVerdictOf t name c.args.ask v = (c.record_by_image.result, c.record_by_image.ensures.«record», c.told-verdict.ensures) in
+    let count : c.count-count.result ≡ length name = search rules in
+    let cells : c.known_look_ups-cells.result ≡ look_ups_of t name = search rules in
+    let same = ap₂ (λ (n : ℕ) (o : Option ℕ). json_line (match_object v n o)) count cells
+    ∙ ap (λ (f : Format). match_lines f t name v) (sym c.in-Json.is) in
+    IfOk-weaker c.match_line.result _ _ (λ _ h. (v, right, h ∙ same)) c.match_line.ensures
