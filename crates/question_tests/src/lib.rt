@@ -10,6 +10,8 @@ mod influence;
 #[cfg(test)]
 mod least;
 #[cfg(test)]
+mod linting;
+#[cfg(test)]
 mod representatives;
 #[cfg(test)]
 mod rules;

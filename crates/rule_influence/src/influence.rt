@@ -13,8 +13,8 @@ use std::alloc::Global;
 /// it, or without it and not with it. For all other permissions a rule is idle: with and without it they are allowed to the same
 /// names. Refused exactly if names have too many sets of live places, memory aside.
 pub fn decided(alloc: Global, pair: &RulePair) -> Result<Vec<Perms>, QuestionFault>
-    ensures ok { IfOk result (λ decided. AreDecided pair.now decided.items) }
-    ensures err { IfErr result (IsQuestionFault pair.now [] []) }
+    ensures ok { IfOk result (λ decided. AreDecided pair.now.rules decided.items) }
+    ensures err { IfErr result (IsQuestionFault pair.now.rules [] []) }
 {
     // Two lists are enough. The third adds no sets of live places to those of the first, nor does the second.
     let comparison = Comparison::of(alloc, pair.rules(), pair.reversed(), pair.rules())?;

@@ -2,6 +2,7 @@
 ghost use Rattle.std.specs.Prelude.{◌≡◌, IfErr, IfOk, reverse};
 ghost use Rattle.glob_automaton.specs.Automata.{IsCompileFault};
 ghost use Rattle.rule_profile.specs.Profile.{profile_value};
+ghost use Rattle.rule_profile.specs.RuleSpans.{profile_spans};
 
 use derived_profiles::reversed;
 use glob_automaton::CompileFault;
@@ -19,12 +20,12 @@ pub struct RulePair {
 }
 
 impl Model for RulePair {
-    ghost use Rattle.std.specs.Prelude.{◌≡◌, List, reverse};
-    ghost use Rattle.rule_globs.specs.Rules.{RuleValue};
+    ghost use Rattle.std.specs.Prelude.{◌≡◌, reverse};
+    ghost use Rattle.profile_questions.specs.Names.{CompiledValue};
 
-    ghost Value = { List RuleValue };
+    ghost Value = { CompiledValue };
 
-    ghost view = { λ pair. pair.rules.rules };
+    ghost view = { λ pair. pair.rules };
 
     ghost invariant = { λ pair. pair.reversed.rules ≡ reverse pair.rules.rules };
 }
@@ -33,7 +34,8 @@ impl RulePair {
     /// Compiles the rules of a profile in both orders. Refused exactly if they have too many states, memory aside: in the reverse
     /// order they have as many.
     pub fn of(alloc: Global, profile: Profile) -> Result<RulePair, CompileFault>
-        ensures ok { IfOk result (λ pair. pair ≡ (profile_value profile).rules) }
+        ensures rules { IfOk result (λ pair. pair.rules ≡ (profile_value profile).rules) }
+        ensures spans { IfOk result (λ pair. pair.spans ≡ profile_spans profile) }
         ensures err { IfErr result (IsCompileFault (profile_value profile).rules) }
     {
         let Ok(last_first) = reversed(alloc, &profile) else {
@@ -46,14 +48,15 @@ impl RulePair {
 
     /// The rules in their order.
     pub fn rules(&self) -> &CompiledRules
-        ensures { result.now.rules ≡ self.now }
+        ensures rules { result.now.rules ≡ self.now.rules }
+        ensures spans { result.now.spans ≡ self.now.spans }
     {
         &self.rules
     }
 
     /// The rules in the reverse order.
     pub fn reversed(&self) -> &CompiledRules
-        ensures { result.now.rules ≡ reverse self.now }
+        ensures { result.now.rules ≡ reverse self.now.rules }
     {
         &self.reversed
     }

@@ -30,8 +30,8 @@ pub fn stand_ins(
     pair: &RulePair,
     cases: &[IdleCase],
 ) -> Result<Vec<Vec<u16>>, QuestionFault>
-    ensures ok { IfOk result (λ lists. AreStandIns pair.now cases.now (map (λ list. list.items) lists.items)) }
-    ensures err { IfErr result (IsQuestionFault pair.now [] []) }
+    ensures ok { IfOk result (λ lists. AreStandIns pair.now.rules cases.now (map (λ list. list.items) lists.items)) }
+    ensures err { IfErr result (IsQuestionFault pair.now.rules [] []) }
 {
     // As for what rules decide, two lists of rules are enough.
     let comparison = Comparison::of(alloc, pair.rules(), pair.reversed(), pair.rules())?;

@@ -3,4 +3,4 @@ use Rattle.rule_influence.proofs.Scans.{AreNotedSoFar}
 use Rattle.rule_influence.proofs.influence.decided.Given as goal
 
 abbrev pub invariant-loop-index : goal.invariant-loop-index
-invariant-loop-index l = record { noted : AreNotedSoFar l.pair l.comparison-inside.visits.names l.index l.decided.items }
+invariant-loop-index l = record { noted : AreNotedSoFar l.pair.rules l.comparison-inside.visits.names l.index l.decided.items }

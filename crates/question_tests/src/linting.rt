@@ -1,0 +1,118 @@
+//! `lint` as a command, over streams in memory.
+use std::alloc::Global;
+use std::process::Abort;
+use trace_lint::lint;
+use trace_report::Status;
+
+// Whether just this is written about a profile with these rules: as an answer, or as a fault.
+fn expect(rt: &impl Abort, alloc: Global, text: &[u8], status: Status, lines: &[u8]) {
+    let mut input = text;
+    let mut answers = Vec::new(alloc);
+    let mut faults = Vec::new(alloc);
+    let ended = lint(alloc, &mut input, &mut answers, &mut faults);
+    assert!(rt; ended == status);
+    let answered = matches!(status, Status::Done | Status::Unmet);
+    let (written, empty) = if answered {
+        (answers, faults)
+    } else {
+        (faults, answers)
+    };
+    assert!(rt; written.as_slice() == lines);
+    assert!(rt; empty.is_empty());
+}
+
+#[test]
+fn nothing_to_report(rt: HostRuntime) {
+    let texts: [&[u8]; 4] = [
+        b"profile p {\n}\n",
+        b"profile p {\n  /srv/** rw,\n}\n",
+        b"profile p {\n  /srv/** rw,\n  deny /srv/*.old w,\n  /srv/a k,\n}\n",
+        b"profile p {\n  /srv/[ab] r,\n  /srv/[bc] r,\n}\n",
+    ];
+    for text in texts {
+        expect(&rt, rt.alloc(), text, Status::Done, b"");
+    }
+}
+
+#[test]
+fn rules_that_decide_nothing(rt: HostRuntime) {
+    let rows: [(&[u8], &[u8]); 6] = [
+        (
+            b"profile p {\n  /home/*/** rw,\n  deny /home/*/.ssh/** w,\n  /home/*/.ssh/id_* r,\n}\n",
+            b"rule 3, line 4: decides nothing: \"/home/*/.ssh/id_*\" r, (rule 1, line 2 allows each of its names, or a deny rule denies it)\n",
+        ),
+        (
+            b"profile p {\n  /srv/{a,b} r,\n  /srv/a r,\n\n  /srv/b r,\n  /srv/[a-z] k,\n}\n",
+            b"rule 1, line 2: decides nothing: \"/srv/{a,b}\" r, (rule 2, line 3 or rule 3, line 5 allows each of its names, or a deny rule denies it; rule 2 decides nothing either: leave out one of them, not both)
+rule 2, line 3: decides nothing: \"/srv/a\" r, (rule 1, line 2 allows each of its names, or a deny rule denies it; rule 1 decides nothing either: leave out one of them, not both)
+rule 3, line 5: decides nothing: \"/srv/b\" r, (rule 1, line 2 allows each of its names, or a deny rule denies it; rule 1 decides nothing either: leave out one of them, not both)
+",
+        ),
+        (
+            b"profile p {\n  /srv/** rw,\n  deny /srv/a r,\n  deny /srv/[ab] r,\n  deny /etc/* w,\n  /srv/a r,\n}\n",
+            b"rule 2, line 3: decides nothing: deny \"/srv/a\" r, (rule 3, line 4 denies each of its names that is allowed)
+rule 4, line 5: denies nothing that is allowed: deny \"/etc/*\" w,
+rule 5, line 6: decides nothing: \"/srv/a\" r, (a deny rule denies each of its names)
+",
+        ),
+        (
+            b"profile p {\n  /a r,\n  /a r,\n}\n",
+            b"rule 1, line 2: decides nothing: \"/a\" r, (rule 2, line 3 allows each of its names, or a deny rule denies it; rule 2 decides nothing either: leave out one of them, not both)
+rule 2, line 3: decides nothing: \"/a\" r, (rule 1, line 2 allows each of its names, or a deny rule denies it; rule 1 decides nothing either: leave out one of them, not both)
+",
+        ),
+        (
+            b"profile p {\n  /a r,\n  /a r,\n  /a r,\n}\n",
+            b"rule 1, line 2: decides nothing: \"/a\" r, (rule 3, line 4 allows each of its names, or a deny rule denies it; rule 3 decides nothing either: leave out one of them, not both)
+rule 2, line 3: decides nothing: \"/a\" r, (rule 1, line 2 allows each of its names, or a deny rule denies it; rule 1 decides nothing either: leave out one of them, not both)
+rule 3, line 4: decides nothing: \"/a\" r, (rule 1, line 2 allows each of its names, or a deny rule denies it; rule 1 decides nothing either: leave out one of them, not both)
+",
+        ),
+        (
+            b"profile p {\n  /a w,\n  deny /a a,\n  deny /a w,\n}\n",
+            b"rule 1, line 2: decides nothing: \"/a\" w, (a deny rule denies each of its names)
+rule 2, line 3: decides nothing: deny \"/a\" a, (rule 3, line 4 denies each of its names that is allowed)
+",
+        ),
+    ];
+    for (text, lines) in rows {
+        expect(&rt, rt.alloc(), text, Status::Unmet, lines);
+    }
+}
+
+// Letters that decide nothing of rules that decide something. Who may write may append.
+#[test]
+fn letters_that_decide_nothing(rt: HostRuntime) {
+    let rows: [(&[u8], &[u8]); 4] = [
+        (
+            b"profile p {\n  /a rw,\n  /* w,\n}\n",
+            b"rule 1, line 2: w decides nothing: \"/a\" rw, (rule 2, line 3 allows each of its names, or a deny rule denies it)\n",
+        ),
+        (
+            b"profile p {\n  /a rw,\n  /a k,\n  /* r,\n  /* a,\n  deny /a w,\n}\n",
+            b"rule 1, line 2: decides nothing: \"/a\" rw, (rule 3, line 4 allows each of its names, or a deny rule denies it)\n",
+        ),
+        (
+            b"profile p {\n  /a r,\n  deny /a rw,\n  /b r,\n}\n",
+            b"rule 1, line 2: decides nothing: \"/a\" r, (a deny rule denies each of its names)\nrule 2, line 3: w denies nothing that is allowed: deny \"/a\" rw,\n",
+        ),
+        (
+            b"profile p {\n  /** rwk,\n  deny /a rk,\n  deny /[ab] wk,\n}\n",
+            b"rule 2, line 3: k decides nothing: deny \"/a\" rk, (rule 3, line 4 denies each of its names that is allowed)\n",
+        ),
+    ];
+    for (text, lines) in rows {
+        expect(&rt, rt.alloc(), text, Status::Unmet, lines);
+    }
+}
+
+#[test]
+fn texts_that_are_refused(rt: HostRuntime) {
+    expect(
+        &rt,
+        rt.alloc(),
+        b"profile p {\n",
+        Status::Refused,
+        b"refused: read 1 at 12\n",
+    );
+}

@@ -1,0 +1,5 @@
+pub mod Parts
+pub mod Findings
+pub mod Lines
+pub mod Linting
+pub mod inner

@@ -1,0 +1,33 @@
+-- What is found, as it is kept: parts, and a list of stand-ins for each of them.
+use Rattle.std.specs.Prelude.{ℕ, ◌<◌, ◌≤◌, List, [], ◌∷◌, Vec, length, map}
+use Rattle.std.specs.declared.alloc.Global.{Global}
+use Rattle.std.specs.List.{All}
+use Rattle.names.specs.declared.permissions.Perms.{Perms}
+use Rattle.trace_lint.specs.Findings.{FindingValue, first_idle}
+use Rattle.trace_lint.specs.declared.finding.Finding.{Finding}
+use Rattle.trace_lint.specs.declared.finding.Part.{Part}
+
+abbrev pub finding_value : Finding → FindingValue
+finding_value f = record { part = f.part; stand_ins = f.stand_ins.now; idle = f.idle }
+
+abbrev pub found_of : List Perms → Part → List ℕ → FindingValue
+found_of decided part list = record { part = part; stand_ins = list; idle = first_idle decided list }
+
+abbrev pub all_found : List Perms → List Part → List (List ℕ) → List FindingValue
+all_found decided [] lists = []
+all_found decided (part ∷ parts) [] = []
+all_found decided (part ∷ parts) (list ∷ lists) = found_of decided part list ∷ all_found decided parts lists
+
+-- the number is that of one of so many rules
+abbrev pub IsNumber : ℕ → ℕ → Type 0
+IsNumber count n = (1 ≤ n) × (n ≤ count)
+
+abbrev pub AreNumbers : ℕ → List ℕ → Type 0
+AreNumbers count numbers = All (IsNumber count) numbers
+
+-- so are those of all parts, and of all stand-ins
+abbrev pub HaveNumbers : ℕ → List Part → Type 0
+HaveNumbers count parts = All (λ part. IsNumber count part.rule) parts
+
+abbrev pub ListsHaveNumbers : ℕ → List (Vec ℕ Global) → Type 0
+ListsHaveNumbers count lists = All (λ list. AreNumbers count list.items) lists

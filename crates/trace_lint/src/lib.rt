@@ -1,0 +1,14 @@
+//! `lint`, as a command: the rules of a profile that decide nothing, and the letters of the others that decide nothing, with the
+//! rules that stand in for them.
+//!
+//! The definitions to believe are those in `specs/`; those in `specs/inner/` are of private contracts and proofs.
+#![tactic(auto)]
+
+mod asking;
+mod finding;
+mod lines;
+mod linting;
+mod parts;
+mod texts;
+
+pub use linting::lint;

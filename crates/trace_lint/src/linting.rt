@@ -1,0 +1,83 @@
+//! `lint`: the rules that decide nothing.
+ghost use Rattle.std.specs.Prelude.{◌≡◌, ℕ, List};
+ghost use Rattle.rule_influence.specs.Influence.{AreDecided};
+ghost use Rattle.rule_reader.specs.Reading.{outcome_of};
+ghost use Rattle.trace_lint.specs.Linting.{IsLintOutput, IsLintOutputOf};
+ghost use Rattle.trace_lint.specs.inner.Asking.{IsAnswered};
+ghost use Rattle.trace_report.specs.Streams.{EndsAnswered, IsTextOf};
+
+use crate::asking::{decided_by, paired, stand_ins_of};
+use crate::lines::lines;
+use crate::parts::{cases_of, idle_parts};
+use crate::texts::Linted;
+use names::{NoMemory, Perms};
+use rule_influence::{IdleCase, RulePair};
+use rule_reader::read;
+use std::alloc::Global;
+use std::io::{Read, Write};
+use trace_report::{Fault, Status, fail, read_all, write_finding};
+
+/// Reads a profile from `input` and writes to `answers` a line for each rule that decides nothing, and for each letter that decides
+/// nothing of a rule that decides something: where the rule is, its text, and which rules do its work. Nothing is written where
+/// there is no such rule. Faults are reported on `faults` instead.
+pub fn lint<R: Read, A: Write, F: Write>(
+    alloc: Global,
+    input: &mut R,
+    answers: &mut A,
+    faults: &mut F,
+) -> Status
+    ensures { (text : List ℕ) × IsTextOf (R.remaining input.old) text × EndsAnswered
+        (record {
+          answers_before = A.contents answers.old;
+          answers_after = A.contents answers.new;
+          faults_before = F.contents faults.old;
+          faults_after = F.contents faults.new;
+        })
+        (IsLintOutput text) result }
+{
+    match answer(alloc, input) {
+        Ok(lines) => write_finding(answers, faults, &lines, !lines.is_empty()),
+        Err(fault) => fail(faults, fault, fault.status()),
+    }
+}
+
+// The lines, or why there are none.
+fn answer<R: Read>(alloc: Global, input: &mut R) -> Result<Vec<u8>, Fault>
+    ensures { (text : List ℕ) × IsTextOf (R.remaining input.old) text × IsAnswered (IsLintOutput text) result }
+{
+    let text = read_all(alloc, input)?;
+    answer_on(alloc, &text)
+}
+
+// The lines about a text.
+fn answer_on(alloc: Global, text: &[u8]) -> Result<Vec<u8>, Fault>
+    ensures { IsAnswered (IsLintOutputOf text.now (outcome_of text.now)) result }
+{
+    let profile = read(alloc, text)?;
+    let pair = paired(alloc, profile)?;
+    let decided = decided_by(alloc, &pair)?;
+    answer_by(alloc, text, &pair, &decided)
+}
+
+// The lines about a text by what its rules decide.
+fn answer_by(
+    alloc: Global,
+    text: &[u8],
+    pair: &RulePair,
+    decided: &[Perms],
+) -> Result<Vec<u8>, Fault>
+{
+    let profile = pair.rules().profile();
+    let Ok(parts) = idle_parts(alloc, profile, decided) else {
+        return Err(Fault::Memory);
+    };
+    let Ok(cases) = cases_of(alloc, profile, &parts) else {
+        return Err(Fault::Memory);
+    };
+    let lists = stand_ins_of(alloc, pair, &cases)?;
+    let linted = Linted { text, profile };
+    match lines(alloc, &linted, decided, &parts, &lists) {
+        Ok(lines) => Ok(lines),
+        Err(NoMemory) => Err(Fault::Memory),
+    }
+}
