@@ -2,7 +2,7 @@
 use std::alloc::Global;
 use std::process::Abort;
 use std::test::Fail;
-use trace_questions::{Quantifier, differ, search};
+use trace_questions::{Quantifier, Witnesses, differ, search};
 use trace_report::Status;
 
 // What a command wrote, and its status.
@@ -59,7 +59,7 @@ const WEB: &[u8] = b"profile web {\n  /srv/** r,\n  /srv/log/* w,\n  deny /srv/l
 
 #[test]
 fn some_name(rt: HostRuntime) {
-    let any = Quantifier::Any;
+    let any = Quantifier::Any(Witnesses::Least);
     let rows: [(&str, &str, Status, &[u8]); 6] = [
         (
             "w",
@@ -114,10 +114,69 @@ fn each_name(rt: HostRuntime) {
     }
 }
 
+const LOGS: &[u8] = b"profile p {\n  /a/* r,\n  /a/b* rw,\n  /a/{b,c}c w,\n  deny /a/b w,\n}\n";
+
+// A name for each rule that is the first to allow something: `/a/ba` is the least by rules 1 and 2, and `/a/bc` by none.
+#[test]
+fn some_name_by_each_rule(rt: HostRuntime) {
+    let rows: [(&str, &str, Status, &[u8]); 5] = [
+        (
+            "w",
+            "/a/**",
+            Status::Unmet,
+            b"any /a/ba
+w: allowed by rule 2, line 3: \"/a/b*\" rw,
+any /a/cc
+w: allowed by rule 3, line 4: \"/a/{b,c}c\" w,
+",
+        ),
+        (
+            "rw",
+            "/a/**",
+            Status::Unmet,
+            b"any /a/ba
+r: allowed by rule 1, line 2: \"/a/*\" r,
+w: allowed by rule 2, line 3: \"/a/b*\" rw,
+any /a/cc
+r: allowed by rule 1, line 2: \"/a/*\" r,
+w: allowed by rule 3, line 4: \"/a/{b,c}c\" w,
+",
+        ),
+        (
+            "w",
+            "/a/*c",
+            Status::Unmet,
+            b"any /a/bc
+w: allowed by rule 2, line 3: \"/a/b*\" rw,
+any /a/cc
+w: allowed by rule 3, line 4: \"/a/{b,c}c\" w,
+",
+        ),
+        ("w", "/a/b", Status::Done, b"none\n"),
+        ("w", "a", Status::BadArguments, b"bad pattern\n"),
+    ];
+    for (perms, pattern, status, text) in rows {
+        let row = Row {
+            quantifier: Quantifier::Any(Witnesses::EachRule),
+            perms,
+            pattern,
+            profile: LOGS,
+            status,
+            text,
+        };
+        expect(
+            &rt,
+            &search_in_memory(rt.alloc(), row),
+            row.status,
+            row.text,
+        );
+    }
+}
+
 // What is no profile, a byte that is shown by its number, and a class that takes no byte that a name has.
 #[test]
 fn odd_texts(rt: HostRuntime) {
-    let any = Quantifier::Any;
+    let any = Quantifier::Any(Witnesses::Least);
     let rows: [(&str, &[u8], Status, &[u8]); 3] = [
         (
             "/**",
@@ -152,6 +211,7 @@ fn odd_texts(rt: HostRuntime) {
 pub(crate) fn differ_in_memory(
     alloc: Global,
     below: Option<&str>,
+    witnesses: Witnesses,
     old: &[u8],
     new: &[u8],
 ) -> Ending {
@@ -162,6 +222,7 @@ pub(crate) fn differ_in_memory(
     let status = differ(
         alloc,
         below,
+        witnesses,
         &mut before,
         &mut after,
         &mut answers,
@@ -188,13 +249,59 @@ fn two_profiles(rt: HostRuntime) {
 + a /etc/a: allowed by rule 4, line 5: \"/etc/**\" w,; was: no rule
 - a /srv/a: no rule; was: allowed by rule 2, line 3: \"/srv/**\" rw,
 ";
-    let ending = differ_in_memory(rt.alloc(), None, OLD, NEW);
+    let ending = differ_in_memory(rt.alloc(), None, Witnesses::Least, OLD, NEW);
     expect(&rt, &ending, Status::Unmet, lines);
     let below: &[u8] = b"+ w /etc/b: allowed by rule 4, line 5: \"/etc/**\" w,; was: no rule
 + a /etc/b: allowed by rule 4, line 5: \"/etc/**\" w,; was: no rule
 ";
-    let ending = differ_in_memory(rt.alloc(), Some("/etc/[b-z]*"), OLD, NEW);
+    let ending = differ_in_memory(rt.alloc(), Some("/etc/[b-z]*"), Witnesses::Least, OLD, NEW);
     expect(&rt, &ending, Status::Unmet, below);
+}
+
+const FEW: &[u8] = b"profile p {\n  /d/a* r,\n  /d/* r,\n}\n";
+
+const LESS: &[u8] = b"profile p {\n  deny /d/*b r,\n  /d/[b-d]* r,\n}\n";
+
+// A name for each pair of reasons.
+#[test]
+fn two_profiles_by_each_rule(rt: HostRuntime) {
+    let lines: &[u8] = b"- r /d/a: no rule; was: allowed by rule 1, line 2: \"/d/a*\" r,
+- r /d/b: denied by rule 1, line 2: deny \"/d/*b\" r,; was: allowed by rule 2, line 3: \"/d/*\" r,
+- r /d/e: no rule; was: allowed by rule 2, line 3: \"/d/*\" r,
+- r /d/ab: denied by rule 1, line 2: deny \"/d/*b\" r,; was: allowed by rule 1, line 2: \"/d/a*\" r,
+";
+    let back: &[u8] = b"+ r /d/a: allowed by rule 1, line 2: \"/d/a*\" r,; was: no rule
++ r /d/b: allowed by rule 2, line 3: \"/d/*\" r,; was: denied by rule 1, line 2: deny \"/d/*b\" r,
++ r /d/e: allowed by rule 2, line 3: \"/d/*\" r,; was: no rule
++ r /d/ab: allowed by rule 1, line 2: \"/d/a*\" r,; was: denied by rule 1, line 2: deny \"/d/*b\" r,
+";
+    let below: &[u8] =
+        b"- r /d/ab: denied by rule 1, line 2: deny \"/d/*b\" r,; was: allowed by rule 1, line 2: \"/d/a*\" r,
+- r /d/bb: denied by rule 1, line 2: deny \"/d/*b\" r,; was: allowed by rule 2, line 3: \"/d/*\" r,
+";
+    let rows: [(Option<&str>, &[u8], &[u8], Status, &[u8]); 4] = [
+        (None, FEW, LESS, Status::Unmet, lines),
+        (None, LESS, FEW, Status::Unmet, back),
+        (Some("/d/?b"), FEW, LESS, Status::Unmet, below),
+        (None, FEW, FEW, Status::Done, b"same\n"),
+    ];
+    for (below, old, new, status, text) in rows {
+        expect(
+            &rt,
+            &differ_in_memory(rt.alloc(), below, Witnesses::EachRule, old, new),
+            status,
+            text,
+        );
+    }
+}
+
+// Each permission in each direction, where there is one pair of reasons for each.
+#[test]
+fn two_profiles_by_one_pair_each(rt: HostRuntime) {
+    let least = differ_in_memory(rt.alloc(), None, Witnesses::Least, OLD, NEW);
+    let each = differ_in_memory(rt.alloc(), None, Witnesses::EachRule, OLD, NEW);
+    assert!(rt; each.status == Status::Unmet);
+    assert!(rt; each.answers.as_slice() == least.answers.as_slice());
 }
 
 #[test]
@@ -227,7 +334,7 @@ fn profiles_that_are_not_compared(rt: HostRuntime) {
     for (below, old, new, status, text) in rows {
         expect(
             &rt,
-            &differ_in_memory(rt.alloc(), below, old, new),
+            &differ_in_memory(rt.alloc(), below, Witnesses::Least, old, new),
             status,
             text,
         );

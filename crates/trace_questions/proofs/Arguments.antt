@@ -1,5 +1,7 @@
 -- Arguments that are bad, input that failed, and good arguments.
-use Rattle.std.proofs.Common.{◌≡◌, ◌≢◌, ◌⊎◌, inl, inr, ℕ, Bool, true, false, List, Result, Ok, Err, refl, sym, ap, subst, ◌∙◌, rules}
+use Rattle.std.proofs.Common.{◌≡◌, ◌≢◌, ◌⊎◌, inl, inr, ℕ, Bool, true, false, List, [], ◌∷◌, Result, Ok, Err, refl, sym, ap, subst, ◌∙◌}
+use Rattle.std.specs.List.{flat_map}
+use Rattle.std.specs.Prelude.{codes}
 use Rattle.matcher.specs.declared.fault.MakeFault.TheVariants.{TooManyStates}
 use Rattle.names.specs.declared.permissions.Perms.{Perms}
 use Rattle.rule_globs.specs.Rules.{RuleValue, ProfileValue}
@@ -9,45 +11,43 @@ use Rattle.rule_reader.specs.Reading.{outcome_of}
 use Rattle.rule_reader.specs.Spans.{spans_of}
 use Rattle.rule_reader.specs.declared.fault.ReadFault.{ReadFault}
 use Rattle.trace_questions.specs.Asked.{asked_of}
-use Rattle.trace_questions.specs.Search.{IsSearchOutput, IsSearchOutputFor, IsSearchOutputOf, search_text}
-use Rattle.trace_questions.specs.Search.{Finding, least, no_name, nothing}
+use Rattle.question_answers.specs.Findings.{Finding, found, no_name}
+use Rattle.trace_questions.specs.Search.{IsSearchOutput, IsSearchOutputFor, IsSearchOutputOf, name_text, nothing_text, search_text}
 use Rattle.trace_questions.specs.declared.answer.Answer.{Answer}
-use Rattle.trace_questions.specs.declared.searching.Quantifier.{Quantifier}
+use Rattle.question_answers.specs.declared.quantifier.Quantifier.{Quantifier}
 use Rattle.trace_questions.specs.inner.Asking.{IsAnswered}
+use Rattle.trace_questions.proofs.Endings.{found_good, refused_good}
 use Rattle.trace_report.specs.Fault.{AreGood, IsFaultOfAnswer, fault_text}
-use Rattle.trace_report.specs.Output.{Output, compile_refusal, fault, finding, question_refusal, refusal}
+use Rattle.trace_report.specs.Output.{Output, compile_refusal, fault, finding, line, question_refusal, refusal}
 use Rattle.trace_report.specs.declared.fault.Fault.{Fault}
 use Rattle.trace_report.specs.declared.fault.Fault.TheVariants.{Input, Memory, Pattern, Permissions}
-use Rattle.trace_report.specs.declared.status.Status.TheVariants.{BadArguments, Done, Refused, Unmet}
-
--- refusals don't report bad arguments
-refused : (output : Output) (text : List ℕ) → output ≡ fault text Refused → output.status ≢ BadArguments
-refused output text e = rw e (λ bad. cc)
+use Rattle.trace_report.specs.declared.status.Status.TheVariants.{BadArguments}
 
 module _ (q : Quantifier) where
-  found_good : (text : List ℕ) (rules : List RuleValue) (spans : List Span) (ask : Perms) (output : Output) (found : Finding) →
-      output ≡ search_text q text rules spans ask found → output.status ≢ BadArguments
-  found_good text rules spans ask output no_name e = rw e (λ bad. cc)
-  found_good text rules spans ask output nothing e = rw e (λ bad. cc)
-  found_good text rules spans ask output (least name) e = rw e (λ bad. cc)
+  searched_good : (text : List ℕ) (rules : List RuleValue) (spans : List Span) (ask : Perms) (output : Output) (what : Finding) →
+      output ≡ search_text q text rules spans ask what → output.status ≢ BadArguments
+  searched_good text rules spans ask output no_name e = found_good output (line (codes "no name matches")) false e
+  searched_good text rules spans ask output (found []) e = found_good output (nothing_text q) false e
+  searched_good text rules spans ask output (found (name ∷ names)) e =
+      found_good output (flat_map (name_text q text rules spans ask) (name ∷ names)) true e
 
   of_good : (ask : Perms) (path : List Token) (text : List ℕ) (outcome : Result ProfileValue ReadFault) →
       AreGood (IsSearchOutputOf q ask path text outcome)
-  of_good ask path text (Err f) output e = refused output (refusal f) e
-  of_good ask path text (Ok profile) output (inl (inl h)) = refused output (compile_refusal TooManyStates) h.1
-  of_good ask path text (Ok profile) output (inl (inr h)) = refused output question_refusal h.1
-  of_good ask path text (Ok profile) output (inr h) = found_good text profile.rules (spans_of text) ask output h.0 h.2
+  of_good ask path text (Err f) output e = refused_good output (refusal f) e
+  of_good ask path text (Ok profile) output (inl (inl h)) = refused_good output (compile_refusal TooManyStates) h.1
+  of_good ask path text (Ok profile) output (inl (inr h)) = refused_good output question_refusal h.1
+  of_good ask path text (Ok profile) output (inr h) = searched_good text profile.rules (spans_of text) ask output h.0 h.2
 
   -- where there is an answer, the arguments are good
-  answer_good : (asked : Result (Perms × List Token) (List ℕ)) (text bytes : List ℕ) (found : Bool) →
-      IsSearchOutputFor q asked text (finding bytes found) → AreGood (IsSearchOutputFor q asked text)
-  answer_good (Err told) text bytes true e = let bad : Unmet ≡ BadArguments = ap (λ (o : Output). o.status) e in absurd cc
-  answer_good (Err told) text bytes false e = let bad : Done ≡ BadArguments = ap (λ (o : Output). o.status) e in absurd cc
-  answer_good (Ok asked) text bytes found h = of_good asked.0 asked.1 text (outcome_of text)
+  answer_good : (asked : Result (Perms × List Token) (List ℕ)) (text bytes : List ℕ) (some : Bool) →
+      IsSearchOutputFor q asked text (finding bytes some) → AreGood (IsSearchOutputFor q asked text)
+  answer_good (Err told) text bytes some e =
+      absurd (found_good (finding bytes some) bytes some refl (ap (λ (o : Output). o.status) e))
+  answer_good (Ok asked) text bytes some h = of_good asked.0 asked.1 text (outcome_of text)
 
-  pub good_by_answer : (perms pattern text bytes : List ℕ) (found : Bool) → IsSearchOutput q perms pattern text (finding bytes found) →
+  pub good_by_answer : (perms pattern text bytes : List ℕ) (some : Bool) → IsSearchOutput q perms pattern text (finding bytes some) →
       AreGood (IsSearchOutput q perms pattern text)
-  good_by_answer perms pattern text bytes found h = answer_good (asked_of perms pattern) text bytes found h
+  good_by_answer perms pattern text bytes some h = answer_good (asked_of perms pattern) text bytes some h
 
   module _ (perms pattern text : List ℕ) where
     -- bad arguments are reported as such, whatever the text

@@ -1,11 +1,19 @@
--- How a question ends whose answer was written.
-use Rattle.std.proofs.Common.{◌≡◌, inl, inr, ℕ, Bool, List, sym, subst}
+-- How a question ends whose answer was written, and which outputs don't report bad arguments.
+use Rattle.std.proofs.Common.{◌≡◌, ◌≢◌, inl, inr, ℕ, Bool, true, false, List, sym, subst}
 use Rattle.trace_report.specs.Fault.{AreGood}
-use Rattle.trace_report.specs.Output.{Output, finding}
+use Rattle.trace_report.specs.Output.{Output, fault, finding}
 use Rattle.trace_report.specs.Streams.{EndsAnswered, Streams}
 use Rattle.trace_report.specs.declared.status.Status.{Status}
 use Rattle.trace_report.specs.declared.status.Status.TheVariants.{BadArguments, Done, FaultsFailed, InputFailed, NoMemory, OutputFailed}
 use Rattle.trace_report.specs.declared.status.Status.TheVariants.{Refused, Unmet}
+
+-- refusals and answers don't report bad arguments
+pub refused_good : (output : Output) (text : List ℕ) → output ≡ fault text Refused → output.status ≢ BadArguments
+refused_good output text e = rw e (λ bad. cc)
+
+pub found_good : (output : Output) (bytes : List ℕ) (found : Bool) → output ≡ finding bytes found → output.status ≢ BadArguments
+found_good output bytes true e = rw e (λ bad. cc)
+found_good output bytes false e = rw e (λ bad. cc)
 
 module _ (streams : Streams) (Wanted : Output → Type 0) (output : Output) (of : Wanted output) (good : AreGood Wanted) where
   -- an output that is wanted is one of those that are

@@ -1,8 +1,7 @@
-pub mod BelowLaws
-pub mod FindingLaws
 pub mod Refused
+pub mod Endings
 pub mod Searches
 pub mod Arguments
-pub mod Endings
 pub mod DifferenceLaws
 pub mod DiffAnswers
+pub mod ListedLines

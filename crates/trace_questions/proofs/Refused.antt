@@ -1,5 +1,5 @@
 -- Faults of rules that can't be compiled or compared, as outputs.
-use Rattle.std.proofs.Common.{◌≡◌, List, Result, Ok, Err, IsErrAnd, sym, subst}
+use Rattle.std.proofs.Common.{◌≡◌, ◌⊎◌, inl, inr, List, Result, Ok, Err, IsErrAnd, refl, sym, subst}
 use Rattle.glob_automaton.specs.Automata.{most_sets}
 use Rattle.glob_automaton.specs.Sets.{AreMoreThan}
 use Rattle.matcher.specs.declared.fault.MakeFault.TheVariants.{TooManyStates}
@@ -12,9 +12,20 @@ use Rattle.trace_questions.specs.inner.Comparing.{IsCompileRefusal, IsQuestionRe
 use Rattle.trace_report.specs.Fault.{IsFaultOfAnswer}
 use Rattle.trace_report.specs.Output.{Output, compile_refusal, fault, question_refusal}
 use Rattle.trace_report.specs.declared.fault.Fault.{Fault}
-use Rattle.trace_report.specs.declared.fault.Fault.TheVariants.{Compiling, Image, Input, Memory, Name, Pattern}
-use Rattle.trace_report.specs.declared.fault.Fault.TheVariants.{Permissions, Question, Text}
+use Rattle.trace_report.specs.declared.fault.Fault.TheVariants.{Compiling, Memory, Question}
 use Rattle.trace_report.specs.declared.status.Status.TheVariants.{Refused}
+
+-- no memory, or rules have too many states
+pub compile_cases : (rules : List RuleValue) (f : Fault) → IsCompileRefusal rules f →
+    (f ≡ Memory) ⊎ ((f ≡ Compiling TooManyStates) × AreMoreThan most_sets rules)
+compile_cases rules Memory h = inl refl
+compile_cases rules f h = inr h
+
+-- no memory, or all together have
+pub question_cases : (one two three : List RuleValue) (f : Fault) → IsQuestionRefusal one two three f →
+    (f ≡ Memory) ⊎ ((f ≡ Question) × IsQuestionFault one two three question.TooManyStates)
+question_cases one two three Memory h = inl refl
+question_cases one two three f h = inr h
 
 module _ (Wanted : Output → Type 0) where
   -- a fault that is passed on
@@ -22,34 +33,23 @@ module _ (Wanted : Output → Type 0) where
   passed_on (Ok answer) f is h = absurd is
   passed_on (Err g) f is h = subst (IsFaultOfAnswer Wanted) (sym is) h
 
-  too_large : (f : Fault) → f ≡ Compiling TooManyStates → Wanted (fault (compile_refusal TooManyStates) Refused) → IsFaultOfAnswer Wanted f
-  too_large f e h = subst (IsFaultOfAnswer Wanted) (sym e) h
-
-  too_many : (f : Fault) → f ≡ Question → Wanted (fault question_refusal Refused) → IsFaultOfAnswer Wanted f
-  too_many f e h = subst (IsFaultOfAnswer Wanted) (sym e) h
+  large_by_cases : (rules : List RuleValue) (f : Fault) → (f ≡ Memory) ⊎ ((f ≡ Compiling TooManyStates) × AreMoreThan most_sets rules) →
+      (AreMoreThan most_sets rules → Wanted (fault (compile_refusal TooManyStates) Refused)) → IsFaultOfAnswer Wanted f
+  large_by_cases rules f (inl e) k = subst (IsFaultOfAnswer Wanted) (sym e) tt
+  large_by_cases rules f (inr h) k = subst (IsFaultOfAnswer Wanted) (sym h.0) (k h.1)
 
   -- what is written where rules have too many states
   pub compile_refused : (rules : List RuleValue) (f : Fault) → IsCompileRefusal rules f →
       (AreMoreThan most_sets rules → Wanted (fault (compile_refusal TooManyStates) Refused)) → IsFaultOfAnswer Wanted f
-  compile_refused rules Memory h k = tt
-  compile_refused rules Permissions h k = too_large Permissions h.0 (k h.1)
-  compile_refused rules Name h k = too_large Name h.0 (k h.1)
-  compile_refused rules Pattern h k = too_large Pattern h.0 (k h.1)
-  compile_refused rules (Text f) h k = too_large (Text f) h.0 (k h.1)
-  compile_refused rules (Compiling f) h k = too_large (Compiling f) h.0 (k h.1)
-  compile_refused rules (Image f) h k = too_large (Image f) h.0 (k h.1)
-  compile_refused rules Question h k = too_large Question h.0 (k h.1)
-  compile_refused rules Input h k = too_large Input h.0 (k h.1)
+  compile_refused rules f h k = large_by_cases rules f (compile_cases rules f h) k
+
+  many_by_cases : (one two three : List RuleValue) (f : Fault) →
+      (f ≡ Memory) ⊎ ((f ≡ Question) × IsQuestionFault one two three question.TooManyStates) →
+      (IsQuestionFault one two three question.TooManyStates → Wanted (fault question_refusal Refused)) → IsFaultOfAnswer Wanted f
+  many_by_cases one two three f (inl e) k = subst (IsFaultOfAnswer Wanted) (sym e) tt
+  many_by_cases one two three f (inr h) k = subst (IsFaultOfAnswer Wanted) (sym h.0) (k h.1)
 
   -- where all together have
   pub question_refused : (one two three : List RuleValue) (f : Fault) → IsQuestionRefusal one two three f →
       (IsQuestionFault one two three question.TooManyStates → Wanted (fault question_refusal Refused)) → IsFaultOfAnswer Wanted f
-  question_refused one two three Memory h k = tt
-  question_refused one two three Permissions h k = too_many Permissions h.0 (k h.1)
-  question_refused one two three Name h k = too_many Name h.0 (k h.1)
-  question_refused one two three Pattern h k = too_many Pattern h.0 (k h.1)
-  question_refused one two three (Text f) h k = too_many (Text f) h.0 (k h.1)
-  question_refused one two three (Compiling f) h k = too_many (Compiling f) h.0 (k h.1)
-  question_refused one two three (Image f) h k = too_many (Image f) h.0 (k h.1)
-  question_refused one two three Question h k = too_many Question h.0 (k h.1)
-  question_refused one two three Input h k = too_many Input h.0 (k h.1)
+  question_refused one two three f h k = many_by_cases one two three f (question_cases one two three f h) k

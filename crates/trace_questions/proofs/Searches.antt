@@ -7,9 +7,9 @@ use Rattle.rule_globs.specs.Tokens.{Token}
 use Rattle.rule_profile.specs.declared.profile.Span.{Span}
 use Rattle.rule_reader.specs.Spans.{spans_of}
 use Rattle.rule_reader.specs.declared.fault.ReadFault.{ReadFault}
-use Rattle.trace_questions.specs.Below.{IsTaken}
-use Rattle.trace_questions.specs.Search.{Finding, IsFinding, IsSearchOutputOf, IsWanted, search_text}
-use Rattle.trace_questions.specs.declared.searching.Quantifier.{Quantifier}
+use Rattle.question_answers.specs.Findings.{Finding, IsFinding}
+use Rattle.trace_questions.specs.Search.{IsSearchOutputOf, search_text}
+use Rattle.question_answers.specs.declared.quantifier.Quantifier.{Quantifier}
 use Rattle.trace_questions.specs.inner.Comparing.{IsCompileRefusal, IsQuestionRefusal}
 use Rattle.trace_questions.proofs.Refused.{compile_refused, question_refused}
 use Rattle.trace_report.specs.Fault.{IsFaultOfAnswer}
@@ -40,12 +40,12 @@ module _ (q : Quantifier) (ask : Perms) (path : List Token) (text : List ℕ) (p
 
   pub search_found : (outcome : Result ProfileValue ReadFault) (rules first : List RuleValue) (spans : List Span) (found : Finding)
       (output : Output) → outcome ≡ Ok profile → rules ≡ profile.rules → first ≡ profile.rules → spans ≡ spans_of text →
-      IsFinding (IsTaken path) (IsWanted q first path ask) found → output ≡ search_text q text rules spans ask found →
+      IsFinding q first path ask found → output ≡ search_text q text rules spans ask found →
       Written outcome output
   search_found outcome rules first spans found output read same one there is e =
       subst (λ o. Written o output) (sym read)
       (inr (
         found,
-        subst (λ (z : List RuleValue). IsFinding (IsTaken path) (IsWanted q z path ask) found) one is,
+        subst (λ (z : List RuleValue). IsFinding q z path ask found) one is,
         e ∙ ap (λ z. search_text q text z spans ask found) same ∙ ap (λ z. search_text q text profile.rules z ask found) there,
       ))

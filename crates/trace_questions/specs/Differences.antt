@@ -1,4 +1,4 @@
--- What `diff OLD [NEW]` writes, memory and failures of the streams aside.
+-- What `diff OLD [NEW]` writes, with or without `--each-rule`, memory and failures of the streams aside.
 use Rattle.std.specs.Prelude.{◌≡◌, ◌⊎◌, ℕ, true, false, List, [], ◌∷◌, ◌++◌, Option, Some, None, Result, Ok, Err, codes}
 use Rattle.std.specs.List.{flat_map}
 use Rattle.glob_automaton.specs.Automata.{most_sets}
@@ -12,15 +12,16 @@ use Rattle.rule_explain.specs.Explanations.{reason_text}
 use Rattle.rule_explain.specs.Reasons.{reason}
 use Rattle.rule_globs.specs.Rules.{RuleValue, ProfileValue}
 use Rattle.rule_globs.specs.Tokens.{Token}
-use Rattle.rule_globs.specs.Verdict.{IsAllowed}
 use Rattle.rule_reader.specs.Reading.{outcome_of}
 use Rattle.rule_reader.specs.Spans.{spans_of}
 use Rattle.rule_reader.specs.declared.fault.ReadFault.{ReadFault}
 use Rattle.trace_questions.specs.Asked.{path_asked}
-use Rattle.trace_questions.specs.Below.{IsBelow, IsLeastName, rules_below}
+use Rattle.question_answers.specs.Alone.{AreAlone}
+use Rattle.question_answers.specs.Below.{IsBelow, rules_below}
+use Rattle.question_answers.specs.declared.quantifier.Witnesses.{Witnesses}
 use Rattle.trace_questions.specs.Shown.{shown_name}
-use Rattle.trace_questions.specs.declared.sides.Side.{Side}
-use Rattle.trace_questions.specs.declared.sides.Side.TheVariants.{Old, New}
+use Rattle.question_answers.specs.declared.side.Side.{Side}
+use Rattle.question_answers.specs.declared.side.Side.TheVariants.{Old, New}
 use Rattle.trace_report.specs.Output.{Output, compile_refusal, fault, finding, line, question_refusal, refusal}
 use Rattle.trace_report.specs.declared.status.Status.TheVariants.{BadArguments, Refused}
 
@@ -34,15 +35,6 @@ pub record Versions : Type 0 where
   pub old : ReadText
   pub new : ReadText
 
--- p is allowed by this side alone
-abbrev pub AllowsAlone : Side → Versions → Permission → List ℕ → Type 0
-AllowsAlone Old v p name = IsAllowed v.old.rules name p × ¬ (IsAllowed v.new.rules name p)
-AllowsAlone New v p name = IsAllowed v.new.rules name p × ¬ (IsAllowed v.old.rules name p)
-
--- a permission that one side alone allows to some names
-abbrev pub IsDifference : Option (List Token) → Versions → Permission → Side → List ℕ → Type 0
-IsDifference below v p side name = IsBelow below name × AllowsAlone side v p name
-
 -- what one of the profiles says of a permission
 abbrev pub reason_in : ReadText → Permission → List ℕ → List ℕ
 reason_in t p name = reason_text t.text t.rules (spans_of t.text) (reason t.rules name p)
@@ -52,20 +44,20 @@ sign New = codes "+ "
 sign Old = codes "- "
 
 -- `+ w /etc/a: allowed by rule 209, line 210: "/etc/**" w,; was: no rule`
-abbrev pub difference_text : Versions → Permission → Side → Option (List ℕ) → List ℕ
-difference_text v p side None = []
-difference_text v p side (Some name) = sign side ++ letter p ∷ codes " " ++ shown_name name ++ codes ": " ++ reason_in v.new p name
+abbrev pub difference_text : Versions → Permission → Side → List ℕ → List ℕ
+difference_text v p side name = sign side ++ letter p ∷ codes " " ++ shown_name name ++ codes ": " ++ reason_in v.new p name
     ++ codes "; was: " ++ line (reason_in v.old p name)
 
 -- each permission, as what the new profile allows in addition and what it no longer allows
 abbrev pub all_differences : List (Permission × Side)
 all_differences = flat_map (λ p. (p, New) ∷ (p, Old) ∷ []) all_permissions
 
--- a line for each of them that there is
-abbrev pub AreDifferences : Option (List Token) → Versions → List (Permission × Side) → List ℕ → Type 0
-AreDifferences below v [] lines = lines ≡ []
-AreDifferences below v (d ∷ ds) lines = (found : Option (List ℕ)) × IsLeastName (IsDifference below v d.0 d.1) found
-    × ((others : List ℕ) × AreDifferences below v ds others × (lines ≡ difference_text v d.0 d.1 found ++ others))
+-- for each of them a line for each name that is listed
+abbrev pub AreDifferences : Witnesses → Option (List Token) → Versions → List (Permission × Side) → List ℕ → Type 0
+AreDifferences witnesses below v [] lines = lines ≡ []
+AreDifferences witnesses below v (d ∷ ds) lines =
+    (names : List (List ℕ)) × AreAlone witnesses below v.old.rules v.new.rules d.0 d.1 names
+    × ((others : List ℕ) × AreDifferences witnesses below v ds others × (lines ≡ flat_map (difference_text v d.0 d.1) names ++ others))
 
 -- the lines, or that there are none
 abbrev pub answer_of : List ℕ → Output
@@ -76,10 +68,10 @@ answer_of (b ∷ lines) = finding (b ∷ lines) true
 abbrev pub TakesNone : Option (List Token) → Type 0
 TakesNone below = (name : List ℕ) → ¬ (IsBelow below name)
 
-abbrev pub IsCompared : Option (List Token) → Versions → Output → Type 0
-IsCompared below v output = (TakesNone below × (output ≡ finding (line (codes "no name matches")) false))
+abbrev pub IsCompared : Witnesses → Option (List Token) → Versions → Output → Type 0
+IsCompared witnesses below v output = (TakesNone below × (output ≡ finding (line (codes "no name matches")) false))
     ⊎ (((name : List ℕ) × IsBelow below name)
-    × ((lines : List ℕ) × AreDifferences below v all_differences lines × (output ≡ answer_of lines)))
+    × ((lines : List ℕ) × AreDifferences witnesses below v all_differences lines × (output ≡ answer_of lines)))
 
 abbrev pub side_text : Side → List ℕ
 side_text Old = codes " in OLD"
@@ -95,24 +87,31 @@ IsRefusedDiff below v output = IsTooLarge v.old.rules (side_text Old) output
     ⊎ (IsTooLarge v.new.rules (side_text New) output ⊎ (IsTooLarge (rules_below below) [] output
     ⊎ (IsQuestionFault v.old.rules v.new.rules (rules_below below) question.TooManyStates × (output ≡ fault question_refusal Refused))))
 
+-- on two profiles that were read
+abbrev pub IsDiffOf : Witnesses → Option (List Token) → Versions → Output → Type 0
+IsDiffOf witnesses below v output = IsRefusedDiff below v output ⊎ IsCompared witnesses below v output
+
+-- the two profiles that were read, with their texts
+abbrev pub versions_of : List ℕ → List RuleValue → List ℕ → List RuleValue → Versions
+versions_of old one new two = record { old = record { text = old; rules = one }; new = record { text = new; rules = two } }
+
 -- on two texts that were read, or of which one is refused
-abbrev pub IsDiffOutputOf : Option (List Token) → List ℕ → List ℕ → Result ProfileValue ReadFault → Result ProfileValue ReadFault →
-    Output → Type 0
-IsDiffOutputOf below old new (Err f) other output = output ≡ fault (refusal f ++ side_text Old) Refused
-IsDiffOutputOf below old new (Ok one) (Err f) output = output ≡ fault (refusal f ++ side_text New) Refused
-IsDiffOutputOf below old new (Ok one) (Ok two) output =
-    let v : Versions = record { old = record { text = old; rules = one.rules }; new = record { text = new; rules = two.rules } } in
-    IsRefusedDiff below v output ⊎ IsCompared below v output
+abbrev pub IsDiffOutputOf : Witnesses → Option (List Token) → List ℕ → List ℕ → Result ProfileValue ReadFault →
+    Result ProfileValue ReadFault → Output → Type 0
+IsDiffOutputOf witnesses below old new (Err f) other output = output ≡ fault (refusal f ++ side_text Old) Refused
+IsDiffOutputOf witnesses below old new (Ok one) (Err f) output = output ≡ fault (refusal f ++ side_text New) Refused
+IsDiffOutputOf witnesses below old new (Ok one) (Ok two) output =
+    IsDiffOf witnesses below (versions_of old one.rules new two.rules) output
 
 -- the path that is given, if one is
 abbrev pub below_asked : Option (List ℕ) → Result (Option (List Token)) (List ℕ)
 below_asked None = Ok None
 below_asked (Some pattern) = elim (path_asked pattern) [ Err told ↦ Err told | Ok path ↦ Ok (Some path) ]
 
-abbrev pub IsDiffOutputFor : Result (Option (List Token)) (List ℕ) → List ℕ → List ℕ → Output → Type 0
-IsDiffOutputFor (Err told) old new output = output ≡ fault told BadArguments
-IsDiffOutputFor (Ok below) old new output = IsDiffOutputOf below old new (outcome_of old) (outcome_of new) output
+abbrev pub IsDiffOutputFor : Witnesses → Result (Option (List Token)) (List ℕ) → List ℕ → List ℕ → Output → Type 0
+IsDiffOutputFor witnesses (Err told) old new output = output ≡ fault told BadArguments
+IsDiffOutputFor witnesses (Ok below) old new output = IsDiffOutputOf witnesses below old new (outcome_of old) (outcome_of new) output
 
--- what `diff --below PATTERN` writes on two texts
-abbrev pub IsDiffOutput : Option (List ℕ) → List ℕ → List ℕ → Output → Type 0
-IsDiffOutput pattern old new output = IsDiffOutputFor (below_asked pattern) old new output
+-- what `diff --below PATTERN` writes on two texts, or `diff --each-rule --below PATTERN`
+abbrev pub IsDiffOutput : Witnesses → Option (List ℕ) → List ℕ → List ℕ → Output → Type 0
+IsDiffOutput witnesses pattern old new output = IsDiffOutputFor witnesses (below_asked pattern) old new output

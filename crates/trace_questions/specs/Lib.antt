@@ -1,6 +1,5 @@
 pub mod Shown
 pub mod Asked
-pub mod Below
 pub mod Refusals
 pub mod Search
 pub mod Differences

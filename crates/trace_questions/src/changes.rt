@@ -1,19 +1,20 @@
 //! The lines about two profiles.
-ghost use Rattle.std.specs.Prelude.{◌≡◌, ◌++◌, ℕ, List, Option, Some, IfOk, OnOk};
+ghost use Rattle.std.specs.Prelude.{◌≡◌, ◌++◌, ℕ, List, Option, IfOk, OnOk};
+ghost use Rattle.std.specs.List.{flat_map};
 ghost use Rattle.rule_globs.specs.Tokens.{Token};
 ghost use Rattle.rule_profile.specs.RuleSpans.{profile_spans};
 ghost use Rattle.rule_reader.specs.Spans.{spans_of};
-ghost use Rattle.trace_questions.specs.Below.{IsLeastName};
-ghost use Rattle.trace_questions.specs.Differences.{IsCompared, IsDifference, difference_text, sign};
-ghost use Rattle.trace_questions.specs.inner.Differing.{AreCompared, alone_by, versions_value};
+ghost use Rattle.question_answers.specs.Alone.{AreAlone};
+ghost use Rattle.question_answers.specs.LeastNames.{listed};
+ghost use Rattle.trace_questions.specs.Differences.{IsCompared, difference_text, sign};
+ghost use Rattle.trace_questions.specs.inner.Differing.{AreCompared, versions_value};
 ghost use Rattle.trace_report.specs.Output.{finding};
 
 use crate::answer::{self, put};
-use crate::least::{Wanted, least};
 use crate::shown::shown_name;
-use crate::sides::Side;
-use names::{NoMemory, Permission, Perms};
-use profile_questions::{Answer, Comparison};
+use names::{NoMemory, Permission};
+use profile_questions::Comparison;
+use question_answers::{Side, Witnesses, differences, some_name};
 use rule_explain::reason_text;
 use rule_profile::Profile;
 use std::alloc::Global;
@@ -27,18 +28,26 @@ pub(crate) struct Versions<'a> {
     pub(crate) new: &'a Profile,
 }
 
+/// Which names are compared, and which of them are listed.
+#[derive(Clone, Copy)]
+pub(crate) struct Listing {
+    /// Only those that the third rules take are compared.
+    pub(crate) restricted: bool,
+    pub(crate) witnesses: Witnesses,
+}
+
 /// The lines of all permissions that one of the profiles alone allows to some names, or that there are none, or that there is no
-/// name to be compared. If names are restricted, only those that the third rules take are compared.
+/// name to be compared.
 pub(crate) fn changes(
     alloc: Global,
     comparison: &Comparison<'_>,
     versions: &Versions<'_>,
-    restricted: bool,
+    listing: Listing,
 ) -> Result<answer::Answer, NoMemory>
-    ensures { (below : Option (List Token)) → AreCompared comparison.now versions.now restricted below →
-        IfOk result (λ answer. IsCompared below (versions_value versions.now) (finding answer.text.items answer.found)) }
+    ensures { (below : Option (List Token)) → AreCompared comparison.now versions.now listing.restricted below →
+        IfOk result (λ answer. IsCompared listing.witnesses below (versions_value versions.now) (finding answer.text.items answer.found)) }
 {
-    if least(alloc, comparison, Wanted::ANY, restricted)?.is_none() {
+    if !some_name(alloc, comparison, listing.restricted)? {
         return answer::Answer::of(alloc, b"no name matches\n", false);
     }
     let mut text = Vec::new(alloc);
@@ -48,7 +57,7 @@ pub(crate) fn changes(
             alloc,
             comparison,
             versions,
-            restricted,
+            listing,
             permission,
             Side::New,
         )?;
@@ -57,7 +66,7 @@ pub(crate) fn changes(
             alloc,
             comparison,
             versions,
-            restricted,
+            listing,
             permission,
             Side::Old,
         )?;
@@ -68,41 +77,50 @@ pub(crate) fn changes(
     Ok(answer::Answer { text, found: true })
 }
 
-// Appends the line of a permission that this profile alone allows to some names, if it does.
+// Appends the lines of a permission that this profile alone allows to some names, if it does.
 fn put_change(
     text: &mut Vec<u8>,
     alloc: Global,
     comparison: &Comparison<'_>,
     versions: &Versions<'_>,
-    restricted: bool,
+    listing: Listing,
     permission: Permission,
     side: Side,
 ) -> Result<(), NoMemory>
-    ensures { (below : Option (List Token)) → AreCompared comparison.now versions.now restricted below →
-        OnOk result ((found : Option (List ℕ)) × IsLeastName (IsDifference below (versions_value versions.now) permission side) found
-        × (text.new.items ≡ text.old.items ++ difference_text (versions_value versions.now) permission side found)) }
+    ensures { (below : Option (List Token)) → AreCompared comparison.now versions.now listing.restricted below →
+        OnOk result ((names : List (List ℕ)) × AreAlone listing.witnesses below (versions_value versions.now).old.rules
+        (versions_value versions.now).new.rules permission side names
+        × (text.new.items ≡ text.old.items ++ flat_map (difference_text (versions_value versions.now) permission side) names)) }
 {
-    let wanted = alone_by(side, Perms::NONE.with(permission));
-    match least(alloc, comparison, wanted, restricted)? {
-        Some(name) => put_line(text, alloc, versions, permission, side, &name),
-        None => Ok(()),
-    }
+    let names = differences(
+        alloc,
+        comparison,
+        listing.restricted,
+        permission,
+        side,
+        listing.witnesses,
+    )?;
+    put_lines(text, alloc, versions, permission, side, &names)
 }
 
-// That this profile alone allows what is asked.
-fn alone_by(side: Side, ask: Perms) -> Wanted
-    ensures { result ≡ alone_by side ask }
+// Appends the lines of names.
+fn put_lines(
+    text: &mut Vec<u8>,
+    alloc: Global,
+    versions: &Versions<'_>,
+    permission: Permission,
+    side: Side,
+    names: &[Vec<u8>],
+) -> Result<(), NoMemory>
+    ensures { profile_spans versions.now.old.now ≡ spans_of versions.now.before.now →
+        profile_spans versions.now.new.now ≡ spans_of versions.now.after.now →
+        OnOk result (text.new.items ≡ text.old.items
+        ++ flat_map (difference_text (versions_value versions.now) permission side) (listed names.now)) }
 {
-    match side {
-        Side::Old => Wanted {
-            first: Answer::Allowed(ask),
-            second: Answer::Refused(ask),
-        },
-        Side::New => Wanted {
-            first: Answer::Refused(ask),
-            second: Answer::Allowed(ask),
-        },
+    for name in names {
+        put_line(text, alloc, versions, permission, side, name)?;
     }
+    Ok(())
 }
 
 // Appends the line of a name.
@@ -117,7 +135,7 @@ fn put_line(
     ensures { profile_spans versions.now.old.now ≡ spans_of versions.now.before.now →
         profile_spans versions.now.new.now ≡ spans_of versions.now.after.now →
         OnOk result (text.new.items ≡ text.old.items
-        ++ difference_text (versions_value versions.now) permission side (Some name.now)) }
+        ++ difference_text (versions_value versions.now) permission side name.now) }
 {
     put(text, sign(side))?;
     put(text, &[permission.letter()])?;

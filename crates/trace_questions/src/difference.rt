@@ -5,18 +5,21 @@ ghost use Rattle.rule_reader.specs.Reading.{outcome_of};
 ghost use Rattle.rule_globs.specs.Tokens.{Token};
 ghost use Rattle.rule_profile.specs.Profile.{profile_value};
 ghost use Rattle.rule_profile.specs.RuleSpans.{profile_spans};
-ghost use Rattle.trace_questions.specs.Differences.{IsDiffOutput, IsDiffOutputOf, below_asked};
+ghost use Rattle.trace_questions.specs.Differences.{IsDiffOf, IsDiffOutput, IsDiffOutputOf, below_asked, versions_of};
+ghost use Rattle.rule_reader.specs.Spans.{spans_of};
+ghost use Rattle.trace_questions.specs.inner.Asking.{IsAnswered};
 ghost use Rattle.trace_questions.specs.inner.Differing.{IsBelowAsked, IsCompileRefusalIn, IsDiffAnswer, IsOfBelow, IsProfileIn};
 ghost use Rattle.trace_report.specs.Streams.{EndsAnswered, IsTextOf};
 
 use crate::answer::Answer;
 use crate::asking::pattern_of;
-use crate::changes::{Versions, changes};
+use crate::changes::{Listing, Versions, changes};
 use crate::comparing::{compared, compiled};
-use crate::sides::{Side, SideFault};
+use crate::sides::SideFault;
 use derived_profiles::without_rules;
 use names::NoMemory;
 use profile_questions::CompiledRules;
+use question_answers::{Side, Witnesses};
 use rule_profile::Profile;
 use rule_reader::read;
 use std::alloc::Global;
@@ -24,11 +27,13 @@ use std::io::{Read, Write};
 use trace_report::{Fault, Status, fail, read_all, write_finding};
 
 /// Reads two profiles and writes to `answers`, for each permission, the least name that the new one alone allows it to, and the
-/// least that the old one alone does, with the reasons by both; or `same`. With a pattern, only names that it takes are compared.
-/// Faults are reported on `faults` instead. The pattern is tested before anything is read, and the old profile is read first.
+/// least that the old one alone does, with the reasons by both; or for each pair of reasons the least such name, in ascending order;
+/// or `same`. With a pattern, only names that it takes are compared. Faults are reported on `faults` instead. The pattern is tested
+/// before anything is read, and the old profile is read first.
 pub fn differ<O: Read, N: Read, A: Write, F: Write>(
     alloc: Global,
     below: Option<&str>,
+    witnesses: Witnesses,
     old: &mut O,
     new: &mut N,
     answers: &mut A,
@@ -42,11 +47,11 @@ pub fn differ<O: Read, N: Read, A: Write, F: Write>(
           faults_before = F.contents faults.old;
           faults_after = F.contents faults.new;
         })
-        (IsDiffOutput (option_map (λ pattern. pattern.now) below.entry) before after) result }
+        (IsDiffOutput witnesses (option_map (λ pattern. pattern.now) below.entry) before after) result }
     ensures unread { IsErr (below_asked (option_map (λ pattern. pattern.now) below.entry))
         → Keeps (O.remaining old.old) (O.remaining old.new) × Keeps (N.remaining new.old) (N.remaining new.new) }
 {
-    match answer(alloc, below, old, new) {
+    match answer(alloc, below, witnesses, old, new) {
         Ok(answer) => write_finding(answers, faults, &answer.text, answer.found),
         Err(fault) => fail(faults, fault, fault.status()),
     }
@@ -56,18 +61,30 @@ pub fn differ<O: Read, N: Read, A: Write, F: Write>(
 fn answer<O: Read, N: Read>(
     alloc: Global,
     below: Option<&str>,
+    witnesses: Witnesses,
     old: &mut O,
     new: &mut N,
 ) -> Result<Answer, SideFault>
     ensures output { (before after : List ℕ) × IsTextOf (O.remaining old.old) before × IsTextOf (N.remaining new.old) after
-        × IsDiffAnswer (IsDiffOutput (option_map (λ pattern. pattern.now) below.entry) before after) result }
+        × IsDiffAnswer (IsDiffOutput witnesses (option_map (λ pattern. pattern.now) below.entry) before after) result }
     ensures unread { IsErr (below_asked (option_map (λ pattern. pattern.now) below.entry))
         → Keeps (O.remaining old.old) (O.remaining old.new) × Keeps (N.remaining new.old) (N.remaining new.new) }
 {
     let below = Below::of(alloc, below)?;
     let before = read_all(alloc, old)?;
     let after = read_all(alloc, new)?;
-    answer_on(alloc, below, &before, &after)
+    let texts = Texts {
+        before: &before,
+        after: &after,
+    };
+    answer_on(alloc, below, witnesses, &texts)
+}
+
+// The texts of two profiles.
+#[derive(Clone, Copy)]
+struct Texts<'a> {
+    before: &'a [u8],
+    after: &'a [u8],
 }
 
 // Names that are compared: those that a profile's one rule takes, or all.
@@ -100,25 +117,71 @@ impl Below {
 }
 
 // The answer by two texts.
-fn answer_on(alloc: Global, below: Below, before: &[u8], after: &[u8]) -> Result<Answer, SideFault>
-    ensures { (path : Option (List Token)) → IsOfBelow path below →
-        IsDiffAnswer (IsDiffOutputOf path before.now after.now (outcome_of before.now) (outcome_of after.now)) result }
+fn answer_on(
+    alloc: Global,
+    below: Below,
+    witnesses: Witnesses,
+    texts: &Texts<'_>,
+) -> Result<Answer, SideFault>
+    ensures { (path : Option (List Token)) → IsOfBelow path below → IsDiffAnswer
+        (IsDiffOutputOf witnesses path texts.now.before.now texts.now.after.now (outcome_of texts.now.before.now)
+        (outcome_of texts.now.after.now)) result }
 {
-    let one = profile_in(alloc, before, Side::Old)?;
-    let two = profile_in(alloc, after, Side::New)?;
-    let old = compiled_in(alloc, one, Side::Old)?;
-    let new = compiled_in(alloc, two, Side::New)?;
+    let old = profile_in(alloc, texts.before, Side::Old)?;
+    let new = profile_in(alloc, texts.after, Side::New)?;
+    answer_of(alloc, below, witnesses, texts, old, new)
+}
+
+// The answer by two profiles.
+fn answer_of(
+    alloc: Global,
+    below: Below,
+    witnesses: Witnesses,
+    texts: &Texts<'_>,
+    old: Profile,
+    new: Profile,
+) -> Result<Answer, SideFault>
+    ensures { (path : Option (List Token)) → IsOfBelow path below → profile_spans old ≡ spans_of texts.now.before.now →
+        profile_spans new ≡ spans_of texts.now.after.now → IsDiffAnswer
+        (IsDiffOf witnesses path (versions_of texts.now.before.now (profile_value old).rules texts.now.after.now
+        (profile_value new).rules)) result }
+{
+    let old = compiled_in(alloc, old, Side::Old)?;
+    let new = compiled_in(alloc, new, Side::New)?;
+    match answer_by(alloc, below, witnesses, texts, &old, &new) {
+        Ok(answer) => Ok(answer),
+        Err(fault) => Err(SideFault::Neither(fault)),
+    }
+}
+
+// The answer by compiled rules.
+fn answer_by(
+    alloc: Global,
+    below: Below,
+    witnesses: Witnesses,
+    texts: &Texts<'_>,
+    old: &CompiledRules,
+    new: &CompiledRules,
+) -> Result<Answer, Fault>
+    ensures { (path : Option (List Token)) → IsOfBelow path below → old.now.spans ≡ spans_of texts.now.before.now →
+        new.now.spans ≡ spans_of texts.now.after.now → IsAnswered
+        (IsDiffOf witnesses path (versions_of texts.now.before.now old.now.rules texts.now.after.now new.now.rules)) result }
+{
     let names = compiled(alloc, below.profile)?;
-    let comparison = compared(alloc, &old, &new, &names)?;
+    let comparison = compared(alloc, old, new, &names)?;
     let versions = Versions {
-        before,
+        before: texts.before,
         old: old.profile(),
-        after,
+        after: texts.after,
         new: new.profile(),
     };
-    match changes(alloc, &comparison, &versions, below.restricted) {
+    let listing = Listing {
+        restricted: below.restricted,
+        witnesses,
+    };
+    match changes(alloc, &comparison, &versions, listing) {
         Ok(answer) => Ok(answer),
-        Err(NoMemory) => Err(SideFault::Neither(Fault::Memory)),
+        Err(NoMemory) => Err(Fault::Memory),
     }
 }
 

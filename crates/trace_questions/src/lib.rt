@@ -9,12 +9,10 @@ mod asking;
 mod changes;
 mod comparing;
 mod difference;
-mod finding;
-mod least;
 mod searching;
 mod shown;
 mod sides;
 
 pub use difference::differ;
-pub use searching::{Quantifier, search};
-pub use sides::Side;
+pub use question_answers::{Quantifier, Side, Witnesses};
+pub use searching::search;

@@ -1,23 +1,25 @@
 //! `any PERMS PATTERN` and `all PERMS PATTERN`: whether some name, or each name, that a pattern takes is allowed what is asked.
-ghost use Rattle.std.specs.Prelude.{◌≡◌, ℕ, List, IfOk, IsErr};
+ghost use Rattle.std.specs.Prelude.{◌≡◌, ◌++◌, ℕ, List, IfOk, IsErr, OnOk};
+ghost use Rattle.std.specs.List.{flat_map};
 ghost use Rattle.std.specs.Io.KnownBytes.{Keeps};
 ghost use Rattle.rule_globs.specs.Tokens.{Token};
 ghost use Rattle.rule_profile.specs.Profile.{profile_value};
 ghost use Rattle.rule_profile.specs.RuleSpans.{profile_spans};
 ghost use Rattle.rule_reader.specs.Reading.{outcome_of};
-ghost use Rattle.trace_questions.specs.Search.{IsSearchOutput, IsSearchOutputOf, nothing_text, search_text, word_text};
+ghost use Rattle.question_answers.specs.Findings.{finding_value};
+ghost use Rattle.question_answers.specs.LeastNames.{listed};
+ghost use Rattle.trace_questions.specs.Search.{IsSearchOutput, IsSearchOutputOf, name_text, nothing_text, search_text, word_text};
 ghost use Rattle.trace_questions.specs.Asked.{asked_of};
 ghost use Rattle.trace_questions.specs.inner.Asking.{IsAnswered, IsOfPath};
-ghost use Rattle.trace_questions.specs.inner.Finding.{finding_value};
 ghost use Rattle.trace_report.specs.Output.{finding};
 ghost use Rattle.trace_report.specs.Streams.{EndsAnswered, IsTextOf};
 
 use crate::answer::{Answer, put};
 use crate::asking::Asked;
 use crate::comparing::{compared, compiled, no_rules};
-use crate::finding::{Finding, find};
 use crate::shown::shown_name;
 use names::{NoMemory, Perms};
+use question_answers::{Finding, Quantifier, find};
 use rule_explain::reason_lines;
 use rule_profile::Profile;
 use rule_reader::read;
@@ -25,18 +27,10 @@ use std::alloc::Global;
 use std::io::{Read, Write};
 use trace_report::{Fault, Status, fail, read_all, write_finding};
 
-/// Which of the names that a pattern takes are to be allowed what is asked.
-#[derive(Clone, Copy, Debug, PartialEq, Eq)]
-pub enum Quantifier {
-    /// Some name: the least one is found.
-    Any,
-    /// Each name: the least one that isn't is found.
-    All,
-}
-
 /// Reads a profile from `input` and writes to `answers` the least name that the pattern takes and that the profile allows all of
-/// the permissions to, or, for all names, the least that it doesn't, and the reason for each permission. Faults are reported on
-/// `faults` instead. The arguments are tested before anything is read.
+/// the permissions to, or in ascending order the least one for each rule that is the first to allow something, or, for all names,
+/// the least that it doesn't; and the reason for each permission. Faults are reported on `faults` instead. The arguments are tested
+/// before anything is read.
 pub fn search<R: Read, A: Write, F: Write>(
     alloc: Global,
     quantifier: Quantifier,
@@ -117,20 +111,54 @@ fn search_text(
     ensures { IfOk result (λ answer. finding answer.text.items answer.found ≡ search_text quantifier text.now
         (profile_value profile.now).rules (profile_spans profile.now) ask (finding_value found)) }
 {
-    match found {
-        Finding::NoName => Answer::of(alloc, b"no name matches\n", false),
-        Finding::Nothing => Answer::of(alloc, nothing_text(quantifier), false),
-        Finding::Name(name) => {
-            let mut lines = Answer::of(alloc, word_text(quantifier), true)?;
-            put(&mut lines.text, &shown_name(alloc, &name)?)?;
-            put(&mut lines.text, b"\n")?;
-            put(
-                &mut lines.text,
-                &reason_lines(alloc, text, profile, &name, ask)?,
-            )?;
-            Ok(lines)
-        }
+    let Finding::Names(names) = found else {
+        return Answer::of(alloc, b"no name matches\n", false);
+    };
+    if names.is_empty() {
+        return Answer::of(alloc, nothing_text(quantifier), false);
     }
+    Ok(Answer {
+        text: names_text(alloc, quantifier, text, profile, ask, &names)?,
+        found: true,
+    })
+}
+
+// What is said of names.
+fn names_text(
+    alloc: Global,
+    quantifier: Quantifier,
+    text: &[u8],
+    profile: &Profile,
+    ask: Perms,
+    names: &[Vec<u8>],
+) -> Result<Vec<u8>, NoMemory>
+    ensures { IfOk result (λ lines. lines.items ≡ flat_map (name_text quantifier text.now (profile_value profile.now).rules
+        (profile_spans profile.now) ask) (listed names.now)) }
+{
+    let mut lines = Vec::new(alloc);
+    for name in names {
+        put_name(&mut lines, alloc, quantifier, text, profile, ask, name)?;
+    }
+    Ok(lines)
+}
+
+// Appends the line of a name, and the reasons.
+fn put_name(
+    lines: &mut Vec<u8>,
+    alloc: Global,
+    quantifier: Quantifier,
+    text: &[u8],
+    profile: &Profile,
+    ask: Perms,
+    name: &[u8],
+) -> Result<(), NoMemory>
+    ensures { OnOk result (lines.new.items ≡ lines.old.items ++ name_text quantifier text.now (profile_value profile.now).rules
+        (profile_spans profile.now) ask name.now) }
+{
+    put(lines, word_text(quantifier))?;
+    put(lines, &shown_name(alloc, name)?)?;
+    put(lines, b"\n")?;
+    put(lines, &reason_lines(alloc, text, profile, name, ask)?)
 }
 
 // What is said where no name is found.
@@ -138,7 +166,7 @@ fn nothing_text(quantifier: Quantifier) -> &'static [u8]
     ensures { result.now ≡ nothing_text quantifier }
 {
     match quantifier {
-        Quantifier::Any => b"none\n",
+        Quantifier::Any(_) => b"none\n",
         Quantifier::All => b"all\n",
     }
 }
@@ -148,7 +176,7 @@ fn word_text(quantifier: Quantifier) -> &'static [u8]
     ensures { result.now ≡ word_text quantifier }
 {
     match quantifier {
-        Quantifier::Any => b"any ",
+        Quantifier::Any(_) => b"any ",
         Quantifier::All => b"not ",
     }
 }

@@ -1,15 +1,9 @@
-//! The two profiles that are compared, and in which of them a fault is.
+//! In which of the two profiles that are compared a fault is.
 ghost use Rattle.std.specs.Prelude.{◌≡◌};
 
+use question_answers::Side;
 use std::fmt;
 use trace_report::{Fault, Status};
-
-/// One of two profiles that are compared.
-#[derive(Clone, Copy, Debug, PartialEq, Eq)]
-pub enum Side {
-    Old,
-    New,
-}
 
 /// Why two profiles aren't compared.
 #[derive(Clone, Copy, Debug, PartialEq, Eq)]

@@ -1,11 +1,7 @@
 -- What the parts of a comparison of two profiles return, compared with what is asked and what is to be written.
 use Rattle.std.specs.Prelude.{◌≡◌, ◌⊎◌, ℕ, Bool, List, ◌++◌, Option, Result, Ok, Err}
 use Rattle.profile_questions.specs.Names.{ComparisonValue}
-use Rattle.names.specs.declared.permissions.Perms.{Perms}
-use Rattle.profile_questions.specs.declared.answer.Answer.TheVariants as answer
-use Rattle.trace_questions.specs.declared.least.Wanted.{Wanted}
-use Rattle.trace_questions.specs.declared.sides.Side.{Side}
-use Rattle.trace_questions.specs.declared.sides.Side.TheVariants.{Old, New}
+use Rattle.question_answers.specs.declared.side.Side.{Side}
 use Rattle.rule_globs.specs.Tokens.{Token}
 use Rattle.glob_automaton.specs.Automata.{most_sets}
 use Rattle.glob_automaton.specs.Sets.{AreMoreThan}
@@ -17,9 +13,8 @@ use Rattle.rule_reader.specs.Reading.{outcome_of}
 use Rattle.rule_reader.specs.declared.fault.ReadFault.{ReadFault}
 use Rattle.rule_profile.specs.RuleSpans.{profile_spans}
 use Rattle.rule_reader.specs.Spans.{spans_of}
-use Rattle.trace_questions.specs.Differences.{Versions, below_asked, side_text}
-use Rattle.trace_questions.specs.Below.{rules_below}
-use Rattle.trace_questions.specs.inner.Wanting.{is_given}
+use Rattle.trace_questions.specs.Differences.{Versions, below_asked, side_text, versions_of}
+use Rattle.question_answers.specs.Below.{is_given, rules_below}
 use Rattle.trace_questions.specs.declared.answer.Answer.{Answer}
 use Rattle.trace_questions.specs.declared.changes.Versions as declared
 use Rattle.trace_questions.specs.declared.difference.Below.{Below}
@@ -51,15 +46,7 @@ IsDiffAnswer Wanted (Ok answer) = Wanted (finding answer.text.items answer.found
 IsDiffAnswer Wanted (Err f) = IsSideFaultOf Wanted f
 
 abbrev pub versions_value : declared.Versions → Versions
-versions_value v = record {
-  old = record { text = v.before.now; rules = (profile_value v.old.now).rules };
-  new = record { text = v.after.now; rules = (profile_value v.new.now).rules };
-}
-
--- that this side alone allows what is asked
-abbrev pub alone_by : Side → Perms → Wanted
-alone_by Old ask = record { first = answer.Allowed ask; second = answer.Refused ask }
-alone_by New ask = record { first = answer.Refused ask; second = answer.Allowed ask }
+versions_value v = versions_of v.before.now (profile_value v.old.now).rules v.after.now (profile_value v.new.now).rules
 
 -- what is compared are these profiles, by names below the path
 pub record AreCompared (c : ComparisonValue) (v : declared.Versions) (restricted : Bool) (below : Option (List Token)) : Type 0 where

@@ -1,7 +1,7 @@
 -- Faults of one of two profiles, and how they are reported.
 use Rattle.std.specs.Prelude.{ℕ, List, ◌++◌}
 use Rattle.trace_questions.specs.Differences.{side_text}
-use Rattle.trace_questions.specs.declared.sides.Side.{Side}
+use Rattle.question_answers.specs.declared.side.Side.{Side}
 use Rattle.trace_questions.specs.declared.sides.SideFault.{SideFault}
 use Rattle.trace_questions.specs.declared.sides.SideFault.TheVariants.{Neither, Of}
 use Rattle.trace_report.specs.Fault.{fault_status, fault_text}

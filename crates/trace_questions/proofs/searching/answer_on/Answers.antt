@@ -4,7 +4,7 @@ use Rattle.rule_globs.specs.Rules.{ProfileValue}
 use Rattle.rule_profile.specs.Profile.{profile_value}
 use Rattle.rule_reader.specs.Reading.{outcome_of}
 use Rattle.trace_questions.specs.Search.{IsSearchOutputOf}
-use Rattle.trace_questions.specs.inner.Finding.{finding_value}
+use Rattle.question_answers.specs.Findings.{finding_value}
 use Rattle.trace_questions.proofs.Refused.{passed_on}
 use Rattle.trace_questions.proofs.Searches.{pattern_refused, search_found, search_refused}
 use Rattle.trace_questions.proofs.searching.answer_on.Goals as goal
@@ -32,5 +32,6 @@ returns-in-Ok-search_text c path of =
     (outcome_of c.args.text.now) _ c.in_ok-comparison.comparison.first _ (finding_value c.in-Ok.found) _ c.in_ok-profile.ensures.outcome
     (c.profile.ensures.rules ∙ c.in_ok-rules.ensures.rules) (c.in_ok-comparison.ensures.first ∙ c.in_ok-rules.ensures.rules)
     (c.profile.ensures.spans ∙ c.in_ok-rules.ensures.spans ∙ c.in_ok-profile.ensures.spans)
-    (c.in-Ok.ensures path (c.in_ok-comparison.ensures.third ∙ c.in_ok-names.ensures.rules ∙ ap (λ (p : ProfileValue). p.rules) of))
+    (c.in-Ok.ensures path (c.in_ok-comparison.ensures.second ∙ c.in_ok-nothing.ensures.rules)
+    (c.in_ok-comparison.ensures.third ∙ c.in_ok-names.ensures.rules ∙ ap (λ (p : ProfileValue). p.rules) of))
     c.in-Ok-search_text.ensures
