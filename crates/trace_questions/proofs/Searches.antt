@@ -1,51 +1,60 @@
 -- What `any` and `all` write on a profile that was read.
-use Rattle.std.proofs.Common.{◌≡◌, inl, inr, ℕ, List, [], ◌∷◌, Result, Ok, refl, sym, ap, subst, ◌∙◌}
+use Rattle.std.proofs.Common.{◌≡◌, inl, inr, ℕ, List, [], ◌∷◌, refl, sym, ap, subst, ◌∙◌}
+use Rattle.std.proofs.Common.{Result, Ok}
 use Rattle.derived_profiles.specs.Pattern.{read_rule}
 use Rattle.names.specs.declared.permissions.Perms.{Perms}
+use Rattle.question_answers.specs.Findings.{Finding, IsFinding}
+use Rattle.question_answers.specs.declared.quantifier.Quantifier.{Quantifier}
 use Rattle.rule_globs.specs.Rules.{RuleValue, ProfileValue}
 use Rattle.rule_globs.specs.Tokens.{Token}
 use Rattle.rule_profile.specs.declared.profile.Span.{Span}
 use Rattle.rule_reader.specs.Spans.{spans_of}
 use Rattle.rule_reader.specs.declared.fault.ReadFault.{ReadFault}
-use Rattle.question_answers.specs.Findings.{Finding, IsFinding}
-use Rattle.trace_questions.specs.Search.{IsSearchOutputOf, search_text}
-use Rattle.question_answers.specs.declared.quantifier.Quantifier.{Quantifier}
+use Rattle.trace_questions.specs.Search.{IsSearchOf, IsSearchOutputOf, search_text}
+use Rattle.trace_questions.specs.declared.answer.Answer.{Answer}
+use Rattle.trace_questions.specs.inner.Asking.{IsAnswered}
 use Rattle.trace_questions.specs.inner.Comparing.{IsCompileRefusal, IsQuestionRefusal}
 use Rattle.trace_questions.proofs.Refused.{compile_refused, question_refused}
 use Rattle.trace_report.specs.Fault.{IsFaultOfAnswer}
 use Rattle.trace_report.specs.Output.{Output}
 use Rattle.trace_report.specs.declared.fault.Fault.{Fault}
 
-module _ (q : Quantifier) (ask : Perms) (path : List Token) (text : List ℕ) (profile : ProfileValue) where
-  abbrev Written : Result ProfileValue ReadFault → Output → Type 0
-  Written outcome = IsSearchOutputOf q ask path text outcome
+module _ (q : Quantifier) (ask : Perms) (path : List Token) (text : List ℕ) where
+  -- what is wanted of a text that was read
+  pub of_text : (profile : ProfileValue) (rules : List RuleValue) (outcome : Result ProfileValue ReadFault) (r : Result Answer Fault) →
+      outcome ≡ Ok profile → rules ≡ profile.rules → IsAnswered (IsSearchOf q ask path text rules) r →
+      IsAnswered (IsSearchOutputOf q ask path text outcome) r
+  of_text profile rules outcome r read same h =
+      subst (λ (o : Result ProfileValue ReadFault). IsAnswered (IsSearchOutputOf q ask path text o) r) (sym read)
+      (subst (λ (them : List RuleValue). IsAnswered (IsSearchOf q ask path text them) r) same h)
 
-  pub pattern_refused : (outcome : Result ProfileValue ReadFault) (pattern : List RuleValue) (f : Fault) → outcome ≡ Ok profile →
-      pattern ≡ read_rule path ∷ [] → IsCompileRefusal pattern f → IsFaultOfAnswer (Written outcome) f
-  pattern_refused outcome pattern f read is h =
-      subst (λ o. IsFaultOfAnswer (Written o) f) (sym read)
-      (compile_refused (Written (Ok profile)) (read_rule path ∷ []) f (subst (λ rules. IsCompileRefusal rules f) is h)
-      (λ over. inl (inl (inr (inr over), refl))))
+  pub large_rules : (profile : ProfileValue) (outcome : Result ProfileValue ReadFault) (f : Fault) → outcome ≡ Ok profile →
+      IsCompileRefusal profile.rules f → IsFaultOfAnswer (IsSearchOutputOf q ask path text outcome) f
+  large_rules profile outcome f read h =
+      subst (λ (o : Result ProfileValue ReadFault). IsFaultOfAnswer (IsSearchOutputOf q ask path text o) f) (sym read)
+      (compile_refused (IsSearchOf q ask path text profile.rules) profile.rules f h (λ over. inl (inl (inl over, refl))))
 
-  pub search_refused : (outcome : Result ProfileValue ReadFault) (one two three : List RuleValue) (f : Fault) → outcome ≡ Ok profile →
-      one ≡ profile.rules → two ≡ [] → three ≡ read_rule path ∷ [] → IsQuestionRefusal one two three f →
-      IsFaultOfAnswer (Written outcome) f
-  search_refused outcome one two three f read first second third h =
-      subst (λ o. IsFaultOfAnswer (Written o) f) (sym read)
-      (question_refused (Written (Ok profile)) profile.rules [] (read_rule path ∷ []) f
-      (subst (λ rules. IsQuestionRefusal rules [] (read_rule path ∷ []) f) first
-      (subst (λ rules. IsQuestionRefusal one rules (read_rule path ∷ []) f) second
-      (subst (λ rules. IsQuestionRefusal one two rules f) third h)))
-      (λ many. inl (inr (many, refl))))
+  module _ (rules : List RuleValue) where
+    pub large_pattern : (pattern : List RuleValue) (f : Fault) → pattern ≡ read_rule path ∷ [] → IsCompileRefusal pattern f →
+        IsFaultOfAnswer (IsSearchOf q ask path text rules) f
+    large_pattern pattern f is h =
+        compile_refused (IsSearchOf q ask path text rules) (read_rule path ∷ []) f
+        (subst (λ (them : List RuleValue). IsCompileRefusal them f) is h) (λ over. inl (inl (inr (inr over), refl)))
 
-  pub search_found : (outcome : Result ProfileValue ReadFault) (rules first : List RuleValue) (spans : List Span) (found : Finding)
-      (output : Output) → outcome ≡ Ok profile → rules ≡ profile.rules → first ≡ profile.rules → spans ≡ spans_of text →
-      IsFinding q first path ask found → output ≡ search_text q text rules spans ask found →
-      Written outcome output
-  search_found outcome rules first spans found output read same one there is e =
-      subst (λ o. Written o output) (sym read)
-      (inr (
-        found,
-        subst (λ (z : List RuleValue). IsFinding q z path ask found) one is,
-        e ∙ ap (λ z. search_text q text z spans ask found) same ∙ ap (λ z. search_text q text profile.rules z ask found) there,
-      ))
+    pub large_both : (two three : List RuleValue) (f : Fault) → two ≡ [] → three ≡ read_rule path ∷ [] →
+        IsQuestionRefusal rules two three f → IsFaultOfAnswer (IsSearchOf q ask path text rules) f
+    large_both two three f second third h =
+        question_refused (IsSearchOf q ask path text rules) rules [] (read_rule path ∷ []) f
+        (subst (λ (them : List RuleValue). IsQuestionRefusal rules them (read_rule path ∷ []) f) second
+        (subst (λ (them : List RuleValue). IsQuestionRefusal rules two them f) third h))
+        (λ many. inl (inr (many, refl)))
+
+    pub found_by : (first kept : List RuleValue) (spans : List Span) (what : Finding) (output : Output) → first ≡ rules →
+        kept ≡ rules → spans ≡ spans_of text → IsFinding q first path ask what → output ≡ search_text q text kept spans ask what →
+        IsSearchOf q ask path text rules output
+    found_by first kept spans what output one same there is e =
+        inr (
+          what,
+          subst (λ (them : List RuleValue). IsFinding q them path ask what) one is,
+          e ∙ ap (λ z. search_text q text z spans ask what) same ∙ ap (λ z. search_text q text rules z ask what) there,
+        )

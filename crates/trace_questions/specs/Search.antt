@@ -39,12 +39,16 @@ search_text quantifier text rules spans ask (found []) = finding (nothing_text q
 search_text quantifier text rules spans ask (found (name ∷ names)) =
     finding (flat_map (name_text quantifier text rules spans ask) (name ∷ names)) true
 
--- what is written on a profile that was read, or on a text that is refused
+-- what is written on a profile that was read
+abbrev pub IsSearchOf : Quantifier → Perms → List Token → List ℕ → List RuleValue → Output → Type 0
+IsSearchOf quantifier ask path text rules output = IsRefused rules [] (read_rule path ∷ []) output
+    ⊎ ((what : Finding) × IsFinding quantifier rules path ask what
+    × (output ≡ search_text quantifier text rules (spans_of text) ask what))
+
+-- the same, or what is written on a text that is refused
 abbrev pub IsSearchOutputOf : Quantifier → Perms → List Token → List ℕ → Result ProfileValue ReadFault → Output → Type 0
 IsSearchOutputOf quantifier ask path text (Err f) output = output ≡ fault (refusal f) Refused
-IsSearchOutputOf quantifier ask path text (Ok profile) output = IsRefused profile.rules [] (read_rule path ∷ []) output
-    ⊎ ((what : Finding) × IsFinding quantifier profile.rules path ask what
-    × (output ≡ search_text quantifier text profile.rules (spans_of text) ask what))
+IsSearchOutputOf quantifier ask path text (Ok profile) output = IsSearchOf quantifier ask path text profile.rules output
 
 -- for what is asked, or for the message about the arguments
 abbrev pub IsSearchOutputFor : Quantifier → Result (Perms × List Token) (List ℕ) → List ℕ → Output → Type 0

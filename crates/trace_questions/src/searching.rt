@@ -1,14 +1,17 @@
 //! `any PERMS PATTERN` and `all PERMS PATTERN`: whether some name, or each name, that a pattern takes is allowed what is asked.
-ghost use Rattle.std.specs.Prelude.{◌≡◌, ◌++◌, ℕ, List, IfOk, IsErr, OnOk};
+ghost use Rattle.std.specs.Prelude.{◌≡◌, ◌++◌, [], ℕ, List, Some, IfOk, IsErr, OnOk};
 ghost use Rattle.std.specs.List.{flat_map};
 ghost use Rattle.std.specs.Io.KnownBytes.{Keeps};
 ghost use Rattle.rule_globs.specs.Tokens.{Token};
 ghost use Rattle.rule_profile.specs.Profile.{profile_value};
 ghost use Rattle.rule_profile.specs.RuleSpans.{profile_spans};
 ghost use Rattle.rule_reader.specs.Reading.{outcome_of};
-ghost use Rattle.question_answers.specs.Findings.{finding_value};
+ghost use Rattle.question_answers.specs.Findings.{Finding as SomeFinding, IsFinding, finding_value};
+ghost use Rattle.question_answers.specs.Below.{rules_below};
+ghost use Rattle.rule_reader.specs.Spans.{spans_of};
 ghost use Rattle.question_answers.specs.LeastNames.{listed};
-ghost use Rattle.trace_questions.specs.Search.{IsSearchOutput, IsSearchOutputOf, name_text, nothing_text, search_text, word_text};
+ghost use Rattle.trace_questions.specs.Search.{IsSearchOf, IsSearchOutput, IsSearchOutputOf, name_text, nothing_text};
+ghost use Rattle.trace_questions.specs.Search.{search_text, word_text};
 ghost use Rattle.trace_questions.specs.Asked.{asked_of};
 ghost use Rattle.trace_questions.specs.inner.Asking.{IsAnswered, IsOfPath};
 ghost use Rattle.trace_report.specs.Output.{finding};
@@ -19,6 +22,7 @@ use crate::asking::Asked;
 use crate::comparing::{compared, compiled, no_rules};
 use crate::shown::shown_name;
 use names::{NoMemory, Perms};
+use profile_questions::{Comparison, CompiledRules};
 use question_answers::{Finding, Quantifier, find};
 use rule_explain::reason_lines;
 use rule_profile::Profile;
@@ -87,16 +91,52 @@ fn answer_on(
 {
     let profile = read(alloc, text)?;
     let rules = compiled(alloc, profile)?;
+    answer_by(alloc, quantifier, asked, text, &rules)
+}
+
+// The answer by compiled rules.
+fn answer_by(
+    alloc: Global,
+    quantifier: Quantifier,
+    asked: Asked,
+    text: &[u8],
+    rules: &CompiledRules,
+) -> Result<Answer, Fault>
+    ensures { (path : List Token) → IsOfPath path asked.pattern → rules.now.spans ≡ spans_of text.now →
+        IsAnswered (IsSearchOf quantifier asked.ask path text.now rules.now.rules) result }
+{
     let nothing = no_rules(alloc)?;
     let names = compiled(alloc, asked.pattern)?;
-    let comparison = compared(alloc, &rules, &nothing, &names)?;
-    let Ok(found) = find(alloc, &comparison, quantifier, asked.ask) else {
-        return Err(Fault::Memory);
-    };
-    match search_text(alloc, quantifier, text, rules.profile(), asked.ask, found) {
+    let comparison = compared(alloc, rules, &nothing, &names)?;
+    match answer_among(
+        alloc,
+        quantifier,
+        asked.ask,
+        text,
+        rules.profile(),
+        &comparison,
+    ) {
         Ok(answer) => Ok(answer),
         Err(NoMemory) => Err(Fault::Memory),
     }
+}
+
+// What is said of what is found among all names.
+fn answer_among(
+    alloc: Global,
+    quantifier: Quantifier,
+    ask: Perms,
+    text: &[u8],
+    profile: &Profile,
+    comparison: &Comparison<'_>,
+) -> Result<Answer, NoMemory>
+    ensures { (path : List Token) → comparison.now.second ≡ [] → comparison.now.third ≡ rules_below (Some path) →
+        IfOk result (λ answer. (what : SomeFinding) × IsFinding quantifier comparison.now.first path ask what
+        × (finding answer.text.items answer.found ≡ search_text quantifier text.now
+        (profile_value profile.now).rules (profile_spans profile.now) ask what)) }
+{
+    let found = find(alloc, comparison, quantifier, ask)?;
+    search_text(alloc, quantifier, text, profile, ask, found)
 }
 
 // What is said of what is found.
