@@ -6,7 +6,7 @@ use Rattle.glob_automaton.specs.Automata.{most_sets}
 use Rattle.glob_automaton.specs.Sets.{AreMoreThan}
 use Rattle.matcher.specs.declared.fault.MakeFault.TheVariants as making
 use Rattle.question_answers.specs.Below.{rules_below}
-use Rattle.question_answers.specs.declared.quantifier.Witnesses.{Witnesses}
+use Rattle.trace_questions.specs.declared.report.Report.{Report}
 use Rattle.question_answers.specs.declared.side.Side.{Side}
 use Rattle.question_answers.specs.declared.side.Side.TheVariants.{New, Old}
 use Rattle.rule_globs.specs.Rules.{ProfileValue, RuleValue}
@@ -15,7 +15,8 @@ use Rattle.rule_reader.specs.Reading.{outcome_of}
 use Rattle.rule_reader.specs.declared.fault.ReadFault.{ReadFault}
 use Rattle.rule_reader.specs.declared.fault.ReadFault.TheVariants as reading
 use Rattle.trace_questions.specs.Differences.{IsCompared, IsDiffOf, IsDiffOutputFor, IsDiffOutputOf, IsRefusedDiff, Versions, answer_of}
-use Rattle.trace_questions.specs.Differences.{side_text, versions_of}
+use Rattle.trace_questions.specs.Differences.{side_text, versions_of, words_text}
+use Rattle.trace_report.specs.declared.format.Format.{Format}
 use Rattle.trace_questions.specs.declared.answer.Answer.{Answer}
 use Rattle.trace_questions.specs.declared.sides.SideFault.{SideFault}
 use Rattle.trace_questions.specs.declared.sides.SideFault.TheVariants.{Neither, Of}
@@ -26,7 +27,7 @@ use Rattle.trace_questions.proofs.Endings.{found_good, refused_good}
 use Rattle.trace_questions.proofs.Refused.{compile_cases, compile_refused, question_refused}
 use Rattle.trace_report.proofs.Endings.{answered_told, keeps, told_alone, written}
 use Rattle.trace_report.specs.Fault.{AreGood, IsFaultOfAnswer, fault_of_text, fault_text}
-use Rattle.trace_report.specs.Output.{Output, compile_refusal, fault, finding, line, question_refusal, refusal}
+use Rattle.trace_report.specs.Output.{Output, compile_refusal, fault, finding, question_refusal, refusal}
 use Rattle.trace_report.specs.Streams.{EndsAnswered, IsTold}
 use Rattle.trace_report.specs.declared.fault.Fault.{Fault}
 use Rattle.trace_report.specs.declared.fault.Fault.TheVariants.{Compiling, Input, Memory, Pattern, Text}
@@ -62,20 +63,19 @@ unread_in side outcome reading.NoMemory h = inl refl
 unread_in side outcome f (inl h) = inl (ap (λ (g : ReadFault). side_fault_of side (fault_of_text g)) h)
 unread_in side outcome f (inr h) = inr (f, h, refl)
 
-pub old_refused : (w : Witnesses) (below : Option (List Token)) (old new : List ℕ) (one two : Result ProfileValue ReadFault)
-    (f : SideFault) → IsTextRefused Old one f → IsSideFaultOf (IsDiffOutputOf w below old new one two) f
+pub old_refused : (w : Report) (below : Option (List Token)) (old new : List ℕ) (one two : Result ProfileValue ReadFault) (f : SideFault) →
+    IsTextRefused Old one f → IsSideFaultOf (IsDiffOutputOf w below old new one two) f
 old_refused w below old new one two f (inl h) = rw h tt
 old_refused w below old new one two f (inr h) = rw (h.1, h.2) (refl, refl)
 
-pub new_refused : (w : Witnesses) (below : Option (List Token)) (old new : List ℕ) (profile : ProfileValue)
-    (one two : Result ProfileValue ReadFault) (f : SideFault) → one ≡ Ok profile → IsTextRefused New two f →
-    IsSideFaultOf (IsDiffOutputOf w below old new one two) f
+pub new_refused : (w : Report) (below : Option (List Token)) (old new : List ℕ) (profile : ProfileValue) (one two : Result ProfileValue ReadFault)
+    (f : SideFault) → one ≡ Ok profile → IsTextRefused New two f → IsSideFaultOf (IsDiffOutputOf w below old new one two) f
 new_refused w below old new profile one two f e (inl h) = rw h tt
 new_refused w below old new profile one two f e (inr h) = rw (e, h.1, h.2) (refl, refl)
 
 -- ---- refusals of rules that were read
 
-module _ (w : Witnesses) (below : Option (List Token)) (v : Versions) where
+module _ (w : Report) (below : Option (List Token)) (v : Versions) where
   pub large_old : (f : SideFault) → IsCompileRefusalIn Old v.old.rules f → IsSideFaultOf (IsDiffOf w below v) f
   large_old f (inl h) = rw h tt
   large_old f (inr h) = rw h.1 (refl, inl (inl (h.0, refl)))
@@ -107,7 +107,7 @@ same_versions old new one two first second e1 e2 =
     ap (λ (rules : List RuleValue). versions_of old rules new two) e1 ∙ ap (λ (rules : List RuleValue). versions_of old first new rules) e2
 
 -- what is wanted of two texts that were read
-pub of_texts : (w : Witnesses) (below : Option (List Token)) (old new : List ℕ) (one two : ProfileValue)
+pub of_texts : (w : Report) (below : Option (List Token)) (old new : List ℕ) (one two : ProfileValue)
     (first second : Result ProfileValue ReadFault) (r : Result Answer SideFault) → first ≡ Ok one → second ≡ Ok two →
     IsDiffAnswer (IsDiffOf w below (versions_of old one.rules new two.rules)) r →
     IsDiffAnswer (IsDiffOutputOf w below old new first second) r
@@ -115,9 +115,9 @@ of_texts w below old new one two first second r e1 e2 h = rw (e1, e2) h
 
 -- ---- arguments
 
-lines_good : (output : Output) (lines : List ℕ) → output ≡ answer_of lines → output.status ≢ BadArguments
-lines_good output [] e = found_good output (line (codes "same")) false e
-lines_good output (b ∷ lines) e = found_good output (b ∷ lines) true e
+lines_good : (format : Format) (output : Output) (lines : List ℕ) → output ≡ answer_of format lines → output.status ≢ BadArguments
+lines_good format output [] e = found_good output (words_text format (codes "same")) false e
+lines_good format output (b ∷ lines) e = found_good output (b ∷ lines) true e
 
 refusal_good : (below : Option (List Token)) (v : Versions) (output : Output) → IsRefusedDiff below v output → output.status ≢ BadArguments
 refusal_good below v output (inl h) = refused_good output (compile_refusal making.TooManyStates ++ side_text Old) h.1
@@ -125,12 +125,12 @@ refusal_good below v output (inr (inl h)) = refused_good output (compile_refusal
 refusal_good below v output (inr (inr (inl h))) = refused_good output (compile_refusal making.TooManyStates ++ []) h.1
 refusal_good below v output (inr (inr (inr h))) = refused_good output question_refusal h.1
 
-compared_good : (w : Witnesses) (below : Option (List Token)) (v : Versions) (output : Output) → IsCompared w below v output →
+compared_good : (w : Report) (below : Option (List Token)) (v : Versions) (output : Output) → IsCompared w below v output →
     output.status ≢ BadArguments
-compared_good w below v output (inl h) = found_good output (line (codes "no name matches")) false h.1
-compared_good w below v output (inr h) = lines_good output h.1.0 h.1.2
+compared_good w below v output (inl h) = found_good output (words_text w.format (codes "no name matches")) false h.1
+compared_good w below v output (inr h) = lines_good w.format output h.1.0 h.1.2
 
-texts_good : (w : Witnesses) (below : Option (List Token)) (old new : List ℕ) (one two : Result ProfileValue ReadFault) →
+texts_good : (w : Report) (below : Option (List Token)) (old new : List ℕ) (one two : Result ProfileValue ReadFault) →
     AreGood (IsDiffOutputOf w below old new one two)
 texts_good w below old new (Err f) two output h = refused_good output (refusal f ++ side_text Old) h
 texts_good w below old new (Ok one) (Err f) output h = refused_good output (refusal f ++ side_text New) h
@@ -140,24 +140,24 @@ texts_good w below old new (Ok one) (Ok two) output (inr h) = compared_good w be
 abbrev pub Asked : Type 0
 Asked = Result (Option (List Token)) (List ℕ)
 
-pub found_good_for : (w : Witnesses) (asked : Asked) (old new bytes : List ℕ) (found : Bool) →
-    IsDiffOutputFor w asked old new (finding bytes found) → AreGood (IsDiffOutputFor w asked old new)
+pub found_good_for : (w : Report) (asked : Asked) (old new bytes : List ℕ) (found : Bool) → IsDiffOutputFor w asked old new (finding bytes found) →
+    AreGood (IsDiffOutputFor w asked old new)
 found_good_for w (Err told) old new bytes found h =
     absurd (found_good (finding bytes found) bytes found refl (ap (λ (output : Output). output.status) h))
 found_good_for w (Ok below) old new bytes found h = texts_good w below old new (outcome_of old) (outcome_of new)
 
-pub unasked : (w : Witnesses) (asked : Asked) (old new : List ℕ) (f : Fault) →
-    ((asked ≡ Err (fault_text f)) × (f ≡ Pattern)) ⊎ (f ≡ Memory) → IsSideFaultOf (IsDiffOutputFor w asked old new) (Neither f)
+pub unasked : (w : Report) (asked : Asked) (old new : List ℕ) (f : Fault) → ((asked ≡ Err (fault_text f)) × (f ≡ Pattern)) ⊎ (f ≡ Memory) →
+    IsSideFaultOf (IsDiffOutputFor w asked old new) (Neither f)
 unasked w asked old new f (inl h) = rw (h.0, h.1) refl
 unasked w asked old new f (inr h) = rw h tt
 
-pub unread : (w : Witnesses) (asked : Asked) (below : Option (List Token)) (old new : List ℕ) (f : Fault) → asked ≡ Ok below →
-    (f ≡ Input) ⊎ (f ≡ Memory) → IsSideFaultOf (IsDiffOutputFor w asked old new) (Neither f)
+pub unread : (w : Report) (asked : Asked) (below : Option (List Token)) (old new : List ℕ) (f : Fault) → asked ≡ Ok below → (f ≡ Input) ⊎ (f ≡ Memory) →
+    IsSideFaultOf (IsDiffOutputFor w asked old new) (Neither f)
 unread w asked below old new f e (inl h) = rw (h, e) (texts_good w below old new (outcome_of old) (outcome_of new))
 unread w asked below old new f e (inr h) = rw h tt
 
-pub answered_on : (w : Witnesses) (asked : Asked) (below : Option (List Token)) (old new old_here new_here : List ℕ)
-    (result : Result Answer SideFault) → asked ≡ Ok below → old_here ≡ old → new_here ≡ new →
+pub answered_on : (w : Report) (asked : Asked) (below : Option (List Token)) (old new old_here new_here : List ℕ) (result : Result Answer SideFault) →
+    asked ≡ Ok below → old_here ≡ old → new_here ≡ new →
     IsDiffAnswer (IsDiffOutputOf w below old_here new_here (outcome_of old_here) (outcome_of new_here)) result →
     IsDiffAnswer (IsDiffOutputFor w asked old new) result
 answered_on w asked below old new old_here new_here result e o n h = rw e (rw (o, n) at h)

@@ -16,45 +16,46 @@ use Rattle.trace_questions.specs.inner.Asking.{IsAnswered}
 use Rattle.trace_questions.specs.inner.Comparing.{IsCompileRefusal, IsQuestionRefusal}
 use Rattle.trace_questions.proofs.Refused.{compile_refused, question_refused}
 use Rattle.trace_report.specs.Fault.{IsFaultOfAnswer}
+use Rattle.trace_report.specs.declared.format.Format.{Format}
 use Rattle.trace_report.specs.Output.{Output}
 use Rattle.trace_report.specs.declared.fault.Fault.{Fault}
 
-module _ (q : Quantifier) (ask : Perms) (path : List Token) (text : List ℕ) where
+module _ (format : Format) (q : Quantifier) (ask : Perms) (path : List Token) (text : List ℕ) where
   -- what is wanted of a text that was read
   pub of_text : (profile : ProfileValue) (rules : List RuleValue) (outcome : Result ProfileValue ReadFault) (r : Result Answer Fault) →
-      outcome ≡ Ok profile → rules ≡ profile.rules → IsAnswered (IsSearchOf q ask path text rules) r →
-      IsAnswered (IsSearchOutputOf q ask path text outcome) r
+      outcome ≡ Ok profile → rules ≡ profile.rules → IsAnswered (IsSearchOf format q ask path text rules) r →
+      IsAnswered (IsSearchOutputOf format q ask path text outcome) r
   of_text profile rules outcome r read same h =
-      subst (λ (o : Result ProfileValue ReadFault). IsAnswered (IsSearchOutputOf q ask path text o) r) (sym read)
-      (subst (λ (them : List RuleValue). IsAnswered (IsSearchOf q ask path text them) r) same h)
+      subst (λ (o : Result ProfileValue ReadFault). IsAnswered (IsSearchOutputOf format q ask path text o) r) (sym read)
+      (subst (λ (them : List RuleValue). IsAnswered (IsSearchOf format q ask path text them) r) same h)
 
   pub large_rules : (profile : ProfileValue) (outcome : Result ProfileValue ReadFault) (f : Fault) → outcome ≡ Ok profile →
-      IsCompileRefusal profile.rules f → IsFaultOfAnswer (IsSearchOutputOf q ask path text outcome) f
+      IsCompileRefusal profile.rules f → IsFaultOfAnswer (IsSearchOutputOf format q ask path text outcome) f
   large_rules profile outcome f read h =
-      subst (λ (o : Result ProfileValue ReadFault). IsFaultOfAnswer (IsSearchOutputOf q ask path text o) f) (sym read)
-      (compile_refused (IsSearchOf q ask path text profile.rules) profile.rules f h (λ over. inl (inl (inl over, refl))))
+      subst (λ (o : Result ProfileValue ReadFault). IsFaultOfAnswer (IsSearchOutputOf format q ask path text o) f) (sym read)
+      (compile_refused (IsSearchOf format q ask path text profile.rules) profile.rules f h (λ over. inl (inl (inl over, refl))))
 
   module _ (rules : List RuleValue) where
     pub large_pattern : (pattern : List RuleValue) (f : Fault) → pattern ≡ read_rule path ∷ [] → IsCompileRefusal pattern f →
-        IsFaultOfAnswer (IsSearchOf q ask path text rules) f
+        IsFaultOfAnswer (IsSearchOf format q ask path text rules) f
     large_pattern pattern f is h =
-        compile_refused (IsSearchOf q ask path text rules) (read_rule path ∷ []) f
+        compile_refused (IsSearchOf format q ask path text rules) (read_rule path ∷ []) f
         (subst (λ (them : List RuleValue). IsCompileRefusal them f) is h) (λ over. inl (inl (inr (inr over), refl)))
 
     pub large_both : (two three : List RuleValue) (f : Fault) → two ≡ [] → three ≡ read_rule path ∷ [] →
-        IsQuestionRefusal rules two three f → IsFaultOfAnswer (IsSearchOf q ask path text rules) f
+        IsQuestionRefusal rules two three f → IsFaultOfAnswer (IsSearchOf format q ask path text rules) f
     large_both two three f second third h =
-        question_refused (IsSearchOf q ask path text rules) rules [] (read_rule path ∷ []) f
+        question_refused (IsSearchOf format q ask path text rules) rules [] (read_rule path ∷ []) f
         (subst (λ (them : List RuleValue). IsQuestionRefusal rules them (read_rule path ∷ []) f) second
         (subst (λ (them : List RuleValue). IsQuestionRefusal rules two them f) third h))
         (λ many. inl (inr (many, refl)))
 
     pub found_by : (first kept : List RuleValue) (spans : List Span) (what : Finding) (output : Output) → first ≡ rules →
-        kept ≡ rules → spans ≡ spans_of text → IsFinding q first path ask what → output ≡ search_text q text kept spans ask what →
-        IsSearchOf q ask path text rules output
+        kept ≡ rules → spans ≡ spans_of text → IsFinding q first path ask what → output ≡ search_text format q text kept spans ask what →
+        IsSearchOf format q ask path text rules output
     found_by first kept spans what output one same there is e =
         inr (
           what,
           subst (λ (them : List RuleValue). IsFinding q them path ask what) one is,
-          e ∙ ap (λ z. search_text q text z spans ask what) same ∙ ap (λ z. search_text q text rules z ask what) there,
+          e ∙ ap (λ z. search_text format q text z spans ask what) same ∙ ap (λ z. search_text format q text rules z ask what) there,
         )

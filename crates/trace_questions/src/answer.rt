@@ -1,5 +1,6 @@
 //! Answers to questions.
 ghost use Rattle.std.specs.Prelude.{◌≡◌, ◌++◌, IfOk, OnOk};
+ghost use Rattle.trace_report.specs.Output.{line};
 
 use names::NoMemory;
 use std::alloc::Global;
@@ -11,19 +12,6 @@ pub(crate) struct Answer {
     pub(crate) found: bool,
 }
 
-impl Answer {
-    /// The answer that is this text alone.
-    pub(crate) fn of(alloc: Global, text: &[u8], found: bool) -> Result<Answer, NoMemory>
-        ensures text { IfOk result (λ answer. answer.text.items ≡ text.now) }
-        ensures found { IfOk result (λ answer. answer.found ≡ found) }
-    {
-        match Vec::from_slice(alloc, text) {
-            Ok(text) => Ok(Answer { text, found }),
-            Err(_) => Err(NoMemory),
-        }
-    }
-}
-
 /// Appends bytes.
 pub(crate) fn put(text: &mut Vec<u8>, bytes: &[u8]) -> Result<(), NoMemory>
     ensures { OnOk result (text.new.items ≡ text.old.items ++ bytes.now) }
@@ -32,4 +20,14 @@ pub(crate) fn put(text: &mut Vec<u8>, bytes: &[u8]) -> Result<(), NoMemory>
         Ok(()) => Ok(()),
         Err(_) => Err(NoMemory),
     }
+}
+
+/// A line of text.
+pub(crate) fn line_of(alloc: Global, text: &str) -> Result<Vec<u8>, NoMemory>
+    ensures { IfOk result (λ bytes. bytes.items ≡ line text.now) }
+{
+    let mut bytes = Vec::new(alloc);
+    put(&mut bytes, text.as_bytes())?;
+    put(&mut bytes, b"\n")?;
+    Ok(bytes)
 }

@@ -1,23 +1,27 @@
 //! The lines about two profiles.
-ghost use Rattle.std.specs.Prelude.{◌≡◌, ◌++◌, ℕ, List, Option, IfOk, OnOk};
+ghost use Rattle.std.specs.Prelude.{◌≡◌, ◌++◌, ℕ, List, Option, IfOk, OnOk, false};
 ghost use Rattle.std.specs.List.{flat_map};
 ghost use Rattle.rule_globs.specs.Tokens.{Token};
 ghost use Rattle.rule_profile.specs.RuleSpans.{profile_spans};
 ghost use Rattle.rule_reader.specs.Spans.{spans_of};
 ghost use Rattle.question_answers.specs.Alone.{AreAlone};
 ghost use Rattle.question_answers.specs.LeastNames.{listed};
-ghost use Rattle.trace_questions.specs.Differences.{IsCompared, difference_text, sign};
+ghost use Rattle.trace_questions.specs.Differences.{IsCompared, difference_text, sign, words_text};
 ghost use Rattle.trace_questions.specs.inner.Differing.{AreCompared, versions_value};
 ghost use Rattle.trace_report.specs.Output.{finding};
+ghost use Rattle.trace_report.specs.declared.format.Format.TheVariants.{Text};
 
-use crate::answer::{self, put};
+use crate::answer::{self, line_of, put};
+use crate::objects::{difference_line, word_line};
+use crate::report::Report;
 use crate::shown::shown_name;
 use names::{NoMemory, Permission};
 use profile_questions::Comparison;
-use question_answers::{Side, Witnesses, differences, some_name};
+use question_answers::{Side, differences, some_name};
 use rule_explain::reason_text;
 use rule_profile::Profile;
 use std::alloc::Global;
+use trace_report::Format;
 
 /// Two profiles with their texts.
 #[derive(Clone, Copy)]
@@ -33,7 +37,7 @@ pub(crate) struct Versions<'a> {
 pub(crate) struct Listing {
     /// Only those that the third rules take are compared.
     pub(crate) restricted: bool,
-    pub(crate) witnesses: Witnesses,
+    pub(crate) report: Report,
 }
 
 /// The lines of all permissions that one of the profiles alone allows to some names, or that there are none, or that there is no
@@ -45,10 +49,10 @@ pub(crate) fn changes(
     listing: Listing,
 ) -> Result<answer::Answer, NoMemory>
     ensures { (below : Option (List Token)) → AreCompared comparison.now versions.now listing.restricted below →
-        IfOk result (λ answer. IsCompared listing.witnesses below (versions_value versions.now) (finding answer.text.items answer.found)) }
+        IfOk result (λ answer. IsCompared listing.report below (versions_value versions.now) (finding answer.text.items answer.found)) }
 {
     if !some_name(alloc, comparison, listing.restricted)? {
-        return answer::Answer::of(alloc, b"no name matches\n", false);
+        return words_answer(alloc, listing.report.format, "no name matches");
     }
     let mut text = Vec::new(alloc);
     for permission in Permission::ALL {
@@ -72,9 +76,21 @@ pub(crate) fn changes(
         )?;
     }
     if text.is_empty() {
-        return answer::Answer::of(alloc, b"same\n", false);
+        return words_answer(alloc, listing.report.format, "same");
     }
     Ok(answer::Answer { text, found: true })
+}
+
+// An answer of words alone, in which nothing is found.
+fn words_answer(alloc: Global, format: Format, words: &str) -> Result<answer::Answer, NoMemory>
+    ensures text { IfOk result (λ answer. answer.text.items ≡ words_text format words.now) }
+    ensures found { IfOk result (λ answer. answer.found ≡ false) }
+{
+    let text = match format {
+        Format::Text => line_of(alloc, words)?,
+        Format::Json => word_line(alloc, words)?,
+    };
+    Ok(answer::Answer { text, found: false })
 }
 
 // Appends the lines of a permission that this profile alone allows to some names, if it does.
@@ -88,9 +104,9 @@ fn put_change(
     side: Side,
 ) -> Result<(), NoMemory>
     ensures { (below : Option (List Token)) → AreCompared comparison.now versions.now listing.restricted below →
-        OnOk result ((names : List (List ℕ)) × AreAlone listing.witnesses below (versions_value versions.now).old.rules
+        OnOk result ((names : List (List ℕ)) × AreAlone listing.report.witnesses below (versions_value versions.now).old.rules
         (versions_value versions.now).new.rules permission side names
-        × (text.new.items ≡ text.old.items ++ flat_map (difference_text (versions_value versions.now) permission side) names)) }
+        × (text.new.items ≡ text.old.items ++ flat_map (difference_text listing.report.format (versions_value versions.now) permission side) names)) }
 {
     let names = differences(
         alloc,
@@ -98,15 +114,24 @@ fn put_change(
         listing.restricted,
         permission,
         side,
-        listing.witnesses,
+        listing.report.witnesses,
     )?;
-    put_lines(text, alloc, versions, permission, side, &names)
+    put_lines(
+        text,
+        alloc,
+        listing.report.format,
+        versions,
+        permission,
+        side,
+        &names,
+    )
 }
 
 // Appends the lines of names.
 fn put_lines(
     text: &mut Vec<u8>,
     alloc: Global,
+    format: Format,
     versions: &Versions<'_>,
     permission: Permission,
     side: Side,
@@ -115,16 +140,40 @@ fn put_lines(
     ensures { profile_spans versions.now.old.now ≡ spans_of versions.now.before.now →
         profile_spans versions.now.new.now ≡ spans_of versions.now.after.now →
         OnOk result (text.new.items ≡ text.old.items
-        ++ flat_map (difference_text (versions_value versions.now) permission side) (listed names.now)) }
+        ++ flat_map (difference_text format (versions_value versions.now) permission side) (listed names.now)) }
 {
     for name in names {
-        put_line(text, alloc, versions, permission, side, name)?;
+        put_line(text, alloc, format, versions, permission, side, name)?;
     }
     Ok(())
 }
 
 // Appends the line of a name.
 fn put_line(
+    text: &mut Vec<u8>,
+    alloc: Global,
+    format: Format,
+    versions: &Versions<'_>,
+    permission: Permission,
+    side: Side,
+    name: &[u8],
+) -> Result<(), NoMemory>
+    ensures { profile_spans versions.now.old.now ≡ spans_of versions.now.before.now →
+        profile_spans versions.now.new.now ≡ spans_of versions.now.after.now →
+        OnOk result (text.new.items ≡ text.old.items
+        ++ difference_text format (versions_value versions.now) permission side name.now) }
+{
+    match format {
+        Format::Text => put_text_line(text, alloc, versions, permission, side, name),
+        Format::Json => put(
+            text,
+            &difference_line(alloc, versions, permission, side, name)?,
+        ),
+    }
+}
+
+// Appends the line of a name, as text.
+fn put_text_line(
     text: &mut Vec<u8>,
     alloc: Global,
     versions: &Versions<'_>,
@@ -135,7 +184,7 @@ fn put_line(
     ensures { profile_spans versions.now.old.now ≡ spans_of versions.now.before.now →
         profile_spans versions.now.new.now ≡ spans_of versions.now.after.now →
         OnOk result (text.new.items ≡ text.old.items
-        ++ difference_text (versions_value versions.now) permission side name.now) }
+        ++ difference_text Text (versions_value versions.now) permission side name.now) }
 {
     put(text, sign(side))?;
     put(text, &[permission.letter()])?;

@@ -15,11 +15,12 @@ use crate::answer::Answer;
 use crate::asking::pattern_of;
 use crate::changes::{Listing, Versions, changes};
 use crate::comparing::{compared, compiled};
+use crate::report::Report;
 use crate::sides::SideFault;
 use derived_profiles::without_rules;
 use names::NoMemory;
 use profile_questions::CompiledRules;
-use question_answers::{Side, Witnesses};
+use question_answers::Side;
 use rule_profile::Profile;
 use rule_reader::read;
 use std::alloc::Global;
@@ -33,7 +34,7 @@ use trace_report::{Fault, Status, fail, read_all, write_finding};
 pub fn differ<O: Read, N: Read, A: Write, F: Write>(
     alloc: Global,
     below: Option<&str>,
-    witnesses: Witnesses,
+    report: Report,
     old: &mut O,
     new: &mut N,
     answers: &mut A,
@@ -47,11 +48,11 @@ pub fn differ<O: Read, N: Read, A: Write, F: Write>(
           faults_before = F.contents faults.old;
           faults_after = F.contents faults.new;
         })
-        (IsDiffOutput witnesses (option_map (λ pattern. pattern.now) below.entry) before after) result }
+        (IsDiffOutput report (option_map (λ pattern. pattern.now) below.entry) before after) result }
     ensures unread { IsErr (below_asked (option_map (λ pattern. pattern.now) below.entry))
         → Keeps (O.remaining old.old) (O.remaining old.new) × Keeps (N.remaining new.old) (N.remaining new.new) }
 {
-    match answer(alloc, below, witnesses, old, new) {
+    match answer(alloc, below, report, old, new) {
         Ok(answer) => write_finding(answers, faults, &answer.text, answer.found),
         Err(fault) => fail(faults, fault, fault.status()),
     }
@@ -61,12 +62,12 @@ pub fn differ<O: Read, N: Read, A: Write, F: Write>(
 fn answer<O: Read, N: Read>(
     alloc: Global,
     below: Option<&str>,
-    witnesses: Witnesses,
+    report: Report,
     old: &mut O,
     new: &mut N,
 ) -> Result<Answer, SideFault>
     ensures output { (before after : List ℕ) × IsTextOf (O.remaining old.old) before × IsTextOf (N.remaining new.old) after
-        × IsDiffAnswer (IsDiffOutput witnesses (option_map (λ pattern. pattern.now) below.entry) before after) result }
+        × IsDiffAnswer (IsDiffOutput report (option_map (λ pattern. pattern.now) below.entry) before after) result }
     ensures unread { IsErr (below_asked (option_map (λ pattern. pattern.now) below.entry))
         → Keeps (O.remaining old.old) (O.remaining old.new) × Keeps (N.remaining new.old) (N.remaining new.new) }
 {
@@ -77,7 +78,7 @@ fn answer<O: Read, N: Read>(
         before: &before,
         after: &after,
     };
-    answer_on(alloc, below, witnesses, &texts)
+    answer_on(alloc, below, report, &texts)
 }
 
 // The texts of two profiles.
@@ -120,35 +121,35 @@ impl Below {
 fn answer_on(
     alloc: Global,
     below: Below,
-    witnesses: Witnesses,
+    report: Report,
     texts: &Texts<'_>,
 ) -> Result<Answer, SideFault>
     ensures { (path : Option (List Token)) → IsOfBelow path below → IsDiffAnswer
-        (IsDiffOutputOf witnesses path texts.now.before.now texts.now.after.now (outcome_of texts.now.before.now)
+        (IsDiffOutputOf report path texts.now.before.now texts.now.after.now (outcome_of texts.now.before.now)
         (outcome_of texts.now.after.now)) result }
 {
     let old = profile_in(alloc, texts.before, Side::Old)?;
     let new = profile_in(alloc, texts.after, Side::New)?;
-    answer_of(alloc, below, witnesses, texts, old, new)
+    answer_of(alloc, below, report, texts, old, new)
 }
 
 // The answer by two profiles.
 fn answer_of(
     alloc: Global,
     below: Below,
-    witnesses: Witnesses,
+    report: Report,
     texts: &Texts<'_>,
     old: Profile,
     new: Profile,
 ) -> Result<Answer, SideFault>
     ensures { (path : Option (List Token)) → IsOfBelow path below → profile_spans old ≡ spans_of texts.now.before.now →
         profile_spans new ≡ spans_of texts.now.after.now → IsDiffAnswer
-        (IsDiffOf witnesses path (versions_of texts.now.before.now (profile_value old).rules texts.now.after.now
+        (IsDiffOf report path (versions_of texts.now.before.now (profile_value old).rules texts.now.after.now
         (profile_value new).rules)) result }
 {
     let old = compiled_in(alloc, old, Side::Old)?;
     let new = compiled_in(alloc, new, Side::New)?;
-    match answer_by(alloc, below, witnesses, texts, &old, &new) {
+    match answer_by(alloc, below, report, texts, &old, &new) {
         Ok(answer) => Ok(answer),
         Err(fault) => Err(SideFault::Neither(fault)),
     }
@@ -158,14 +159,14 @@ fn answer_of(
 fn answer_by(
     alloc: Global,
     below: Below,
-    witnesses: Witnesses,
+    report: Report,
     texts: &Texts<'_>,
     old: &CompiledRules,
     new: &CompiledRules,
 ) -> Result<Answer, Fault>
     ensures { (path : Option (List Token)) → IsOfBelow path below → old.now.spans ≡ spans_of texts.now.before.now →
         new.now.spans ≡ spans_of texts.now.after.now → IsAnswered
-        (IsDiffOf witnesses path (versions_of texts.now.before.now old.now.rules texts.now.after.now new.now.rules)) result }
+        (IsDiffOf report path (versions_of texts.now.before.now old.now.rules texts.now.after.now new.now.rules)) result }
 {
     let names = compiled(alloc, below.profile)?;
     let comparison = compared(alloc, old, new, &names)?;
@@ -177,7 +178,7 @@ fn answer_by(
     };
     let listing = Listing {
         restricted: below.restricted,
-        witnesses,
+        report,
     };
     match changes(alloc, &comparison, &versions, listing) {
         Ok(answer) => Ok(answer),

@@ -9,10 +9,13 @@ mod asking;
 mod changes;
 mod comparing;
 mod difference;
+mod objects;
+mod report;
 mod searching;
 mod shown;
 mod sides;
 
 pub use difference::differ;
 pub use question_answers::{Quantifier, Side, Witnesses};
+pub use report::Report;
 pub use searching::search;

@@ -8,4 +8,4 @@ use Rattle.trace_questions.proofs.changes.changes.Given as goal
 abbrev pub invariant-loop-permission : goal.invariant-loop-permission
 invariant-loop-permission l =
     (below : Option (List Token)) → AreCompared l.comparison l.versions l.listing.restricted below →
-    AreFirst l.listing.witnesses below (versions_value l.versions) l.permission-index l.text.items
+    AreFirst l.listing.report below (versions_value l.versions) l.permission-index l.text.items

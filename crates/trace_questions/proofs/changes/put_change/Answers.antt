@@ -14,17 +14,17 @@ returns c below h =
     let v = versions_value c.args.versions.now in
     let p = c.args.permission in
     let side = c.args.side in
-    let w = c.args.listing.witnesses in
+    let w = c.args.listing.report in
     let names : List (List ℕ) = listed c.in_ok-names.names.items in
-    let are : AreAlone w below v.old.rules v.new.rules p side names =
-    subst (λ (rules : List RuleValue). AreAlone w below v.old.rules rules p side names) h.second
-    (subst (λ (rules : List RuleValue). AreAlone w below rules c.args.comparison.now.second p side names) h.first
+    let are : AreAlone w.witnesses below v.old.rules v.new.rules p side names =
+    subst (λ (rules : List RuleValue). AreAlone w.witnesses below v.old.rules rules p side names) h.second
+    (subst (λ (rules : List RuleValue). AreAlone w.witnesses below rules c.args.comparison.now.second p side names) h.first
     (c.in_ok-names.ensures below h.third h.given)) in
     on_ok_weaker c.put_lines.result
     (λ added. (
       names,
       are,
-      added ∙ ap (λ (them : List (Vec ℕ Global)). c.args.text.now.items ++ flat_map (difference_text v p side) (listed them))
+      added ∙ ap (λ (them : List (Vec ℕ Global)). c.args.text.now.items ++ flat_map (difference_text w.format v p side) (listed them))
           c.deref.ensures.value,
     ))
     (c.put_lines.ensures h.before h.after)

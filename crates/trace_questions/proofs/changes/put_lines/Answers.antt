@@ -10,7 +10,7 @@ loop-name-init c before after = sym (append-nil c.args.text.now.items)
 
 pub loop-name-preserved : goal.loop-name-preserved
 loop-name-preserved c before after =
-    line_added (difference_text (versions_value c.args.versions.now) c.args.permission c.args.side) c.args.names.now
+    line_added (difference_text c.args.format (versions_value c.args.versions.now) c.args.permission c.args.side) c.args.names.now
     c.args.text.now.items c.loop-name.text.items c.put_line.new.text.items c.loop-name.name-index c.name-item.result
     c.deref.result.now c.loop-name-test.true c.name-item.is c.deref.ensures.value (c.loop-name.invariant before after)
     (c.in_ok-put_line.ensures before after)
@@ -19,5 +19,5 @@ pub returns : goal.returns
 returns c before after =
     c.loop-name.invariant before after
     ∙ ap (λ (lines : List ℕ). c.args.text.now.items ++ lines)
-    (lines_all (difference_text (versions_value c.args.versions.now) c.args.permission c.args.side) c.args.names.now
+    (lines_all (difference_text c.args.format (versions_value c.args.versions.now) c.args.permission c.args.side) c.args.names.now
     c.loop-name.name-index c.loop-name-test.false)

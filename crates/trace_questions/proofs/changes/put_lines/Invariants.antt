@@ -12,4 +12,4 @@ invariant-loop-name l =
     profile_spans l.versions.old.now ≡ spans_of l.versions.before.now →
     profile_spans l.versions.new.now ≡ spans_of l.versions.after.now →
     l.text.items ≡ l.initial.text.items
-    ++ first_lines (difference_text (versions_value l.versions) l.permission l.side) l.names l.name-index
+    ++ first_lines (difference_text l.format (versions_value l.versions) l.permission l.side) l.names l.name-index

@@ -10,7 +10,7 @@ pub returns-in_err-below-clause-output : goal.returns-in_err-below-clause-output
 returns-in_err-below-clause-output g c =
     let old = text_of (g.O.Read.remaining c.args.old.now) in
     let new = text_of (g.N.Read.remaining c.args.new.now) in
-    let w = c.args.witnesses in
+    let w = c.args.report in
     let asked : Asked = below_asked (option_map (λ pattern. pattern.now) c.args.below) in
     let f = c.in_err-below.field-0.0 in (
       old.0,
@@ -25,7 +25,7 @@ pub returns-in_err-before-clause-output : goal.returns-in_err-before-clause-outp
 returns-in_err-before-clause-output g c =
     let old = text_of (g.O.Read.remaining c.args.old.now) in
     let new = text_of (g.N.Read.remaining c.args.new.now) in
-    let w = c.args.witnesses in
+    let w = c.args.report in
     let asked : Asked = below_asked (option_map (λ pattern. pattern.now) c.args.below) in
     let f = c.in_err-before.field-0.0 in
     let is = c.in_ok-below.ensures in (
@@ -41,7 +41,7 @@ pub returns-in_err-after-clause-output : goal.returns-in_err-after-clause-output
 returns-in_err-after-clause-output g c =
     let old = text_of (g.O.Read.remaining c.args.old.now) in
     let new = text_of (g.N.Read.remaining c.args.new.now) in
-    let w = c.args.witnesses in
+    let w = c.args.report in
     let asked : Asked = below_asked (option_map (λ pattern. pattern.now) c.args.below) in
     let f = c.in_err-after.field-0.0 in
     let is = c.in_ok-below.ensures in (
@@ -55,7 +55,7 @@ returns-in_err-after-clause-output g c =
 
 pub returns-clause-output : goal.returns-clause-output
 returns-clause-output g c =
-    let w = c.args.witnesses in
+    let w = c.args.report in
     let asked : Asked = below_asked (option_map (λ pattern. pattern.now) c.args.below) in
     let is = c.in_ok-below.ensures in
     let before = c.in_ok-before.before.items in

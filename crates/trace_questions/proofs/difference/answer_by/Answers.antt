@@ -11,20 +11,20 @@ pub returns-in_err-names : goal.returns-in_err-names
 returns-in_err-names c path h before after =
     let v : Versions = versions_of c.args.texts.now.before.now c.args.old.now.rules c.args.texts.now.after.now c.args.new.now.rules in
     let f = c.in_err-names.field-0.0 in
-    passed_on (IsDiffOf c.args.witnesses path v) c.from_residual.result f c.from_residual.ensures.1
-    (large_below c.args.witnesses path v (profile_value c.args.below.profile).rules f h.rules c.in_err-names.ensures.err)
+    passed_on (IsDiffOf c.args.report path v) c.from_residual.result f c.from_residual.ensures.1
+    (large_below c.args.report path v (profile_value c.args.below.profile).rules f h.rules c.in_err-names.ensures.err)
 
 pub returns-in_err-comparison : goal.returns-in_err-comparison
 returns-in_err-comparison c path h before after =
     let v : Versions = versions_of c.args.texts.now.before.now c.args.old.now.rules c.args.texts.now.after.now c.args.new.now.rules in
     let f = c.in_err-comparison.field-0.0 in
-    passed_on (IsDiffOf c.args.witnesses path v) c.from_residual-in_err-comparison.result f c.from_residual-in_err-comparison.ensures.1
-    (large_all c.args.witnesses path v c.in_ok-names.names.rules f (c.in_ok-names.ensures.rules ∙ h.rules)
+    passed_on (IsDiffOf c.args.report path v) c.from_residual-in_err-comparison.result f c.from_residual-in_err-comparison.ensures.1
+    (large_all c.args.report path v c.in_ok-names.names.rules f (c.in_ok-names.ensures.rules ∙ h.rules)
     c.in_err-comparison.ensures.err)
 
 pub returns-in-Ok : goal.returns-in-Ok
 returns-in-Ok c path h before after =
-    let w = c.args.witnesses in
+    let w = c.args.report in
     let compared = c.in_ok-comparison.ensures in
     let output = finding c.in-Ok.answer.text.items c.in-Ok.answer.found in
     inr (subst (λ (v : Versions). IsCompared w path v output)

@@ -7,7 +7,7 @@ use Rattle.trace_questions.proofs.difference.answer_on.Goals as goal
 
 pub returns-in_err-old : goal.returns-in_err-old
 returns-in_err-old c path h =
-    let w = c.args.witnesses in
+    let w = c.args.report in
     let before = c.args.texts.now.before.now in
     let after = c.args.texts.now.after.now in
     let f = c.in_err-old.field-0.0 in
@@ -17,7 +17,7 @@ returns-in_err-old c path h =
 
 pub returns-in_err-new : goal.returns-in_err-new
 returns-in_err-new c path h =
-    let w = c.args.witnesses in
+    let w = c.args.report in
     let before = c.args.texts.now.before.now in
     let after = c.args.texts.now.after.now in
     let f = c.in_err-new.field-0.0 in
@@ -30,6 +30,6 @@ pub returns : goal.returns
 returns c path h =
     let before = c.args.texts.now.before.now in
     let after = c.args.texts.now.after.now in
-    of_texts c.args.witnesses path before after (profile_value c.in_ok-old.old) (profile_value c.in_ok-new.new) (outcome_of before)
+    of_texts c.args.report path before after (profile_value c.in_ok-old.old) (profile_value c.in_ok-new.new) (outcome_of before)
     (outcome_of after) c.answer_of.result c.in_ok-old.ensures.0 c.in_ok-new.ensures.0
     (c.answer_of.ensures path h c.in_ok-old.ensures.1 c.in_ok-new.ensures.1)

@@ -8,7 +8,7 @@ use Rattle.trace_questions.proofs.difference.differ.Goals as goal
 pub returns-in-Ok-clause-output : goal.returns-in-Ok-clause-output
 returns-in-Ok-clause-output g c =
     let h = c.in-Ok.ensures.output in
-    let w = c.args.witnesses in
+    let w = c.args.report in
     let pattern = option_map (λ pattern. pattern.now) c.args.below in
     let bytes = c.in-Ok.answer.text.items in
     let found = c.in-Ok.answer.found in (
@@ -28,6 +28,6 @@ returns-in-Err-clause-output g c =
       h.1,
       h.2,
       h.3,
-      diff_told _ _ _ (IsDiffOutput c.args.witnesses pattern h.0 h.1) c.in-Err.fault c.fail.result h.4
+      diff_told _ _ _ (IsDiffOutput c.args.report pattern h.0 h.1) c.in-Err.fault c.fail.result h.4
           (rw c.status.ensures at c.fail.ensures),
     )

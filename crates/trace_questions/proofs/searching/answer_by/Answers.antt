@@ -14,9 +14,9 @@ returns-in_err-names c path of spans =
     let rules = c.args.rules.now.rules in
     let text = c.args.text.now in
     let f = c.in_err-names.field-0.0 in
-    passed_on (IsSearchOf c.args.quantifier c.args.asked.ask path text rules) c.from_residual-in_err-names.result f
+    passed_on (IsSearchOf c.args.format c.args.quantifier c.args.asked.ask path text rules) c.from_residual-in_err-names.result f
     c.from_residual-in_err-names.ensures.1
-    (large_pattern c.args.quantifier c.args.asked.ask path text rules (profile_value c.args.asked.pattern).rules f
+    (large_pattern c.args.format c.args.quantifier c.args.asked.ask path text rules (profile_value c.args.asked.pattern).rules f
     (ap (λ (p : ProfileValue). p.rules) of) c.in_err-names.ensures.err)
 
 pub returns-in_err-comparison : goal.returns-in_err-comparison
@@ -24,9 +24,9 @@ returns-in_err-comparison c path of spans =
     let rules = c.args.rules.now.rules in
     let text = c.args.text.now in
     let f = c.in_err-comparison.field-0.0 in
-    passed_on (IsSearchOf c.args.quantifier c.args.asked.ask path text rules) c.from_residual-in_err-comparison.result f
+    passed_on (IsSearchOf c.args.format c.args.quantifier c.args.asked.ask path text rules) c.from_residual-in_err-comparison.result f
     c.from_residual-in_err-comparison.ensures.1
-    (large_both c.args.quantifier c.args.asked.ask path text rules c.in_ok-nothing.nothing.rules c.in_ok-names.names.rules f
+    (large_both c.args.format c.args.quantifier c.args.asked.ask path text rules c.in_ok-nothing.nothing.rules c.in_ok-names.names.rules f
     c.in_ok-nothing.ensures.rules (c.in_ok-names.ensures.rules ∙ ap (λ (p : ProfileValue). p.rules) of) c.in_err-comparison.ensures.err)
 
 pub returns-in-Ok : goal.returns-in-Ok
@@ -35,7 +35,7 @@ returns-in-Ok c path of spans =
     let text = c.args.text.now in
     let h = c.in-Ok.ensures path (c.in_ok-comparison.ensures.second ∙ c.in_ok-nothing.ensures.rules)
     (c.in_ok-comparison.ensures.third ∙ c.in_ok-names.ensures.rules ∙ ap (λ (p : ProfileValue). p.rules) of) in
-    found_by c.args.quantifier c.args.asked.ask path text rules c.in_ok-comparison.comparison.first
+    found_by c.args.format c.args.quantifier c.args.asked.ask path text rules c.in_ok-comparison.comparison.first
     (profile_value c.profile.result.now).rules (profile_spans c.profile.result.now) h.0
     (finding c.in-Ok.answer.text.items c.in-Ok.answer.found) c.in_ok-comparison.ensures.first c.profile.ensures.rules
     (c.profile.ensures.spans ∙ spans) h.1 h.2

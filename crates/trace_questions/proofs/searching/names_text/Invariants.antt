@@ -8,5 +8,5 @@ use Rattle.trace_questions.proofs.searching.names_text.Given as goal
 
 abbrev pub invariant-loop-name : goal.invariant-loop-name
 invariant-loop-name l =
-    l.lines.items ≡ first_lines (name_text l.quantifier l.text (profile_value l.profile).rules (profile_spans l.profile) l.ask)
+    l.lines.items ≡ first_lines (name_text l.format l.quantifier l.text (profile_value l.profile).rules (profile_spans l.profile) l.ask)
     l.names l.name-index

@@ -10,9 +10,9 @@ returns-in-Ok-clause-output g c =
     let read = c.in-Ok.ensures.output in (
       read.0,
       read.1,
-      answered _ (IsSearchOutput c.args.quantifier c.args.perms.now c.args.pattern.now read.0) _ c.in-Ok.answer.text.items
+      answered _ (IsSearchOutput c.args.format c.args.quantifier c.args.perms.now c.args.pattern.now read.0) _ c.in-Ok.answer.text.items
           c.in-Ok.answer.found c.write_finding.result c.deref.ensures.value
-          (good_by_answer c.args.quantifier c.args.perms.now c.args.pattern.now read.0 c.in-Ok.answer.text.items
+          (good_by_answer c.args.format c.args.quantifier c.args.perms.now c.args.pattern.now read.0 c.in-Ok.answer.text.items
           c.in-Ok.answer.found read.2)
           read.2 c.write_finding.ensures,
     )
