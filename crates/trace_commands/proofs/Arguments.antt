@@ -13,7 +13,8 @@ use Rattle.trace_report.specs.Fault.{fault_text, IsFaultOf}
 use Rattle.trace_commands.specs.Judge.{ask_of, verdict_output, judge_output}
 
 -- bad arguments are reported as such, whatever the text
-pub asked_in_vain : (format : Format) (perms name text : List ℕ) (f : Fault) → ask_of perms name ≡ Err (fault_text f) → (f ≡ Permissions) ⊎ (f ≡ Name)
+pub asked_in_vain : (format : Format) (perms name text : List ℕ) (f : Fault) → ask_of perms name ≡ Err (fault_text f)
+    → (f ≡ Permissions) ⊎ (f ≡ Name)
     → IsFaultOf (judge_output format perms name text) f
 asked_in_vain format perms name text Permissions e which = rw (e, judge_output) refl
 asked_in_vain format perms name text Name e which = rw (e, judge_output) refl
@@ -43,7 +44,8 @@ good_arguments : (format : Format) (perms name text : List ℕ) (ask : Perms) �
 good_arguments format perms name text ask e = rw (e, judge_output) (judged_status format ask name (outcome_of text))
 
 -- a fault that hides the text says only that the arguments are good
-pub unread : (format : Format) (perms name text : List ℕ) (ask : Perms) (f : Fault) → ask_of perms name ≡ Ok ask → (f ≡ Input) ⊎ (f ≡ Memory)
+pub unread : (format : Format) (perms name text : List ℕ) (ask : Perms) (f : Fault) → ask_of perms name ≡ Ok ask
+    → (f ≡ Input) ⊎ (f ≡ Memory)
     → IsFaultOf (judge_output format perms name text) f
 unread format perms name text ask f e (inl h) = rw h (good_arguments format perms name text ask e)
 unread format perms name text ask f e (inr h) = rw h (good_arguments format perms name text ask e)

@@ -33,7 +33,8 @@ use Rattle.trace_commands.specs.Judge.{ask_of, judge_output, verdict_output}
 -- ---- arguments
 
 -- bad arguments are reported as such, whatever the text
-pub asked_in_vain : (format : Format) (perms name text : List ℕ) (f : Fault) → ask_of perms name ≡ Err (fault_text f) → (f ≡ Permissions) ⊎ (f ≡ Name) →
+pub asked_in_vain : (format : Format) (perms name text : List ℕ) (f : Fault) → ask_of perms name ≡ Err (fault_text f)
+    → (f ≡ Permissions) ⊎ (f ≡ Name) →
     IsFaultOf (explain_output format perms name text) f
 asked_in_vain format perms name text Permissions e which = rw (e, explain_output) refl
 asked_in_vain format perms name text Name e which = rw (e, explain_output) refl
@@ -59,13 +60,15 @@ explained_status format ask name text (Ok profile) = λ e. cc
 explained_status format ask name text (Err f) = λ e. cc
 
 -- what is written with good arguments
-pub good_output : (format : Format) (perms name text : List ℕ) (ask : Perms) → ask_of perms name ≡ Ok ask → explain_output format perms name text
+pub good_output : (format : Format) (perms name text : List ℕ) (ask : Perms) → ask_of perms name ≡ Ok ask
+    → explain_output format perms name text
     ≡ explained_output format ask name text (outcome_of text)
 good_output format perms name text ask e = rw (e, explain_output) refl
 
 good_arguments : (format : Format) (perms name text : List ℕ) (ask : Perms) → ask_of perms name ≡ Ok ask →
     (explain_output format perms name text).status ≢ BadArguments
-good_arguments format perms name text ask e = rw (good_output format perms name text ask e) (explained_status format ask name text (outcome_of text))
+good_arguments format perms name text ask e = rw (good_output format perms name text ask e)
+    (explained_status format ask name text (outcome_of text))
 
 -- with good arguments the text is explained
 pub explained_so : (format : Format) (streams : Streams) (perms name text here items : List ℕ) (ask : Perms) (status : Status)
@@ -78,7 +81,8 @@ explained_so format streams perms name text here items ask status e1 e2 e3 h =
     subst (λ (output : Output). Ends streams output status) same h
 
 -- a fault that hides the text says only that the arguments are good
-pub unread : (format : Format) (perms name text : List ℕ) (ask : Perms) (f : Fault) → ask_of perms name ≡ Ok ask → (f ≡ Input) ⊎ (f ≡ Memory) →
+pub unread : (format : Format) (perms name text : List ℕ) (ask : Perms) (f : Fault) → ask_of perms name ≡ Ok ask
+    → (f ≡ Input) ⊎ (f ≡ Memory) →
     IsFaultOf (explain_output format perms name text) f
 unread format perms name text ask f e (inl h) = rw h (good_arguments format perms name text ask e)
 unread format perms name text ask f e (inr h) = rw h (good_arguments format perms name text ask e)
@@ -107,12 +111,14 @@ told_whole answers before after output told status of (inl e) = rw e (nothing_ye
 told_whole answers before after output told status of (inr h) = rw h.0 (written answers before after output told Refused of h.1)
 
 -- a text that is refused, or no memory to report where
-pub refused_so : (format : Format) (ask : Perms) (name text : List ℕ) (f : ReadFault) (answers before after : Option (List ℕ)) (status : Status) →
+pub refused_so : (format : Format) (ask : Perms) (name text : List ℕ) (f : ReadFault) (answers before after : Option (List ℕ))
+    (status : Status) →
     f ≢ reading.NoMemory → (f ≡ reading.NoMemory) ⊎ (outcome_of text ≡ Err f)
     → (IsTold before after (refusal_text text f) Refused status) ⊎ (IsTold before after no_memory_text NoMemory status)
     → Ends (told_alone answers before after) (explained_output format ask name text (outcome_of text)) status
 refused_so format ask name text f answers before after status other (inl m) told = absurd (other m)
-refused_so format ask name text f answers before after status other (inr e) (inr h) = forgotten format ask name text answers before after status h
+refused_so format ask name text f answers before after status other (inr e) (inr h) =
+    forgotten format ask name text answers before after status h
 refused_so format ask name text f answers before after status other (inr e) (inl h) =
     told_whole answers before after (explained_output format ask name text (outcome_of text)) (refusal_text text f) status (rw e refl) h
 
@@ -121,7 +127,8 @@ refused_so format ask name text f answers before after status other (inr e) (inl
 same_faults : (one : List ℕ) → (more : List ℕ) × (one ≡ one ++ more)
 same_faults one = ([], sym (append-nil one))
 
-by_outcome : (ask : Perms) (name text : List ℕ) (outcome : Result ProfileValue ReadFault) → GoesOnFrom (verdict_output in_text ask name outcome)
+by_outcome : (ask : Perms) (name text : List ℕ) (outcome : Result ProfileValue ReadFault)
+    → GoesOnFrom (verdict_output in_text ask name outcome)
     (explained_output in_text ask name text outcome)
 unfolding explanation
 by_outcome ask name text (Ok profile) =

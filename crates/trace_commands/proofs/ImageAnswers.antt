@@ -1,5 +1,6 @@
 -- Each image has one answer.
-use Rattle.std.proofs.Common.{arith, ◌≡◌, ◌≤◌, ℕ, Bool, true, false, List, [], ◌++◌, Result, Ok, Err, Some, refl, sym, ap, subst, ◌∙◌, inl, inr}
+use Rattle.std.proofs.Common.{arith, ◌≡◌, ◌≤◌, ℕ, Bool, true, false, List, [], ◌++◌, Result, Ok, Err, Some, refl, sym, ap, subst}
+use Rattle.std.proofs.Common.{◌∙◌, inl, inr}
 use Rattle.std.proofs.Common.{append_assoc, length}
 use Rattle.std.proofs.lemmas.List.{append-nil}
 use Rattle.std.specs.Prelude.{Option, None, ◌==◌, codes, decimal, if◌then◌else◌}
@@ -95,10 +96,12 @@ module _
         ∙ ap (λ (x : Table). whole_answer (match_lines format x name w)) (one_table image t u loaded.0 so.0) ∙ sym h
     one_matched format ask name image one other (inl (t, loaded, v, told, e)) (inr (g, first, h)) =
         absurd (loaded_or_refused image t g loaded first)
-    one_matched format ask name image one other (inr (f, first, e)) (inl (u, so, w, second, h)) = absurd (loaded_or_refused image u f so first)
+    one_matched format ask name image one other (inr (f, first, e)) (inl (u, so, w, second, h)) =
+        absurd (loaded_or_refused image u f so first)
     one_matched format ask name image one other (inr refused) (inr second) = one_refusal image one other refused second
 
-    one_asked : (format : Format) (asked : Result Perms (List ℕ)) (name image : List ℕ) (one other : Output) → IsMatchOutputOf format asked name image one →
+    one_asked : (format : Format) (asked : Result Perms (List ℕ)) (name image : List ℕ) (one other : Output)
+        → IsMatchOutputOf format asked name image one →
         IsMatchOutputOf format asked name image other → one ≡ other
     one_asked format (Err told) name image one other e h = e ∙ sym h
     one_asked format (Ok ask) name image one other e h = one_matched format ask name image one other e h
@@ -108,7 +111,8 @@ module _
     one_match format perms name image one other e h = one_asked format (ask_of perms name) name image one other e h
 
   module _ (right : (rules : List RuleValue) (t : Table) → TellsLeastHits rules t → TellsVerdicts rules t) where
-    matched_right : (format : Format) (profile : ProfileValue) (bytes : List ℕ) (t : Table) (matched : Output) (ask : Perms) (name : List ℕ) → are_bytes name
+    matched_right : (format : Format) (profile : ProfileValue) (bytes : List ℕ) (t : Table) (matched : Output) (ask : Perms)
+        (name : List ℕ) → are_bytes name
         → TellsLeastHits profile.rules t → IsLoaded bytes t → IsMatchedOutput format ask name bytes matched
         → matched ≡ whole_answer (match_lines format t name (verdict profile.rules name ask))
     matched_right format profile bytes t matched ask name small least loaded (inl (u, so, v, (r, at, told), e)) =
@@ -119,7 +123,8 @@ module _
     matched_right format profile bytes t matched ask name small least loaded (inr (f, first, e)) =
         absurd (loaded_or_refused bytes t f loaded first)
 
-    pub matched_by_image : (format : Format) (depth : ℕ) (profile : ProfileValue) (image matched : Output) (ask : Perms) (name : List ℕ) → are_bytes name
+    pub matched_by_image : (format : Format) (depth : ℕ) (profile : ProfileValue) (image matched : Output) (ask : Perms)
+        (name : List ℕ) → are_bytes name
         → IsImageOutput depth profile image → IsMatchedOutput format ask name image.answers matched
         → (t : Table) × IsLoaded image.answers t × (t.depth_bound ≤ depth)
         × (matched ≡ whole_answer (match_lines format t name (verdict profile.rules name ask)))

@@ -72,7 +72,8 @@ unread_one Wanted f good (inl h) = rw h good
 unread_one Wanted f good (inr h) = rw h good
 
 -- bad arguments are reported as such, whatever the image
-asked_one : (format : Format) (asked : Result Perms (List ℕ)) (name image : List ℕ) (f : Fault) → asked ≡ Err (fault_text f) → (f ≡ Permissions) ⊎ (f ≡ Name)
+asked_one : (format : Format) (asked : Result Perms (List ℕ)) (name image : List ℕ) (f : Fault) → asked ≡ Err (fault_text f)
+    → (f ≡ Permissions) ⊎ (f ≡ Name)
     → IsFaultOfOne (IsMatchOutputOf format asked name image) f
 asked_one format asked name image Permissions e which = rw e refl
 asked_one format asked name image Name e which = rw e refl
@@ -91,7 +92,8 @@ asked_one format asked name image (Compiling f) e (inr h) = cc
 asked_one format asked name image (Image f) e (inl h) = cc
 asked_one format asked name image (Image f) e (inr h) = cc
 
-pub match_in_vain : (format : Format) (perms name image : List ℕ) (f : Fault) → ask_of perms name ≡ Err (fault_text f) → (f ≡ Permissions) ⊎ (f ≡ Name)
+pub match_in_vain : (format : Format) (perms name image : List ℕ) (f : Fault) → ask_of perms name ≡ Err (fault_text f)
+    → (f ≡ Permissions) ⊎ (f ≡ Name)
     → IsFaultOfOne (IsMatchOutput format perms name image) f
 match_in_vain format perms name image f e which = asked_one format (ask_of perms name) name image f e which
 
@@ -100,25 +102,29 @@ asked_arguments : (format : Format) (asked : Result Perms (List ℕ)) (ask : Per
     AreGood (IsMatchOutputOf format asked name image)
 asked_arguments format asked ask name image e = rw e (matched_arguments format ask name image)
 
-pub match_arguments : (format : Format) (perms name image : List ℕ) (ask : Perms) → ask_of perms name ≡ Ok ask → AreGood (IsMatchOutput format perms name image)
+pub match_arguments : (format : Format) (perms name image : List ℕ) (ask : Perms) → ask_of perms name ≡ Ok ask
+    → AreGood (IsMatchOutput format perms name image)
 match_arguments format perms name image ask e = asked_arguments format (ask_of perms name) ask name image e
 
 asked_refused : (format : Format) (asked : Result Perms (List ℕ)) (ask : Perms) (name image : List ℕ) (output : Output) → asked ≡ Ok ask →
     IsImageRefused image output → IsMatchOutputOf format asked name image output
 asked_refused format asked ask name image output e h = rw e (inr h)
 
-pub match_refused : (format : Format) (perms name image : List ℕ) (ask : Perms) (output : Output) → ask_of perms name ≡ Ok ask → IsImageRefused image output
+pub match_refused : (format : Format) (perms name image : List ℕ) (ask : Perms) (output : Output) → ask_of perms name ≡ Ok ask
+    → IsImageRefused image output
     → IsMatchOutput format perms name image output
 match_refused format perms name image ask output e h = asked_refused format (ask_of perms name) ask name image output e h
 
-asked_answer : (format : Format) (asked : Result Perms (List ℕ)) (ask : Perms) (name image : List ℕ) (result : Result (Vec ℕ Global) Fault) → asked ≡ Ok ask
+asked_answer : (format : Format) (asked : Result Perms (List ℕ)) (ask : Perms) (name image : List ℕ)
+    (result : Result (Vec ℕ Global) Fault) → asked ≡ Ok ask
     → IsAnswered (IsMatchedOutput format ask name image) result → IsAnswered (IsMatchOutputOf format asked name image) result
 asked_answer format asked ask name image result e h = rw e h
 
 pub match_answer : (format : Format) (perms name image name_here image_here : List ℕ) (ask : Perms) (result : Result (Vec ℕ Global) Fault)
     → name_here ≡ name → image_here ≡ image → ask_of perms name ≡ Ok ask
     → IsAnswered (IsMatchedOutput format ask name_here image_here) result → IsAnswered (IsMatchOutput format perms name image) result
-match_answer format perms name image name_here image_here ask result n i e h = asked_answer format (ask_of perms name) ask name image result e
+match_answer format perms name image name_here image_here ask result n i e h =
+    asked_answer format (ask_of perms name) ask name image result e
     (rw (n, i) at h)
 
 -- the first fault of an image is reported

@@ -21,7 +21,8 @@ use trace_report::{Fault, Format, Status, fail, write_answer};
 
 /// Reads an image from `input` and writes to `answers` its verdict on the name for the permissions asked for, and how many steps
 /// there were; also how many cells were looked up, where states may have a depth; in this format. A fault is reported on `faults`
-/// instead, as text. The arguments are tested before anything is read, and a fault of the header is reported once that is read, whatever follows it.
+/// instead, as text. The arguments are tested before anything is read, and a fault of the header is reported once that is read,
+/// whatever follows it.
 pub fn match_name<R: Read, A: Write, F: Write>(
     alloc: Global,
     format: Format,

@@ -8,7 +8,8 @@ use Rattle.trace_commands.proofs.matching.match_image.Goals as goal
 pub returns-in_err-verified-clause-output : goal.returns-in_err-verified-clause-output
 returns-in_err-verified-clause-output c =
     let told : c.from_residual.result ≡ Err (fault_of_image c.in_err-verified.field-0.0) = search rules in
-    let why = told_fault c.args.image.now (IsMatchedOutput c.args.format c.args.ask c.args.name.now c.args.image.now) c.in_err-verified.field-0.0
+    let why = told_fault c.args.image.now (IsMatchedOutput c.args.format c.args.ask c.args.name.now c.args.image.now)
+    c.in_err-verified.field-0.0
     (λ output h. inr h) c.in_err-verified.ensures.err in
     rw told why
 

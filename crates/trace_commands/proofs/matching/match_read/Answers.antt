@@ -9,7 +9,8 @@ pub returns-in_err-ask-clause-output : goal.returns-in_err-ask-clause-output
 returns-in_err-ask-clause-output g c =
     let text = text_of (g.R.Read.remaining c.args.input.now) in
     let told : c.from_residual.result ≡ Err c.in_err-ask.field-0.0 = search rules in
-    let why = match_in_vain c.args.format c.args.perms.now c.args.name.now text.0 c.in_err-ask.field-0.0 c.in_err-ask.ensures.0 c.in_err-ask.ensures.1 in
+    let why = match_in_vain c.args.format c.args.perms.now c.args.name.now text.0 c.in_err-ask.field-0.0 c.in_err-ask.ensures.0
+    c.in_err-ask.ensures.1 in
     (text.0, text.1, rw told why)
 
 pub returns-in_err-ask-clause-front : goal.returns-in_err-ask-clause-front
@@ -23,7 +24,8 @@ returns-in_err-image-clause-output g c =
     let told : c.from_residual-in_err-image.result ≡ Err c.in_err-image.field-0.0 = search rules in
     let why = image_unread (g.R.Read.remaining c.args.input.now) (IsMatchOutput c.args.format perms name) c.in_err-image.field-0.0
     (λ text. match_arguments c.args.format perms name text ask c.in_ok-ask.ensures)
-    (λ text output refused. match_refused c.args.format perms name text ask output c.in_ok-ask.ensures refused) c.in_err-image.ensures.image in
+    (λ text output refused. match_refused c.args.format perms name text ask output c.in_ok-ask.ensures refused)
+    c.in_err-image.ensures.image in
     (why.0, why.1, rw told why.2)
 
 pub returns-clause-output : goal.returns-clause-output
