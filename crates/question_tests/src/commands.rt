@@ -2,8 +2,8 @@
 use std::alloc::Global;
 use std::process::Abort;
 use std::test::Fail;
-use trace_questions::{Quantifier, Witnesses, differ, search};
-use trace_report::Status;
+use trace_questions::{Quantifier, Report, Witnesses, differ, search};
+use trace_report::{Format, Status};
 
 // What a command wrote, and its status.
 #[derive(Drop)]
@@ -28,6 +28,7 @@ pub(crate) fn search_in_memory(alloc: Global, row: Row<'_>) -> Ending {
     let mut faults = Vec::new(alloc);
     let status = search(
         alloc,
+        Format::Text,
         row.quantifier,
         row.perms,
         row.pattern,
@@ -219,10 +220,14 @@ pub(crate) fn differ_in_memory(
     let mut after = new;
     let mut answers = Vec::new(alloc);
     let mut faults = Vec::new(alloc);
+    let report = Report {
+        witnesses,
+        format: Format::Text,
+    };
     let status = differ(
         alloc,
         below,
-        witnesses,
+        report,
         &mut before,
         &mut after,
         &mut answers,

@@ -9,7 +9,7 @@ use std::alloc::Global;
 use std::process::Abort;
 use std::test::Fail;
 use storm_parts::Random;
-use trace_questions::Quantifier;
+use trace_questions::{Quantifier, Witnesses};
 use trace_report::Status;
 
 // What paths are made of, after their first slash.
@@ -114,7 +114,7 @@ impl Asked {
         let allowed = drawn.allows(name, self.ask);
         self.taken.allows(name, read)
             && match self.quantifier {
-                Quantifier::Any => allowed,
+                Quantifier::Any(_) => allowed,
                 Quantifier::All => !allowed,
             }
     }
@@ -123,7 +123,7 @@ impl Asked {
 // The line with the name that a question was answered by, if it has one.
 fn line_of(quantifier: Quantifier, name: &[u8], alloc: Global) -> Result<Vec<u8>, Fail> {
     let word: &[u8] = match quantifier {
-        Quantifier::Any => b"any ",
+        Quantifier::Any(_) => b"any ",
         Quantifier::All => b"not ",
     };
     let mut line = Vec::from_slice(alloc, word)?;
@@ -217,7 +217,7 @@ fn expect_differences(
     new: &Drawn,
     names: &[Vec<u8>],
 ) -> Result<(), Fail> {
-    let ending = differ_in_memory(alloc, None, &old.text, &new.text);
+    let ending = differ_in_memory(alloc, None, Witnesses::Least, &old.text, &new.text);
     for permission in Permission::ALL {
         let ask = Perms::NONE.with(permission);
         let front = sign_of(alloc, true, permission)?;
@@ -239,7 +239,7 @@ fn expect_pair(rt: &impl Abort, alloc: Global, seed: u64, names: &[Vec<u8>]) -> 
     let mut random = Random::new(seed);
     let old = Drawn::new(alloc, &mut random)?;
     let new = Drawn::new(alloc, &mut random)?;
-    let any = Asked::new(alloc, &mut random, Quantifier::Any)?;
+    let any = Asked::new(alloc, &mut random, Quantifier::Any(Witnesses::Least))?;
     expect_answer(rt, alloc, &old, &any, names)?;
     let all = Asked::new(alloc, &mut random, Quantifier::All)?;
     expect_answer(rt, alloc, &new, &all, names)?;

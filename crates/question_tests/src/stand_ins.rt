@@ -72,7 +72,11 @@ fn several_rules(rt: HostRuntime) -> Result<(), Fail> {
             &[&[1], &[1]],
         ),
         (b"/a/[bc] r, /a/b r, /a/c r,", &[(1, b"r")], &[&[2, 3]]),
-        (b"/a/c r, /a/d w, /a/[a-d] rw, /a/[ab] rwk,", &[(3, b"r")], &[&[1, 4]]),
+        (
+            b"/a/c r, /a/d w, /a/[a-d] rw, /a/[ab] rwk,",
+            &[(3, b"r")],
+            &[&[1, 4]],
+        ),
         (b"/a rw, /a r, /a w,", &[(1, b"rwa")], &[&[2, 3]]),
         (b"/a rw, /a r, /a w,", &[(1, b"w"), (1, b"k")], &[&[3], &[]]),
     ];
@@ -100,14 +104,26 @@ fn names_that_do_not_matter(rt: HostRuntime) -> Result<(), Fail> {
             &[(3, b"r")],
             &[&[1]],
         ),
-        (b"/a r, /a r, deny /* r,", &[(1, b"r"), (2, b"r")], &[&[], &[]]),
-        (b"deny /a r, deny /a r,", &[(1, b"r"), (2, b"r")], &[&[], &[]]),
+        (
+            b"/a r, /a r, deny /* r,",
+            &[(1, b"r"), (2, b"r")],
+            &[&[], &[]],
+        ),
+        (
+            b"deny /a r, deny /a r,",
+            &[(1, b"r"), (2, b"r")],
+            &[&[], &[]],
+        ),
         (
             b"deny /a/[bc] r, deny /a/[cd] r, /a/b r, deny /a/b r, deny /a/c r,",
             &[(4, b"r"), (2, b"r"), (5, b"r")],
             &[&[1], &[], &[]],
         ),
-        (b"/a r, /a w,", &[(3, b"r"), (0, b"r"), (1, b"w")], &[&[], &[], &[]]),
+        (
+            b"/a r, /a w,",
+            &[(3, b"r"), (0, b"r"), (1, b"w")],
+            &[&[], &[], &[]],
+        ),
     ];
     for (rules, cases, lists) in rows {
         expect_row(

@@ -6,11 +6,10 @@ ghost use Rattle.trace_questions.specs.Differences.{below_asked};
 ghost use Rattle.trace_report.specs.Streams.{IsTextOf};
 
 use named_texts::{LateText, NamedTexts};
-use question_answers::Witnesses;
 use std::alloc::Global;
 use std::io::{Read, Write};
-use trace_questions::differ;
-use trace_report::{Format, Status};
+use trace_questions::{Report, Witnesses, differ};
+use trace_report::Status;
 
 /// Which witnesses are wanted: one for each rule, or the least.
 pub(crate) fn witnesses_of(each_rule: bool) -> Witnesses
@@ -30,8 +29,7 @@ pub(crate) struct DiffLine<'a> {
     // None is standard input.
     pub(crate) new: Option<&'a str>,
     pub(crate) below: Option<&'a str>,
-    pub(crate) witnesses: Witnesses,
-    pub(crate) format: Format,
+    pub(crate) report: Report,
 }
 
 /// Compares two profiles, each of which is opened when it is read, and writes the answer to `answers`, or to `faults` why there is
@@ -44,7 +42,7 @@ pub(crate) fn diff<T: NamedTexts, R: Read, A: Write, F: Write>(
     answers: &mut A,
     faults: &mut F,
 ) -> Status
-    ensures output { (text : List ℕ) × IsTextOf (R.remaining input.old) text × DiffEnds line.format line.witnesses
+    ensures output { (text : List ℕ) × IsTextOf (R.remaining input.old) text × DiffEnds line.report
         (option_map (λ below. below.now) line.below) (T.known texts.now line.old.now)
         (text_named (T.known texts.now) text (option_map (λ new. new.now) line.new))
         (record {
@@ -62,9 +60,8 @@ pub(crate) fn diff<T: NamedTexts, R: Read, A: Write, F: Write>(
             let mut new = LateText::of(texts, name);
             differ(
                 alloc,
-                line.format,
-                line.witnesses,
                 line.below,
+                line.report,
                 &mut old,
                 &mut new,
                 answers,
@@ -73,9 +70,8 @@ pub(crate) fn diff<T: NamedTexts, R: Read, A: Write, F: Write>(
         }
         None => differ(
             alloc,
-            line.format,
-            line.witnesses,
             line.below,
+            line.report,
             &mut old,
             input,
             answers,
