@@ -40,10 +40,14 @@ abbrev pub idle_text : Option ℕ → List ℕ
 idle_text None = []
 idle_text (Some n) = codes "; rule " ++ decimal n ++ codes " decides nothing either: leave out one of them, not both"
 
+-- why, where there are no stand-ins: for a deny rule it was said
+abbrev pub unaided : RuleKind → List ℕ
+unaided Allow = codes " (a deny rule denies each of its names)"
+unaided Deny = []
+
 -- why, in parentheses
 abbrev pub why : List ℕ → List Span → RuleKind → List ℕ → Option ℕ → List ℕ
-why text spans Allow [] idle = codes " (a deny rule denies each of its names)"
-why text spans Deny [] idle = []
+why text spans kind [] idle = unaided kind
 why text spans kind (n ∷ stand_ins) idle = codes " (" ++ places text spans (n ∷ stand_ins) ++ work kind ++ idle_text idle ++ codes ")"
 
 -- `rule 5, line 6: w decides nothing: "/x" rw, (rule 4, line 5 allows each of its names, or a deny rule denies it)`, a line

@@ -1,7 +1,7 @@
 -- The parts of rules that decide nothing.
 use Rattle.std.specs.Prelude.{ℕ, ◌-◌, Bool, false, not, ◌&&◌, List, [], ◌∷◌, Option, Some, None, filter, flat_map, length, map, slice_get}
 use Rattle.std.specs.Prelude.{slice_index_or, if◌then◌else◌}
-use Rattle.std.specs.List.{list_all, range_with_len}
+use Rattle.std.specs.List.{list_all, list_any, range_with_len}
 use Rattle.std.specs.Option.{option_map_or}
 use Rattle.names.specs.Permissions.{all_permissions, has, held, only, set_of}
 use Rattle.names.specs.declared.permissions.Permission.{Permission}
@@ -27,7 +27,7 @@ decides_nothing decided = list_all (λ p. not (has decided p)) all_permissions
 
 -- nothing of these permissions is decided
 abbrev pub decides_none_of : Perms → Perms → Bool
-decides_none_of perms decided = list_all (λ p. not (has perms p && has decided p)) all_permissions
+decides_none_of perms decided = not (list_any (λ p. has perms p && has decided p) all_permissions)
 
 -- what a rule holds by one letter
 abbrev pub held_by : Permission → Perms

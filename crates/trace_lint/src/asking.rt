@@ -4,6 +4,7 @@ ghost use Rattle.profile_questions.specs.Faults.{IsQuestionFault};
 ghost use Rattle.rule_influence.specs.Influence.{AreDecided};
 ghost use Rattle.rule_influence.specs.StandIns.{AreStandIns};
 ghost use Rattle.rule_profile.specs.Profile.{RuleValue, profile_value};
+ghost use Rattle.rule_profile.specs.RuleSpans.{profile_spans};
 ghost use Rattle.trace_lint.specs.inner.Asking.{IsCompileRefusal, IsQuestionRefusal};
 
 use glob_automaton::CompileFault;
@@ -17,7 +18,8 @@ use trace_report::Fault;
 
 /// Compiles the rules of a profile in both orders.
 pub(crate) fn paired(alloc: Global, profile: Profile) -> Result<RulePair, Fault>
-    ensures ok { IfOk result (λ pair. pair ≡ (profile_value profile).rules) }
+    ensures rules { IfOk result (λ pair. pair.rules ≡ (profile_value profile).rules) }
+    ensures spans { IfOk result (λ pair. pair.spans ≡ profile_spans profile) }
     ensures err { IfErr result (IsCompileRefusal (profile_value profile).rules) }
 {
     match RulePair::of(alloc, profile) {
@@ -29,8 +31,8 @@ pub(crate) fn paired(alloc: Global, profile: Profile) -> Result<RulePair, Fault>
 
 /// What each rule decides.
 pub(crate) fn decided_by(alloc: Global, pair: &RulePair) -> Result<Vec<Perms>, Fault>
-    ensures ok { IfOk result (λ decided. AreDecided pair.now decided.items) }
-    ensures err { IfErr result (IsQuestionRefusal pair.now) }
+    ensures ok { IfOk result (λ decided. AreDecided pair.now.rules decided.items) }
+    ensures err { IfErr result (IsQuestionRefusal pair.now.rules) }
 {
     match decided(alloc, pair) {
         Ok(decided) => Ok(decided),
@@ -44,8 +46,8 @@ pub(crate) fn stand_ins_of(
     pair: &RulePair,
     cases: &[IdleCase],
 ) -> Result<Vec<Vec<u16>>, Fault>
-    ensures ok { IfOk result (λ lists. AreStandIns pair.now cases.now (map (λ list. list.items) lists.items)) }
-    ensures err { IfErr result (IsQuestionRefusal pair.now) }
+    ensures ok { IfOk result (λ lists. AreStandIns pair.now.rules cases.now (map (λ list. list.items) lists.items)) }
+    ensures err { IfErr result (IsQuestionRefusal pair.now.rules) }
 {
     if cases.is_empty() {
         return Ok(Vec::new(alloc));

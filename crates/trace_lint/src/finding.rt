@@ -3,6 +3,7 @@ ghost use Rattle.std.specs.Prelude.{◌≡◌, length};
 ghost use Rattle.trace_lint.specs.Findings.{first_idle};
 ghost use Rattle.trace_lint.specs.inner.Found.{AreNumbers, finding_value, found_of};
 
+use crate::deciding::decides_nothing;
 use names::{Permission, Perms};
 
 /// A rule, by its number from 1 on, or one of its letters.
@@ -43,7 +44,7 @@ fn first_idle(numbers: &[u16], decided: &[Perms]) -> Option<u16>
     ensures { result ≡ first_idle decided.now numbers.now }
 {
     for number in numbers {
-        if decided[usize::from(*number) - 1].is_empty() {
+        if decides_nothing(decided[usize::from(*number) - 1]) {
             return Some(*number);
         }
     }

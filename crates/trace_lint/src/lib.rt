@@ -5,6 +5,7 @@
 #![tactic(auto)]
 
 mod asking;
+mod deciding;
 mod finding;
 mod lines;
 mod linting;

@@ -2,7 +2,7 @@
 ghost use Rattle.std.specs.Prelude.{◌≡◌, ◌++◌, Some, IfOk, OnOk, flat_map, length, map};
 ghost use Rattle.rule_profile.specs.Profile.{profile_value};
 ghost use Rattle.rule_profile.specs.RuleSpans.{profile_spans};
-ghost use Rattle.trace_lint.specs.Lines.{finding_line, idle_text, said, why, work};
+ghost use Rattle.trace_lint.specs.Lines.{finding_line, idle_text, said, unaided, why, work};
 ghost use Rattle.trace_lint.specs.inner.Found.{AreNumbers, HaveNumbers, IsNumber, ListsHaveNumbers, all_found, finding_value};
 
 use crate::finding::{Finding, Part};
@@ -67,7 +67,7 @@ fn said(kind: RuleKind, stand_ins: &[u16]) -> &'static [u8]
     }
 }
 
-// Appends why a part decides nothing, in parentheses. For a deny rule that denies nothing that is allowed there is nothing to add.
+// Appends why a part decides nothing, in parentheses.
 fn put_why(
     line: &mut Vec<u8>,
     alloc: Global,
@@ -79,16 +79,24 @@ fn put_why(
     ensures { OnOk result (line.new.items ≡ line.old.items ++ why linted.now.text.now (profile_spans linted.now.profile.now) kind
         finding.entry.stand_ins.now finding.entry.idle) }
 {
-    match (kind, finding.stand_ins.is_empty()) {
-        (RuleKind::Deny, true) => Ok(()),
-        (RuleKind::Allow, true) => put(line, b" (a deny rule denies each of its names)"),
-        (_, false) => {
-            put(line, b" (")?;
-            linted.put_places(line, alloc, finding.stand_ins)?;
-            put(line, work(kind))?;
-            put_idle(line, alloc, finding.idle)?;
-            put(line, b")")
-        }
+    if finding.stand_ins.is_empty() {
+        return put(line, unaided(kind));
+    }
+    put(line, b" (")?;
+    linted.put_place(line, alloc, finding.stand_ins[0])?;
+    linted.put_others(line, alloc, &finding.stand_ins[1..])?;
+    put(line, work(kind))?;
+    put_idle(line, alloc, finding.idle)?;
+    put(line, b")")
+}
+
+// Why a part of a rule of this kind decides nothing where there are no stand-ins. For a deny rule it was said.
+fn unaided(kind: RuleKind) -> &'static [u8]
+    ensures { result.now ≡ unaided kind }
+{
+    match kind {
+        RuleKind::Allow => b" (a deny rule denies each of its names)",
+        RuleKind::Deny => b"",
     }
 }
 
@@ -116,7 +124,9 @@ fn put_idle(line: &mut Vec<u8>, alloc: Global, idle: Option<u16>) -> Result<(), 
 fn idle_text(alloc: Global, rule: u16) -> Result<Vec<u8>, NoMemory>
     ensures { IfOk result (λ text. text.items ≡ idle_text (Some rule)) }
 {
-    match format!(in alloc; "; rule {rule} decides nothing either: leave out one of them, not both") {
+    match format!(in alloc;
+        "; rule {rule} decides nothing either: leave out one of them, not both"
+    ) {
         Ok(text) => Ok(text.into_bytes()),
         Err(_) => Err(NoMemory),
     }

@@ -1,9 +1,10 @@
 //! `lint`: the rules that decide nothing.
-ghost use Rattle.std.specs.Prelude.{◌≡◌, ℕ, List};
+ghost use Rattle.std.specs.Prelude.{◌≡◌, ℕ, List, Ok};
 ghost use Rattle.rule_influence.specs.Influence.{AreDecided};
 ghost use Rattle.rule_reader.specs.Reading.{outcome_of};
+ghost use Rattle.rule_reader.specs.Spans.{spans_of};
 ghost use Rattle.trace_lint.specs.Linting.{IsLintOutput, IsLintOutputOf};
-ghost use Rattle.trace_lint.specs.inner.Asking.{IsAnswered};
+ghost use Rattle.trace_lint.specs.inner.Asking.{IsAnswered, profile_with};
 ghost use Rattle.trace_report.specs.Streams.{EndsAnswered, IsTextOf};
 
 use crate::asking::{decided_by, paired, stand_ins_of};
@@ -11,7 +12,7 @@ use crate::lines::lines;
 use crate::parts::{cases_of, idle_parts};
 use crate::texts::Linted;
 use names::{NoMemory, Perms};
-use rule_influence::{IdleCase, RulePair};
+use rule_influence::RulePair;
 use rule_reader::read;
 use std::alloc::Global;
 use std::io::{Read, Write};
@@ -66,6 +67,9 @@ fn answer_by(
     pair: &RulePair,
     decided: &[Perms],
 ) -> Result<Vec<u8>, Fault>
+    requires decided { AreDecided pair.now.rules decided.now }
+    requires spans { pair.now.spans ≡ spans_of text.now }
+    ensures { IsAnswered (IsLintOutputOf text.now (Ok (profile_with pair.now.rules))) result }
 {
     let profile = pair.rules().profile();
     let Ok(parts) = idle_parts(alloc, profile, decided) else {

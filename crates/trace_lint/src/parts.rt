@@ -4,6 +4,7 @@ ghost use Rattle.rule_profile.specs.Profile.{profile_value, rule_value};
 ghost use Rattle.trace_lint.specs.Parts.{case_of, held_by, idle_letters, idle_parts, parts_of_rule};
 ghost use Rattle.trace_lint.specs.inner.Found.{HaveNumbers, IsNumber};
 
+use crate::deciding::{decides_none_of, decides_nothing};
 use crate::finding::Part;
 use names::{NoMemory, Permission, Perms};
 use rule_influence::IdleCase;
@@ -35,7 +36,7 @@ fn put_parts(
 ) -> Result<(), NoMemory>
     ensures { OnOk result (parts.new.items ≡ parts.old.items ++ parts_of_rule rule letters decided) }
 {
-    if decided.is_empty() {
+    if decides_nothing(decided) {
         put(parts, Part { rule, letter: None })
     } else {
         put_letters(parts, rule, letters, decided)
@@ -53,7 +54,7 @@ fn put_letters(
         ≡ parts.old.items ++ map (λ letter. record { rule = rule; letter = Some letter }) (idle_letters letters decided)) }
 {
     for letter in Permission::ALL {
-        if letters.contains(letter) && !held_by(letter).intersects(decided) {
+        if letters.contains(letter) && decides_none_of(held_by(letter), decided) {
             put(
                 parts,
                 Part {

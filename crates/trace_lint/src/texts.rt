@@ -1,10 +1,10 @@
 //! The parts of lines.
-ghost use Rattle.std.specs.Prelude.{◌≡◌, ◌++◌, OnOk, length};
+ghost use Rattle.std.specs.Prelude.{◌≡◌, ◌++◌, OnOk, flat_map, length};
 ghost use Rattle.rule_explain.specs.Explanations.{rule_place, text_of_rule};
 ghost use Rattle.rule_profile.specs.Profile.{profile_value};
 ghost use Rattle.rule_profile.specs.RuleSpans.{profile_spans};
-ghost use Rattle.trace_lint.specs.Lines.{kind_of, letter_text, places};
-ghost use Rattle.trace_lint.specs.inner.Found.{AreNumbers, IsNumber};
+ghost use Rattle.trace_lint.specs.Lines.{kind_of, letter_text};
+ghost use Rattle.trace_lint.specs.inner.Found.{AreNumbers, IsNumber, or_place};
 
 use names::{NoMemory, Permission, RuleKind};
 use rule_explain::rule_place;
@@ -67,21 +67,19 @@ impl<'a> Linted<'a> {
         put(line, &write_rule(alloc, rule)?)
     }
 
-    /// Appends the places of rules, between `or`s.
-    pub(crate) fn put_places(
+    /// Appends the places of other rules, each after an `or`.
+    pub(crate) fn put_others(
         &self,
         line: &mut Vec<u8>,
         alloc: Global,
         numbers: &[u16],
     ) -> Result<(), NoMemory>
         requires { AreNumbers (length (profile_value self.now.profile.now).rules) numbers.now }
-        ensures { OnOk result (line.new.items
-            ≡ line.old.items ++ places self.now.text.now (profile_spans self.now.profile.now) numbers.now) }
+        ensures { OnOk result (line.new.items ≡ line.old.items
+            ++ flat_map (or_place self.now.text.now (profile_spans self.now.profile.now)) numbers.now) }
     {
-        for (index, number) in numbers.iter().enumerate() {
-            if index > 0 {
-                put(line, b" or ")?;
-            }
+        for number in numbers {
+            put(line, b" or ")?;
             self.put_place(line, alloc, *number)?;
         }
         Ok(())

@@ -6,12 +6,16 @@ use Rattle.glob_automaton.specs.Sets.{AreMoreThan}
 use Rattle.matcher.specs.declared.fault.MakeFault.TheVariants as making
 use Rattle.profile_questions.specs.Faults.{IsQuestionFault}
 use Rattle.profile_questions.specs.declared.fault.QuestionFault.TheVariants as question
-use Rattle.rule_globs.specs.Rules.{RuleValue}
+use Rattle.rule_globs.specs.Rules.{ProfileValue, RuleValue}
 use Rattle.trace_lint.specs.Linting.{answer_of}
 use Rattle.trace_report.specs.Fault.{IsFaultOfAnswer}
 use Rattle.trace_report.specs.Output.{Output}
 use Rattle.trace_report.specs.declared.fault.Fault.{Fault}
 use Rattle.trace_report.specs.declared.fault.Fault.TheVariants.{Compiling, Memory, Question}
+
+-- a profile that has these rules
+abbrev pub profile_with : List RuleValue → ProfileValue
+profile_with rules = record { name = []; rules = rules }
 
 -- too many states, or no memory
 abbrev pub IsCompileRefusal : List RuleValue → Fault → Type 0

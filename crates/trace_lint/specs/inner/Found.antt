@@ -1,8 +1,10 @@
 -- What is found, as it is kept: parts, and a list of stand-ins for each of them.
-use Rattle.std.specs.Prelude.{ℕ, ◌<◌, ◌≤◌, List, [], ◌∷◌, Vec, length, map}
+use Rattle.std.specs.Prelude.{ℕ, ◌≤◌, List, [], ◌∷◌, ◌++◌, Vec, codes}
 use Rattle.std.specs.declared.alloc.Global.{Global}
 use Rattle.std.specs.List.{All}
 use Rattle.names.specs.declared.permissions.Perms.{Perms}
+use Rattle.rule_explain.specs.Explanations.{rule_place}
+use Rattle.rule_profile.specs.declared.profile.Span.{Span}
 use Rattle.trace_lint.specs.Findings.{FindingValue, first_idle}
 use Rattle.trace_lint.specs.declared.finding.Finding.{Finding}
 use Rattle.trace_lint.specs.declared.finding.Part.{Part}
@@ -17,6 +19,10 @@ abbrev pub all_found : List Perms → List Part → List (List ℕ) → List Fin
 all_found decided [] lists = []
 all_found decided (part ∷ parts) [] = []
 all_found decided (part ∷ parts) (list ∷ lists) = found_of decided part list ∷ all_found decided parts lists
+
+-- ` or rule 7, line 8`
+abbrev pub or_place : List ℕ → List Span → ℕ → List ℕ
+or_place text spans n = codes " or " ++ rule_place text spans n
 
 -- the number is that of one of so many rules
 abbrev pub IsNumber : ℕ → ℕ → Type 0

@@ -1,0 +1,18 @@
+-- The rules are refused, or answered.
+use Rattle.rule_profile.specs.Profile.{profile_value}
+use Rattle.rule_reader.specs.Reading.{outcome_of}
+use Rattle.trace_lint.specs.Linting.{IsLintOutputOf}
+use Rattle.trace_lint.proofs.Written.{decided_refused, of_outcome, passed_on}
+use Rattle.trace_lint.proofs.linting.answer_on.Goals as goal
+
+pub returns-in_err-decided : goal.returns-in_err-decided
+returns-in_err-decided c =
+    passed_on (IsLintOutputOf c.args.text.now (outcome_of c.args.text.now)) c.from_residual-in_err-decided.result
+    c.in_err-decided.field-0.0 c.from_residual-in_err-decided.ensures.1
+    (decided_refused c.args.text.now (outcome_of c.args.text.now) (profile_value c.in_ok-profile.profile) c.in_ok-pair.pair.rules
+    c.in_err-decided.field-0.0 c.in_ok-profile.ensures.outcome c.in_ok-pair.ensures.rules c.in_err-decided.ensures.err)
+
+pub returns : goal.returns
+returns c =
+    of_outcome c.args.text.now (outcome_of c.args.text.now) (profile_value c.in_ok-profile.profile) c.in_ok-pair.pair.rules
+    c.answer_by.result c.in_ok-profile.ensures.outcome c.in_ok-pair.ensures.rules c.answer_by.ensures
