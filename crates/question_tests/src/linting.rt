@@ -2,14 +2,25 @@
 use std::alloc::Global;
 use std::process::Abort;
 use trace_lint::lint;
-use trace_report::Status;
+use trace_report::{Format, Status};
 
 // Whether just this is written about a profile with these rules: as an answer, or as a fault.
 fn expect(rt: &impl Abort, alloc: Global, text: &[u8], status: Status, lines: &[u8]) {
+    expect_in(rt, alloc, Format::Text, text, status, lines);
+}
+
+fn expect_in(
+    rt: &impl Abort,
+    alloc: Global,
+    format: Format,
+    text: &[u8],
+    status: Status,
+    lines: &[u8],
+) {
     let mut input = text;
     let mut answers = Vec::new(alloc);
     let mut faults = Vec::new(alloc);
-    let ended = lint(alloc, &mut input, &mut answers, &mut faults);
+    let ended = lint(alloc, format, &mut input, &mut answers, &mut faults);
     assert!(rt; ended == status);
     let answered = matches!(status, Status::Done | Status::Unmet);
     let (written, empty) = if answered {
@@ -115,4 +126,29 @@ fn texts_that_are_refused(rt: HostRuntime) {
         Status::Refused,
         b"refused: read 1 at 12\n",
     );
+}
+
+#[test]
+fn lines_of_json(rt: HostRuntime) {
+    let rows: [(&[u8], Status, &[u8]); 4] = [
+        (b"profile p {\n}\n", Status::Done, b""),
+        (
+            b"profile p {\n  /a rw,\n  /* w,\n}\n",
+            Status::Unmet,
+            b"{\"finding\":\"decides nothing\",\"permission\":\"w\",\"rule\":{\"line\":2,\"number\":1,\"text\":\"\\\"/a\\\" rw,\"},\"stand_ins\":[{\"line\":3,\"number\":2,\"text\":\"\\\"/*\\\" w,\"}]}\n",
+        ),
+        (
+            b"profile p {\n  deny /a r,\n  /b r,\n}\n",
+            Status::Unmet,
+            b"{\"finding\":\"denies nothing that is allowed\",\"permission\":null,\"rule\":{\"line\":2,\"number\":1,\"text\":\"deny \\\"/a\\\" r,\"},\"stand_ins\":[]}\n",
+        ),
+        (
+            b"profile p {\n",
+            Status::Refused,
+            b"refused: read 1 at 12\n",
+        ),
+    ];
+    for (text, status, lines) in rows {
+        expect_in(&rt, rt.alloc(), Format::Json, text, status, lines);
+    }
 }

@@ -1,5 +1,6 @@
 -- Stand-ins, as one representative after another is looked at, and what that says of all names.
-use Rattle.std.proofs.Common.{◌≡◌, ◌⊎◌, ◌↔◌, inl, inr, ⊎_elim, ℕ, ◌+◌, ◌<◌, ◌≤◌, List, [], Vec, Global, Some, Contains, length, reverse, get_or, refl}
+use Rattle.std.proofs.Common.{◌≡◌, ◌⊎◌, ◌↔◌, inl, inr, ⊎_elim, ℕ, ◌+◌, ◌<◌, ◌≤◌, List, [], Vec, Global, Some, Contains, length}
+use Rattle.std.proofs.Common.{reverse, get_or, refl}
 use Rattle.std.proofs.Common.{slice_get, replicate, sym, ap, ◌∙◌, subst, arith}
 use Rattle.std.proofs.lemmas.Bool.{cases_lt}
 use Rattle.std.proofs.lemmas.List.{get_or-replicate, length-map, length-replicate}
@@ -115,7 +116,8 @@ module _ (rules : List RuleValue) (names : List (List ℕ)) (cases : List IdleCa
       );
     }
 
-    module _ (records : Records) (least : IsLeastRecord rules name records.first) (other : IsLeastRecord (reverse rules) name records.second) where
+    module _ (records : Records) (least : IsLeastRecord rules name records.first)
+        (other : IsLeastRecord (reverse rules) name records.second) where
       -- nothing is to be added
       found_kept : (lists : List (Vec ℕ Global)) → ((i : ℕ) (idle : IdleCase) (n : ℕ) → slice_get cases i ≡ Some idle →
           IsAscending (list_at lists i) → IsCandidateFor rules idle records n → Contains (list_at lists i) n) →

@@ -193,7 +193,8 @@ module _ (rules : List RuleValue) (name : List ℕ) (records : Records) (least :
           (
             p,
             held_stands rule hit.1 p n both
-                ∙ subst (λ z. stand_in (length rules) idle.rule z (hits_of records.first p) (hits_of records.second p) ≡ n) (sym hit.2) there.0,
+                ∙ subst (λ z. stand_in (length rules) idle.rule z (hits_of records.first p) (hits_of records.second p) ≡ n) (sym hit.2)
+                there.0,
             there.1,
           ),
           hit.4,

@@ -50,7 +50,8 @@ impl<'a> Case<'a> {
     /// does.
     pub(crate) fn candidate(self, records: &Records, permission: Permission) -> u16
         requires { self.count < 65536 }
-        ensures { result ≡ candidate self.entry.count self.entry.number (rule_value self.entry.rule.now) self.entry.perms records.now permission }
+        ensures { result ≡ candidate self.entry.count self.entry.number (rule_value self.entry.rule.now) self.entry.perms records.now
+            permission }
     {
         if self.perms.contains(permission) && self.rule.perms().held().contains(permission) {
             let hits = records.first.of(permission);

@@ -5,4 +5,5 @@ pub mod LetterParts
 pub mod RuleParts
 pub mod AllFound
 pub mod Pieces
+pub mod FloatLaws
 pub mod Written

@@ -16,8 +16,7 @@ use Rattle.rule_profile.specs.declared.profile.Span.{Span}
 use Rattle.rule_reader.specs.Reading.{outcome_of}
 use Rattle.rule_reader.specs.Spans.{spans_of}
 use Rattle.rule_reader.specs.declared.fault.ReadFault.{ReadFault}
-use Rattle.trace_lint.specs.Lines.{finding_line}
-use Rattle.trace_lint.specs.Linting.{IsLinted, IsLintOutput, IsLintOutputOf, answer_of}
+use Rattle.trace_lint.specs.Linting.{IsLinted, IsLintOutput, IsLintOutputOf, answer_of, finding_in}
 use Rattle.trace_lint.specs.Parts.{case_of, idle_parts}
 use Rattle.trace_lint.specs.declared.finding.Part.{Part}
 use Rattle.trace_lint.specs.inner.Asking.{IsAnswered, IsCompileRefusal, IsQuestionRefusal, profile_with}
@@ -29,23 +28,24 @@ use Rattle.trace_report.specs.Streams.{EndsAnswered, Streams}
 use Rattle.trace_report.specs.declared.fault.Fault.{Fault}
 use Rattle.trace_report.specs.declared.fault.Fault.TheVariants.{Compiling, Image, Input, Memory, Name, Pattern}
 use Rattle.trace_report.specs.declared.fault.Fault.TheVariants.{Permissions, Question, Text}
+use Rattle.trace_report.specs.declared.format.Format.{Format}
 use Rattle.trace_report.specs.declared.status.Status.{Status}
 use Rattle.trace_report.specs.declared.status.Status.TheVariants.{BadArguments, Done, FaultsFailed, InputFailed, NoMemory, OutputFailed}
 use Rattle.trace_report.specs.declared.status.Status.TheVariants.{Refused, Unmet}
 
-pub linted : (text : List ℕ) (rules others : List RuleValue) (spans : List Span) (decided : List Perms) (parts : List Part)
+pub linted : (format : Format) (text : List ℕ) (rules others : List RuleValue) (spans : List Span) (decided : List Perms) (parts : List Part)
     (lists : List (List ℕ)) (lines : List ℕ) → others ≡ rules → spans ≡ spans_of text → AreDecided rules decided →
     parts ≡ idle_parts others decided → AreStandIns rules (map (case_of others) parts) lists →
-    lines ≡ flat_map (finding_line text others spans) (all_found decided parts lists) → IsLinted text rules (answer_of lines)
-linted text rules others spans decided parts lists lines same there are is stands e = (
+    lines ≡ flat_map (finding_in format text others spans) (all_found decided parts lists) → IsLinted format text rules (answer_of lines)
+linted format text rules others spans decided parts lists lines same there are is stands e = (
   decided,
   are,
   (
     all_found decided parts lists,
     are_findings decided rules parts lists (is ∙ ap (λ z. idle_parts z decided) same)
         (subst (λ (z : List RuleValue). AreStandIns rules (map (case_of z) parts) lists) same stands),
-    ap answer_of (e ∙ ap (λ z. flat_map (finding_line text z spans) (all_found decided parts lists)) same
-        ∙ ap (λ z. flat_map (finding_line text rules z) (all_found decided parts lists)) there),
+    ap answer_of (e ∙ ap (λ z. flat_map (finding_in format text z spans) (all_found decided parts lists)) same
+        ∙ ap (λ z. flat_map (finding_in format text rules z) (all_found decided parts lists)) there),
   ),
 )
 
@@ -87,19 +87,19 @@ module _ (Wanted : Output → Type 0) where
   question_refused rules Input h k = refused_by Input Question h.0 (k h.1)
 
 -- the rules of a profile that was read are all that counts
-pub of_outcome : (text : List ℕ) (outcome : Result ProfileValue ReadFault) (profile : ProfileValue) (rules : List RuleValue)
+pub of_outcome : (format : Format) (text : List ℕ) (outcome : Result ProfileValue ReadFault) (profile : ProfileValue) (rules : List RuleValue)
     (r : Result (Vec ℕ Global) Fault) → outcome ≡ Ok profile → rules ≡ profile.rules →
-    IsAnswered (IsLintOutputOf text (Ok (profile_with rules))) r → IsAnswered (IsLintOutputOf text outcome) r
-of_outcome text outcome profile rules r read same h =
-    subst (λ o. IsAnswered (IsLintOutputOf text o) r) (sym read)
-    (subst (λ (z : List RuleValue). IsAnswered (IsLintOutputOf text (Ok (profile_with z))) r) same h)
+    IsAnswered (IsLintOutputOf format text (Ok (profile_with rules))) r → IsAnswered (IsLintOutputOf format text outcome) r
+of_outcome format text outcome profile rules r read same h =
+    subst (λ o. IsAnswered (IsLintOutputOf format text o) r) (sym read)
+    (subst (λ (z : List RuleValue). IsAnswered (IsLintOutputOf format text (Ok (profile_with z))) r) same h)
 
-pub decided_refused : (text : List ℕ) (outcome : Result ProfileValue ReadFault) (profile : ProfileValue) (rules : List RuleValue)
+pub decided_refused : (format : Format) (text : List ℕ) (outcome : Result ProfileValue ReadFault) (profile : ProfileValue) (rules : List RuleValue)
     (f : Fault) → outcome ≡ Ok profile → rules ≡ profile.rules → IsQuestionRefusal rules f →
-    IsFaultOfAnswer (IsLintOutputOf text outcome) f
-decided_refused text outcome profile rules f read same h =
-    subst (λ o. IsFaultOfAnswer (IsLintOutputOf text o) f) (sym read)
-    (question_refused (IsLintOutputOf text (Ok profile)) profile.rules f (subst (λ (z : List RuleValue). IsQuestionRefusal z f) same h)
+    IsFaultOfAnswer (IsLintOutputOf format text outcome) f
+decided_refused format text outcome profile rules f read same h =
+    subst (λ o. IsFaultOfAnswer (IsLintOutputOf format text o) f) (sym read)
+    (question_refused (IsLintOutputOf format text (Ok profile)) profile.rules f (subst (λ (z : List RuleValue). IsQuestionRefusal z f) same h)
     (λ many. inl (inr (many, refl))))
 
 -- no lint reports bad arguments
@@ -110,16 +110,16 @@ answer_good (b ∷ lines) output e = rw e (λ bad. cc)
 refused_good : (text : List ℕ) (output : Output) → output ≡ fault text Refused → output.status ≡ BadArguments → ⊥
 refused_good text output e = rw e (λ bad. cc)
 
-pub of_good : (text : List ℕ) (outcome : Result ProfileValue ReadFault) → AreGood (IsLintOutputOf text outcome)
-of_good text (Err f) output e = refused_good (refusal f) output e
-of_good text (Ok profile) output (inl (inl h)) = refused_good (compile_refusal TooManyStates) output h.1
-of_good text (Ok profile) output (inl (inr h)) = refused_good question_refusal output h.1
-of_good text (Ok profile) output (inr h) = answer_good _ output h.2.2
+pub of_good : (format : Format) (text : List ℕ) (outcome : Result ProfileValue ReadFault) → AreGood (IsLintOutputOf format text outcome)
+of_good format text (Err f) output e = refused_good (refusal f) output e
+of_good format text (Ok profile) output (inl (inl h)) = refused_good (compile_refusal TooManyStates) output h.1
+of_good format text (Ok profile) output (inl (inr h)) = refused_good question_refusal output h.1
+of_good format text (Ok profile) output (inr h) = answer_good _ output h.2.2
 
 -- a text that wasn't read
-pub unread : (text : List ℕ) (f : Fault) → (f ≡ Input) ⊎ (f ≡ Memory) → IsFaultOfAnswer (IsLintOutput text) f
-unread text f (inr e) = subst (IsFaultOfAnswer (IsLintOutput text)) (sym e) tt
-unread text f (inl e) = subst (IsFaultOfAnswer (IsLintOutput text)) (sym e) (of_good text (outcome_of text))
+pub unread : (format : Format) (text : List ℕ) (f : Fault) → (f ≡ Input) ⊎ (f ≡ Memory) → IsFaultOfAnswer (IsLintOutput format text) f
+unread format text f (inr e) = subst (IsFaultOfAnswer (IsLintOutput format text)) (sym e) tt
+unread format text f (inl e) = subst (IsFaultOfAnswer (IsLintOutput format text)) (sym e) (of_good format text (outcome_of text))
 
 -- ---- endings
 
@@ -140,9 +140,9 @@ by_lines : (lines : List ℕ) (found : Bool) → found ≡ not (length lines == 
 by_lines [] found is = ap (finding []) is
 by_lines (b ∷ lines) found is = ap (finding (b ∷ lines)) (is ∙ ap not (ne_eqb (length (b ∷ lines)) 0 (λ e. omega (arith, e))))
 
-pub answered : (streams : Streams) (text lines bytes : List ℕ) (found : Bool) (status : Status) → bytes ≡ lines →
-    found ≡ not (length lines == 0) → IsLintOutput text (answer_of lines) → EndsAnswered streams (λ o. o ≡ finding bytes found) status →
-    EndsAnswered streams (IsLintOutput text) status
-answered streams text lines bytes found status e is of h =
-    one_of streams (IsLintOutput text) (answer_of lines) of (of_good text (outcome_of text)) status
+pub answered : (format : Format) (streams : Streams) (text lines bytes : List ℕ) (found : Bool) (status : Status) → bytes ≡ lines →
+    found ≡ not (length lines == 0) → IsLintOutput format text (answer_of lines) → EndsAnswered streams (λ o. o ≡ finding bytes found) status →
+    EndsAnswered streams (IsLintOutput format text) status
+answered format streams text lines bytes found status e is of h =
+    one_of streams (IsLintOutput format text) (answer_of lines) of (of_good format text (outcome_of text)) status
     (subst (λ (o : Output). EndsAnswered streams (λ z. z ≡ o) status) (ap (λ z. finding z found) e ∙ by_lines lines found is) h)

@@ -1,5 +1,6 @@
 pub mod Parts
 pub mod Findings
 pub mod Lines
+pub mod Values
 pub mod Linting
 pub mod inner

@@ -1,5 +1,6 @@
--- What `lint` writes, memory and failures of the streams aside.
+-- What `lint` writes in either format, memory and failures of the streams aside.
 use Rattle.std.specs.Prelude.{◌≡◌, ◌⊎◌, ℕ, true, false, List, [], ◌∷◌, Result, Ok, Err, flat_map}
+use Rattle.answer_json.specs.Lines.{json_line}
 use Rattle.glob_automaton.specs.Automata.{most_sets}
 use Rattle.glob_automaton.specs.Sets.{AreMoreThan}
 use Rattle.matcher.specs.declared.fault.MakeFault.TheVariants.{TooManyStates}
@@ -11,9 +12,13 @@ use Rattle.rule_influence.specs.Influence.{AreDecided}
 use Rattle.rule_reader.specs.Reading.{outcome_of}
 use Rattle.rule_reader.specs.Spans.{spans_of}
 use Rattle.rule_reader.specs.declared.fault.ReadFault.{ReadFault}
+use Rattle.rule_profile.specs.declared.profile.Span.{Span}
 use Rattle.trace_lint.specs.Findings.{AreFindings, FindingValue}
 use Rattle.trace_lint.specs.Lines.{finding_line}
+use Rattle.trace_lint.specs.Values.{finding_object}
 use Rattle.trace_report.specs.Output.{Output, compile_refusal, fault, finding, question_refusal, refusal}
+use Rattle.trace_report.specs.declared.format.Format.{Format}
+use Rattle.trace_report.specs.declared.format.Format.TheVariants.{Text, Json}
 use Rattle.trace_report.specs.declared.status.Status.TheVariants.{Refused}
 
 -- what is written where the rules have too many states, or names have too many sets of live places
@@ -26,17 +31,22 @@ abbrev pub answer_of : List ℕ → Output
 answer_of [] = finding [] false
 answer_of (b ∷ lines) = finding (b ∷ lines) true
 
+-- what is found about a part, as a line
+abbrev pub finding_in : Format → List ℕ → List RuleValue → List Span → FindingValue → List ℕ
+finding_in Text text rules spans f = finding_line text rules spans f
+finding_in Json text rules spans f = json_line (finding_object text rules spans f)
+
 -- a line for each part of a rule that decides nothing, by the permissions that each rule decides
-abbrev pub IsLinted : List ℕ → List RuleValue → Output → Type 0
-IsLinted text rules output = (decided : List Perms) × AreDecided rules decided
+abbrev pub IsLinted : Format → List ℕ → List RuleValue → Output → Type 0
+IsLinted format text rules output = (decided : List Perms) × AreDecided rules decided
     × ((findings : List FindingValue) × AreFindings rules decided findings
-    × (output ≡ answer_of (flat_map (finding_line text rules (spans_of text)) findings)))
+    × (output ≡ answer_of (flat_map (finding_in format text rules (spans_of text)) findings)))
 
 -- on a text that was read, or that is refused
-abbrev pub IsLintOutputOf : List ℕ → Result ProfileValue ReadFault → Output → Type 0
-IsLintOutputOf text (Err f) output = output ≡ fault (refusal f) Refused
-IsLintOutputOf text (Ok profile) output = IsRefused profile.rules output ⊎ IsLinted text profile.rules output
+abbrev pub IsLintOutputOf : Format → List ℕ → Result ProfileValue ReadFault → Output → Type 0
+IsLintOutputOf format text (Err f) output = output ≡ fault (refusal f) Refused
+IsLintOutputOf format text (Ok profile) output = IsRefused profile.rules output ⊎ IsLinted format text profile.rules output
 
 -- what `lint` writes on a text
-abbrev pub IsLintOutput : List ℕ → Output → Type 0
-IsLintOutput text output = IsLintOutputOf text (outcome_of text) output
+abbrev pub IsLintOutput : Format → List ℕ → Output → Type 0
+IsLintOutput format text output = IsLintOutputOf format text (outcome_of text) output

@@ -11,5 +11,6 @@ mod lines;
 mod linting;
 mod parts;
 mod texts;
+mod values;
 
 pub use linting::lint;

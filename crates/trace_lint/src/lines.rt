@@ -1,18 +1,23 @@
-//! What is found, as lines of text.
+//! What is found, as lines: of text, or of JSON.
 ghost use Rattle.std.specs.Prelude.{◌≡◌, ◌++◌, Some, IfOk, OnOk, flat_map, length, map};
 ghost use Rattle.rule_profile.specs.Profile.{profile_value};
 ghost use Rattle.rule_profile.specs.RuleSpans.{profile_spans};
 ghost use Rattle.trace_lint.specs.Lines.{finding_line, idle_text, said, unaided, why, work};
+ghost use Rattle.trace_lint.specs.Linting.{finding_in};
 ghost use Rattle.trace_lint.specs.inner.Found.{AreNumbers, HaveNumbers, IsNumber, ListsHaveNumbers, all_found, finding_value};
 
 use crate::finding::{Finding, Part};
 use crate::texts::{Linted, put, put_letter};
+use crate::values::finding_object;
+use answer_json::json_line;
 use names::{NoMemory, Perms, RuleKind};
 use std::alloc::Global;
+use trace_report::Format;
 
 /// A line for each part that decides nothing, by its stand-ins and by what each rule decides.
 pub(crate) fn lines(
     alloc: Global,
+    format: Format,
     linted: &Linted<'_>,
     decided: &[Perms],
     parts: &[Part],
@@ -23,15 +28,37 @@ pub(crate) fn lines(
     requires parts { HaveNumbers (length (profile_value linted.now.profile.now).rules) parts.now }
     requires lists { ListsHaveNumbers (length (profile_value linted.now.profile.now).rules) lists.now }
     ensures { IfOk result (λ lines. lines.items
-        ≡ flat_map (finding_line linted.now.text.now (profile_value linted.now.profile.now).rules
+        ≡ flat_map (finding_in format linted.now.text.now (profile_value linted.now.profile.now).rules
         (profile_spans linted.now.profile.now)) (all_found decided.now parts.now (map (λ list. list.items) lists.now))) }
 {
     let mut lines = Vec::new(alloc);
     for index in 0..parts.len() {
         let finding = Finding::of(parts[index], &lists[index], decided);
-        put_line(&mut lines, alloc, linted, finding)?;
+        put_finding(&mut lines, alloc, format, linted, finding)?;
     }
     Ok(lines)
+}
+
+// Appends what is found, as a line.
+fn put_finding(
+    line: &mut Vec<u8>,
+    alloc: Global,
+    format: Format,
+    linted: &Linted<'_>,
+    finding: Finding<'_>,
+) -> Result<(), NoMemory>
+    requires rule { IsNumber (length (profile_value linted.now.profile.now).rules) finding.part.rule }
+    requires stand_ins { AreNumbers (length (profile_value linted.now.profile.now).rules) finding.stand_ins.now }
+    ensures { OnOk result (line.new.items ≡ line.old.items ++ finding_in format linted.now.text.now
+        (profile_value linted.now.profile.now).rules (profile_spans linted.now.profile.now) (finding_value finding.entry)) }
+{
+    match format {
+        Format::Text => put_line(line, alloc, linted, finding),
+        Format::Json => {
+            let value = finding_object(alloc, linted, finding)?;
+            put(line, &json_line(alloc, &value)?)
+        }
+    }
 }
 
 // Appends the line of what is found.

@@ -16,13 +16,14 @@ use rule_influence::RulePair;
 use rule_reader::read;
 use std::alloc::Global;
 use std::io::{Read, Write};
-use trace_report::{Fault, Status, fail, read_all, write_finding};
+use trace_report::{Fault, Format, Status, fail, read_all, write_finding};
 
 /// Reads a profile from `input` and writes to `answers` a line for each rule that decides nothing, and for each letter that decides
 /// nothing of a rule that decides something: where the rule is, its text, and which rules do its work. Nothing is written where
-/// there is no such rule. Faults are reported on `faults` instead.
+/// there is no such rule. In JSON each line is an object with a rule, its letter or `null`, and the stand-ins. Faults are reported on `faults` instead.
 pub fn lint<R: Read, A: Write, F: Write>(
     alloc: Global,
+    format: Format,
     input: &mut R,
     answers: &mut A,
     faults: &mut F,
@@ -34,42 +35,43 @@ pub fn lint<R: Read, A: Write, F: Write>(
           faults_before = F.contents faults.old;
           faults_after = F.contents faults.new;
         })
-        (IsLintOutput text) result }
+        (IsLintOutput format text) result }
 {
-    match answer(alloc, input) {
+    match answer(alloc, format, input) {
         Ok(lines) => write_finding(answers, faults, &lines, !lines.is_empty()),
         Err(fault) => fail(faults, fault, fault.status()),
     }
 }
 
 // The lines, or why there are none.
-fn answer<R: Read>(alloc: Global, input: &mut R) -> Result<Vec<u8>, Fault>
-    ensures { (text : List ℕ) × IsTextOf (R.remaining input.old) text × IsAnswered (IsLintOutput text) result }
+fn answer<R: Read>(alloc: Global, format: Format, input: &mut R) -> Result<Vec<u8>, Fault>
+    ensures { (text : List ℕ) × IsTextOf (R.remaining input.old) text × IsAnswered (IsLintOutput format text) result }
 {
     let text = read_all(alloc, input)?;
-    answer_on(alloc, &text)
+    answer_on(alloc, format, &text)
 }
 
 // The lines about a text.
-fn answer_on(alloc: Global, text: &[u8]) -> Result<Vec<u8>, Fault>
-    ensures { IsAnswered (IsLintOutputOf text.now (outcome_of text.now)) result }
+fn answer_on(alloc: Global, format: Format, text: &[u8]) -> Result<Vec<u8>, Fault>
+    ensures { IsAnswered (IsLintOutputOf format text.now (outcome_of text.now)) result }
 {
     let profile = read(alloc, text)?;
     let pair = paired(alloc, profile)?;
     let decided = decided_by(alloc, &pair)?;
-    answer_by(alloc, text, &pair, &decided)
+    answer_by(alloc, format, text, &pair, &decided)
 }
 
 // The lines about a text by what its rules decide.
 fn answer_by(
     alloc: Global,
+    format: Format,
     text: &[u8],
     pair: &RulePair,
     decided: &[Perms],
 ) -> Result<Vec<u8>, Fault>
     requires decided { AreDecided pair.now.rules decided.now }
     requires spans { pair.now.spans ≡ spans_of text.now }
-    ensures { IsAnswered (IsLintOutputOf text.now (Ok (profile_with pair.now.rules))) result }
+    ensures { IsAnswered (IsLintOutputOf format text.now (Ok (profile_with pair.now.rules))) result }
 {
     let profile = pair.rules().profile();
     let Ok(parts) = idle_parts(alloc, profile, decided) else {
@@ -80,7 +82,7 @@ fn answer_by(
     };
     let lists = stand_ins_of(alloc, pair, &cases)?;
     let linted = Linted { text, profile };
-    match lines(alloc, &linted, decided, &parts, &lists) {
+    match lines(alloc, format, &linted, decided, &parts, &lists) {
         Ok(lines) => Ok(lines),
         Err(NoMemory) => Err(Fault::Memory),
     }

@@ -6,5 +6,6 @@ use Rattle.rule_influence.proofs.standing.note_case.Given as goal
 
 abbrev pub invariant-loop-permission : goal.invariant-loop-permission
 invariant-loop-permission l = record {
-  added : IsAscending l.initial.list.items → AreAdded (IsAtBefore l.case l.records l.name l.permission-index) l.initial.list.items l.list.items;
+  added : IsAscending l.initial.list.items → AreAdded (IsAtBefore l.case l.records l.name l.permission-index)
+      l.initial.list.items l.list.items;
 }

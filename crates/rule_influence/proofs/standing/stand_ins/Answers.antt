@@ -33,7 +33,8 @@ none_missing lists same cases records rules others is are all =
 
 pub loop-index-init : goal.loop-index-init
 loop-index-init c = record {
-  found = found_first c.args.pair.now.rules c.comparison.inside.visits.names c.args.cases.now c.in-Ok.lists.items (length c.args.cases.now) refl
+  found = found_first c.args.pair.now.rules c.comparison.inside.visits.names c.args.cases.now c.in-Ok.lists.items
+      (length c.args.cases.now) refl
       c.in-Ok.ensures;
 }
 
@@ -52,9 +53,11 @@ loop-index-preserved c =
           c.match-records.lists.items) (sym names)
           (elim c.match-records.branch [
             | in-Some+then-some_missing+in-Ok-name+in-Ok-note_name w ↦
-                let noted : AreNotedAt c.args.pair.now.rules c.args.cases.now w.in-Some.records w.in-Ok-name.name.items c.loop-index.lists.items
+                let noted : AreNotedAt c.args.pair.now.rules c.args.cases.now w.in-Some.records w.in-Ok-name.name.items
+                c.loop-index.lists.items
                 w.note_name.new.lists =
-                subst (λ (z : List (Vec ℕ Global)). AreNotedAt c.args.pair.now.rules c.args.cases.now w.in-Some.records w.in-Ok-name.name.items z
+                subst (λ (z : List (Vec ℕ Global)). AreNotedAt c.args.pair.now.rules c.args.cases.now w.in-Some.records
+                w.in-Ok-name.name.items z
                 w.note_name.new.lists) w.deref_mut.ensures.value
                 (subst (λ (z : List ℕ). AreNotedAt c.args.pair.now.rules c.args.cases.now w.in-Some.records z w.deref_mut.result.now
                 w.note_name.new.lists) w.deref-then-some_missing.ensures.value

@@ -3,7 +3,7 @@ use Rattle.std.proofs.Common.{◌≡◌, ◌∙◌, ◌<◌, ◌≤◌, ℕ, Lis
 use Rattle.std.proofs.lemmas.List.{get_or-map, length-map}
 use Rattle.rule_profile.specs.Profile.{profile_value}
 use Rattle.rule_profile.specs.RuleSpans.{profile_spans}
-use Rattle.trace_lint.specs.Lines.{finding_line}
+use Rattle.trace_lint.specs.Linting.{finding_in}
 use Rattle.trace_lint.specs.inner.Found.{finding_value, found_of}
 use Rattle.trace_lint.proofs.AllFound.{line_all, line_more}
 use Rattle.trace_lint.proofs.lines.lines.Goals as goal
@@ -16,16 +16,16 @@ loop-index-preserved c =
     let list : c.deref.result.now ≡ get_or lists c.loop-index.index [] =
     c.deref.ensures.value ∙ ap (λ (z : Vec ℕ Global). z.items) c.index-lists-index.is
     ∙ sym (get_or-map (λ (list : Vec ℕ Global). list.items) c.args.lists.now c.loop-index.index c.index-lists-index.result [] within) in
-    line_more c.args.decided.now (finding_line c.args.linted.now.text.now (profile_value c.args.linted.now.profile.now).rules
+    line_more c.args.decided.now (finding_in c.args.format c.args.linted.now.text.now (profile_value c.args.linted.now.profile.now).rules
     (profile_spans c.args.linted.now.profile.now)) c.args.parts.now lists c.loop-index.index _ [] (finding_value c.of-finding.result)
-    c.loop-index.lines.items c.put_line.new.line.items c.loop-index-test.true (omega (arith, within, long))
+    c.loop-index.lines.items c.put_finding.new.line.items c.loop-index-test.true (omega (arith, within, long))
     (c.of-finding.ensures ∙ ap (found_of c.args.decided.now _) list)
-    c.loop-index.invariant c.in_ok-put_line.ensures
+    c.loop-index.invariant c.in_ok-put_finding.ensures
 
 pub returns : goal.returns
 returns c =
     let lists = map (λ (list : Vec ℕ Global). list.items) c.args.lists.now in
-    line_all c.args.decided.now (finding_line c.args.linted.now.text.now (profile_value c.args.linted.now.profile.now).rules
+    line_all c.args.decided.now (finding_in c.args.format c.args.linted.now.text.now (profile_value c.args.linted.now.profile.now).rules
     (profile_spans c.args.linted.now.profile.now)) c.args.parts.now lists c.loop-index.index c.loop-index.lines.items
     c.loop-index-test.false
     (omega (arith, c.loop-index-test.false, c.requires.each, length-map c.args.lists.now (λ (list : Vec ℕ Global). list.items)))

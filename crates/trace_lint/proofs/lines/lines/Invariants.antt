@@ -3,11 +3,11 @@ use Rattle.std.proofs.Common.{◌≡◌, map, take}
 use Rattle.std.specs.List.{flat_map}
 use Rattle.rule_profile.specs.Profile.{profile_value}
 use Rattle.rule_profile.specs.RuleSpans.{profile_spans}
-use Rattle.trace_lint.specs.Lines.{finding_line}
+use Rattle.trace_lint.specs.Linting.{finding_in}
 use Rattle.trace_lint.specs.inner.Found.{all_found}
 use Rattle.trace_lint.proofs.lines.lines.Given as goal
 
 abbrev pub invariant-loop-index : goal.invariant-loop-index
 invariant-loop-index l =
-    l.lines.items ≡ flat_map (finding_line l.linted.text.now (profile_value l.linted.profile.now).rules
+    l.lines.items ≡ flat_map (finding_in l.format l.linted.text.now (profile_value l.linted.profile.now).rules
     (profile_spans l.linted.profile.now)) (all_found l.decided (take l.index l.parts) (take l.index (map (λ list. list.items) l.lists)))

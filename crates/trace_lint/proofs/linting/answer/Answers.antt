@@ -9,6 +9,6 @@ returns-in_err-text g c =
     let text = text_of (g.R.Read.remaining c.args.input.now) in (
       text.0,
       text.1,
-      passed_on (IsLintOutput text.0) c.from_residual.result c.in_err-text.field-0.0 c.from_residual.ensures.1
-          (unread text.0 c.in_err-text.field-0.0 c.in_err-text.ensures),
+      passed_on (IsLintOutput c.args.format text.0) c.from_residual.result c.in_err-text.field-0.0 c.from_residual.ensures.1
+          (unread c.args.format text.0 c.in_err-text.field-0.0 c.in_err-text.ensures),
     )

@@ -7,12 +7,12 @@ use Rattle.trace_lint.proofs.linting.answer_on.Goals as goal
 
 pub returns-in_err-decided : goal.returns-in_err-decided
 returns-in_err-decided c =
-    passed_on (IsLintOutputOf c.args.text.now (outcome_of c.args.text.now)) c.from_residual-in_err-decided.result
+    passed_on (IsLintOutputOf c.args.format c.args.text.now (outcome_of c.args.text.now)) c.from_residual-in_err-decided.result
     c.in_err-decided.field-0.0 c.from_residual-in_err-decided.ensures.1
-    (decided_refused c.args.text.now (outcome_of c.args.text.now) (profile_value c.in_ok-profile.profile) c.in_ok-pair.pair.rules
+    (decided_refused c.args.format c.args.text.now (outcome_of c.args.text.now) (profile_value c.in_ok-profile.profile) c.in_ok-pair.pair.rules
     c.in_err-decided.field-0.0 c.in_ok-profile.ensures.outcome c.in_ok-pair.ensures.rules c.in_err-decided.ensures.err)
 
 pub returns : goal.returns
 returns c =
-    of_outcome c.args.text.now (outcome_of c.args.text.now) (profile_value c.in_ok-profile.profile) c.in_ok-pair.pair.rules
+    of_outcome c.args.format c.args.text.now (outcome_of c.args.text.now) (profile_value c.in_ok-profile.profile) c.in_ok-pair.pair.rules
     c.answer_by.result c.in_ok-profile.ensures.outcome c.in_ok-pair.ensures.rules c.answer_by.ensures
