@@ -1,9 +1,8 @@
 -- Pieces of a line, appended one by one.
-use Rattle.std.proofs.Common.{◌≡◌, ℕ, ◌-◌, ◌<◌, List, [], ◌∷◌, ◌++◌, length, get_or, drop, append_assoc, refl, sym, ap, ◌∙◌, arith}
+use Rattle.std.proofs.Common.{◌≡◌, ℕ, ◌<◌, List, [], ◌∷◌, ◌++◌, length, get_or, drop, append_assoc, refl, ap, ◌∙◌, arith}
 use Rattle.std.specs.Prelude.{codes}
 use Rattle.std.specs.List.{flat_map}
 use Rattle.names.specs.declared.kind.RuleKind.{RuleKind}
-use Rattle.names.specs.declared.kind.RuleKind.TheVariants.{Allow, Deny}
 use Rattle.std.specs.Prelude.{Option}
 use Rattle.rule_explain.specs.Explanations.{rule_place}
 use Rattle.rule_profile.specs.declared.profile.Span.{Span}

@@ -1,5 +1,5 @@
 -- Tests of sets of permissions.
-use Rattle.std.proofs.Common.{◌≡◌, ◌↔◌, Bool, true, false, not, IsTrue, refl, sym, ap, ◌∙◌}
+use Rattle.std.proofs.Common.{◌≡◌, ◌↔◌, Bool, true, false, not, IsTrue, refl, sym, ap}
 use Rattle.std.proofs.lemmas.Bool.{not-true, not_from_false}
 use Rattle.names.proofs.PermsLaws.{all_pass, each_passes, shares_by_any}
 use Rattle.names.specs.Permissions.{Shares, has}

@@ -1,5 +1,5 @@
 -- The rule at the index decides something, or it is the first that doesn't.
-use Rattle.std.proofs.Common.{◌∙◌, ℕ, sym}
+use Rattle.std.proofs.Common.{◌∙◌, sym}
 use Rattle.trace_lint.specs.Parts.{decided_by, decides_nothing}
 use Rattle.trace_lint.proofs.FirstIdle.{first_here, none_more, test_of}
 use Rattle.trace_lint.proofs.finding.first_idle.Goals as goal

@@ -1,5 +1,5 @@
 -- The line of one part more.
-use Rattle.std.proofs.Common.{◌≡◌, ◌∙◌, ◌<◌, ◌≤◌, ℕ, List, [], Vec, Global, map, get_or, length, ap, sym, arith}
+use Rattle.std.proofs.Common.{◌≡◌, ◌∙◌, ◌<◌, ℕ, [], Vec, Global, map, get_or, length, ap, sym, arith}
 use Rattle.std.proofs.lemmas.List.{get_or-map, length-map}
 use Rattle.rule_profile.specs.Profile.{profile_value}
 use Rattle.rule_profile.specs.RuleSpans.{profile_spans}

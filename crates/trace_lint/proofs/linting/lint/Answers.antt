@@ -1,5 +1,5 @@
 -- The lines are written, or a fault is reported.
-use Rattle.std.proofs.Common.{◌≡◌, ◌∙◌, ◌==◌, ap, not}
+use Rattle.std.proofs.Common.{◌∙◌, ◌==◌, ap, not}
 use Rattle.trace_lint.proofs.Written.{answered}
 use Rattle.trace_report.proofs.Endings.{answered_told}
 use Rattle.trace_lint.proofs.linting.lint.Goals as goal
