@@ -33,8 +33,8 @@ use Rattle.trace_report.specs.declared.status.Status.{Status}
 use Rattle.trace_report.specs.declared.status.Status.TheVariants.{BadArguments, Done, FaultsFailed, InputFailed, NoMemory, OutputFailed}
 use Rattle.trace_report.specs.declared.status.Status.TheVariants.{Refused, Unmet}
 
-pub linted : (format : Format) (text : List ℕ) (rules others : List RuleValue) (spans : List Span) (decided : List Perms) (parts : List Part)
-    (lists : List (List ℕ)) (lines : List ℕ) → others ≡ rules → spans ≡ spans_of text → AreDecided rules decided →
+pub linted : (format : Format) (text : List ℕ) (rules others : List RuleValue) (spans : List Span) (decided : List Perms)
+    (parts : List Part) (lists : List (List ℕ)) (lines : List ℕ) → others ≡ rules → spans ≡ spans_of text → AreDecided rules decided →
     parts ≡ idle_parts others decided → AreStandIns rules (map (case_of others) parts) lists →
     lines ≡ flat_map (finding_in format text others spans) (all_found decided parts lists) → IsLinted format text rules (answer_of lines)
 linted format text rules others spans decided parts lists lines same there are is stands e = (
@@ -87,19 +87,22 @@ module _ (Wanted : Output → Type 0) where
   question_refused rules Input h k = refused_by Input Question h.0 (k h.1)
 
 -- the rules of a profile that was read are all that counts
-pub of_outcome : (format : Format) (text : List ℕ) (outcome : Result ProfileValue ReadFault) (profile : ProfileValue) (rules : List RuleValue)
+pub of_outcome : (format : Format) (text : List ℕ) (outcome : Result ProfileValue ReadFault) (profile : ProfileValue)
+    (rules : List RuleValue)
     (r : Result (Vec ℕ Global) Fault) → outcome ≡ Ok profile → rules ≡ profile.rules →
     IsAnswered (IsLintOutputOf format text (Ok (profile_with rules))) r → IsAnswered (IsLintOutputOf format text outcome) r
 of_outcome format text outcome profile rules r read same h =
     subst (λ o. IsAnswered (IsLintOutputOf format text o) r) (sym read)
     (subst (λ (z : List RuleValue). IsAnswered (IsLintOutputOf format text (Ok (profile_with z))) r) same h)
 
-pub decided_refused : (format : Format) (text : List ℕ) (outcome : Result ProfileValue ReadFault) (profile : ProfileValue) (rules : List RuleValue)
+pub decided_refused : (format : Format) (text : List ℕ) (outcome : Result ProfileValue ReadFault) (profile : ProfileValue)
+    (rules : List RuleValue)
     (f : Fault) → outcome ≡ Ok profile → rules ≡ profile.rules → IsQuestionRefusal rules f →
     IsFaultOfAnswer (IsLintOutputOf format text outcome) f
 decided_refused format text outcome profile rules f read same h =
     subst (λ o. IsFaultOfAnswer (IsLintOutputOf format text o) f) (sym read)
-    (question_refused (IsLintOutputOf format text (Ok profile)) profile.rules f (subst (λ (z : List RuleValue). IsQuestionRefusal z f) same h)
+    (question_refused (IsLintOutputOf format text (Ok profile)) profile.rules f
+    (subst (λ (z : List RuleValue). IsQuestionRefusal z f) same h)
     (λ many. inl (inr (many, refl))))
 
 -- no lint reports bad arguments
@@ -141,7 +144,8 @@ by_lines [] found is = ap (finding []) is
 by_lines (b ∷ lines) found is = ap (finding (b ∷ lines)) (is ∙ ap not (ne_eqb (length (b ∷ lines)) 0 (λ e. omega (arith, e))))
 
 pub answered : (format : Format) (streams : Streams) (text lines bytes : List ℕ) (found : Bool) (status : Status) → bytes ≡ lines →
-    found ≡ not (length lines == 0) → IsLintOutput format text (answer_of lines) → EndsAnswered streams (λ o. o ≡ finding bytes found) status →
+    found ≡ not (length lines == 0) → IsLintOutput format text (answer_of lines) →
+    EndsAnswered streams (λ o. o ≡ finding bytes found) status →
     EndsAnswered streams (IsLintOutput format text) status
 answered format streams text lines bytes found status e is of h =
     one_of streams (IsLintOutput format text) (answer_of lines) of (of_good format text (outcome_of text)) status

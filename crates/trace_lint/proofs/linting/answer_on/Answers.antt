@@ -9,8 +9,9 @@ pub returns-in_err-decided : goal.returns-in_err-decided
 returns-in_err-decided c =
     passed_on (IsLintOutputOf c.args.format c.args.text.now (outcome_of c.args.text.now)) c.from_residual-in_err-decided.result
     c.in_err-decided.field-0.0 c.from_residual-in_err-decided.ensures.1
-    (decided_refused c.args.format c.args.text.now (outcome_of c.args.text.now) (profile_value c.in_ok-profile.profile) c.in_ok-pair.pair.rules
-    c.in_err-decided.field-0.0 c.in_ok-profile.ensures.outcome c.in_ok-pair.ensures.rules c.in_err-decided.ensures.err)
+    (decided_refused c.args.format c.args.text.now (outcome_of c.args.text.now) (profile_value c.in_ok-profile.profile)
+    c.in_ok-pair.pair.rules c.in_err-decided.field-0.0
+    c.in_ok-profile.ensures.outcome c.in_ok-pair.ensures.rules c.in_err-decided.ensures.err)
 
 pub returns : goal.returns
 returns c =

@@ -9,7 +9,8 @@ returns-in-Ok g c =
     let read = c.in-Ok.ensures in (
       read.0,
       read.1,
-      answered c.args.format _ read.0 c.in-Ok.lines.items _ _ c.write_finding.result c.deref.ensures.value (ap not (c.is_empty.ensures ∙ ap (λ z. z == 0) c.in-Ok.lines.ok.0)) read.2 c.write_finding.ensures,
+      answered c.args.format _ read.0 c.in-Ok.lines.items _ _ c.write_finding.result c.deref.ensures.value
+          (ap not (c.is_empty.ensures ∙ ap (λ z. z == 0) c.in-Ok.lines.ok.0)) read.2 c.write_finding.ensures,
     )
 
 pub returns-in-Err : goal.returns-in-Err
