@@ -1,7 +1,6 @@
 -- Arguments that are bad, input that failed, and good arguments.
 use Rattle.std.proofs.Common.{◌≡◌, ◌≢◌, ◌⊎◌, inl, inr, ℕ, Bool, true, false, List, [], ◌∷◌, Result, Ok, Err, refl, sym, ap, subst, ◌∙◌}
 use Rattle.std.specs.List.{flat_map}
-use Rattle.std.specs.Prelude.{codes}
 use Rattle.matcher.specs.declared.fault.MakeFault.TheVariants.{TooManyStates}
 use Rattle.names.specs.declared.permissions.Perms.{Perms}
 use Rattle.rule_globs.specs.Rules.{RuleValue, ProfileValue}
@@ -20,7 +19,7 @@ use Rattle.trace_questions.specs.inner.Asking.{IsAnswered}
 use Rattle.trace_questions.proofs.Endings.{found_good, refused_good}
 use Rattle.trace_report.specs.Fault.{AreGood, IsFaultOfAnswer, fault_text}
 use Rattle.trace_report.specs.declared.format.Format.{Format}
-use Rattle.trace_report.specs.Output.{Output, compile_refusal, fault, finding, line, question_refusal, refusal}
+use Rattle.trace_report.specs.Output.{Output, compile_refusal, fault, finding, question_refusal, refusal}
 use Rattle.trace_report.specs.declared.fault.Fault.{Fault}
 use Rattle.trace_report.specs.declared.fault.Fault.TheVariants.{Input, Memory, Pattern, Permissions}
 use Rattle.trace_report.specs.declared.status.Status.TheVariants.{BadArguments}
