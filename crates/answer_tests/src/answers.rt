@@ -18,6 +18,22 @@ use trace_report::Format;
 const WEB: &[u8] =
     b"profile web {\n  /srv/** r,\n  /srv/log/* w,\n  deny \"/srv/log/*.old\" w,\n}\n";
 
+// Why reading is allowed to a name, and why writing is denied.
+const READ: &[u8] =
+    b"{\"permission\":\"r\",\"rule\":{\"line\":2,\"number\":1,\"text\":\"\\\"/srv/**\\\" r,\"},\"verdict\":\"allowed\"}";
+
+const WRITE: &[u8] =
+    b"{\"permission\":\"w\",\"rule\":{\"line\":4,\"number\":3,\"text\":\"deny \\\"/srv/log/*.old\\\" w,\"},\"verdict\":\"denied\"}";
+
+// The parts, one after the other.
+pub(crate) fn joined(alloc: Global, parts: &[&[u8]]) -> Result<Vec<u8>, Fail> {
+    let mut text = Vec::new(alloc);
+    for part in parts {
+        text.extend_from_slice(part)?;
+    }
+    Ok(text)
+}
+
 // Whether the value is this text.
 fn expect(rt: &impl Abort, alloc: Global, value: &Value, text: &[u8]) -> Result<(), Fail>
     requires { has_float (view value.now) ≡ false }
@@ -63,12 +79,8 @@ fn rules_and_reasons(rt: HostRuntime) -> Result<(), Fail> {
     )?;
     let ask = Perms::from_letters(b"wr").ok_or("letters")?;
     let reasons = reasons_array(alloc, WEB, &profile, b"/srv/log/a.old", ask);
-    expect(
-        &rt,
-        alloc,
-        &reasons.ok().ok_or("reasons")?,
-        b"[{\"permission\":\"r\",\"rule\":{\"line\":2,\"number\":1,\"text\":\"\\\"/srv/**\\\" r,\"},\"verdict\":\"allowed\"},{\"permission\":\"w\",\"rule\":{\"line\":4,\"number\":3,\"text\":\"deny \\\"/srv/log/*.old\\\" w,\"},\"verdict\":\"denied\"}]",
-    )
+    let text = joined(alloc, &[b"[", READ, b",", WRITE, b"]"])?;
+    expect(&rt, alloc, &reasons.ok().ok_or("reasons")?, &text)
 }
 
 #[test]
@@ -129,10 +141,16 @@ fn explanations(rt: HostRuntime) -> Result<(), Fail> {
     let profile = read(alloc, WEB).ok().ok_or("profile")?;
     let ask = Perms::from_letters(b"w").ok_or("letters")?;
     let name = b"/srv/log/a.old";
-    let json =
-        b"{\"missing\":null,\"reasons\":[{\"permission\":\"w\",\"rule\":{\"line\":4,\"number\":3,\"text\":\"deny \\\"/srv/log/*.old\\\" w,\"},\"verdict\":\"denied\"}],\"rule\":3,\"verdict\":\"denied\"}";
+    let json = joined(
+        alloc,
+        &[
+            b"{\"missing\":null,\"reasons\":[",
+            WRITE,
+            b"],\"rule\":3,\"verdict\":\"denied\"}",
+        ],
+    )?;
     let value = explanation_object(alloc, WEB, &profile, name, ask);
-    expect(&rt, alloc, &value.ok().ok_or("value")?, json)?;
+    expect(&rt, alloc, &value.ok().ok_or("value")?, &json)?;
     let lines = explanation(alloc, Format::Json, WEB, &profile, name, ask);
     assert!(rt; lines.ok().ok_or("json")?.strip_suffix(b"\n") == Some(json.as_slice()));
     let lines = explanation(alloc, Format::Text, WEB, &profile, name, ask);

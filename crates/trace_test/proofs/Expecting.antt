@@ -13,7 +13,7 @@ use Rattle.trace_test.specs.inner.Testing.{IsAsked, Testing, answered_step, expe
 
 -- what an expectation does, if it holds or not
 abbrev step_by : Testing → Expectation → Bool → Step Testing
-step_by t e is_held = record { lines = map failure_text (cond (not is_held) (e ∷ []) []); state = with_one t is_held }
+step_by t e is_held = record { lines = map (failure_text t.format) (cond (not is_held) (e ∷ []) []); state = with_one t is_held }
 
 pub held_done : {T : Type 0} (t : Testing) (e : Expectation) (state : Testing) (known : Option (List ℕ)) (done : T) → holds e ≡ true →
     state ≡ with_one t true
@@ -24,17 +24,17 @@ held_done {T = T} t e state known done held same =
 
 failed_put : {T : Type 0} (t : Testing) (e : Expectation) (state : Testing) (before after : Option (List ℕ)) (result : Result T Stop) →
     state ≡ with_one t false
-    → IsPut before after (line (failure_text e)) result → IsDone (step_by t e false) state before after result
-failed_put t e state before after (Ok done) same put = (same, rw (← one_line (failure_text e)) put)
+    → IsPut before after (line (failure_text t.format e)) result → IsDone (step_by t e false) state before after result
+failed_put t e state before after (Ok done) same put = (same, rw (← one_line (failure_text t.format e)) put)
 failed_put t e state before after (Err (NoCommand number)) same put = absurd put
 failed_put t e state before after (Err Input) same put = absurd put
 failed_put t e state before after (Err TooLong) same put = absurd put
 failed_put t e state before after (Err Memory) same put = absurd put
-failed_put t e state before after (Err Output) same put = rw (← one_line (failure_text e)) put
+failed_put t e state before after (Err Output) same put = rw (← one_line (failure_text t.format e)) put
 
 pub failed_done : {T : Type 0} (t : Testing) (e : Expectation) (state : Testing) (before after : Option (List ℕ)) (bytes : List ℕ)
     (result : Result T Stop) → holds e ≡ false
-    → state ≡ with_one t false → bytes ≡ line (failure_text e) → IsPut before after bytes result →
+    → state ≡ with_one t false → bytes ≡ line (failure_text t.format e) → IsPut before after bytes result →
     IsDone (expected_step t e) state before after result
 failed_done {T = T} t e state before after bytes result fails same is put =
     let P : Bool → Type 0 = λ b. IsDone {T = T} (step_by t e b) state before after result in

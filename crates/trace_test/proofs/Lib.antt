@@ -3,3 +3,4 @@ pub mod Expecting
 pub mod Outcomes
 pub mod Woven
 pub mod Plain
+pub mod NoFloats

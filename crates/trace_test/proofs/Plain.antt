@@ -1,7 +1,7 @@
 -- Scripts without quotes and expectations.
-use Rattle.std.proofs.Common.{◌≡◌, ◌⊎◌, ℕ, ◌+◌, ◌<◌, ◌≤◌, ◌==◌, ◌||◌, Bool, true, false, cond, not, List, [], ◌∷◌, ◌++◌, length, map, take}
+use Rattle.std.proofs.Common.{◌≡◌, ◌⊎◌, ℕ, ◌+◌, ◌<◌, ◌≤◌, ◌==◌, ◌||◌, Bool, true, false, cond, not, List, [], ◌∷◌, ◌++◌, length, map}
 use Rattle.std.proofs.Common.{drop, get_or, Option, Some, None, refl, sym, ap, ◌∙◌, arith, suc, zero, inl, inr, length-drop, append-nil}
-use Rattle.std.specs.Prelude.{All, codes, bytes_eq, decimal}
+use Rattle.std.specs.Prelude.{All}
 use Rattle.std.specs.List.{before_first, position_or_len, prefix_len}
 use Rattle.std.proofs.lemmas.Bool.{cases_lt, ne_eqb}
 use Rattle.std.proofs.lemmas.List.{drop_all, length-take}
@@ -9,6 +9,7 @@ use Rattle.std.proofs.lemmas.List.Sums.{prefix_len-le-length}
 use Rattle.std.proofs.lemmas.List.Elements.{All-drop, All-tail}
 use Rattle.glob_automaton.specs.Automata.{StateLimit}
 use Rattle.mediation.specs.History.{History}
+use Rattle.trace_report.specs.declared.format.Format.{Format}
 use Rattle.trace_report.specs.declared.status.Status.TheVariants.{Done}
 use Rattle.trace_report.specs.Output.{answer, line}
 use Rattle.trace_script.specs.RunOutput.{printed_lines}
@@ -179,13 +180,13 @@ nothing_told last lines [] = refl
 nothing_told last [] (c ∷ commands) = nothing_told last [] commands
 nothing_told last (line ∷ lines) (c ∷ commands) = nothing_told (Some line) lines commands
 
-pub plain_output : (text : List ℕ) → IsPlain text → (script_of text).stopped ≡ None → (limit : StateLimit) (history : History)
-    → test_output limit history (test_script text) ≡ answer (count_text 0 0)
-plain_output text plain whole limit history =
+pub plain_output : (text : List ℕ) → IsPlain text → (script_of text).stopped ≡ None → (format : Format)
+    (limit : StateLimit) (history : History) → test_output format limit history (test_script text) ≡ answer (count_text format 0 0)
+plain_output text plain whole format limit history =
     let same = plain_test text plain in
     let script = script_of text in
-    ap (tested_output (expectations limit history (test_script text).commands)) (same.1 ∙ whole)
-    ∙ ap (λ cs. tested_output (expectations limit history cs) None) same.0
-    ∙ ap (λ told. tested_output told None) (nothing_told None (printed_lines limit history (asked_of (map ask script.commands)))
+    ap (tested_output format (expectations limit history (test_script text).commands)) (same.1 ∙ whole)
+    ∙ ap (λ cs. tested_output format (expectations limit history cs) None) same.0
+    ∙ ap (λ told. tested_output format told None) (nothing_told None (printed_lines limit history (asked_of (map ask script.commands)))
     script.commands)
-    ∙ ap (λ l. record { answers = l; faults = []; status = Done }) (append-nil (line (count_text 0 0)))
+    ∙ ap (λ l. record { answers = l; faults = []; status = Done }) (append-nil (line (count_text format 0 0)))

@@ -1,13 +1,68 @@
 //! The lines of a test, each composed whole before it is written.
-ghost use Rattle.std.specs.Prelude.{◌≡◌, ◌++◌, IfOk, codes, decimal};
+ghost use Rattle.std.specs.Prelude.{◌≡◌, ◌++◌, option_map, unwrap_or, IfOk, codes, decimal};
 ghost use Rattle.trace_script.specs.Engine.{IsText};
-ghost use Rattle.trace_test.specs.TestOutput.{count_text, shown, shown_byte};
+ghost use Rattle.trace_report.specs.declared.format.Format.TheVariants as formats;
+ghost use Rattle.trace_test.specs.TestOutput.{count_text, failure_text, shown, shown_byte};
 
+use crate::objects::{count_json, failure_json};
+use names::NoMemory;
 use std::alloc::{AllocError, Global};
+use trace_report::Format;
 use trace_script::Stop;
 
 /// The line that reports an expectation that doesn't hold.
 pub(crate) fn failure_line(
+    alloc: Global,
+    format: Format,
+    number: u64,
+    expected: &[u8],
+    got: Option<&[u8]>,
+) -> Result<Vec<u8>, Stop>
+    ensures { IsText (failure_text format (record {
+      number = number;
+      expected = expected.now;
+      got = option_map (λ answer. answer.now) got.entry;
+    })) result }
+{
+    match format {
+        Format::Text => failure_sentence(alloc, number, expected, answer_shown(got)),
+        Format::Json => match failure_json(alloc, number, expected, got) {
+            Ok(line) => Ok(line),
+            Err(NoMemory) => Err(Stop::Memory),
+        },
+    }
+}
+
+/// The line that says how many of the expectations hold.
+pub(crate) fn count_line(
+    alloc: Global,
+    format: Format,
+    held: u64,
+    total: u64,
+) -> Result<Vec<u8>, Stop>
+    ensures { IsText (count_text format held total) result }
+{
+    match format {
+        Format::Text => count_sentence(alloc, held, total),
+        Format::Json => match count_json(alloc, held, total) {
+            Ok(line) => Ok(line),
+            Err(NoMemory) => Err(Stop::Memory),
+        },
+    }
+}
+
+/// An answer, or `nothing`.
+fn answer_shown(answer: Option<&[u8]>) -> &[u8]
+    ensures { result.now ≡ unwrap_or (option_map (λ bytes. bytes.now) answer.entry) (codes "nothing") }
+{
+    match answer {
+        Some(bytes) => bytes,
+        None => b"nothing",
+    }
+}
+
+/// `LINE: expected TEXT, got ANSWER`, as a line.
+fn failure_sentence(
     alloc: Global,
     number: u64,
     expected: &[u8],
@@ -23,9 +78,9 @@ pub(crate) fn failure_line(
     Ok(line)
 }
 
-/// The line that says how many of the expectations hold.
-pub(crate) fn count_line(alloc: Global, held: u64, total: u64) -> Result<Vec<u8>, Stop>
-    ensures { IsText (count_text held total) result }
+/// `K of N expectations hold`, as a line.
+fn count_sentence(alloc: Global, held: u64, total: u64) -> Result<Vec<u8>, Stop>
+    ensures { IsText (count_text formats.Text held total) result }
 {
     let line = format!(in alloc; "{held} of {total} expectations hold\n")?;
     Ok(line.into_bytes())

@@ -3,11 +3,12 @@ ghost use Rattle.std.specs.Prelude.{◌≡◌, ◌++◌, ℕ, List, None, codes,
 ghost use Rattle.std.specs.List.{list_all};
 ghost use Rattle.glob_automaton.specs.Automata.{StateLimit};
 ghost use Rattle.mediation.specs.History.{History};
-ghost use Rattle.trace_report.specs.Output.{answer};
+ghost use Rattle.trace_report.specs.Output.{answer, line};
+ghost use Rattle.trace_report.specs.declared.format.Format.{Format};
 ghost use Rattle.trace_script.specs.RunOutput.{printed_lines};
 ghost use Rattle.trace_script.specs.Script.{Command, script_of};
 ghost use Rattle.trace_test.specs.Laws.{IsPlain, woven};
-ghost use Rattle.trace_test.specs.TestOutput.{expectations, holds, test_output};
+ghost use Rattle.trace_test.specs.TestOutput.{count_text, expectations, holds, test_output};
 ghost use Rattle.trace_test.specs.TestScript.{ask, test_script};
 
 mod endings;
@@ -19,8 +20,9 @@ pub use endings::{expectations_hold_by_their_answer, tests_end_as_their_expectat
 pub fn scripts_are_tests()
     ensures commands { (text : List ℕ) → IsPlain text → (test_script text).commands ≡ map ask (script_of text).commands }
     ensures stopped { (text : List ℕ) → IsPlain text → (test_script text).stopped ≡ (script_of text).stopped }
-    ensures output { (text : List ℕ) → IsPlain text → (script_of text).stopped ≡ None → (limit : StateLimit) (history : History) →
-        test_output limit history (test_script text) ≡ answer (decimal 0 ++ codes " of " ++ decimal 0 ++ codes " expectations hold") }
+    ensures output { (text : List ℕ) → IsPlain text → (script_of text).stopped ≡ None →
+        (format : Format) (limit : StateLimit) (history : History) →
+        test_output format limit history (test_script text) ≡ answer (count_text format 0 0) }
 {}
 
 /// Where each command is followed by a line that expects what `run` prints for it, there is an expectation for each, and all hold.

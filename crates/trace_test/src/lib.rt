@@ -8,6 +8,7 @@ mod compose;
 mod laws;
 mod line;
 mod lines;
+mod objects;
 mod progress;
 mod quotes;
 mod rows;

@@ -10,7 +10,6 @@ ghost use Rattle.trace_script.specs.Script.{outside, publish};
 ghost use Rattle.trace_test.specs.TestScript.{expect};
 ghost use Rattle.trace_test.specs.inner.Testing.{IsAsked, answered_step, test_engine, test_step, test_value, testing};
 
-use crate::compose::failure_line;
 use crate::line::{TestCommand, parse_test_line};
 use crate::progress::Progress;
 use mediation::Bench;
@@ -160,6 +159,6 @@ fn expect<A: Write>(
     if progress.compare(expected) {
         return Ok(());
     }
-    let line = failure_line(alloc, number, expected, progress.last())?;
+    let line = progress.failure_line(alloc, number, expected)?;
     print_line(answers, &line)
 }

@@ -1,9 +1,9 @@
 //! How far a test has come: the last answer, and what became of the expectations.
 ghost use Rattle.std.specs.Prelude.{◌≤◌};
 
-use crate::compose::count_line;
+use crate::compose::{count_line, failure_line};
 use std::alloc::Global;
-use trace_report::Status;
+use trace_report::{Format, Status};
 use trace_script::Stop;
 
 /// How far a test has come.
@@ -15,27 +15,30 @@ pub(crate) struct Progress {
     held: u64,
     /// How many expectations there are.
     total: u64,
+    /// What the outcome is written in.
+    format: Format,
     ghost counted: { held ≤ total },
 }
 
 impl Progress {
-    ghost use Rattle.std.specs.Prelude.{◌≡◌, ◌<◌, ◌+◌, ◌^◌, ◌==◌, ℕ, List, None, codes, unwrap_or, if◌then◌else◌};
+    ghost use Rattle.std.specs.Prelude.{◌≡◌, ◌<◌, ◌+◌, ◌^◌, ◌==◌, ℕ, List, None, option_map, if◌then◌else◌};
     ghost use Rattle.mediation.specs.History.{History};
     ghost use Rattle.trace_report.specs.Output.{line};
     ghost use Rattle.trace_report.specs.declared.status.Status.TheVariants.{Done, Unmet};
     ghost use Rattle.trace_script.specs.Engine.{IsText};
     ghost use Rattle.trace_script.specs.RunOutput.{Printed};
-    ghost use Rattle.trace_test.specs.TestOutput.{count_text, is_answer};
+    ghost use Rattle.trace_test.specs.TestOutput.{count_text, failure_text, is_answer};
     ghost use Rattle.trace_test.specs.inner.Testing.{first_testing, items_of, testing, with_answer, with_one};
 
     /// The progress before the first line.
-    pub(crate) fn new() -> Progress
-        ensures { (history : History) → testing history result ≡ first_testing history }
+    pub(crate) fn new(format: Format) -> Progress
+        ensures { (history : History) → testing history result ≡ first_testing format history }
     {
         Progress {
             last: None,
             held: 0,
             total: 0,
+            format,
         }
     }
 
@@ -68,21 +71,37 @@ impl Progress {
         holds
     }
 
-    /// The last answer, as reported.
-    pub(crate) fn last(&self) -> &[u8]
-        ensures { result.now ≡ unwrap_or (items_of self.now.last) (codes "nothing") }
+    /// The line that reports that the last answer isn't the one that the line of this number expects.
+    pub(crate) fn failure_line(
+        &self,
+        alloc: Global,
+        number: u64,
+        expected: &[u8],
+    ) -> Result<Vec<u8>, Stop>
+        ensures { IsText (failure_text self.now.format (record {
+          number = number;
+          expected = expected.now;
+          got = items_of self.now.last;
+        })) result }
+    {
+        failure_line(alloc, self.format, number, expected, self.last())
+    }
+
+    /// The last answer.
+    fn last(&self) -> Option<&[u8]>
+        ensures { option_map (λ answer. answer.now) result ≡ items_of self.now.last }
     {
         match &self.last {
-            Some(answer) => answer.as_slice(),
-            None => b"nothing",
+            Some(answer) => Some(answer.as_slice()),
+            None => None,
         }
     }
 
     /// The line that says how many expectations hold.
     pub(crate) fn count_line(&self, alloc: Global) -> Result<Vec<u8>, Stop>
-        ensures { IsText (count_text self.now.held self.now.total) result }
+        ensures { IsText (count_text self.now.format self.now.held self.now.total) result }
     {
-        count_line(alloc, self.held, self.total)
+        count_line(alloc, self.format, self.held, self.total)
     }
 
     /// The status of a test that has reached its end.

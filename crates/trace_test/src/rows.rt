@@ -3,6 +3,7 @@
 ghost use Rattle.std.specs.Prelude.{◌≡◌, [], ◌∷◌, ◌++◌, codes, decimal, map, None, Some};
 ghost use Rattle.glob_automaton.specs.Automata.{StateLimit};
 ghost use Rattle.mediation.specs.History.{new_history};
+ghost use Rattle.trace_report.specs.declared.format.Format.TheVariants.{Text};
 ghost use Rattle.trace_script.specs.Script.{command, ignored, no_command, opens_policy, remove};
 ghost use Rattle.trace_test.specs.TestOutput.{expectations, failure_text, shown};
 ghost use Rattle.trace_test.specs.TestScript.{ask, expect, quoted_words, test_kind, test_script};
@@ -36,7 +37,7 @@ pub fn lines_are_read()
 /// The lines of expectations that don't hold: one without a command before it, and two after the same command.
 pub fn expectations_are_told()
     ensures { (limit : StateLimit) →
-        map failure_text (expectations limit (new_history 9)
+        map (failure_text Text) (expectations limit (new_history 9)
         (test_script (codes "expect ok 1\n# a directory\nmkdir /a\n\nexpect no\t1\nexpect 2\n")).commands)
         ≡ (decimal 1 ++ codes ": expected ok 1, got nothing")
         ∷ (decimal 5 ++ codes ": expected no?1, got " ++ shown (codes "ok " ++ decimal 1))

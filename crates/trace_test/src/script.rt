@@ -12,20 +12,21 @@ use crate::progress::Progress;
 use mediation::Bench;
 use std::alloc::Global;
 use std::io::{BufRead, Write};
-use trace_report::{Status, fail};
+use trace_report::{Format, Status, fail};
 use trace_script::{LineRead, MOST_LINES, Section, Stop, print_line, read_line};
 
 /// Does the commands of a script line by line, up to its end or to a line that is no command. Each expectation that doesn't hold
-/// is reported on `answers`, and at the script's end the number of expectations that hold.
+/// is reported on `answers`, and at the script's end the number of expectations that hold, in this format.
 pub fn run_test<B: Bench, R: BufRead, A: Write, F: Write>(
     alloc: Global,
+    format: Format,
     bench: &mut B,
     input: &mut R,
     answers: &mut A,
     faults: &mut F,
 ) -> Status
     requires { policy_version (B.history bench.old) ≡ 0 }
-    ensures { (limit : StateLimit) → (text : List ℕ) × IsTextOf (R.remaining input.old) text × TestEnds limit
+    ensures { (limit : StateLimit) → (text : List ℕ) × IsTextOf (R.remaining input.old) text × TestEnds format limit
         (record {
           answers_before = A.contents answers.old;
           answers_after = A.contents answers.new;
@@ -34,7 +35,7 @@ pub fn run_test<B: Bench, R: BufRead, A: Write, F: Write>(
         })
         (R.remaining input.old) (R.remaining input.new) (B.history bench.old) text result }
 {
-    match test(alloc, bench, input, answers) {
+    match test(alloc, format, bench, input, answers) {
         Ok(status) => status,
         Err(stop) => fail(faults, stop, stop.status()),
     }
@@ -43,16 +44,17 @@ pub fn run_test<B: Bench, R: BufRead, A: Write, F: Write>(
 /// Does the lines of a script, and writes the outcome of its expectations.
 fn test<B: Bench, R: BufRead, A: Write>(
     alloc: Global,
+    format: Format,
     bench: &mut B,
     input: &mut R,
     answers: &mut A,
 ) -> Result<Status, Stop>
     requires { policy_version (B.history bench.old) ≡ 0 }
     ensures { (limit : StateLimit) → (text : List ℕ) × IsTextOf (R.remaining input.old) text
-        × IsTested limit (B.history bench.old) (R.remaining input.old) (R.remaining input.new) text (A.contents answers.old)
+        × IsTested format limit (B.history bench.old) (R.remaining input.old) (R.remaining input.new) text (A.contents answers.old)
         (A.contents answers.new) result }
 {
-    let mut progress = Progress::new();
+    let mut progress = Progress::new(format);
     follow(alloc, bench, &mut progress, input, answers)?;
     let line = progress.count_line(alloc)?;
     print_line(answers, &line)?;

@@ -3,6 +3,7 @@ ghost use Rattle.std.specs.Prelude.{◌≡◌, ◌≢◌, ◌<◌, true, false, 
 ghost use Rattle.std.specs.List.{list_all};
 ghost use Rattle.glob_automaton.specs.Automata.{StateLimit};
 ghost use Rattle.mediation.specs.History.{History};
+ghost use Rattle.trace_report.specs.declared.format.Format.{Format};
 ghost use Rattle.trace_report.specs.Streams.{Streams};
 ghost use Rattle.trace_report.specs.declared.status.Status.TheVariants.{Done, Unmet, BadArguments, Refused};
 ghost use Rattle.trace_test.specs.TestOutput.{TestEnds, expectations, holds, is_answer, shown_byte};
@@ -11,26 +12,32 @@ ghost use Rattle.trace_test.specs.TestScript.{test_script};
 /// A test is done only where it goes to its end and each expectation holds, unmet only where it goes to its end and one doesn't
 /// hold, and refused only where it stops at a line.
 pub fn tests_end_as_their_expectations_hold()
-    ensures failed_as_done { (limit : StateLimit) (streams : Streams) (left left_after : Option (List ℕ)) (history : History)
+    ensures failed_as_done { (format : Format) (limit : StateLimit) (streams : Streams) (left left_after : Option (List ℕ))
+        (history : History)
         (text : List ℕ) →
         list_all holds (expectations limit history (test_script text).commands) ≡ false →
-        TestEnds limit streams left left_after history text Done → ⊥ }
-    ensures held_as_unmet { (limit : StateLimit) (streams : Streams) (left left_after : Option (List ℕ)) (history : History)
+        TestEnds format limit streams left left_after history text Done → ⊥ }
+    ensures held_as_unmet { (format : Format) (limit : StateLimit) (streams : Streams) (left left_after : Option (List ℕ))
+        (history : History)
         (text : List ℕ) →
         list_all holds (expectations limit history (test_script text).commands) ≡ true →
-        TestEnds limit streams left left_after history text Unmet → ⊥ }
-    ensures stopped_as_done { (limit : StateLimit) (streams : Streams) (left left_after : Option (List ℕ)) (history : History)
+        TestEnds format limit streams left left_after history text Unmet → ⊥ }
+    ensures stopped_as_done { (format : Format) (limit : StateLimit) (streams : Streams) (left left_after : Option (List ℕ))
+        (history : History)
         (text : List ℕ) (line : ℕ) →
-        (test_script text).stopped ≡ Some line → TestEnds limit streams left left_after history text Done → ⊥ }
-    ensures stopped_as_unmet { (limit : StateLimit) (streams : Streams) (left left_after : Option (List ℕ)) (history : History)
+        (test_script text).stopped ≡ Some line → TestEnds format limit streams left left_after history text Done → ⊥ }
+    ensures stopped_as_unmet { (format : Format) (limit : StateLimit) (streams : Streams) (left left_after : Option (List ℕ))
+        (history : History)
         (text : List ℕ) (line : ℕ) →
-        (test_script text).stopped ≡ Some line → TestEnds limit streams left left_after history text Unmet → ⊥ }
-    ensures whole_as_refused { (limit : StateLimit) (streams : Streams) (left left_after : Option (List ℕ)) (history : History)
+        (test_script text).stopped ≡ Some line → TestEnds format limit streams left left_after history text Unmet → ⊥ }
+    ensures whole_as_refused { (format : Format) (limit : StateLimit) (streams : Streams) (left left_after : Option (List ℕ))
+        (history : History)
         (text : List ℕ) →
-        (test_script text).stopped ≡ None → TestEnds limit streams left left_after history text Refused → ⊥ }
-    ensures bad_arguments { (limit : StateLimit) (streams : Streams) (left left_after : Option (List ℕ)) (history : History)
+        (test_script text).stopped ≡ None → TestEnds format limit streams left left_after history text Refused → ⊥ }
+    ensures bad_arguments { (format : Format) (limit : StateLimit) (streams : Streams) (left left_after : Option (List ℕ))
+        (history : History)
         (text : List ℕ) →
-        TestEnds limit streams left left_after history text BadArguments → ⊥ }
+        TestEnds format limit streams left left_after history text BadArguments → ⊥ }
 {}
 
 /// An expectation doesn't hold where no command was answered before it, or where the answer isn't the expected one. No control

@@ -8,4 +8,4 @@ pub returns-clause-stopped : goal.returns-clause-stopped
 returns-clause-stopped c text plain = (plain_test text plain).1
 
 pub returns-clause-output : goal.returns-clause-output
-returns-clause-output c text plain whole limit history = plain_output text plain whole limit history
+returns-clause-output c text plain whole format limit history = plain_output text plain whole format limit history

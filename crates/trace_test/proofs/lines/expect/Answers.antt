@@ -1,8 +1,7 @@
-use Rattle.std.proofs.Common.{◌≡◌, ◌++◌, ℕ, List, Bool, true, false, sym, ap, ◌∙◌, codes, decimal, rules}
-use Rattle.std.specs.Prelude.{unwrap_or}
+use Rattle.std.proofs.Common.{◌≡◌, true, false, sym, ap, ◌∙◌}
 use Rattle.trace_report.specs.Output.{line}
-use Rattle.trace_test.specs.TestOutput.{Expectation, failure_text, holds, shown}
-use Rattle.trace_test.specs.inner.Testing.{Testing, items_of, testing, with_one}
+use Rattle.trace_test.specs.TestOutput.{Expectation, failure_text, holds}
+use Rattle.trace_test.specs.inner.Testing.{Testing, testing, with_one}
 use Rattle.trace_test.proofs.Expecting.{failed_done, held_done}
 use Rattle.trace_test.proofs.lines.expect.Goals as goal
 
@@ -20,10 +19,14 @@ returns-clause-done g c limit history =
     let e : Expectation = record { number = c.args.number; expected = c.args.expected.now; got = t.last } in
     let fails : holds e ≡ false = sym c.compare.ensures.holds ∙ c.if-compare.false in
     let same = c.compare.ensures.state history ∙ ap (with_one t) c.if-compare.false in
-    let last = ap (λ (t : Testing). t.last) same in
-    let got : c.last.result.now ≡ unwrap_or e.got (codes "nothing") = c.last.ensures ∙ ap (λ l. unwrap_or l (codes "nothing")) last in
-    let composed : c.in_ok-line.line.items ≡ line (failure_text e) =
-    c.in_ok-line.ensures ∙ ap (λ (got : List ℕ). line (decimal e.number ++ codes ": expected " ++ shown e.expected ++ codes ", got "
-    ++ shown got)) got in
+    let now : Expectation = record {
+      number = c.args.number;
+      expected = c.args.expected.now;
+      got =
+          (testing history c.compare.new.self).last;
+    } in
+    let here : now ≡ e = ap (λ (t : Testing). record { number = c.args.number; expected = c.args.expected.now; got = t.last }) same in
+    let composed : c.in_ok-line.line.items ≡ line (failure_text t.format e) = c.in_ok-line.ensures
+    ∙ ap (λ (t : Testing). line (failure_text t.format now)) same ∙ ap (λ (e : Expectation). line (failure_text t.format e)) here in
     failed_done t e (testing history c.compare.new.self) _ _ c.deref.result.now c.print_line.result fails same
     (c.deref.ensures.value ∙ composed) c.print_line.ensures

@@ -1,6 +1,5 @@
-use Rattle.std.proofs.Common.{◌≡◌, ℕ, List, Ok, Err, sym, ap, ◌∙◌, subst, rules}
+use Rattle.std.proofs.Common.{◌≡◌, ℕ, List, Ok, Err, ap, ◌∙◌, subst, rules}
 use Rattle.trace_report.specs.Streams.{IsTextOf}
-use Rattle.trace_script.specs.declared.stop.Stop.TheVariants.{Memory}
 use Rattle.trace_script.specs.Following.{IsFollowed}
 use Rattle.trace_test.specs.inner.Testing.{Testing, test_engine, testing}
 use Rattle.trace_test.proofs.Outcomes.{cut_test, stopped_test, uncounted_test, whole_test}
@@ -20,7 +19,7 @@ returns-in_err-follow g c limit =
     (g.R.Read.remaining c.args.input.now) (g.R.Read.remaining c.follow.new.input) text now (g.A.Write.contents c.args.answers.now)
     (g.A.Write.contents c.follow.new.answers) (Err stop) in
     let followed = subst P (c.new-progress.ensures history) (c.in_err-follow.ensures limit) in
-    rw told (followed.0, followed.1, stopped_test limit history _ _ followed.0 now _ _ stop followed.2)
+    rw told (followed.0, followed.1, stopped_test c.args.format limit history _ _ followed.0 now _ _ stop followed.2)
 
 pub returns-in_err-line : goal.returns-in_err-line
 returns-in_err-line g c limit =
@@ -33,7 +32,12 @@ returns-in_err-line g c limit =
     (g.R.Read.remaining c.args.input.now) (g.R.Read.remaining c.follow.new.input) text now (g.A.Write.contents c.args.answers.now)
     (g.A.Write.contents c.follow.new.answers) (Ok tt) in
     let followed = subst P (c.new-progress.ensures history) (c.in_ok-follow.ensures limit) in
-    rw told (followed.0, followed.1, uncounted_test limit history _ _ followed.0 now _ _ followed.2 stop c.in_err-line.ensures)
+    rw told (
+      followed.0,
+      followed.1,
+      uncounted_test c.args.format limit history _ _ followed.0 now _ _ followed.2 stop
+          c.in_err-line.ensures,
+    )
 
 pub returns-in_err-print_line : goal.returns-in_err-print_line
 returns-in_err-print_line g c limit =
@@ -47,7 +51,8 @@ returns-in_err-print_line g c limit =
     (g.A.Write.contents c.follow.new.answers) (Ok tt) in
     let followed = subst P (c.new-progress.ensures history) (c.in_ok-follow.ensures limit) in
     let bytes = c.deref.ensures.value ∙ c.in_ok-line.ensures in
-    let cut = cut_test limit history _ _ followed.0 now _ _ followed.2 (g.A.Write.contents c.print_line.new.answers) c.deref.result.now
+    let cut = cut_test c.args.format limit history _ _ followed.0 now _ _ followed.2 (g.A.Write.contents c.print_line.new.answers)
+    c.deref.result.now
     stop bytes c.in_err-print_line.ensures in
     rw told (followed.0, followed.1, cut)
 
@@ -63,6 +68,6 @@ returns g c limit =
     let bytes = c.deref.ensures.value ∙ c.in_ok-line.ensures in (
       followed.0,
       followed.1,
-      whole_test limit history _ _ followed.0 now _ _ followed.2 (g.A.Write.contents c.print_line.new.answers)
+      whole_test c.args.format limit history _ _ followed.0 now _ _ followed.2 (g.A.Write.contents c.print_line.new.answers)
           c.deref.result.now c.status.result c.status.ensures bytes c.in_ok-print_line.ensures,
     )
