@@ -42,16 +42,16 @@ pub(crate) fn diff<T: NamedTexts, R: Read, A: Write, F: Write>(
     answers: &mut A,
     faults: &mut F,
 ) -> Status
-    ensures output { (text : List ℕ) × IsTextOf (R.remaining input.old) text × DiffEnds line.report
-        (option_map (λ below. below.now) line.below) (T.known texts.now line.old.now)
-        (text_named (T.known texts.now) text (option_map (λ new. new.now) line.new))
+    ensures output { (text : List ℕ) × IsTextOf (R.remaining input.old) text × DiffEnds line.entry.report
+        (option_map (λ below. below.now) line.entry.below) (T.known texts.now line.entry.old.now)
+        (text_named (T.known texts.now) text (option_map (λ new. new.now) line.entry.new))
         (record {
           answers_before = A.contents answers.old;
           answers_after = A.contents answers.new;
           faults_before = F.contents faults.old;
           faults_after = F.contents faults.new;
         }) result }
-    ensures unread { IsTrue (is_some line.new || is_err (below_asked (option_map (λ below. below.now) line.below)))
+    ensures unread { IsTrue (is_some line.entry.new || is_err (below_asked (option_map (λ below. below.now) line.entry.below)))
         → Keeps (R.remaining input.old) (R.remaining input.new) }
 {
     let mut old = LateText::of(texts, line.old);
