@@ -82,7 +82,7 @@ rule 3, line 4: decides nothing: \"/a\" r, (rule 1, line 2 allows each of its na
         (
             b"profile p {\n  /a w,\n  deny /a a,\n  deny /a w,\n}\n",
             b"rule 1, line 2: decides nothing: \"/a\" w, (a deny rule denies each of its names)
-rule 2, line 3: decides nothing: deny \"/a\" a, (rule 3, line 4 denies each of its names that is allowed)
+rule 2, line 3: decides nothing: deny \"/a\" a, (rule 3, line 4 denies each of its names that is allowed; rule 3 decides nothing of this either: leave it out of one of them, not both)
 ",
         ),
     ];
@@ -117,6 +117,40 @@ fn letters_that_decide_nothing(rt: HostRuntime) {
     }
 }
 
+// The first stand-in that decides nothing of the part is named: of a letter, or of all of a rule.
+#[test]
+fn stand_ins_that_decide_nothing_of_a_part(rt: HostRuntime) {
+    let rows: [(&[u8], &[u8]); 4] = [
+        (
+            b"profile p {\n  /a rw,\n  /a wk,\n}\n",
+            b"rule 1, line 2: w decides nothing: \"/a\" rw, (rule 2, line 3 allows each of its names, or a deny rule denies it; rule 2 decides nothing of this either: leave it out of one of them, not both)
+rule 2, line 3: w decides nothing: \"/a\" wk, (rule 1, line 2 allows each of its names, or a deny rule denies it; rule 1 decides nothing of this either: leave it out of one of them, not both)
+",
+        ),
+        (
+            b"profile p {\n  /a r,\n  /a rk,\n}\n",
+            b"rule 1, line 2: decides nothing: \"/a\" r, (rule 2, line 3 allows each of its names, or a deny rule denies it; rule 2 decides nothing of this either: leave it out of one of them, not both)
+rule 2, line 3: r decides nothing: \"/a\" rk, (rule 1, line 2 allows each of its names, or a deny rule denies it; rule 1 decides nothing either: leave out one of them, not both)
+",
+        ),
+        (
+            b"profile p {\n  /[ab] r,\n  /[ac] rk,\n  /b rk,\n}\n",
+            b"rule 1, line 2: decides nothing: \"/[ab]\" r, (rule 2, line 3 or rule 3, line 4 allows each of its names, or a deny rule denies it; rule 3 decides nothing of this either: leave it out of one of them, not both)
+rule 3, line 4: r decides nothing: \"/b\" rk, (rule 1, line 2 allows each of its names, or a deny rule denies it; rule 1 decides nothing either: leave out one of them, not both)
+",
+        ),
+        (
+            b"profile p {\n  /* rwk,\n  deny /a rk,\n  deny /a wk,\n}\n",
+            b"rule 2, line 3: k decides nothing: deny \"/a\" rk, (rule 3, line 4 denies each of its names that is allowed; rule 3 decides nothing of this either: leave it out of one of them, not both)
+rule 3, line 4: k decides nothing: deny \"/a\" wk, (rule 2, line 3 denies each of its names that is allowed; rule 2 decides nothing of this either: leave it out of one of them, not both)
+",
+        ),
+    ];
+    for (text, lines) in rows {
+        expect(&rt, rt.alloc(), text, Status::Unmet, lines);
+    }
+}
+
 #[test]
 fn texts_that_are_refused(rt: HostRuntime) {
     expect(
@@ -130,17 +164,24 @@ fn texts_that_are_refused(rt: HostRuntime) {
 
 #[test]
 fn lines_of_json(rt: HostRuntime) {
-    let rows: [(&[u8], Status, &[u8]); 4] = [
+    let rows: [(&[u8], Status, &[u8]); 5] = [
         (b"profile p {\n}\n", Status::Done, b""),
         (
             b"profile p {\n  /a rw,\n  /* w,\n}\n",
             Status::Unmet,
-            b"{\"finding\":\"decides nothing\",\"permission\":\"w\",\"rule\":{\"line\":2,\"number\":1,\"text\":\"\\\"/a\\\" rw,\"},\"stand_ins\":[{\"line\":3,\"number\":2,\"text\":\"\\\"/*\\\" w,\"}]}\n",
+            b"{\"also_idle\":null,\"finding\":\"decides nothing\",\"permission\":\"w\",\"rule\":{\"line\":2,\"number\":1,\"text\":\"\\\"/a\\\" rw,\"},\"stand_ins\":[{\"line\":3,\"number\":2,\"text\":\"\\\"/*\\\" w,\"}]}\n",
+        ),
+        (
+            b"profile p {\n  /a rw,\n  /a wk,\n}\n",
+            Status::Unmet,
+            b"{\"also_idle\":2,\"finding\":\"decides nothing\",\"permission\":\"w\",\"rule\":{\"line\":2,\"number\":1,\"text\":\"\\\"/a\\\" rw,\"},\"stand_ins\":[{\"line\":3,\"number\":2,\"text\":\"\\\"/a\\\" wk,\"}]}
+{\"also_idle\":1,\"finding\":\"decides nothing\",\"permission\":\"w\",\"rule\":{\"line\":3,\"number\":2,\"text\":\"\\\"/a\\\" wk,\"},\"stand_ins\":[{\"line\":2,\"number\":1,\"text\":\"\\\"/a\\\" rw,\"}]}
+",
         ),
         (
             b"profile p {\n  deny /a r,\n  /b r,\n}\n",
             Status::Unmet,
-            b"{\"finding\":\"denies nothing that is allowed\",\"permission\":null,\"rule\":{\"line\":2,\"number\":1,\"text\":\"deny \\\"/a\\\" r,\"},\"stand_ins\":[]}\n",
+            b"{\"also_idle\":null,\"finding\":\"denies nothing that is allowed\",\"permission\":null,\"rule\":{\"line\":2,\"number\":1,\"text\":\"deny \\\"/a\\\" r,\"},\"stand_ins\":[]}\n",
         ),
         (
             b"profile p {\n",

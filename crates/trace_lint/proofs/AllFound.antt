@@ -69,68 +69,76 @@ lists_numbered rules cases lists are k d lt =
 
 -- ---- what is found
 
-module _ (decided : List Perms) where
+module _ (rules : List RuleValue) (decided : List Perms) where
+  abbrev pub perms_of : Part → Perms
+  perms_of part = (case_of rules part).perms
+
+  abbrev IsFirst : FindingValue → Type 0
+  IsFirst f = f.idle ≡ first_idle decided (case_of rules f.part).perms f.stand_ins
+
   parts_found : (parts : List Part) (lists : List (List ℕ)) → length lists ≡ length parts →
-      map (λ (f : FindingValue). f.part) (all_found decided parts lists) ≡ parts
+      map (λ (f : FindingValue). f.part) (all_found rules decided parts lists) ≡ parts
   parts_found [] lists same = refl
   parts_found (part ∷ parts) [] same = absurd (omega (arith, same))
   parts_found (part ∷ parts) (list ∷ lists) same = ap (λ z. part ∷ z) (parts_found parts lists (omega (arith, same)))
 
-  idle_found : (parts : List Part) (lists : List (List ℕ)) →
-      All (λ (f : FindingValue). f.idle ≡ first_idle decided f.stand_ins) (all_found decided parts lists)
-  idle_found [] lists = All-nil (λ (f : FindingValue). f.idle ≡ first_idle decided f.stand_ins)
-  idle_found (part ∷ parts) [] = All-nil (λ (f : FindingValue). f.idle ≡ first_idle decided f.stand_ins)
-  idle_found (part ∷ parts) (list ∷ lists) = All-cons (λ (f : FindingValue). f.idle ≡ first_idle decided f.stand_ins)
-      (found_of decided part list) (all_found decided parts lists) refl (idle_found parts lists)
+  idle_found : (parts : List Part) (lists : List (List ℕ)) → All IsFirst (all_found rules decided parts lists)
+  idle_found [] lists = All-nil IsFirst
+  idle_found (part ∷ parts) [] = All-nil IsFirst
+  idle_found (part ∷ parts) (list ∷ lists) = All-cons IsFirst (found_of decided part (perms_of part) list)
+      (all_found rules decided parts lists) refl (idle_found parts lists)
 
-  stand_ins_found : (rules : List RuleValue) (parts : List Part) (lists : List (List ℕ)) →
+  stand_ins_found : (parts : List Part) (lists : List (List ℕ)) →
       ((i : ℕ) (idle : IdleCase) (list : List ℕ) → slice_get (map (case_of rules) parts) i ≡ Some idle → slice_get lists i ≡ Some list →
       AreTheStandIns rules idle list) →
-      All (λ (f : FindingValue). AreTheStandIns rules (case_of rules f.part) f.stand_ins) (all_found decided parts lists)
-  stand_ins_found rules [] lists are = All-nil (λ (f : FindingValue). AreTheStandIns rules (case_of rules f.part) f.stand_ins)
-  stand_ins_found rules (part ∷ parts) [] are =
-      All-nil (λ (f : FindingValue). AreTheStandIns rules (case_of rules f.part) f.stand_ins)
-  stand_ins_found rules (part ∷ parts) (list ∷ lists) are =
+      All (λ (f : FindingValue). AreTheStandIns rules (case_of rules f.part) f.stand_ins) (all_found rules decided parts lists)
+  stand_ins_found [] lists are = All-nil (λ (f : FindingValue). AreTheStandIns rules (case_of rules f.part) f.stand_ins)
+  stand_ins_found (part ∷ parts) [] are = All-nil (λ (f : FindingValue). AreTheStandIns rules (case_of rules f.part) f.stand_ins)
+  stand_ins_found (part ∷ parts) (list ∷ lists) are =
       All-cons (λ (f : FindingValue). AreTheStandIns rules (case_of rules f.part) f.stand_ins)
-      (found_of decided part list) (all_found decided parts lists) (are 0 (case_of rules part) list refl refl)
-      (stand_ins_found rules parts lists (λ i idle other at there. are (suc i) idle other at there))
+      (found_of decided part (perms_of part) list) (all_found rules decided parts lists) (are 0 (case_of rules part) list refl refl)
+      (stand_ins_found parts lists (λ i idle other at there. are (suc i) idle other at there))
 
-  pub are_findings : (rules : List RuleValue) (parts : List Part) (lists : List (List ℕ)) → parts ≡ idle_parts rules decided →
-      AreStandIns rules (map (case_of rules) parts) lists → AreFindings rules decided (all_found decided parts lists)
-  are_findings rules parts lists is are = record {
+  pub are_findings : (parts : List Part) (lists : List (List ℕ)) → parts ≡ idle_parts rules decided →
+      AreStandIns rules (map (case_of rules) parts) lists → AreFindings rules decided (all_found rules decided parts lists)
+  are_findings parts lists is are = record {
     parts = parts_found parts lists (are.each ∙ length-map parts (case_of rules)) ∙ is;
-    stand_ins = stand_ins_found rules parts lists are.stand_in;
+    stand_ins = stand_ins_found parts lists are.stand_in;
     idle = idle_found parts lists;
   }
 
   -- ---- one after another
 
+  abbrev pub found_at : List Part → List (List ℕ) → ℕ → Part → List ℕ → FindingValue
+  found_at parts lists i d e = found_of decided (get_or parts i d) (perms_of (get_or parts i d)) (get_or lists i e)
+
   found_more : (parts : List Part) (lists : List (List ℕ)) (i : ℕ) (d : Part) (e : List ℕ) → i < length parts → i < length lists →
-      all_found decided (take (i + 1) parts) (take (i + 1) lists)
-      ≡ all_found decided (take i parts) (take i lists) ++ found_of decided (get_or parts i d) (get_or lists i e) ∷ []
+      all_found rules decided (take (i + 1) parts) (take (i + 1) lists)
+      ≡ all_found rules decided (take i parts) (take i lists) ++ found_at parts lists i d e ∷ []
   found_more [] lists i d e lt within = absurd (omega (arith, lt))
   found_more (part ∷ parts) [] i d e lt within = absurd (omega (arith, within))
   found_more (part ∷ parts) (list ∷ lists) zero d e lt within = refl
   found_more (part ∷ parts) (list ∷ lists) (suc i) d e lt within =
       let more : suc i + 1 ≡ suc (i + 1) = omega arith in
-      ap (λ z. all_found decided (take z (part ∷ parts)) (take z (list ∷ lists))) more
-      ∙ ap (λ z. found_of decided part list ∷ z) (found_more parts lists i d e (omega (arith, lt)) (omega (arith, within)))
+      ap (λ z. all_found rules decided (take z (part ∷ parts)) (take z (list ∷ lists))) more
+      ∙ ap (λ z. found_of decided part (perms_of part) list ∷ z)
+      (found_more parts lists i d e (omega (arith, lt)) (omega (arith, within)))
 
   module _ (line : FindingValue → List ℕ) where
     pub line_more : (parts : List Part) (lists : List (List ℕ)) (i : ℕ) (d : Part) (e : List ℕ) (f : FindingValue) (old new : List ℕ) →
-        i < length parts → i < length lists → f ≡ found_of decided (get_or parts i d) (get_or lists i e) →
-        old ≡ flat_map line (all_found decided (take i parts) (take i lists)) → new ≡ old ++ line f →
-        new ≡ flat_map line (all_found decided (take (i + 1) parts) (take (i + 1) lists))
+        i < length parts → i < length lists → f ≡ found_at parts lists i d e →
+        old ≡ flat_map line (all_found rules decided (take i parts) (take i lists)) → new ≡ old ++ line f →
+        new ≡ flat_map line (all_found rules decided (take (i + 1) parts) (take (i + 1) lists))
     line_more parts lists i d e f old new lt within is so_far added =
         added ∙ ap (λ z. z ++ line f) so_far
-        ∙ ap (λ z. flat_map line (all_found decided (take i parts) (take i lists)) ++ z)
-        (ap line is ∙ sym (append-nil (line (found_of decided (get_or parts i d) (get_or lists i e)))))
-        ∙ sym (flat_map-append line (all_found decided (take i parts) (take i lists))
-        (found_of decided (get_or parts i d) (get_or lists i e) ∷ []))
+        ∙ ap (λ z. flat_map line (all_found rules decided (take i parts) (take i lists)) ++ z)
+        (ap line is ∙ sym (append-nil (line (found_at parts lists i d e))))
+        ∙ sym (flat_map-append line (all_found rules decided (take i parts) (take i lists)) (found_at parts lists i d e ∷ []))
         ∙ ap (flat_map line) (sym (found_more parts lists i d e lt within))
 
     pub line_all : (parts : List Part) (lists : List (List ℕ)) (i : ℕ) (text : List ℕ) → length parts ≤ i → length lists ≤ i →
-        text ≡ flat_map line (all_found decided (take i parts) (take i lists)) → text ≡ flat_map line (all_found decided parts lists)
+        text ≡ flat_map line (all_found rules decided (take i parts) (take i lists)) →
+        text ≡ flat_map line (all_found rules decided parts lists)
     line_all parts lists i text past over so_far =
-        so_far ∙ ap (λ z. flat_map line (all_found decided z (take i lists))) (take_all i parts past)
-        ∙ ap (λ z. flat_map line (all_found decided parts z)) (take_all i lists over)
+        so_far ∙ ap (λ z. flat_map line (all_found rules decided z (take i lists))) (take_all i parts past)
+        ∙ ap (λ z. flat_map line (all_found rules decided parts z)) (take_all i lists over)

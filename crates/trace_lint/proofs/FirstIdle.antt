@@ -3,7 +3,7 @@ use Rattle.std.proofs.Common.{◌≡◌, ℕ, zero, suc, ◌+◌, ◌-◌, ◌<�
 use Rattle.std.proofs.Common.{find, take, get_or, length, refl, sym, ap, ◌∙◌, arith}
 use Rattle.std.proofs.lemmas.List.{get_or_default, take_all}
 use Rattle.names.specs.declared.permissions.Perms.{Perms}
-use Rattle.trace_lint.specs.Parts.{decided_by, decides_nothing, no_perms}
+use Rattle.trace_lint.specs.Parts.{decided_by, no_perms}
 
 module _ {X : Type 0} where
   -- the first doesn't pass, and none of the others does
@@ -33,9 +33,8 @@ module _ {X : Type 0} where
     pub none_all : (xs : List X) (i : ℕ) → length xs ≤ i → find test (take i xs) ≡ None → find test xs ≡ None
     none_all xs i past none = ap (find test) (sym (take_all i xs past)) ∙ none
 
--- what is tested of a rule is what it decides
-pub test_of : (decided : List Perms) (n m : ℕ) (d : Perms) (b : Bool) → m ≡ n → 1 ≤ n → n ≤ length decided →
-    b ≡ decides_nothing (get_or decided (m - 1) d) → decides_nothing (decided_by decided n) ≡ b
-test_of decided n m d b same ge le is =
-    ap decides_nothing (get_or_default decided (n - 1) no_perms d (omega (arith, ge, le))
-    ∙ ap (λ z. get_or decided (z - 1) d) (sym same)) ∙ sym is
+-- what is looked at of a rule is what it decides
+pub decided_there : (decided : List Perms) (n m : ℕ) (d : Perms) → m ≡ n → 1 ≤ n → n ≤ length decided →
+    decided_by decided n ≡ get_or decided (m - 1) d
+decided_there decided n m d same ge le =
+    get_or_default decided (n - 1) no_perms d (omega (arith, ge, le)) ∙ ap (λ z. get_or decided (z - 1) d) (sym same)

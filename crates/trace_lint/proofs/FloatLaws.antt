@@ -2,7 +2,7 @@
 use Rattle.std.proofs.Common.{◌≡◌, ◌||◌, ℕ, Bool, false, List, [], ◌∷◌, Option, Some, None, map, refl}
 use Rattle.std.specs.Prelude.{codes}
 use Rattle.answer_json.proofs.NoFloats.{no_float_in_rule}
-use Rattle.answer_json.specs.Values.{rule_object}
+use Rattle.answer_json.specs.Values.{number_or_null, rule_object}
 use Rattle.names.specs.declared.permissions.Permission.{Permission}
 use Rattle.rule_globs.specs.Rules.{RuleValue}
 use Rattle.rule_profile.specs.declared.profile.Span.{Span}
@@ -25,8 +25,14 @@ pub no_float_in_letter : (letter : Option Permission) → has_float (letter_valu
 no_float_in_letter None = refl
 no_float_in_letter (Some p) = refl
 
-pub no_float_in_parts : (word : List ℕ) (letter rule stand_ins : Data) → has_float letter ≡ false → has_float rule ≡ false →
-    has_float stand_ins ≡ false → has_float (object (member (codes "finding") (string word) (member (codes "permission") letter
-    (member (codes "rule") rule (member (codes "stand_ins") stand_ins no_members))))) ≡ false
-no_float_in_parts word letter rule stand_ins one two three =
-    neither (has_float letter) _ one (neither (has_float rule) _ two (neither (has_float stand_ins) false three refl))
+no_float_in_number : (number : Option ℕ) → has_float (number_or_null number) ≡ false
+no_float_in_number None = refl
+no_float_in_number (Some n) = refl
+
+pub no_float_in_parts : (number : Option ℕ) (word : List ℕ) (letter rule stand_ins : Data) → has_float letter ≡ false →
+    has_float rule ≡ false → has_float stand_ins ≡ false → has_float (object (member (codes "also_idle") (number_or_null number)
+    (member (codes "finding") (string word) (member (codes "permission") letter
+    (member (codes "rule") rule (member (codes "stand_ins") stand_ins no_members)))))) ≡ false
+no_float_in_parts number word letter rule stand_ins one two three =
+    neither (has_float (number_or_null number)) _ (no_float_in_number number)
+    (neither (has_float letter) _ one (neither (has_float rule) _ two (neither (has_float stand_ins) false three refl)))

@@ -7,3 +7,5 @@ pub mod AllFound
 pub mod Pieces
 pub mod FloatLaws
 pub mod Written
+pub mod PartLaws
+pub mod OneLint

@@ -8,7 +8,7 @@ use Rattle.names.specs.declared.permissions.Perms.{Perms}
 use Rattle.trace_lint.specs.Parts.{decides_none_of, decides_nothing}
 
 -- tests that pass together are one
-one_test : (a b : Bool) → (a ≡ true → b ≡ true) → (b ≡ true → a ≡ true) → a ≡ b
+pub one_test : (a b : Bool) → (a ≡ true → b ≡ true) → (b ≡ true → a ≡ true) → a ≡ b
 one_test true b to from = sym (to refl)
 one_test false true to from = from refl
 one_test false false to from = refl

@@ -36,16 +36,17 @@ use Rattle.trace_report.specs.declared.status.Status.TheVariants.{Refused, Unmet
 pub linted : (format : Format) (text : List ℕ) (rules others : List RuleValue) (spans : List Span) (decided : List Perms)
     (parts : List Part) (lists : List (List ℕ)) (lines : List ℕ) → others ≡ rules → spans ≡ spans_of text → AreDecided rules decided →
     parts ≡ idle_parts others decided → AreStandIns rules (map (case_of others) parts) lists →
-    lines ≡ flat_map (finding_in format text others spans) (all_found decided parts lists) → IsLinted format text rules (answer_of lines)
+    lines ≡ flat_map (finding_in format text others spans) (all_found others decided parts lists) →
+    IsLinted format text rules (answer_of lines)
 linted format text rules others spans decided parts lists lines same there are is stands e = (
   decided,
   are,
   (
-    all_found decided parts lists,
-    are_findings decided rules parts lists (is ∙ ap (λ z. idle_parts z decided) same)
+    all_found rules decided parts lists,
+    are_findings rules decided parts lists (is ∙ ap (λ z. idle_parts z decided) same)
         (subst (λ (z : List RuleValue). AreStandIns rules (map (case_of z) parts) lists) same stands),
-    ap answer_of (e ∙ ap (λ z. flat_map (finding_in format text z spans) (all_found decided parts lists)) same
-        ∙ ap (λ z. flat_map (finding_in format text rules z) (all_found decided parts lists)) there),
+    ap answer_of (e ∙ ap (λ z. flat_map (finding_in format text z spans) (all_found z decided parts lists)) same
+        ∙ ap (λ z. flat_map (finding_in format text rules z) (all_found rules decided parts lists)) there),
   ),
 )
 

@@ -1,5 +1,5 @@
 -- What is found, as lines of text.
-use Rattle.std.specs.Prelude.{ℕ, ◌-◌, List, [], ◌∷◌, ◌++◌, Option, Some, None, codes, decimal, slice_get}
+use Rattle.std.specs.Prelude.{ℕ, ◌-◌, Bool, true, false, List, [], ◌∷◌, ◌++◌, Option, Some, None, codes, decimal, slice_get}
 use Rattle.std.specs.List.{join_by}
 use Rattle.std.specs.Option.{option_map_or}
 use Rattle.names.specs.Permissions.{letter}
@@ -10,6 +10,7 @@ use Rattle.rule_explain.specs.Explanations.{rule_place, text_of_rule}
 use Rattle.rule_globs.specs.Rules.{RuleValue}
 use Rattle.rule_profile.specs.declared.profile.Span.{Span}
 use Rattle.trace_lint.specs.Findings.{FindingValue}
+use Rattle.trace_lint.specs.declared.finding.Idle.{Idle}
 
 -- the kind of the rule with this number
 abbrev pub kind_of : List RuleValue → ℕ → RuleKind
@@ -35,10 +36,15 @@ abbrev pub work : RuleKind → List ℕ
 work Allow = codes " allows each of its names, or a deny rule denies it"
 work Deny = codes " denies each of its names that is allowed"
 
--- that a stand-in decides nothing at all
-abbrev pub idle_text : Option ℕ → List ℕ
+-- what a stand-in doesn't decide either: anything, or what the part is about
+abbrev pub caveat : Bool → List ℕ
+caveat true = codes " decides nothing either: leave out one of them, not both"
+caveat false = codes " decides nothing of this either: leave it out of one of them, not both"
+
+-- that a stand-in decides nothing of a part either
+abbrev pub idle_text : Option Idle → List ℕ
 idle_text None = []
-idle_text (Some n) = codes "; rule " ++ decimal n ++ codes " decides nothing either: leave out one of them, not both"
+idle_text (Some idle) = codes "; rule " ++ decimal idle.rule ++ caveat idle.wholly
 
 -- why, where there are no stand-ins: for a deny rule it was said
 abbrev pub unaided : RuleKind → List ℕ
@@ -46,7 +52,7 @@ unaided Allow = codes " (a deny rule denies each of its names)"
 unaided Deny = []
 
 -- why, in parentheses
-abbrev pub why : List ℕ → List Span → RuleKind → List ℕ → Option ℕ → List ℕ
+abbrev pub why : List ℕ → List Span → RuleKind → List ℕ → Option Idle → List ℕ
 why text spans kind [] idle = unaided kind
 why text spans kind (n ∷ stand_ins) idle = codes " (" ++ places text spans (n ∷ stand_ins) ++ work kind ++ idle_text idle ++ codes ")"
 

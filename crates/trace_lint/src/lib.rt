@@ -7,10 +7,12 @@
 mod asking;
 mod deciding;
 mod finding;
+mod laws;
 mod lines;
 mod linting;
 mod parts;
 mod texts;
 mod values;
 
+pub use laws::{idle_parts_are_reported, one_lint, reported_parts_are_idle};
 pub use linting::lint;

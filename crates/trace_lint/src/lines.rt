@@ -2,11 +2,12 @@
 ghost use Rattle.std.specs.Prelude.{◌≡◌, ◌++◌, Some, IfOk, OnOk, flat_map, length, map};
 ghost use Rattle.rule_profile.specs.Profile.{profile_value};
 ghost use Rattle.rule_profile.specs.RuleSpans.{profile_spans};
-ghost use Rattle.trace_lint.specs.Lines.{finding_line, idle_text, said, unaided, why, work};
+ghost use Rattle.trace_lint.specs.Lines.{caveat, finding_line, idle_text, said, unaided, why, work};
 ghost use Rattle.trace_lint.specs.Linting.{finding_in};
 ghost use Rattle.trace_lint.specs.inner.Found.{AreNumbers, HaveNumbers, IsNumber, ListsHaveNumbers, all_found, finding_value};
 
-use crate::finding::{Finding, Part};
+use crate::finding::{Finding, Idle, Part};
+use crate::parts::case_of;
 use crate::texts::{Linted, put, put_letter};
 use crate::values::finding_object;
 use answer_json::json_line;
@@ -29,11 +30,14 @@ pub(crate) fn lines(
     requires lists { ListsHaveNumbers (length (profile_value linted.now.profile.now).rules) lists.now }
     ensures { IfOk result (λ lines. lines.items
         ≡ flat_map (finding_in format linted.now.text.now (profile_value linted.now.profile.now).rules
-        (profile_spans linted.now.profile.now)) (all_found decided.now parts.now (map (λ list. list.items) lists.now))) }
+        (profile_spans linted.now.profile.now)) (all_found (profile_value linted.now.profile.now).rules decided.now parts.now
+        (map (λ list. list.items) lists.now))) }
 {
     let mut lines = Vec::new(alloc);
     for index in 0..parts.len() {
-        let finding = Finding::of(parts[index], &lists[index], decided);
+        let part = parts[index];
+        let case = case_of(linted.profile.rules(), part);
+        let finding = Finding::of(part, case.perms, &lists[index], decided);
         put_finding(&mut lines, alloc, format, linted, finding)?;
     }
     Ok(lines)
@@ -137,24 +141,35 @@ fn work(kind: RuleKind) -> &'static [u8]
     }
 }
 
-// Appends that a stand-in decides nothing at all, if there is one.
-fn put_idle(line: &mut Vec<u8>, alloc: Global, idle: Option<u16>) -> Result<(), NoMemory>
+// Appends that a stand-in decides nothing of the part either, if there is one.
+fn put_idle(line: &mut Vec<u8>, alloc: Global, idle: Option<Idle>) -> Result<(), NoMemory>
     ensures { OnOk result (line.new.items ≡ line.old.items ++ idle_text idle) }
 {
     match idle {
-        Some(rule) => put(line, &idle_text(alloc, rule)?),
+        Some(idle) => put(line, &idle_text(alloc, idle)?),
         None => Ok(()),
     }
 }
 
-// That a stand-in decides nothing at all.
-fn idle_text(alloc: Global, rule: u16) -> Result<Vec<u8>, NoMemory>
-    ensures { IfOk result (λ text. text.items ≡ idle_text (Some rule)) }
+// That a stand-in decides nothing of the part either.
+fn idle_text(alloc: Global, idle: Idle) -> Result<Vec<u8>, NoMemory>
+    ensures { IfOk result (λ text. text.items ≡ idle_text (Some idle)) }
 {
-    match format!(in alloc;
-        "; rule {rule} decides nothing either: leave out one of them, not both"
-    ) {
+    let rule = idle.rule;
+    let caveat = caveat(idle.wholly);
+    match format!(in alloc; "; rule {rule}{caveat}") {
         Ok(text) => Ok(text.into_bytes()),
         Err(_) => Err(NoMemory),
+    }
+}
+
+// What a stand-in doesn't decide either: anything, or what the part is about.
+fn caveat(wholly: bool) -> &'static str
+    ensures { result.now ≡ caveat wholly }
+{
+    if wholly {
+        " decides nothing either: leave out one of them, not both"
+    } else {
+        " decides nothing of this either: leave it out of one of them, not both"
     }
 }

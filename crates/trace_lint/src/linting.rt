@@ -20,8 +20,8 @@ use trace_report::{Fault, Format, Status, fail, read_all, write_finding};
 
 /// Reads a profile from `input` and writes to `answers` a line for each rule that decides nothing, and for each letter that decides
 /// nothing of a rule that decides something: where the rule is, its text, and which rules do its work. Nothing is written where
-/// there is no such rule. In JSON each line is an object with a rule, its letter or `null`, and the stand-ins. Faults are reported
-/// on `faults` instead.
+/// there is no such rule. In JSON each line is an object with a rule, its letter or `null`, and the stand-ins. A line warns of a
+/// stand-in that decides nothing of it either. Faults are reported on `faults` instead.
 pub fn lint<R: Read, A: Write, F: Write>(
     alloc: Global,
     format: Format,

@@ -100,8 +100,8 @@ pub(crate) fn cases_of(
     Ok(cases)
 }
 
-// What a part holds.
-fn case_of(rules: &[Rule], part: Part) -> IdleCase
+/// What a part holds.
+pub(crate) fn case_of(rules: &[Rule], part: Part) -> IdleCase
     requires { IsNumber (length rules.now) part.rule }
     ensures { result ≡ case_of (map rule_value rules.now) part }
 {

@@ -4,21 +4,24 @@ use Rattle.std.specs.declared.alloc.Global.{Global}
 use Rattle.std.specs.List.{All}
 use Rattle.names.specs.declared.permissions.Perms.{Perms}
 use Rattle.rule_explain.specs.Explanations.{rule_place}
+use Rattle.rule_globs.specs.Rules.{RuleValue}
 use Rattle.rule_profile.specs.declared.profile.Span.{Span}
 use Rattle.trace_lint.specs.Findings.{FindingValue, first_idle}
+use Rattle.trace_lint.specs.Parts.{case_of}
 use Rattle.trace_lint.specs.declared.finding.Finding.{Finding}
 use Rattle.trace_lint.specs.declared.finding.Part.{Part}
 
 abbrev pub finding_value : Finding → FindingValue
 finding_value f = record { part = f.part; stand_ins = f.stand_ins.now; idle = f.idle }
 
-abbrev pub found_of : List Perms → Part → List ℕ → FindingValue
-found_of decided part list = record { part = part; stand_ins = list; idle = first_idle decided list }
+abbrev pub found_of : List Perms → Part → Perms → List ℕ → FindingValue
+found_of decided part perms list = record { part = part; stand_ins = list; idle = first_idle decided perms list }
 
-abbrev pub all_found : List Perms → List Part → List (List ℕ) → List FindingValue
-all_found decided [] lists = []
-all_found decided (part ∷ parts) [] = []
-all_found decided (part ∷ parts) (list ∷ lists) = found_of decided part list ∷ all_found decided parts lists
+abbrev pub all_found : List RuleValue → List Perms → List Part → List (List ℕ) → List FindingValue
+all_found rules decided [] lists = []
+all_found rules decided (part ∷ parts) [] = []
+all_found rules decided (part ∷ parts) (list ∷ lists) =
+    found_of decided part (case_of rules part).perms list ∷ all_found rules decided parts lists
 
 -- ` or rule 7, line 8`
 abbrev pub or_place : List ℕ → List Span → ℕ → List ℕ

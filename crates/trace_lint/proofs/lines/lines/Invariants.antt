@@ -10,4 +10,5 @@ use Rattle.trace_lint.proofs.lines.lines.Given as goal
 abbrev pub invariant-loop-index : goal.invariant-loop-index
 invariant-loop-index l =
     l.lines.items ≡ flat_map (finding_in l.format l.linted.text.now (profile_value l.linted.profile.now).rules
-    (profile_spans l.linted.profile.now)) (all_found l.decided (take l.index l.parts) (take l.index (map (λ list. list.items) l.lists)))
+    (profile_spans l.linted.profile.now)) (all_found (profile_value l.linted.profile.now).rules l.decided
+    (take l.index l.parts) (take l.index (map (λ list. list.items) l.lists)))

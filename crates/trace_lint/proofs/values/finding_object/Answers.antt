@@ -9,7 +9,7 @@ use Rattle.trace_lint.proofs.values.finding_object.Goals as goal
 pub returns-in-Ok-clause-integers : goal.returns-in-Ok-clause-integers
 returns-in-Ok-clause-integers c =
     ap has_float c.in-Ok.ensures
-    ∙ no_float_in_parts c.finding_word-word.result.now (view c.in_ok-letter.letter) (view c.in_ok-rule.rule)
+    ∙ no_float_in_parts c.number_of-also_idle.result c.finding_word-word.result.now (view c.in_ok-letter.letter) (view c.in_ok-rule.rule)
     (view c.in_ok-stand_ins.stand_ins)
     (ap has_float c.in_ok-letter.ensures ∙ no_float_in_letter c.args.finding.part.letter)
     c.in_ok-rule.ensures.integers
