@@ -47,7 +47,7 @@ module _ (count : ℕ) where
 pub parts_numbered : (rules : List RuleValue) (decided : List Perms) → HaveNumbers (length rules) (idle_parts rules decided)
 parts_numbered rules decided = rules_numbered (length rules) rules decided 1 (length rules) (omega arith) (omega arith)
 
-list_numbered : (rules : List RuleValue) (idle : IdleCase) (list : List ℕ) → AreTheStandIns rules idle list →
+pub list_numbered : (rules : List RuleValue) (idle : IdleCase) (list : List ℕ) → AreTheStandIns rules idle list →
     AreNumbers (length rules) list
 list_numbered rules idle list are k d lt =
     let by = (are.members (get_or list k d)).0 (Contains-get_or list k d lt) in

@@ -7,7 +7,7 @@ use Rattle.trace_lint.specs.Parts.{decided_by, no_perms}
 
 module _ {X : Type 0} where
   -- the first doesn't pass, and none of the others does
-  not_first : (b : Bool) (x : X) (rest : Option X) → cond b (Some x) rest ≡ None → (b ≡ false) × (rest ≡ None)
+  pub not_first : (b : Bool) (x : X) (rest : Option X) → cond b (Some x) rest ≡ None → (b ≡ false) × (rest ≡ None)
   not_first true x rest e = cc (e)
   not_first false x rest e = (refl, e)
 

@@ -9,3 +9,4 @@ pub mod FloatLaws
 pub mod Written
 pub mod PartLaws
 pub mod OneLint
+pub mod Caveats

@@ -43,10 +43,10 @@ module _ (rules : List RuleValue) where
       (kept other one be are k (get_or other k d) (get_or one k d) p there at)))
 
   module _ (decided : List Perms) where
-    abbrev Stand : FindingValue → Type 0
+    abbrev pub Stand : FindingValue → Type 0
     Stand f = AreTheStandIns rules (case_of rules f.part) f.stand_ins
 
-    abbrev IsFirst : FindingValue → Type 0
+    abbrev pub IsFirst : FindingValue → Type 0
     IsFirst f = f.idle ≡ first_idle decided (case_of rules f.part).perms f.stand_ins
 
     one_finding : (f g : FindingValue) → f.part ≡ g.part → Stand f → Stand g → IsFirst f → IsFirst g → f ≡ g
@@ -62,7 +62,8 @@ module _ (rules : List RuleValue) where
         ∙ ap (λ z. record { part = g.part; stand_ins = g.stand_ins; idle = z }) idle
 
     pub same_findings : (one other : List FindingValue) →
-        map (λ (f : FindingValue). f.part) one ≡ map (λ (f : FindingValue). f.part) other → All Stand one → All Stand other → All IsFirst one → All IsFirst other → one ≡ other
+        map (λ (f : FindingValue). f.part) one ≡ map (λ (f : FindingValue). f.part) other →
+        All Stand one → All Stand other → All IsFirst one → All IsFirst other → one ≡ other
     same_findings [] [] parts are be first second = refl
     same_findings [] (g ∷ other) parts are be first second = cc (parts)
     same_findings (f ∷ one) [] parts are be first second = cc (parts)

@@ -27,7 +27,7 @@ module _ {X : Type 0} where
   pub contains_first : (x : X) (xs : List X) → Contains (x ∷ xs) x
   contains_first x xs = (0, omega arith, refl)
 
-  contains_after : (x y : X) (xs : List X) → Contains xs x → Contains (y ∷ xs) x
+  pub contains_after : (x y : X) (xs : List X) → Contains xs x → Contains (y ∷ xs) x
   contains_after x y xs h = (suc h.0, omega (arith, h.1), h.2)
 
   contains_kept : (test : X → Bool) (x : X) (xs : List X) → test x ≡ true → Contains xs x → Contains (filter test xs) x
@@ -99,6 +99,30 @@ module _ (rules : List RuleValue) (decided : List Perms) (are : AreDecided rules
     not_decided p idle = ⊎_elim (λ is. absurd (not_both rules n p (decides_there p is) idle)) (λ is. is)
         (cases_Bool (has (decided_by decided n) p))
 
+    -- ---- what is decided of some permissions
+
+    pub none_idle : (perms : Perms) → decides_none_of perms (decided_by decided n) ≡ true → (p : Permission) → has perms p ≡ true →
+        IsIdle rules n p
+    none_idle perms is p h =
+        let neither = none_found (λ q. has perms q && has (decided_by decided n) q) (not-true _ is) p in
+        idle_there p (ap (λ z. z && has (decided_by decided n) p) (sym h) ∙ neither)
+
+    pub idle_none : (perms : Perms) → ((p : Permission) → has perms p ≡ true → IsIdle rules n p) →
+        decides_none_of perms (decided_by decided n) ≡ true
+    idle_none perms idle = ap not (⊎_elim
+        (λ some. let one = one_found (λ q. has perms q && has (decided_by decided n) q) some in
+        let both = and_parts (has perms one.0) (has (decided_by decided n) one.0) one.1 in
+        absurd (true≢false (sym both.1 ∙ not_decided one.0 (idle one.0 both.0))))
+        (λ none. none)
+        (cases_Bool (list_any (λ q. has perms q && has (decided_by decided n) q) all_permissions)))
+
+    pub nothing_idle : decides_nothing (decided_by decided n) ≡ true → (p : Permission) → IsIdle rules n p
+    nothing_idle nothing p =
+        idle_there p (not-true (has (decided_by decided n) p) (each_passes (λ q. not (has (decided_by decided n) q)) nothing p))
+
+    pub idle_nothing : ((p : Permission) → IsIdle rules n p) → decides_nothing (decided_by decided n) ≡ true
+    idle_nothing idle = all_pass (λ p. not (has (decided_by decided n) p)) (λ p. ap not (not_decided p (idle p)))
+
     -- ---- what is reported is idle
 
     abbrev letter_part : Permission → Part
@@ -111,14 +135,10 @@ module _ (rules : List RuleValue) (decided : List Perms) (are : AreDecided rules
     passes letter = has (letters_of rules n) letter && decides_none_of (held_by letter) (decided_by decided n)
 
     whole_idle : decides_nothing (decided_by decided n) ≡ true → IsIdlePart whole
-    whole_idle nothing p h =
-        idle_there p (not-true (has (decided_by decided n) p) (each_passes (λ q. not (has (decided_by decided n) q)) nothing p))
+    whole_idle nothing p h = nothing_idle nothing p
 
     letter_idle : (letter : Permission) → passes letter ≡ true → IsIdlePart (letter_part letter)
-    letter_idle letter is p h =
-        let none = not-true _ (and_parts (has (letters_of rules n) letter) _ is).1 in
-        let neither = none_found (λ q. has (held_by letter) q && has (decided_by decided n) q) none p in
-        idle_there p (ap (λ z. z && has (decided_by decided n) p) (sym h) ∙ neither)
+    letter_idle letter is = none_idle (held_by letter) (and_parts (has (letters_of rules n) letter) _ is).1
 
     letters_idle : (all : List Permission) → All IsIdlePart (map letter_part (filter passes all))
     letters_idle [] = All-nil IsIdlePart
@@ -152,20 +172,14 @@ module _ (rules : List RuleValue) (decided : List Perms) (are : AreDecided rules
 
     pub whole_reported : ((p : Permission) → has (held (letters_of rules n)) p ≡ true → IsIdle rules n p) →
         Contains (idle_parts rules decided) whole
-    whole_reported idle = whole_there (all_pass (λ p. not (has (decided_by decided n) p))
-        (λ p. ap not (⊎_elim
-        (λ is. let d = decides_there p is in absurd (not_both rules n p d (idle p (decided_held rules n p d))))
-        (λ is. is)
-        (cases_Bool (has (decided_by decided n) p)))))
+    whole_reported idle = whole_there (idle_nothing (λ p. ⊎_elim
+        (λ is. let d = decides_there p is in idle p (decided_held rules n p d))
+        (λ is. idle_there p is)
+        (cases_Bool (has (decided_by decided n) p))))
 
     letter_passes : (letter : Permission) → has (letters_of rules n) letter ≡ true →
         ((p : Permission) → has (held_by letter) p ≡ true → IsIdle rules n p) → passes letter ≡ true
-    letter_passes letter has_it idle = and_from (has (letters_of rules n) letter) _ has_it (ap not (⊎_elim
-        (λ some. let one = one_found (λ q. has (held_by letter) q && has (decided_by decided n) q) some in
-        let both = and_parts (has (held_by letter) one.0) (has (decided_by decided n) one.0) one.1 in
-        absurd (true≢false (sym both.1 ∙ not_decided one.0 (idle one.0 both.0))))
-        (λ none. none)
-        (cases_Bool (list_any (λ q. has (held_by letter) q && has (decided_by decided n) q) all_permissions))))
+    letter_passes letter has_it idle = and_from (has (letters_of rules n) letter) _ has_it (idle_none (held_by letter) idle)
 
     pub letter_reported : (letter : Permission) → has (letters_of rules n) letter ≡ true →
         ((p : Permission) → has (held_by letter) p ≡ true → IsIdle rules n p) →

@@ -14,5 +14,7 @@ mod parts;
 mod texts;
 mod values;
 
-pub use laws::{idle_parts_are_reported, one_lint, reported_parts_are_idle};
+pub use laws::{
+    idle_parts_are_reported, lines_warn_of_idle_stand_ins, one_lint, reported_parts_are_idle,
+};
 pub use linting::lint;
