@@ -19,9 +19,10 @@ use std::io::{Read, Write};
 use trace_report::{Fault, Format, Status, fail, read_all, write_finding};
 
 /// Reads a profile from `input` and writes to `answers` a line for each rule that decides nothing, and for each letter that decides
-/// nothing of a rule that decides something: where the rule is, its text, and which rules do its work. Nothing is written where
-/// there is no such rule. In JSON each line is an object with a rule, its letter or `null`, and the stand-ins. A line warns of a
-/// stand-in that decides nothing of it either. Faults are reported on `faults` instead.
+/// nothing of a rule that decides something: where the rule is, its text, and which rules do its work, with a warning if one of
+/// these decides nothing of it either. Nothing is written where there is no such rule. In JSON each line is an object with a rule,
+/// its letter or `null`, the stand-ins, and the number of the one that is warned of or `null`. Faults are reported on `faults`
+/// instead.
 pub fn lint<R: Read, A: Write, F: Write>(
     alloc: Global,
     format: Format,
