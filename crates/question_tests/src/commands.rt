@@ -162,15 +162,8 @@ w: allowed by rule 3, line 4: \"/a/{b,c}c\" w,
             perms,
             pattern,
             profile: LOGS,
-            status,
-            text,
         };
-        expect(
-            &rt,
-            &search_in_memory(rt.alloc(), row),
-            row.status,
-            row.text,
-        );
+        expect(&rt, &search_in_memory(rt.alloc(), row), status, text);
     }
 }
 
