@@ -165,7 +165,8 @@ module _ (rules : List RuleValue) (name : List ℕ) (records : Records) (least :
     abbrev stand : ℕ
     stand = stand_in (length rules) idle.rule rule.kind (hits_of records.first p) (hits_of records.second p)
 
-    held_stands : (n : ℕ) → IsTrue (has idle.perms p && holds rule p) → candidate (length rules) idle.rule rule idle.perms records p ≡ stand
+    held_stands : (n : ℕ) → IsTrue (has idle.perms p && holds rule p) → candidate
+        (length rules) idle.rule rule idle.perms records p ≡ stand
     held_stands n both = ap (λ b. if b then stand else 0) both
 
     from_candidate : (n : ℕ) → candidate (length rules) idle.rule rule idle.perms records p ≡ n → n ≢ 0 → Takes (pattern rule) name →

@@ -46,7 +46,8 @@ module _ (format : Format) (q : Quantifier) where
       absurd (found_good (finding bytes some) bytes some refl (ap (λ (o : Output). o.status) e))
   answer_good (Ok asked) text bytes some h = of_good asked.0 asked.1 text (outcome_of text)
 
-  pub good_by_answer : (perms pattern text bytes : List ℕ) (some : Bool) → IsSearchOutput format q perms pattern text (finding bytes some) →
+  pub good_by_answer : (perms pattern text bytes : List ℕ) (some : Bool) → IsSearchOutput format q perms pattern text
+      (finding bytes some) →
       AreGood (IsSearchOutput format q perms pattern text)
   good_by_answer perms pattern text bytes some h = answer_good (asked_of perms pattern) text bytes some h
 

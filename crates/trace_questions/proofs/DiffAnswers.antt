@@ -68,7 +68,8 @@ pub old_refused : (w : Report) (below : Option (List Token)) (old new : List ℕ
 old_refused w below old new one two f (inl h) = rw h tt
 old_refused w below old new one two f (inr h) = rw (h.1, h.2) (refl, refl)
 
-pub new_refused : (w : Report) (below : Option (List Token)) (old new : List ℕ) (profile : ProfileValue) (one two : Result ProfileValue ReadFault)
+pub new_refused : (w : Report) (below : Option (List Token)) (old new : List ℕ) (profile : ProfileValue)
+    (one two : Result ProfileValue ReadFault)
     (f : SideFault) → one ≡ Ok profile → IsTextRefused New two f → IsSideFaultOf (IsDiffOutputOf w below old new one two) f
 new_refused w below old new profile one two f e (inl h) = rw h tt
 new_refused w below old new profile one two f e (inr h) = rw (e, h.1, h.2) (refl, refl)
@@ -140,7 +141,8 @@ texts_good w below old new (Ok one) (Ok two) output (inr h) = compared_good w be
 abbrev pub Asked : Type 0
 Asked = Result (Option (List Token)) (List ℕ)
 
-pub found_good_for : (w : Report) (asked : Asked) (old new bytes : List ℕ) (found : Bool) → IsDiffOutputFor w asked old new (finding bytes found) →
+pub found_good_for : (w : Report) (asked : Asked) (old new bytes : List ℕ) (found : Bool) → IsDiffOutputFor w asked old new
+    (finding bytes found) →
     AreGood (IsDiffOutputFor w asked old new)
 found_good_for w (Err told) old new bytes found h =
     absurd (found_good (finding bytes found) bytes found refl (ap (λ (output : Output). output.status) h))
@@ -151,12 +153,14 @@ pub unasked : (w : Report) (asked : Asked) (old new : List ℕ) (f : Fault) → 
 unasked w asked old new f (inl h) = rw (h.0, h.1) refl
 unasked w asked old new f (inr h) = rw h tt
 
-pub unread : (w : Report) (asked : Asked) (below : Option (List Token)) (old new : List ℕ) (f : Fault) → asked ≡ Ok below → (f ≡ Input) ⊎ (f ≡ Memory) →
+pub unread : (w : Report) (asked : Asked) (below : Option (List Token)) (old new : List ℕ) (f : Fault) → asked ≡ Ok below →
+    (f ≡ Input) ⊎ (f ≡ Memory) →
     IsSideFaultOf (IsDiffOutputFor w asked old new) (Neither f)
 unread w asked below old new f e (inl h) = rw (h, e) (texts_good w below old new (outcome_of old) (outcome_of new))
 unread w asked below old new f e (inr h) = rw h tt
 
-pub answered_on : (w : Report) (asked : Asked) (below : Option (List Token)) (old new old_here new_here : List ℕ) (result : Result Answer SideFault) →
+pub answered_on : (w : Report) (asked : Asked) (below : Option (List Token)) (old new old_here new_here : List ℕ)
+    (result : Result Answer SideFault) →
     asked ≡ Ok below → old_here ≡ old → new_here ≡ new →
     IsDiffAnswer (IsDiffOutputOf w below old_here new_here (outcome_of old_here) (outcome_of new_here)) result →
     IsDiffAnswer (IsDiffOutputFor w asked old new) result

@@ -63,7 +63,8 @@ abbrev pub AreDifferences : Report → Option (List Token) → Versions → List
 AreDifferences report below v [] lines = lines ≡ []
 AreDifferences report below v (d ∷ ds) lines =
     (names : List (List ℕ)) × AreAlone report.witnesses below v.old.rules v.new.rules d.0 d.1 names
-    × ((others : List ℕ) × AreDifferences report below v ds others × (lines ≡ flat_map (difference_text report.format v d.0 d.1) names ++ others))
+    × ((others : List ℕ) × AreDifferences report below v ds others × (lines ≡ flat_map
+    (difference_text report.format v d.0 d.1) names ++ others))
 
 -- an answer of these words alone
 abbrev pub words_text : Format → List ℕ → List ℕ

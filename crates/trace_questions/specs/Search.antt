@@ -59,7 +59,8 @@ IsSearchOutputOf format quantifier ask path text (Ok profile) output = IsSearchO
 -- for what is asked, or for the message about the arguments
 abbrev pub IsSearchOutputFor : Format → Quantifier → Result (Perms × List Token) (List ℕ) → List ℕ → Output → Type 0
 IsSearchOutputFor format quantifier (Err told) text output = output ≡ fault told BadArguments
-IsSearchOutputFor format quantifier (Ok asked) text output = IsSearchOutputOf format quantifier asked.0 asked.1 text (outcome_of text) output
+IsSearchOutputFor format quantifier (Ok asked) text output = IsSearchOutputOf format quantifier asked.0 asked.1 text
+    (outcome_of text) output
 
 -- what `any PERMS PATTERN` or `all PERMS PATTERN` writes on a text, in either format
 abbrev pub IsSearchOutput : Format → Quantifier → List ℕ → List ℕ → List ℕ → Output → Type 0

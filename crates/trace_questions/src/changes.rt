@@ -106,7 +106,8 @@ fn put_change(
     ensures { (below : Option (List Token)) → AreCompared comparison.now versions.now listing.restricted below →
         OnOk result ((names : List (List ℕ)) × AreAlone listing.report.witnesses below (versions_value versions.now).old.rules
         (versions_value versions.now).new.rules permission side names
-        × (text.new.items ≡ text.old.items ++ flat_map (difference_text listing.report.format (versions_value versions.now) permission side) names)) }
+        × (text.new.items ≡ text.old.items
+        ++ flat_map (difference_text listing.report.format (versions_value versions.now) permission side) names)) }
 {
     let names = differences(
         alloc,

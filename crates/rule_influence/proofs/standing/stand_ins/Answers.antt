@@ -63,7 +63,8 @@ loop-index-preserved c =
                 w.note_name.new.lists) w.deref-then-some_missing.ensures.value
                 (subst (λ (z : List RuleValue). AreNotedAt z c.args.cases.now w.in-Some.records w.deref-then-some_missing.result.now
                 w.deref_mut.result.now w.note_name.new.lists) rules w.in-Ok-note_name.ensures)) in
-                subst (λ (z : List (Vec ℕ Global)). AreFoundSoFar c.args.pair.now.rules c.in_ok-comparison.comparison.names c.args.cases.now
+                subst (λ (z : List (Vec ℕ Global)). AreFoundSoFar c.args.pair.now.rules c.in_ok-comparison.comparison.names
+                c.args.cases.now
                 (c.loop-index.index + 1) z)
                 (sym (kept c.loop-index.lists w.note_name.new.lists c.match-records.lists w.lists-is noted.each))
                 (noted_more c.args.pair.now.rules c.in_ok-comparison.comparison
@@ -98,7 +99,8 @@ returns-clause-ok c =
     (c.in_ok-comparison.ensures.first ∙ c.rules.ensures.rules) (c.in_ok-comparison.ensures.second ∙ c.reversed.ensures)
     c.len-index-end.ensures.names c.args.cases.now c.loop-index.index c.loop-index.lists.items
     (omega (arith, c.loop-index-test.false, c.len-index-end.ensures.len))
-    (subst (λ (z : List (List ℕ)). AreFoundSoFar c.args.pair.now.rules z c.args.cases.now c.loop-index.index c.loop-index.lists.items) names
+    (subst (λ (z : List (List ℕ)). AreFoundSoFar c.args.pair.now.rules z c.args.cases.now c.loop-index.index c.loop-index.lists.items)
+    names
     c.loop-index.invariant.found)
 
 pub returns-in_err-comparison-clause-err : goal.returns-in_err-comparison-clause-err

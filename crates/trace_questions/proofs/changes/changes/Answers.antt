@@ -38,7 +38,11 @@ returns-then-is_empty c below h =
     let v = versions_value c.args.versions.now in
     let w = c.args.listing.report in
     let text = c.loop-permission.text in
-    let all : c.loop-permission.permission-index ≡ 6 = omega (arith, c.loop-permission-test.false, c.loop-permission.auto.permission-index-end) in
+    let all : c.loop-permission.permission-index ≡ 6 = omega (
+      arith,
+      c.loop-permission-test.false,
+      c.loop-permission.auto.permission-index-end,
+    ) in
     let are : AreDifferences w below v all_differences text.items = subst (λ (i : ℕ). AreFirst w below v i text.items) all
     (c.loop-permission.invariant below h) in
     let empty : text.items ≡ [] = emptied text.items (vec_len text) text.ok.0 (sym c.if-is_empty.true ∙ c.is_empty.ensures) in
@@ -53,7 +57,11 @@ returns c below h =
     let v = versions_value c.args.versions.now in
     let w = c.args.listing.report in
     let text = c.loop-permission.text in
-    let all : c.loop-permission.permission-index ≡ 6 = omega (arith, c.loop-permission-test.false, c.loop-permission.auto.permission-index-end) in
+    let all : c.loop-permission.permission-index ≡ 6 = omega (
+      arith,
+      c.loop-permission-test.false,
+      c.loop-permission.auto.permission-index-end,
+    ) in
     let are : AreDifferences w below v all_differences text.items = subst (λ (i : ℕ). AreFirst w below v i text.items) all
     (c.loop-permission.invariant below h) in
     compared_lines w below v ((c.in_ok-some_name.ensures below h.third h.given).0 c.if-not-branch.false) text.items are

@@ -15,7 +15,8 @@ returns-in_err-asked-clause-output g c =
       text.1,
       passed_on (IsSearchOutput c.args.format c.args.quantifier c.args.perms.now c.args.pattern.now text.0) c.from_residual.result
           c.in_err-asked.field-0.0 c.from_residual.ensures.1
-          (asked_in_vain c.args.format c.args.quantifier c.args.perms.now c.args.pattern.now text.0 c.in_err-asked.field-0.0 c.in_err-asked.ensures),
+          (asked_in_vain c.args.format c.args.quantifier c.args.perms.now c.args.pattern.now text.0 c.in_err-asked.field-0.0
+          c.in_err-asked.ensures),
     )
 
 pub returns-in_err-text-clause-output : goal.returns-in_err-text-clause-output
@@ -24,7 +25,8 @@ returns-in_err-text-clause-output g c =
     let asked = c.in_ok-asked.ensures in (
       text.0,
       text.1,
-      passed_on (IsSearchOutput c.args.format c.args.quantifier c.args.perms.now c.args.pattern.now text.0) c.from_residual-in_err-text.result
+      passed_on (IsSearchOutput c.args.format c.args.quantifier c.args.perms.now c.args.pattern.now text.0)
+          c.from_residual-in_err-text.result
           c.in_err-text.field-0.0 c.from_residual-in_err-text.ensures.1
           (text_unread c.args.format c.args.quantifier c.args.perms.now c.args.pattern.now text.0 c.in_ok-asked.asked.ask asked.0 asked.1
           c.in_err-text.field-0.0 c.in_err-text.ensures),
@@ -35,8 +37,10 @@ returns-clause-output g c =
     let asked = c.in_ok-asked.ensures in (
       c.in_ok-text.text.items,
       c.in_ok-text.ensures,
-      text_answered c.args.format c.args.quantifier c.args.perms.now c.args.pattern.now c.in_ok-text.text.items c.in_ok-asked.asked.ask asked.0 asked.1
+      text_answered c.args.format c.args.quantifier c.args.perms.now c.args.pattern.now c.in_ok-text.text.items c.in_ok-asked.asked.ask
+          asked.0 asked.1
           c.answer_on.result
-          (subst (λ (text : List ℕ). IsAnswered (IsSearchOutputOf c.args.format c.args.quantifier c.in_ok-asked.asked.ask asked.0 text (outcome_of text))
+          (subst (λ (text : List ℕ). IsAnswered (IsSearchOutputOf c.args.format c.args.quantifier c.in_ok-asked.asked.ask asked.0 text
+          (outcome_of text))
           c.answer_on.result) c.deref.ensures.value (c.answer_on.ensures asked.0 asked.2)),
     )

@@ -11,7 +11,8 @@ pub returns-in_err-rules : goal.returns-in_err-rules
 returns-in_err-rules c path of =
     let text = c.args.text.now in
     let f = c.in_err-rules.field-0.0 in
-    passed_on (IsSearchOutputOf c.args.format c.args.quantifier c.args.asked.ask path text (outcome_of text)) c.from_residual-in_err-rules.result f
+    passed_on (IsSearchOutputOf c.args.format c.args.quantifier c.args.asked.ask path text
+    (outcome_of text)) c.from_residual-in_err-rules.result f
     c.from_residual-in_err-rules.ensures.1
     (large_rules c.args.format c.args.quantifier c.args.asked.ask path text (profile_value c.in_ok-profile.profile) (outcome_of text) f
     c.in_ok-profile.ensures.outcome c.in_err-rules.ensures.err)

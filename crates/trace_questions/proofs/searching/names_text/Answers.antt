@@ -17,5 +17,6 @@ pub returns : goal.returns
 returns c =
     let profile = c.args.profile.now in
     c.loop-name.invariant
-    ∙ lines_all (name_text c.args.format c.args.quantifier c.args.text.now (profile_value profile).rules (profile_spans profile) c.args.ask)
+    ∙ lines_all (name_text c.args.format c.args.quantifier c.args.text.now (profile_value profile).rules
+    (profile_spans profile) c.args.ask)
     c.args.names.now c.loop-name.name-index c.loop-name-test.false
