@@ -1,5 +1,5 @@
 //! Drawn profiles, compared with an oracle that judges all short names one by one.
-use crate::commands::{Ending, Row, differ_in_memory, search_in_memory};
+use crate::commands::{Row, differ_in_memory, search_in_memory};
 use crate::short_names::short_names;
 use names::{Permission, Perms, Verdict};
 use rule_judge::judge_slow;
@@ -120,92 +120,103 @@ impl Asked {
     }
 }
 
-// The line with the name that a question was answered by, if it has one.
-fn line_of(quantifier: Quantifier, name: &[u8], alloc: Global) -> Result<Vec<u8>, Fail> {
-    let word: &[u8] = match quantifier {
-        Quantifier::Any(_) => b"any ",
-        Quantifier::All => b"not ",
-    };
-    let mut line = Vec::from_slice(alloc, word)?;
-    line.extend_from_slice(name)?;
-    line.push(b'\n')?;
-    Ok(line)
+// The least of some names that the answer may have.
+fn first_wanted<'a>(asked: &Asked, drawn: &Drawn, names: &'a [Vec<u8>]) -> Option<&'a [u8]> {
+    for name in names {
+        if asked.wants(drawn, name) {
+            return Some(name);
+        }
+    }
+    None
 }
 
-// The name on the first line of an answer that found one.
-fn found_name(ending: &Ending) -> Option<&[u8]> {
-    let line = ending.answers.split(|byte| *byte == b'\n').next()?;
-    line.strip_prefix(b"any ")
-        .or_else(|| line.strip_prefix(b"not "))
+// The least of some names that one profile alone allows something to.
+fn first_alone<'a>(
+    more: &Drawn,
+    less: &Drawn,
+    ask: Perms,
+    names: &'a [Vec<u8>],
+) -> Option<&'a [u8]> {
+    for name in names {
+        if more.allows(name, ask) && !less.allows(name, ask) {
+            return Some(name);
+        }
+    }
+    None
+}
+
+// What comes after the front in the line that begins with it.
+fn rest_of_line<'a>(lines: &'a [u8], front: &[u8]) -> Option<&'a [u8]> {
+    for line in lines.split(|byte| *byte == b'\n') {
+        if line.starts_with(front) {
+            return line.get(front.len()..);
+        }
+    }
+    None
+}
+
+// What comes before the first colon.
+fn before_colon(line: &[u8]) -> &[u8] {
+    match line.iter().position(|byte| *byte == b':') {
+        Some(end) => line.get(..end).unwrap_or(line),
+        None => line,
+    }
+}
+
+// The word before the name of an answer.
+fn front_of(quantifier: Quantifier) -> &'static [u8] {
+    match quantifier {
+        Quantifier::Any(_) => b"any ",
+        Quantifier::All => b"not ",
+    }
 }
 
 // The answer to a question: the oracle's name, or, where it has none, a longer one, or none.
-fn expect_answer(
-    rt: &impl Abort,
-    alloc: Global,
-    drawn: &Drawn,
-    asked: &Asked,
-    names: &[Vec<u8>],
-) -> Result<(), Fail> {
-    let ending = search_in_memory(
-        alloc,
-        Row {
-            quantifier: asked.quantifier,
-            perms: asked.letters,
-            pattern: &asked.pattern,
-            profile: &drawn.text,
-        },
-    );
-    match names.iter().find(|name| asked.wants(drawn, name)) {
-        Some(name) => {
-            let line = line_of(asked.quantifier, name, alloc)?;
-            assert!(rt; ending.answers.starts_with(&line));
-            assert!(rt; ending.status == Status::Unmet);
-        }
-        None => match found_name(&ending) {
-            Some(name) => {
-                assert!(rt; name.len() > MOST_BYTES && asked.wants(drawn, name));
-                assert!(rt; ending.status == Status::Unmet);
-            }
-            None => assert!(rt; ending.status == Status::Done),
-        },
+fn expect_answer(rt: &impl Abort, alloc: Global, drawn: &Drawn, asked: &Asked, names: &[Vec<u8>]) {
+    let row = Row {
+        quantifier: asked.quantifier,
+        perms: asked.letters,
+        pattern: &asked.pattern,
+        profile: &drawn.text,
+    };
+    let ending = search_in_memory(alloc, row);
+    let found = rest_of_line(&ending.answers, front_of(asked.quantifier));
+    match (first_wanted(asked, drawn, names), found) {
+        (Some(name), found) => assert!(rt; found == Some(name)),
+        (None, Some(name)) => assert!(rt; name.len() > MOST_BYTES && asked.wants(drawn, name)),
+        (None, None) => {}
     }
-    Ok(())
+    assert!(rt; found.is_some() == (ending.status == Status::Unmet));
 }
 
 // The front of a line of a difference, up to the name.
-fn sign_of(alloc: Global, is_new: bool, permission: Permission) -> Result<Vec<u8>, Fail> {
-    let mut front = Vec::from_slice(alloc, if is_new { b"+ " } else { b"- " })?;
+fn sign_of(alloc: Global, sign: &[u8], permission: Permission) -> Result<Vec<u8>, Fail> {
+    let mut front = Vec::from_slice(alloc, sign)?;
     front.push(permission.letter())?;
     front.push(b' ')?;
     Ok(front)
-}
-
-// The name on the line of a difference that begins so.
-fn name_after<'a>(answers: &'a [u8], front: &[u8]) -> Option<&'a [u8]> {
-    let rest = answers
-        .split(|byte| *byte == b'\n')
-        .find_map(|line| line.strip_prefix(front))?;
-    rest.split(|byte| *byte == b':').next()
 }
 
 // The line of a permission that one of two profiles alone allows to some names: its name is the oracle's, or, where it has none, a
 // longer one, or there is no line.
 fn expect_difference(
     rt: &impl Abort,
-    ending: &Ending,
+    lines: &[u8],
     front: &[u8],
     names: &[Vec<u8>],
-    wants: impl Fn(&[u8]) -> bool,
+    ask: Perms,
+    more: &Drawn,
+    less: &Drawn,
 ) {
-    let found = name_after(&ending.answers, front);
-    match names.iter().find(|name| wants(name)) {
-        Some(name) => assert!(rt; found == Some(name.as_slice())),
-        None => {
-            if let Some(name) = found {
-                assert!(rt; name.len() > MOST_BYTES && wants(name));
-            }
+    let found = rest_of_line(lines, front).map(before_colon);
+    match (first_alone(more, less, ask, names), found) {
+        (Some(name), found) => assert!(rt; found == Some(name)),
+        (None, Some(name)) => {
+            assert!(rt;
+                name.len() > MOST_BYTES && more.allows(name, ask) && !less.allows(name, ask)
+            );
         }
+        (None, None) => {}
     }
 }
 
@@ -218,19 +229,15 @@ fn expect_differences(
     names: &[Vec<u8>],
 ) -> Result<(), Fail> {
     let ending = differ_in_memory(alloc, None, Witnesses::Least, &old.text, &new.text);
+    let lines = ending.answers.as_slice();
     for permission in Permission::ALL {
         let ask = Perms::NONE.with(permission);
-        let front = sign_of(alloc, true, permission)?;
-        expect_difference(rt, &ending, &front, names, |name| {
-            new.allows(name, ask) && !old.allows(name, ask)
-        });
-        let front = sign_of(alloc, false, permission)?;
-        expect_difference(rt, &ending, &front, names, |name| {
-            old.allows(name, ask) && !new.allows(name, ask)
-        });
+        let front = sign_of(alloc, b"+ ", permission)?;
+        expect_difference(rt, lines, &front, names, ask, new, old);
+        let front = sign_of(alloc, b"- ", permission)?;
+        expect_difference(rt, lines, &front, names, ask, old, new);
     }
-    let is_same = ending.answers.as_slice() == b"same\n".as_slice();
-    assert!(rt; is_same == (ending.status == Status::Done));
+    assert!(rt; (lines == b"same\n".as_slice()) == (ending.status == Status::Done));
     Ok(())
 }
 
@@ -240,9 +247,9 @@ fn expect_pair(rt: &impl Abort, alloc: Global, seed: u64, names: &[Vec<u8>]) -> 
     let old = Drawn::new(alloc, &mut random)?;
     let new = Drawn::new(alloc, &mut random)?;
     let any = Asked::new(alloc, &mut random, Quantifier::Any(Witnesses::Least))?;
-    expect_answer(rt, alloc, &old, &any, names)?;
+    expect_answer(rt, alloc, &old, &any, names);
     let all = Asked::new(alloc, &mut random, Quantifier::All)?;
-    expect_answer(rt, alloc, &new, &all, names)?;
+    expect_answer(rt, alloc, &new, &all, names);
     expect_differences(rt, alloc, &old, &new, names)
 }
 
