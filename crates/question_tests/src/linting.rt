@@ -50,13 +50,17 @@ fn rules_that_decide_nothing(rt: HostRuntime) {
     let rows: [(&[u8], &[u8]); 6] = [
         (
             b"profile p {\n  /home/*/** rw,\n  deny /home/*/.ssh/** w,\n  /home/*/.ssh/id_* r,\n}\n",
-            b"rule 3, line 4: decides nothing: \"/home/*/.ssh/id_*\" r, (rule 1, line 2 allows each of its names, or a deny rule denies it)\n",
+            b"rule 3, line 4: decides nothing: \"/home/*/.ssh/id_*\" r, (rule 1, line 2 allows each of its names, or a deny rule \
+                denies it)\n",
         ),
         (
             b"profile p {\n  /srv/{a,b} r,\n  /srv/a r,\n\n  /srv/b r,\n  /srv/[a-z] k,\n}\n",
-            b"rule 1, line 2: decides nothing: \"/srv/{a,b}\" r, (rule 2, line 3 or rule 3, line 5 allows each of its names, or a deny rule denies it; rule 2 decides nothing either: leave out one of them, not both)
-rule 2, line 3: decides nothing: \"/srv/a\" r, (rule 1, line 2 allows each of its names, or a deny rule denies it; rule 1 decides nothing either: leave out one of them, not both)
-rule 3, line 5: decides nothing: \"/srv/b\" r, (rule 1, line 2 allows each of its names, or a deny rule denies it; rule 1 decides nothing either: leave out one of them, not both)
+            b"rule 1, line 2: decides nothing: \"/srv/{a,b}\" r, (rule 2, line 3 or rule 3, line 5 allows each of its names, or a \
+                deny rule denies it; rule 2 decides nothing either: leave out one of them, not both)
+rule 2, line 3: decides nothing: \"/srv/a\" r, (rule 1, line 2 allows each of its names, or a deny rule denies it; rule 1 decides \
+    nothing either: leave out one of them, not both)
+rule 3, line 5: decides nothing: \"/srv/b\" r, (rule 1, line 2 allows each of its names, or a deny rule denies it; rule 1 decides \
+    nothing either: leave out one of them, not both)
 ",
         ),
         (
@@ -68,21 +72,27 @@ rule 5, line 6: decides nothing: \"/srv/a\" r, (a deny rule denies each of its n
         ),
         (
             b"profile p {\n  /a r,\n  /a r,\n}\n",
-            b"rule 1, line 2: decides nothing: \"/a\" r, (rule 2, line 3 allows each of its names, or a deny rule denies it; rule 2 decides nothing either: leave out one of them, not both)
-rule 2, line 3: decides nothing: \"/a\" r, (rule 1, line 2 allows each of its names, or a deny rule denies it; rule 1 decides nothing either: leave out one of them, not both)
+            b"rule 1, line 2: decides nothing: \"/a\" r, (rule 2, line 3 allows each of its names, or a deny rule denies it; rule 2 \
+                decides nothing either: leave out one of them, not both)
+rule 2, line 3: decides nothing: \"/a\" r, (rule 1, line 2 allows each of its names, or a deny rule denies it; rule 1 decides \
+    nothing either: leave out one of them, not both)
 ",
         ),
         (
             b"profile p {\n  /a r,\n  /a r,\n  /a r,\n}\n",
-            b"rule 1, line 2: decides nothing: \"/a\" r, (rule 3, line 4 allows each of its names, or a deny rule denies it; rule 3 decides nothing either: leave out one of them, not both)
-rule 2, line 3: decides nothing: \"/a\" r, (rule 1, line 2 allows each of its names, or a deny rule denies it; rule 1 decides nothing either: leave out one of them, not both)
-rule 3, line 4: decides nothing: \"/a\" r, (rule 1, line 2 allows each of its names, or a deny rule denies it; rule 1 decides nothing either: leave out one of them, not both)
+            b"rule 1, line 2: decides nothing: \"/a\" r, (rule 3, line 4 allows each of its names, or a deny rule denies it; rule 3 \
+                decides nothing either: leave out one of them, not both)
+rule 2, line 3: decides nothing: \"/a\" r, (rule 1, line 2 allows each of its names, or a deny rule denies it; rule 1 decides \
+    nothing either: leave out one of them, not both)
+rule 3, line 4: decides nothing: \"/a\" r, (rule 1, line 2 allows each of its names, or a deny rule denies it; rule 1 decides \
+    nothing either: leave out one of them, not both)
 ",
         ),
         (
             b"profile p {\n  /a w,\n  deny /a a,\n  deny /a w,\n}\n",
             b"rule 1, line 2: decides nothing: \"/a\" w, (a deny rule denies each of its names)
-rule 2, line 3: decides nothing: deny \"/a\" a, (rule 3, line 4 denies each of its names that is allowed; rule 3 decides nothing of this either: leave it out of one of them, not both)
+rule 2, line 3: decides nothing: deny \"/a\" a, (rule 3, line 4 denies each of its names that is allowed; rule 3 decides nothing of \
+    this either: leave it out of one of them, not both)
 ",
         ),
     ];
@@ -105,7 +115,8 @@ fn letters_that_decide_nothing(rt: HostRuntime) {
         ),
         (
             b"profile p {\n  /a r,\n  deny /a rw,\n  /b r,\n}\n",
-            b"rule 1, line 2: decides nothing: \"/a\" r, (a deny rule denies each of its names)\nrule 2, line 3: w denies nothing that is allowed: deny \"/a\" rw,\n",
+            b"rule 1, line 2: decides nothing: \"/a\" r, (a deny rule denies each of its names)\nrule 2, line 3: w denies nothing \
+                that is allowed: deny \"/a\" rw,\n",
         ),
         (
             b"profile p {\n  /** rwk,\n  deny /a rk,\n  deny /[ab] wk,\n}\n",
@@ -123,26 +134,34 @@ fn stand_ins_that_decide_nothing_of_a_part(rt: HostRuntime) {
     let rows: [(&[u8], &[u8]); 4] = [
         (
             b"profile p {\n  /a rw,\n  /a wk,\n}\n",
-            b"rule 1, line 2: w decides nothing: \"/a\" rw, (rule 2, line 3 allows each of its names, or a deny rule denies it; rule 2 decides nothing of this either: leave it out of one of them, not both)
-rule 2, line 3: w decides nothing: \"/a\" wk, (rule 1, line 2 allows each of its names, or a deny rule denies it; rule 1 decides nothing of this either: leave it out of one of them, not both)
+            b"rule 1, line 2: w decides nothing: \"/a\" rw, (rule 2, line 3 allows each of its names, or a deny rule denies it; \
+                rule 2 decides nothing of this either: leave it out of one of them, not both)
+rule 2, line 3: w decides nothing: \"/a\" wk, (rule 1, line 2 allows each of its names, or a deny rule denies it; rule 1 decides \
+    nothing of this either: leave it out of one of them, not both)
 ",
         ),
         (
             b"profile p {\n  /a r,\n  /a rk,\n}\n",
-            b"rule 1, line 2: decides nothing: \"/a\" r, (rule 2, line 3 allows each of its names, or a deny rule denies it; rule 2 decides nothing of this either: leave it out of one of them, not both)
-rule 2, line 3: r decides nothing: \"/a\" rk, (rule 1, line 2 allows each of its names, or a deny rule denies it; rule 1 decides nothing either: leave out one of them, not both)
+            b"rule 1, line 2: decides nothing: \"/a\" r, (rule 2, line 3 allows each of its names, or a deny rule denies it; rule 2 \
+                decides nothing of this either: leave it out of one of them, not both)
+rule 2, line 3: r decides nothing: \"/a\" rk, (rule 1, line 2 allows each of its names, or a deny rule denies it; rule 1 decides \
+    nothing either: leave out one of them, not both)
 ",
         ),
         (
             b"profile p {\n  /[ab] r,\n  /[ac] rk,\n  /b rk,\n}\n",
-            b"rule 1, line 2: decides nothing: \"/[ab]\" r, (rule 2, line 3 or rule 3, line 4 allows each of its names, or a deny rule denies it; rule 3 decides nothing of this either: leave it out of one of them, not both)
-rule 3, line 4: r decides nothing: \"/b\" rk, (rule 1, line 2 allows each of its names, or a deny rule denies it; rule 1 decides nothing either: leave out one of them, not both)
+            b"rule 1, line 2: decides nothing: \"/[ab]\" r, (rule 2, line 3 or rule 3, line 4 allows each of its names, or a deny \
+                rule denies it; rule 3 decides nothing of this either: leave it out of one of them, not both)
+rule 3, line 4: r decides nothing: \"/b\" rk, (rule 1, line 2 allows each of its names, or a deny rule denies it; rule 1 decides \
+    nothing either: leave out one of them, not both)
 ",
         ),
         (
             b"profile p {\n  /* rwk,\n  deny /a rk,\n  deny /a wk,\n}\n",
-            b"rule 2, line 3: k decides nothing: deny \"/a\" rk, (rule 3, line 4 denies each of its names that is allowed; rule 3 decides nothing of this either: leave it out of one of them, not both)
-rule 3, line 4: k decides nothing: deny \"/a\" wk, (rule 2, line 3 denies each of its names that is allowed; rule 2 decides nothing of this either: leave it out of one of them, not both)
+            b"rule 2, line 3: k decides nothing: deny \"/a\" rk, (rule 3, line 4 denies each of its names that is allowed; rule 3 \
+                decides nothing of this either: leave it out of one of them, not both)
+rule 3, line 4: k decides nothing: deny \"/a\" wk, (rule 2, line 3 denies each of its names that is allowed; rule 2 decides nothing \
+    of this either: leave it out of one of them, not both)
 ",
         ),
     ];
@@ -169,19 +188,25 @@ fn lines_of_json(rt: HostRuntime) {
         (
             b"profile p {\n  /a rw,\n  /* w,\n}\n",
             Status::Unmet,
-            b"{\"also_idle\":null,\"finding\":\"decides nothing\",\"permission\":\"w\",\"rule\":{\"line\":2,\"number\":1,\"text\":\"\\\"/a\\\" rw,\"},\"stand_ins\":[{\"line\":3,\"number\":2,\"text\":\"\\\"/*\\\" w,\"}]}\n",
+            b"{\"also_idle\":null,\"finding\":\"decides \
+                nothing\",\"permission\":\"w\",\"rule\":{\"line\":2,\"number\":1,\"text\":\"\\\"/a\\\" \
+                rw,\"},\"stand_ins\":[{\"line\":3,\"number\":2,\"text\":\"\\\"/*\\\" w,\"}]}\n",
         ),
         (
             b"profile p {\n  /a rw,\n  /a wk,\n}\n",
             Status::Unmet,
-            b"{\"also_idle\":2,\"finding\":\"decides nothing\",\"permission\":\"w\",\"rule\":{\"line\":2,\"number\":1,\"text\":\"\\\"/a\\\" rw,\"},\"stand_ins\":[{\"line\":3,\"number\":2,\"text\":\"\\\"/a\\\" wk,\"}]}
-{\"also_idle\":1,\"finding\":\"decides nothing\",\"permission\":\"w\",\"rule\":{\"line\":3,\"number\":2,\"text\":\"\\\"/a\\\" wk,\"},\"stand_ins\":[{\"line\":2,\"number\":1,\"text\":\"\\\"/a\\\" rw,\"}]}
+            b"{\"also_idle\":2,\"finding\":\"decides \
+                nothing\",\"permission\":\"w\",\"rule\":{\"line\":2,\"number\":1,\"text\":\"\\\"/a\\\" \
+                rw,\"},\"stand_ins\":[{\"line\":3,\"number\":2,\"text\":\"\\\"/a\\\" wk,\"}]}
+{\"also_idle\":1,\"finding\":\"decides nothing\",\"permission\":\"w\",\"rule\":{\"line\":3,\"number\":2,\"text\":\"\\\"/a\\\" \
+    wk,\"},\"stand_ins\":[{\"line\":2,\"number\":1,\"text\":\"\\\"/a\\\" rw,\"}]}
 ",
         ),
         (
             b"profile p {\n  deny /a r,\n  /b r,\n}\n",
             Status::Unmet,
-            b"{\"also_idle\":null,\"finding\":\"denies nothing that is allowed\",\"permission\":null,\"rule\":{\"line\":2,\"number\":1,\"text\":\"deny \\\"/a\\\" r,\"},\"stand_ins\":[]}\n",
+            b"{\"also_idle\":null,\"finding\":\"denies nothing that is \
+                allowed\",\"permission\":null,\"rule\":{\"line\":2,\"number\":1,\"text\":\"deny \\\"/a\\\" r,\"},\"stand_ins\":[]}\n",
         ),
         (
             b"profile p {\n",
