@@ -163,7 +163,15 @@ fn end_on_endless(alloc: Global, matches: bool, front: &[u8]) -> (Ending, usize)
     let mut answers = Failing::never(alloc);
     let mut faults = Failing::never(alloc);
     let status = if matches {
-        match_name(alloc, Format::Text, "r", "/x", &mut input, &mut answers, &mut faults)
+        match_name(
+            alloc,
+            Format::Text,
+            "r",
+            "/x",
+            &mut input,
+            &mut answers,
+            &mut faults,
+        )
     } else {
         check(alloc, &mut input, &mut answers, &mut faults)
     };

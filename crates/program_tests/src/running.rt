@@ -127,15 +127,7 @@ pub(crate) fn run_within<R: BufRead>(
     mut faults: Failing,
 ) -> Ending {
     let texts = GivenTexts { texts: &TEXTS };
-    let status = run_words(
-        rt,
-        alloc,
-        &texts,
-        words,
-        input,
-        &mut answers,
-        &mut faults,
-    );
+    let status = run_words(rt, alloc, &texts, words, input, &mut answers, &mut faults);
     Ending {
         status,
         answers: answers.taken,
