@@ -23,7 +23,7 @@ const PERMS: [&str; 4] = ["r", "w", "rw", "a"];
 const MOST_BYTES: usize = 5;
 
 // How many pairs of profiles a test compares.
-const PAIRS: u64 = 500;
+const PAIRS: u64 = 250;
 
 fn pick<'a>(random: &mut Random, texts: &[&'a str]) -> &'a str {
     if texts.is_empty() {
@@ -268,15 +268,35 @@ fn first_pairs(rt: HostRuntime) -> Result<(), Fail> {
 
 #[test]
 fn second_pairs(rt: HostRuntime) -> Result<(), Fail> {
-    expect_pairs(&rt, rt.alloc(), 500)
+    expect_pairs(&rt, rt.alloc(), 250)
 }
 
 #[test]
 fn third_pairs(rt: HostRuntime) -> Result<(), Fail> {
-    expect_pairs(&rt, rt.alloc(), 1_000)
+    expect_pairs(&rt, rt.alloc(), 500)
 }
 
 #[test]
 fn fourth_pairs(rt: HostRuntime) -> Result<(), Fail> {
+    expect_pairs(&rt, rt.alloc(), 750)
+}
+
+#[test]
+fn fifth_pairs(rt: HostRuntime) -> Result<(), Fail> {
+    expect_pairs(&rt, rt.alloc(), 1_000)
+}
+
+#[test]
+fn sixth_pairs(rt: HostRuntime) -> Result<(), Fail> {
+    expect_pairs(&rt, rt.alloc(), 1_250)
+}
+
+#[test]
+fn seventh_pairs(rt: HostRuntime) -> Result<(), Fail> {
     expect_pairs(&rt, rt.alloc(), 1_500)
+}
+
+#[test]
+fn eighth_pairs(rt: HostRuntime) -> Result<(), Fail> {
+    expect_pairs(&rt, rt.alloc(), 1_750)
 }
