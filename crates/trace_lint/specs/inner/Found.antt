@@ -27,7 +27,7 @@ all_found rules decided (part ∷ parts) (list ∷ lists) =
 abbrev pub or_place : List ℕ → List Span → ℕ → List ℕ
 or_place text spans n = codes " or " ++ rule_place text spans n
 
--- the number is that of one of so many rules
+-- the number is that of one of N rules
 abbrev pub IsNumber : ℕ → ℕ → Type 0
 IsNumber count n = (1 ≤ n) × (n ≤ count)
 

@@ -1,4 +1,4 @@
--- The number comes to its place.
+-- The number is put in its place.
 use Rattle.std.proofs.Common.{◌≡◌, Err, nat_cmp, ℕ, List, sym, subst}
 use Rattle.std.specs.List.Sorted.{IsBinarySearchResult}
 use Rattle.rule_influence.specs.inner.Lists.{AreAdded}
