@@ -1,12 +1,15 @@
 -- Lists with more after them.
 use Rattle.std.proofs.Common.{◌≡◌, ◌⊎◌, inl, inr, ⊎_elim, ℕ, zero, suc, ◌≤◌, List, [], ◌∷◌, ◌++◌, length, Some, None, slice_get}
 use Rattle.std.proofs.Common.{Bool, true, false, true≢false, get_or, slice_index_or, refl, sym, ap, ◌∙◌, arith}
+use Rattle.std.specs.Cmp.{IsEquivalence}
 use Rattle.std.specs.List.{IsDistinct, list_any}
 use Rattle.std.proofs.lemmas.Bool.{cases_lt}
 use Rattle.std.proofs.lemmas.List.{length-append}
 use Rattle.std.proofs.lemmas.List.Folds.{list_any_at}
-use Rattle.std.proofs.lemmas.Map.Keys.{apart_from_distinct}
+use Rattle.std.proofs.lemmas.Map.Keys.{IsDistinct-from_apart, apart_from_distinct}
+use Rattle.std.proofs.lemmas.Map.Made.{length-le_from_is_member}
 use Rattle.std.proofs.lemmas.Option.{none-some, same_Some, slice_get_within, slice_get-get_or, get_or_from_slice_get}
+use Rattle.indexmap.proofs.CallerLemmas.{Contains-list_any}
 use Rattle.automaton_search.specs.Visits.{AreDistinct}
 
 module _ {K : Type 0} where
@@ -58,3 +61,36 @@ module _ {K : Type 0} (eq : K → K → Bool) (same : (a b : K) → eq a b ≡ t
   not_there keys key none i at =
       let equal : eq key (get_or keys i key) ≡ true = ap (eq key) (get_or_from_slice_get keys i key key at) ∙ itself key in
       true≢false (sym (list_any_at (eq key) keys i key (slice_get_within keys i key at) equal) ∙ none)
+
+  symmetric : (x y : K) → eq x y ≡ eq y x
+  symmetric x y = elim (eq x y) as (λ (d : Bool). eq x y ≡ d → d ≡ eq y x) [
+    | true ↦ λ e. sym (ap (λ z. eq z x) (sym (same x y e)) ∙ itself x)
+    | false ↦ λ e. elim (eq y x) as (λ (d : Bool). eq y x ≡ d → false ≡ d) [
+      | true ↦ λ g. absurd (true≢false (sym (itself x) ∙ ap (eq x) (sym (same y x g)) ∙ e))
+      | false ↦ λ g. refl
+    ] refl
+  ] refl
+
+  equivalence : IsEquivalence eq
+  equivalence = record { refl = itself; symm = symmetric; congr = λ x y z e. ap (λ w. eq w z) (same x y e) }
+
+  -- the way back from `all_distinct`
+  are_distinct : (keys : List K) → AreDistinct keys → IsDistinct eq keys
+  are_distinct keys distinct = IsDistinct-from_apart eq keys (λ i j d lt within.
+      let one : K = get_or keys i d in
+      let other : K = get_or keys j d in
+      elim (eq one other) as (λ (b : Bool). eq one other ≡ b → b ≡ false) [
+        | true ↦ λ e. absurd (distinct i j one lt (slice_get-get_or keys i d (omega (arith, lt, within)))
+            (slice_get-get_or keys j d within ∙ ap Some (sym (same one other e))))
+        | false ↦ λ e. refl
+      ] refl)
+
+  -- different keys, each of which is in another list, are no more than it has
+  pub no_more : (xs ys : List K) → AreDistinct xs →
+      ((i : ℕ) (x : K) → slice_get xs i ≡ Some x → (j : ℕ) × (slice_get ys j ≡ Some x)) → length xs ≤ length ys
+  no_more xs ys distinct each =
+      length-le_from_is_member equivalence xs ys (are_distinct xs distinct) (λ q met.
+      let there = Contains-list_any eq same xs q met in
+      let here = each there.0 q (slice_get-get_or xs there.0 q there.1 ∙ ap Some there.2) in
+      list_any_at (eq q) ys here.0 q (slice_get_within ys here.0 q here.1)
+      (ap (eq q) (get_or_from_slice_get ys here.0 q q here.1) ∙ itself q))

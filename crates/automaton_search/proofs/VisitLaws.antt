@@ -1,12 +1,16 @@
 -- A walk at its end has all visits.
-use Rattle.std.proofs.Common.{◌≡◌, ℕ, ◌<◌, List, [], ◌∷◌, length, Some, slice_get, slice_index_or, sym, ap, ◌∙◌, subst, arith}
+use Rattle.std.proofs.Common.{◌≡◌, ℕ, ◌<◌, ◌≤◌, true, List, [], ◌∷◌, length, Some, slice_get, slice_index_or, sym, ap, ◌∙◌, subst, arith}
 use Rattle.std.proofs.lemmas.Option.{slice_get-get_or}
 use Rattle.automata.specs.Automata.{Automaton}
 use Rattle.automaton_search.specs.declared.states.States.{States}
 use Rattle.automaton_search.specs.declared.walking.Trail.{Trail}
-use Rattle.automaton_search.specs.Visits.{AreAllVisits, AreDistinct, AreStatesOf, next_states, start_states}
+use Rattle.automaton_search.specs.contracts.states.StatesPartialEq.TheImpl as states_impl
+use Rattle.automaton_search.specs.declared.fault.SearchFault.TheVariants.{TooManyStates}
+use Rattle.automaton_search.specs.Visits.{AreAllVisits, AreDistinct, AreStatesOf, IsSearchFault, VisitsValue, most_visits}
+use Rattle.automaton_search.specs.Visits.{next_states, start_states}
 use Rattle.automaton_search.specs.inner.Trails.{GoBack, names_from}
 use Rattle.automaton_search.specs.inner.Walks.{IsAt, IsWalk, IsWalkAt}
+use Rattle.automaton_search.proofs.Lists.{no_more}
 use Rattle.automaton_search.proofs.ThreeStates.{led_all, states}
 use Rattle.automaton_search.proofs.TrailNames.{are_named, goes_back, same_names}
 use Rattle.automaton_search.proofs.WalkLaws.{all_met}
@@ -41,3 +45,14 @@ module _ (a b c : Automaton) (all : List States) (trails : List Trail) (some : 0
         (omega arith) name is in
         (h.0, h.1.0, (h.1.1.0 ∙ ap Some (led_all a b c (start_states a b c) name), h.1.1.1), h.1.2);
   }
+
+-- what is visited is no more than all visits
+pub not_more : (a b c : Automaton) (all : VisitsValue) → AreAllVisits a b c all → length all.states ≤ most_visits →
+    ((s t : States) → states_impl.eq-value.it s t ≡ true → s ≡ t) → ((s : States) → states_impl.eq-value.it s s ≡ true) →
+    ¬ (IsSearchFault a b c TooManyStates)
+not_more a b c all are few same itself fault =
+    let near = no_more states_impl.eq-value.it same itself fault.0 all.states fault.1.distinct (λ i s at.
+    let name = fault.1.reached i s at in
+    let visit = are.complete name.0 name.1 in
+    (visit.0, visit.2.0 ∙ ap Some (sym name.2))) in
+    omega (arith, near, few, fault.2)

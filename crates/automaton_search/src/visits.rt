@@ -1,9 +1,10 @@
 //! All that names lead three automata to.
-ghost use Rattle.std.specs.Prelude.{◌≡◌, ◌<◌, IfErr, IfOk, Some, length, slice_get};
-ghost use Rattle.automaton_search.specs.Visits.{AreAllVisits, IsSearchFault};
+ghost use Rattle.std.specs.Prelude.{◌≡◌, ◌<◌, ◌≤◌, IfErr, IfOk, Some, length, slice_get};
+ghost use Rattle.automaton_search.specs.Visits.{AreAllVisits, IsSearchFault, most_visits};
 ghost use Rattle.automaton_search.specs.inner.Trails.{visits_of, GoBack};
 
 use crate::fault::SearchFault;
+use crate::laws::equal_states_are_one;
 use crate::naming::name_of;
 use crate::states::States;
 use crate::walking::{Walk, walk_all};
@@ -21,15 +22,16 @@ pub struct Visits {
 }
 
 impl Model for Visits {
-    ghost use Rattle.std.specs.Prelude.{◌≡◌, length};
-    ghost use Rattle.automaton_search.specs.Visits.{VisitsValue};
+    ghost use Rattle.std.specs.Prelude.{◌≡◌, ◌≤◌, length};
+    ghost use Rattle.automaton_search.specs.Visits.{VisitsValue, most_visits};
     ghost use Rattle.automaton_search.specs.inner.Trails.{visits_of, GoBack};
 
     ghost Value = { VisitsValue };
 
     ghost view = { λ v. visits_of v.walk };
 
-    ghost invariant = { λ v. (length v.walk.states.keys ≡ length v.walk.trails.items) × GoBack v.walk.trails.items };
+    ghost invariant = { λ v. (length v.walk.states.keys ≡ length v.walk.trails.items) × GoBack v.walk.trails.items
+        × (length v.walk.states.keys ≤ most_visits) };
 }
 
 impl Visits {
@@ -37,15 +39,18 @@ impl Visits {
     /// aside.
     pub fn of(alloc: Global, first: &Dfa, second: &Dfa, third: &Dfa) -> Result<Visits, SearchFault>
         ensures ok { IfOk result (AreAllVisits first.now second.now third.now) }
+        ensures few { IfOk result (λ _. ¬ (IsSearchFault first.now second.now third.now SearchFault.TooManyStates)) }
         ensures err { IfErr result (IsSearchFault first.now second.now third.now) }
     {
+        equal_states_are_one();
         let walk = walk_all(alloc, first, second, third)?;
         Ok(Visits { walk })
     }
 
-    /// How many there are.
+    /// How many there are: 4,194,304 at most.
     pub fn len(&self) -> usize
-        ensures { result ≡ length self.now.states }
+        ensures len { result ≡ length self.now.states }
+        ensures few { result ≤ most_visits }
     {
         self.walk.states.len()
     }

@@ -128,6 +128,7 @@ pub(crate) fn walk_all(
         AreStatesOf first.now second.now third.now s) }
     ensures distinct { IfOk result (λ walk. AreDistinct (states_of walk)) }
     ensures some { IfOk result (λ walk. 0 < length (states_of walk)) }
+    ensures few { IfOk result (λ walk. length (states_of walk) ≤ most_visits) }
     ensures err { IfErr result (IsSearchFault first.now second.now third.now) }
 {
     // Most profiles that are compared have about as many states together as they have apart: room for them is made at once.

@@ -1,9 +1,11 @@
 -- Names that lead to different states have different sets of live places.
+use Rattle.std.proofs.Common.{map, option_map}
 use Rattle.std.proofs.Common.{◌≡◌, ℕ, zero, suc, List, [], ◌∷◌, length, Some, slice_get, Result, Ok, Err, IfErr, IsErrAnd}
 use Rattle.std.proofs.Common.{slice_index_or, refl, sym, ap, ◌∙◌, subst, arith}
 use Rattle.std.specs.List.{All}
 use Rattle.std.proofs.lemmas.List.Elements.{All-nil, All-cons}
-use Rattle.std.proofs.lemmas.Option.{none-some, same_Some, slice_get_within, slice_get-get_or}
+use Rattle.std.proofs.lemmas.List.{length-map}
+use Rattle.std.proofs.lemmas.Option.{none-some, same_Some, slice_get-map, slice_get_within, slice_get-get_or}
 use Rattle.names.specs.Paths.{IsName}
 use Rattle.rule_globs.specs.Rules.{RuleValue}
 use Rattle.automata.specs.Automata.{Automaton, state_after}
@@ -12,6 +14,7 @@ use Rattle.automaton_search.specs.declared.fault.SearchFault.TheVariants as sear
 use Rattle.automaton_search.specs.declared.states.States.{States}
 use Rattle.automaton_search.specs.Visits.{AreReached, IsSearchFault, states_after}
 use Rattle.glob_automaton.specs.Automata.{IsAutomatonOf}
+use Rattle.profile_questions.specs.declared.fault.QuestionFault.TheVariants.{TooManyStates}
 use Rattle.profile_questions.specs.Faults.{AreApart, IsQuestionFault, IsSameEverywhere, of_search}
 use Rattle.profile_questions.proofs.LeastNames.{name_bytes}
 
@@ -90,6 +93,48 @@ module _ (a b c : Automaton) where
     search_fault searching.TooManyStates h =
         let names = names_for h.0 h.1.reached in
         (names.0, apart h.0 names.0 h.1 names.1, omega (arith, h.2, names.1.each))
+
+    -- names that lead to the same states have the same live places
+    same_places : (name other : List ℕ) → IsName name → IsName other → states_after a b c name ≡ states_after a b c other →
+        IsSameEverywhere one two three name other
+    same_places name other is was e = (
+      (first.one_each name other (name_bytes name is) (name_bytes other was)).0 (ap (λ (s : States). s.first) e),
+      (second.one_each name other (name_bytes name is) (name_bytes other was)).0 (ap (λ (s : States). s.second) e),
+      (third.one_each name other (name_bytes name is) (name_bytes other was)).0 (ap (λ (s : States). s.third) e),
+    )
+
+    -- the name that has led to one of these states
+    name_at : (names : List (List ℕ)) (i : ℕ) (s : States) → slice_get (map (states_after a b c) names) i ≡ Some s →
+        (name : List ℕ) × (slice_get names i ≡ Some name) × (states_after a b c name ≡ s)
+    name_at names i s at =
+        let within = slice_get_within (map (states_after a b c) names) i s at in
+        let there : slice_get names i ≡ Some (slice_index_or names i []) =
+        slice_get-get_or names i [] (omega (arith, within, length-map names (states_after a b c))) in (
+          slice_index_or names i [],
+          there,
+          same_Some (states_after a b c (slice_index_or names i [])) s
+              (sym (ap (option_map (states_after a b c)) there) ∙ sym (slice_get-map (states_after a b c) names i) ∙ at),
+        )
+
+    -- names that are apart lead to different states
+    reached_by : (names : List (List ℕ)) → AreApart one two three names → AreReached a b c (map (states_after a b c) names)
+    reached_by names are = record {
+      distinct = λ i j s lt at there.
+          let x = name_at names i s at in
+          let y = name_at names j s there in
+          are.apart i j x.0 y.0 lt x.1 y.1
+          (same_places x.0 y.0 (is_named names are.named i x.0 x.1) (is_named names are.named j y.0 y.1) (x.2 ∙ sym y.2));
+      reached = λ i s at. let x = name_at names i s at in (x.0, is_named names are.named i x.0 x.1, sym x.2);
+    }
+
+    -- where the search isn't refused, the question isn't
+    pub no_fault : ¬ (IsSearchFault a b c searching.TooManyStates) → ¬ (IsQuestionFault one two three TooManyStates)
+    no_fault none fault =
+        none (
+          map (states_after a b c) fault.0,
+          reached_by fault.0 fault.1,
+          omega (arith, fault.2, length-map fault.0 (states_after a b c)),
+        )
 
 -- a fault that is passed on
 pub passed_on : {T E : Type 0} (r : Result T E) (e : E) (P : E → Type 0) → IsErrAnd r (λ y. y ≡ e) → P e → IfErr r P

@@ -17,8 +17,8 @@ use Rattle.glob_automaton.specs.Automata.{IsAutomatonOf}
 use Rattle.glob_automaton.specs.Least.{IsLeastRecord}
 use Rattle.profile_questions.specs.declared.answer.Answer.{Answer}
 use Rattle.profile_questions.specs.declared.answer.Answer.TheVariants as answer
-use Rattle.profile_questions.specs.Questions.{IsAnswer}
-use Rattle.profile_questions.specs.inner.Marks.{AreMarked, IsToldAs}
+use Rattle.profile_questions.specs.Questions.{IsAnswer, IsToldAs}
+use Rattle.profile_questions.specs.inner.Marks.{AreMarked}
 
 module _ (rules : List RuleValue) (name : List ℕ) (r : Record) (least : IsLeastRecord rules name r) where
   deny_above : (p : Permission) (n : ℕ) → Hits rules Deny p name n → n ≢ 0

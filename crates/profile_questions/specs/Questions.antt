@@ -3,9 +3,11 @@ use Rattle.std.specs.Prelude.{◌≡◌, ℕ, IsTrue, List, Option, Some, None, 
 use Rattle.std.specs.declared.alloc.Global.{Global}
 use Rattle.names.specs.Paths.{IsName}
 use Rattle.names.specs.Permissions.{has}
+use Rattle.names.specs.Records.{IsTold}
 use Rattle.names.specs.declared.kind.RuleKind.TheVariants.{Allow}
 use Rattle.names.specs.declared.permissions.Permission.{Permission}
 use Rattle.names.specs.declared.permissions.Perms.{Perms}
+use Rattle.names.specs.declared.record.Record.{Record}
 use Rattle.names.specs.declared.verdict.Verdict.TheVariants.{Allowed}
 use Rattle.rule_globs.specs.Rules.{RuleValue, holds}
 use Rattle.rule_globs.specs.Verdict.{IsVerdict}
@@ -20,6 +22,12 @@ abbrev pub IsAnswer : Answer → List RuleValue → List ℕ → Type 0
 IsAnswer answer.Any rules name = Unit {0}
 IsAnswer (answer.Allowed ask) rules name = IsVerdict rules name ask Allowed
 IsAnswer (answer.Refused ask) rules name = ¬ (IsVerdict rules name ask Allowed)
+
+-- a record of least hits says so of the names that have these hits
+abbrev pub IsToldAs : Answer → Record → Type 0
+IsToldAs answer.Any r = Unit {0}
+IsToldAs (answer.Allowed ask) r = IsTold r ask Allowed
+IsToldAs (answer.Refused ask) r = ¬ (IsTold r ask Allowed)
 
 -- a name of which all three say what is wanted
 pub record IsFound (c : ComparisonValue) (answers : Answers) (name : List ℕ) : Type 0 where

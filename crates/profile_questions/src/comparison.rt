@@ -1,5 +1,6 @@
 //! Three lists of rules, and all that they say of names.
 ghost use Rattle.std.specs.Prelude.{◌≡◌, ◌<◌, ◌≤◌, ℕ, IfErr, IfOk, IfSome, List, None, Some, length, slice_get};
+ghost use Rattle.automaton_search.specs.Visits.{most_visits};
 ghost use Rattle.profile_questions.specs.Faults.{IsQuestionFault};
 ghost use Rattle.profile_questions.specs.Names.{AreLeastHits, AreRepresentatives};
 ghost use Rattle.profile_questions.specs.Questions.{IsShortest, found_name};
@@ -54,6 +55,8 @@ impl<'a> Comparison<'a> {
         ensures first { IfOk result (λ c. c.first ≡ first.now.rules) }
         ensures second { IfOk result (λ c. c.second ≡ second.now.rules) }
         ensures third { IfOk result (λ c. c.third ≡ third.now.rules) }
+        ensures few { IfOk result (λ _. ¬ (IsQuestionFault first.now.rules second.now.rules third.now.rules
+            QuestionFault.TooManyStates)) }
         ensures err { IfErr result (IsQuestionFault first.now.rules second.now.rules third.now.rules) }
     {
         let visits = Visits::of(
@@ -70,11 +73,12 @@ impl<'a> Comparison<'a> {
         })
     }
 
-    /// How many representatives there are: at least one.
+    /// How many representatives there are: at least one, and 4,194,304 at most.
     pub fn len(&self) -> usize
         ensures len { result ≡ length self.now.names }
         ensures names { AreRepresentatives self.now }
         ensures some { 1 ≤ result }
+        ensures few { result ≤ most_visits }
     {
         end_is_live();
         live_is_left_first();

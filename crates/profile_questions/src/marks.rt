@@ -1,36 +1,12 @@
 //! Which states of an automaton say what is wanted.
-ghost use Rattle.std.specs.Prelude.{◌≡◌, ◌↔◌, ◌<◌, ◌++◌, ◌∷◌, [], IfOk, OnOk, IsTrue, false, length, slice_index_or, true};
-ghost use Rattle.names.specs.Records.{IsTold};
-ghost use Rattle.names.specs.declared.verdict.Verdict.TheVariants.{Allowed};
-ghost use Rattle.profile_questions.specs.inner.Marks.{AreMarked, IsToldAs, all_marked};
+ghost use Rattle.std.specs.Prelude.{◌≡◌, ◌<◌, ◌++◌, ◌∷◌, [], IfOk, OnOk, false, length, slice_index_or};
+ghost use Rattle.profile_questions.specs.inner.Marks.{AreMarked, all_marked};
 
 use crate::answer::Answer;
 use automata::Dfa;
 use automaton_search::States;
-use names::{NoMemory, Perms, Record, Verdict, told};
+use names::NoMemory;
 use std::alloc::Global;
-
-// Whether a record allows all that is asked.
-fn allows(record: &Record, ask: Perms) -> bool
-    ensures { IsTrue result ↔ IsTold «record».now ask Allowed }
-{
-    match told(record, ask) {
-        Verdict::Allowed => true,
-        Verdict::Denied { .. } => false,
-        Verdict::NoRule { .. } => false,
-    }
-}
-
-// Whether a record says what is wanted.
-fn says(record: &Record, answer: Answer) -> bool
-    ensures { IsTrue result ↔ IsToldAs answer «record».now }
-{
-    match answer {
-        Answer::Any => true,
-        Answer::Allowed(ask) => allows(record, ask),
-        Answer::Refused(ask) => !allows(record, ask),
-    }
-}
 
 /// For each state whether its record says what is wanted.
 pub(crate) fn marks_of(
@@ -43,7 +19,7 @@ pub(crate) fn marks_of(
 {
     let mut marks = Vec::new(alloc);
     for state in 0..automaton.states() {
-        let mark = says(&automaton.record_at(state), answer);
+        let mark = answer.is_told_by(&automaton.record_at(state));
         push(&mut marks, mark)?;
     }
     Ok(marks)

@@ -1,6 +1,7 @@
 //! Rules and their automaton.
 ghost use Rattle.std.specs.Prelude.{◌≡◌, IfErr, IfOk};
-ghost use Rattle.glob_automaton.specs.Automata.{IsAutomatonOf, IsCompileFault};
+ghost use Rattle.glob_automaton.specs.Automata.{IsAutomatonOf, IsCompileFault, most_sets};
+ghost use Rattle.glob_automaton.specs.Sets.{AreMoreThan};
 ghost use Rattle.rule_profile.specs.Profile.{profile_value};
 ghost use Rattle.rule_profile.specs.RuleSpans.{profile_spans};
 
@@ -35,6 +36,7 @@ impl CompiledRules {
     pub fn of(alloc: Global, profile: Profile) -> Result<CompiledRules, CompileFault>
         ensures rules { IfOk result (λ compiled. compiled.rules ≡ (profile_value profile).rules) }
         ensures spans { IfOk result (λ compiled. compiled.spans ≡ profile_spans profile) }
+        ensures few { IfOk result (λ _. ¬ (AreMoreThan most_sets (profile_value profile).rules)) }
         ensures err { IfErr result (IsCompileFault (profile_value profile).rules) }
     {
         let automaton = compile(alloc, &profile)?;

@@ -1,46 +1,21 @@
 //! Causes that were met, and whether a name has others.
 ghost use Rattle.std.specs.Prelude.{◌≡◌, ◌↔◌, ◌<◌, IfOk, IsTrue, length};
-ghost use Rattle.names.specs.Records.{IsTold};
-ghost use Rattle.names.specs.declared.verdict.Verdict.TheVariants.{Allowed};
-ghost use Rattle.profile_questions.specs.inner.Marks.{IsToldAs};
 ghost use Rattle.question_answers.specs.declared.cause.Causes.{Causes as SomeCauses};
 ghost use Rattle.question_answers.specs.inner.Causes.{AreCauses, AreNoted, AreTold, HasNoted};
 
 use crate::cause::{Causes, causes_of};
 use crate::laws::equal_causes_are_one;
 use indexmap::IndexSet;
-use names::{NoMemory, Permission, Perms, Record, Verdict, permissions_are_numbered, told};
-use profile_questions::{Answer, Answers, Comparison, Records};
-
-// Whether a record allows all that is asked.
-fn allows(record: &Record, ask: Perms) -> bool
-    ensures { IsTrue result ↔ IsTold «record».now ask Allowed }
-{
-    match told(record, ask) {
-        Verdict::Allowed => true,
-        Verdict::Denied { .. } => false,
-        Verdict::NoRule { .. } => false,
-    }
-}
-
-// Whether a record says what is wanted.
-fn says(record: &Record, answer: Answer) -> bool
-    ensures { IsTrue result ↔ IsToldAs answer «record».now }
-{
-    match answer {
-        Answer::Any => true,
-        Answer::Allowed(ask) => allows(record, ask),
-        Answer::Refused(ask) => !allows(record, ask),
-    }
-}
+use names::{NoMemory, Permission, Perms, permissions_are_numbered};
+use profile_questions::{Answers, Comparison, Records};
 
 // Whether all three say what is wanted.
 fn say(records: &Records, answers: Answers) -> bool
     ensures { IsTrue result ↔ AreTold answers records.now }
 {
-    says(&records.first, answers.first)
-        && says(&records.second, answers.second)
-        && says(&records.third, answers.third)
+    answers.first.is_told_by(&records.first)
+        && answers.second.is_told_by(&records.second)
+        && answers.third.is_told_by(&records.third)
 }
 
 // Notes causes, and reports whether they are new.

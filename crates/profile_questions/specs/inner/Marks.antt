@@ -1,17 +1,10 @@
--- What a state's record says of the names that lead to it.
+-- Which states' records say what is wanted of the names that lead to them.
 use Rattle.std.specs.Prelude.{◌≡◌, ◌↔◌, ◌&&◌, ℕ, Bool, true, false, List, Some, slice_get, slice_index_or}
 use Rattle.names.specs.declared.record.Record.{Record}
-use Rattle.names.specs.declared.verdict.Verdict.TheVariants.{Allowed}
-use Rattle.names.specs.Records.{IsTold}
 use Rattle.automata.specs.Automata.{Automaton}
 use Rattle.automaton_search.specs.declared.states.States.{States}
 use Rattle.profile_questions.specs.declared.answer.Answer.{Answer}
-use Rattle.profile_questions.specs.declared.answer.Answer.TheVariants as answer
-
-abbrev pub IsToldAs : Answer → Record → Type 0
-IsToldAs answer.Any r = Unit {0}
-IsToldAs (answer.Allowed ask) r = IsTold r ask Allowed
-IsToldAs (answer.Refused ask) r = ¬ (IsTold r ask Allowed)
+use Rattle.profile_questions.specs.Questions.{IsToldAs}
 
 -- an entry for each state, which says whether its record says so
 abbrev pub AreMarked : Automaton → Answer → List Bool → Type 0

@@ -8,7 +8,7 @@ use Rattle.names.specs.declared.record.LeastHits.{LeastHits}
 use Rattle.profile_questions.specs.Names.{AreLeastHits, ComparisonValue}
 use Rattle.profile_questions.specs.declared.answer.Answers.{Answers}
 use Rattle.profile_questions.specs.declared.comparison.Records.{Records}
-use Rattle.profile_questions.specs.inner.Marks.{IsToldAs}
+use Rattle.profile_questions.specs.Questions.{IsToldAs}
 use Rattle.rule_explain.specs.Reasons.{IsReason}
 use Rattle.rule_explain.specs.declared.reason.Reason.{Reason}
 use Rattle.rule_explain.specs.declared.reason.Reason.TheVariants as reason

@@ -1,7 +1,7 @@
 -- The states so far are marked.
 use Rattle.std.proofs.Common.{◌≡◌, ◌↔◌, ◌<◌, ℕ, Some, true, false, length, slice_get, slice_index_or}
 use Rattle.names.specs.declared.record.Record.{Record}
-use Rattle.profile_questions.specs.inner.Marks.{IsToldAs}
+use Rattle.profile_questions.specs.Questions.{IsToldAs}
 use Rattle.profile_questions.proofs.marks.marks_of.Given as goal
 
 abbrev pub invariant-loop-state : goal.invariant-loop-state

@@ -6,7 +6,7 @@ use Rattle.glob_automaton.specs.Automata.{IsAutomatonOf}
 use Rattle.profile_questions.specs.Faults.{of_search}
 use Rattle.profile_questions.specs.Names.{CompiledValue}
 use Rattle.profile_questions.specs.inner.Comparing.{IsComparison}
-use Rattle.profile_questions.proofs.ReachedNames.{passed_on, search_fault}
+use Rattle.profile_questions.proofs.ReachedNames.{no_fault, passed_on, search_fault}
 use Rattle.profile_questions.proofs.comparison.Comparison.of.Goals as goal
 
 module _ (one two three : CompiledValue) (a b c : Automaton) (all : VisitsValue) (e : a ≡ one.automaton) (f : b ≡ two.automaton)
@@ -28,6 +28,11 @@ returns-in_err-visits-clause-err c =
     (search_fault c.automaton.result.now c.automaton-2.result.now c.automaton-3.result.now _ _ _
     c.automaton.ensures.of_rules c.automaton-2.ensures.of_rules c.automaton-3.ensures.of_rules
     c.in_err-visits.field-0.0 c.in_err-visits.ensures.err)
+
+pub returns-clause-few : goal.returns-clause-few
+returns-clause-few c =
+    no_fault c.automaton.result.now c.automaton-2.result.now c.automaton-3.result.now _ _ _
+    c.automaton.ensures.of_rules c.automaton-2.ensures.of_rules c.automaton-3.ensures.of_rules c.in_ok-visits.ensures.few
 
 pub invariant_of-result : goal.invariant_of-result
 invariant_of-result c =
