@@ -82,3 +82,19 @@ pair_fault rules one two three fault first second third h = alone_fault rules fa
     (subst (λ z. IsQuestionFault z (reverse rules) rules fault) first
     (subst (λ z. IsQuestionFault one z rules fault) second
     (subst (λ z. IsQuestionFault one two z fault) third h)))
+
+-- the way back: names that differ in these rules differ in more lists
+pub pair_answer : (rules one two three : List RuleValue) → one ≡ rules →
+    ¬ (IsQuestionFault one two three searching.TooManyStates) → ¬ (IsQuestionFault rules [] [] searching.TooManyStates)
+pair_answer rules one two three first none many =
+    none (subst (λ z. IsQuestionFault z two three searching.TooManyStates) (sym first) (
+      many.0,
+      record {
+        named = many.1.named;
+        apart = λ i j name other lt at there same. many.1.apart i j name other lt at there (same.0, none_live, none_live);
+      },
+      many.2,
+    ))
+  where
+    none_live : {x y : List ℕ} → SameSet [] x y
+    none_live {x} {y} n p = (λ live. absurd (omega (arith, live.1.0, live.1.1)), λ live. absurd (omega (arith, live.1.0, live.1.1)))

@@ -14,6 +14,7 @@ use std::alloc::Global;
 /// names. Refused exactly if names have too many sets of live places, memory aside.
 pub fn decided(alloc: Global, pair: &RulePair) -> Result<Vec<Perms>, QuestionFault>
     ensures ok { IfOk result (λ decided. AreDecided pair.now.rules decided.items) }
+    ensures few { IfOk result (λ _. ¬ (IsQuestionFault pair.now.rules [] [] QuestionFault.TooManyStates)) }
     ensures err { IfErr result (IsQuestionFault pair.now.rules [] []) }
 {
     // Two lists are enough. The third adds no sets of live places to those of the first, nor does the second.

@@ -1,6 +1,7 @@
 //! Rules in both orders.
 ghost use Rattle.std.specs.Prelude.{◌≡◌, IfErr, IfOk, reverse};
-ghost use Rattle.glob_automaton.specs.Automata.{IsCompileFault};
+ghost use Rattle.glob_automaton.specs.Automata.{IsCompileFault, most_sets};
+ghost use Rattle.glob_automaton.specs.Sets.{AreMoreThan};
 ghost use Rattle.rule_profile.specs.Profile.{profile_value};
 ghost use Rattle.rule_profile.specs.RuleSpans.{profile_spans};
 
@@ -36,6 +37,7 @@ impl RulePair {
     pub fn of(alloc: Global, profile: Profile) -> Result<RulePair, CompileFault>
         ensures rules { IfOk result (λ pair. pair.rules ≡ (profile_value profile).rules) }
         ensures spans { IfOk result (λ pair. pair.spans ≡ profile_spans profile) }
+        ensures few { IfOk result (λ _. ¬ (AreMoreThan most_sets (profile_value profile).rules)) }
         ensures err { IfErr result (IsCompileFault (profile_value profile).rules) }
     {
         let Ok(last_first) = reversed(alloc, &profile) else {

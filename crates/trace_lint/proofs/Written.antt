@@ -118,7 +118,7 @@ pub of_good : (format : Format) (text : List ℕ) (outcome : Result ProfileValue
 of_good format text (Err f) output e = refused_good (refusal f) output e
 of_good format text (Ok profile) output (inl (inl h)) = refused_good (compile_refusal TooManyStates) output h.1
 of_good format text (Ok profile) output (inl (inr h)) = refused_good question_refusal output h.1
-of_good format text (Ok profile) output (inr h) = answer_good _ output h.2.2
+of_good format text (Ok profile) output (inr h) = answer_good _ output h.1.2.2
 
 -- a text that wasn't read
 pub unread : (format : Format) (text : List ℕ) (f : Fault) → (f ≡ Input) ⊎ (f ≡ Memory) → IsFaultOfAnswer (IsLintOutput format text) f

@@ -26,6 +26,10 @@ abbrev pub IsRefused : List RuleValue → Output → Type 0
 IsRefused rules output = (AreMoreThan most_sets rules × (output ≡ fault (compile_refusal TooManyStates) Refused))
     ⊎ (IsQuestionFault rules [] [] question.TooManyStates × (output ≡ fault question_refusal Refused))
 
+-- they have neither
+abbrev pub IsAnswerable : List RuleValue → Type 0
+IsAnswerable rules = ¬ (AreMoreThan most_sets rules) × ¬ (IsQuestionFault rules [] [] question.TooManyStates)
+
 -- lines, in which something is found, or nothing
 abbrev pub answer_of : List ℕ → Output
 answer_of [] = finding [] false
@@ -45,7 +49,8 @@ IsLinted format text rules output = (decided : List Perms) × AreDecided rules d
 -- on a text that was read, or that is refused
 abbrev pub IsLintOutputOf : Format → List ℕ → Result ProfileValue ReadFault → Output → Type 0
 IsLintOutputOf format text (Err f) output = output ≡ fault (refusal f) Refused
-IsLintOutputOf format text (Ok profile) output = IsRefused profile.rules output ⊎ IsLinted format text profile.rules output
+IsLintOutputOf format text (Ok profile) output = IsRefused profile.rules output
+    ⊎ (IsAnswerable profile.rules × IsLinted format text profile.rules output)
 
 -- what `lint` writes on a text
 abbrev pub IsLintOutput : Format → List ℕ → Output → Type 0

@@ -1,5 +1,7 @@
 //! What is asked about rules, and how it is reported that it can't be answered.
 ghost use Rattle.std.specs.Prelude.{◌≡◌, [], List, IfErr, IfOk, map};
+ghost use Rattle.glob_automaton.specs.Automata.{most_sets};
+ghost use Rattle.glob_automaton.specs.Sets.{AreMoreThan};
 ghost use Rattle.profile_questions.specs.Faults.{IsQuestionFault};
 ghost use Rattle.rule_influence.specs.Influence.{AreDecided};
 ghost use Rattle.rule_influence.specs.StandIns.{AreStandIns};
@@ -20,6 +22,7 @@ use trace_report::Fault;
 pub(crate) fn paired(alloc: Global, profile: Profile) -> Result<RulePair, Fault>
     ensures rules { IfOk result (λ pair. pair.rules ≡ (profile_value profile).rules) }
     ensures spans { IfOk result (λ pair. pair.spans ≡ profile_spans profile) }
+    ensures few { IfOk result (λ _. ¬ (AreMoreThan most_sets (profile_value profile).rules)) }
     ensures err { IfErr result (IsCompileRefusal (profile_value profile).rules) }
 {
     match RulePair::of(alloc, profile) {
@@ -32,6 +35,7 @@ pub(crate) fn paired(alloc: Global, profile: Profile) -> Result<RulePair, Fault>
 /// What each rule decides.
 pub(crate) fn decided_by(alloc: Global, pair: &RulePair) -> Result<Vec<Perms>, Fault>
     ensures ok { IfOk result (λ decided. AreDecided pair.now.rules decided.items) }
+    ensures few { IfOk result (λ _. ¬ (IsQuestionFault pair.now.rules [] [] QuestionFault.TooManyStates)) }
     ensures err { IfErr result (IsQuestionRefusal pair.now.rules) }
 {
     match decided(alloc, pair) {

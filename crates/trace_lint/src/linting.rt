@@ -3,7 +3,7 @@ ghost use Rattle.std.specs.Prelude.{◌≡◌, ℕ, List, Ok};
 ghost use Rattle.rule_influence.specs.Influence.{AreDecided};
 ghost use Rattle.rule_reader.specs.Reading.{outcome_of};
 ghost use Rattle.rule_reader.specs.Spans.{spans_of};
-ghost use Rattle.trace_lint.specs.Linting.{IsLintOutput, IsLintOutputOf};
+ghost use Rattle.trace_lint.specs.Linting.{IsAnswerable, IsLintOutput, IsLintOutputOf};
 ghost use Rattle.trace_lint.specs.inner.Asking.{IsAnswered, profile_with};
 ghost use Rattle.trace_report.specs.Streams.{EndsAnswered, IsTextOf};
 
@@ -73,6 +73,7 @@ fn answer_by(
 ) -> Result<Vec<u8>, Fault>
     requires decided { AreDecided pair.now.rules decided.now }
     requires spans { pair.now.spans ≡ spans_of text.now }
+    requires answerable { IsAnswerable pair.now.rules }
     ensures { IsAnswered (IsLintOutputOf format text.now (Ok (profile_with pair.now.rules))) result }
 {
     let profile = pair.rules().profile();

@@ -37,7 +37,7 @@ module _ (format : Format) (q : Quantifier) where
   of_good ask path text (Err f) output e = refused_good output (refusal f) e
   of_good ask path text (Ok profile) output (inl (inl h)) = refused_good output (compile_refusal TooManyStates) h.1
   of_good ask path text (Ok profile) output (inl (inr h)) = refused_good output question_refusal h.1
-  of_good ask path text (Ok profile) output (inr h) = searched_good text profile.rules (spans_of text) ask output h.0 h.2
+  of_good ask path text (Ok profile) output (inr h) = searched_good text profile.rules (spans_of text) ask output h.1 h.3
 
   -- where there is an answer, the arguments are good
   answer_good : (asked : Result (Perms × List Token) (List ℕ)) (text bytes : List ℕ) (some : Bool) →

@@ -1,10 +1,12 @@
 -- How it is reported that two profiles aren't compared, and how the command ends.
 use Rattle.std.proofs.Common.{◌≡◌, ◌≢◌, ◌⊎◌, ◌∙◌, ℕ, Bool, true, false, List, [], ◌∷◌, ◌++◌, Option, Result, Ok, Err, IsErrAnd}
-use Rattle.std.proofs.Common.{inl, inr, refl, sym, ap, subst, append-nil}
+use Rattle.std.proofs.Common.{inl, inr, ⊎_elim, refl, sym, ap, subst, append-nil}
 use Rattle.std.specs.Prelude.{codes}
 use Rattle.glob_automaton.specs.Automata.{most_sets}
 use Rattle.glob_automaton.specs.Sets.{AreMoreThan}
 use Rattle.matcher.specs.declared.fault.MakeFault.TheVariants as making
+use Rattle.profile_questions.specs.Faults.{IsQuestionFault}
+use Rattle.profile_questions.specs.declared.fault.QuestionFault.TheVariants as question
 use Rattle.question_answers.specs.Below.{rules_below}
 use Rattle.trace_questions.specs.declared.report.Report.{Report}
 use Rattle.question_answers.specs.declared.side.Side.{Side}
@@ -16,6 +18,7 @@ use Rattle.rule_reader.specs.declared.fault.ReadFault.{ReadFault}
 use Rattle.rule_reader.specs.declared.fault.ReadFault.TheVariants as reading
 use Rattle.trace_questions.specs.Differences.{IsCompared, IsDiffOf, IsDiffOutputFor, IsDiffOutputOf, IsRefusedDiff, Versions, answer_of}
 use Rattle.trace_questions.specs.Differences.{side_text, versions_of, words_text}
+use Rattle.trace_questions.specs.Refusals.{IsAnswerable}
 use Rattle.trace_report.specs.declared.format.Format.{Format}
 use Rattle.trace_questions.specs.declared.answer.Answer.{Answer}
 use Rattle.trace_questions.specs.declared.sides.SideFault.{SideFault}
@@ -101,6 +104,15 @@ module _ (w : Report) (below : Option (List Token)) (v : Versions) where
       (subst (λ (them : List RuleValue). IsQuestionRefusal v.old.rules v.new.rules them f) e h)
       (λ many. inl (inr (inr (inr (many, refl)))))
 
+-- neither profile nor the path has too many states, nor have all together
+pub answerable : (below : Option (List Token)) (one two three : List RuleValue) → three ≡ rules_below below →
+    ¬ (AreMoreThan most_sets one) → ¬ (AreMoreThan most_sets two) → ¬ (AreMoreThan most_sets three) →
+    ¬ (IsQuestionFault one two three question.TooManyStates) → IsAnswerable one two (rules_below below)
+answerable below one two three third few small least all = (
+  ⊎_elim few (⊎_elim small (subst (λ (them : List RuleValue). ¬ (AreMoreThan most_sets them)) third least)),
+  subst (λ (them : List RuleValue). ¬ (IsQuestionFault one two them question.TooManyStates)) third all,
+)
+
 -- the same rules, as they are kept
 pub same_versions : (old new : List ℕ) (one two first second : List RuleValue) → one ≡ first → two ≡ second →
     versions_of old one new two ≡ versions_of old first new second
@@ -136,7 +148,7 @@ texts_good : (w : Report) (below : Option (List Token)) (old new : List ℕ) (on
 texts_good w below old new (Err f) two output h = refused_good output (refusal f ++ side_text Old) h
 texts_good w below old new (Ok one) (Err f) output h = refused_good output (refusal f ++ side_text New) h
 texts_good w below old new (Ok one) (Ok two) output (inl h) = refusal_good below (versions_of old one.rules new two.rules) output h
-texts_good w below old new (Ok one) (Ok two) output (inr h) = compared_good w below (versions_of old one.rules new two.rules) output h
+texts_good w below old new (Ok one) (Ok two) output (inr h) = compared_good w below (versions_of old one.rules new two.rules) output h.1
 
 abbrev pub Asked : Type 0
 Asked = Result (Option (List Token)) (List ℕ)

@@ -1,8 +1,12 @@
 -- What `any` and `all` write on a profile that was read.
-use Rattle.std.proofs.Common.{◌≡◌, inl, inr, ℕ, List, [], ◌∷◌, refl, sym, ap, subst, ◌∙◌}
+use Rattle.std.proofs.Common.{◌≡◌, inl, inr, ⊎_elim, ℕ, List, [], ◌∷◌, refl, sym, ap, subst, ◌∙◌}
 use Rattle.std.proofs.Common.{Result, Ok}
 use Rattle.derived_profiles.specs.Pattern.{read_rule}
+use Rattle.glob_automaton.specs.Automata.{most_sets}
+use Rattle.glob_automaton.specs.Sets.{AreMoreThan}
 use Rattle.names.specs.declared.permissions.Perms.{Perms}
+use Rattle.profile_questions.specs.Faults.{IsQuestionFault}
+use Rattle.profile_questions.specs.declared.fault.QuestionFault.TheVariants as question
 use Rattle.question_answers.specs.Findings.{Finding, IsFinding}
 use Rattle.question_answers.specs.declared.quantifier.Quantifier.{Quantifier}
 use Rattle.rule_globs.specs.Rules.{RuleValue, ProfileValue}
@@ -10,6 +14,7 @@ use Rattle.rule_globs.specs.Tokens.{Token}
 use Rattle.rule_profile.specs.declared.profile.Span.{Span}
 use Rattle.rule_reader.specs.Spans.{spans_of}
 use Rattle.rule_reader.specs.declared.fault.ReadFault.{ReadFault}
+use Rattle.trace_questions.specs.Refusals.{IsAnswerable}
 use Rattle.trace_questions.specs.Search.{IsSearchOf, IsSearchOutputOf, search_text}
 use Rattle.trace_questions.specs.declared.answer.Answer.{Answer}
 use Rattle.trace_questions.specs.inner.Asking.{IsAnswered}
@@ -50,11 +55,24 @@ module _ (format : Format) (q : Quantifier) (ask : Perms) (path : List Token) (t
         (subst (λ (them : List RuleValue). IsQuestionRefusal rules two them f) third h))
         (λ many. inl (inr (many, refl)))
 
-    pub found_by : (first kept : List RuleValue) (spans : List Span) (what : Finding) (output : Output) → first ≡ rules →
+    -- none of the three lists has too many states, nor have all together
+    pub answerable : (one two three : List RuleValue) → one ≡ rules → two ≡ [] → three ≡ read_rule path ∷ [] →
+        ¬ (AreMoreThan most_sets rules) → ¬ (AreMoreThan most_sets []) → ¬ (AreMoreThan most_sets three) →
+        ¬ (IsQuestionFault one two three question.TooManyStates) → IsAnswerable rules [] (read_rule path ∷ [])
+    answerable one two three first second third few none small all = (
+      ⊎_elim few (⊎_elim none (subst (λ (them : List RuleValue). ¬ (AreMoreThan most_sets them)) third small)),
+      subst (λ (them : List RuleValue). ¬ (IsQuestionFault them [] (read_rule path ∷ []) question.TooManyStates)) first
+          (subst (λ (them : List RuleValue). ¬ (IsQuestionFault one them (read_rule path ∷ []) question.TooManyStates)) second
+          (subst (λ (them : List RuleValue). ¬ (IsQuestionFault one two them question.TooManyStates)) third all)),
+    )
+
+    pub found_by : (first kept : List RuleValue) (spans : List Span) (what : Finding) (output : Output) →
+        IsAnswerable rules [] (read_rule path ∷ []) → first ≡ rules →
         kept ≡ rules → spans ≡ spans_of text → IsFinding q first path ask what → output ≡ search_text format q text kept spans ask what →
         IsSearchOf format q ask path text rules output
-    found_by first kept spans what output one same there is e =
+    found_by first kept spans what output small one same there is e =
         inr (
+          small,
           what,
           subst (λ (them : List RuleValue). IsFinding q them path ask what) one is,
           e ∙ ap (λ z. search_text format q text z spans ask what) same ∙ ap (λ z. search_text format q text rules z ask what) there,

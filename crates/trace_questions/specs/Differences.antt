@@ -22,6 +22,7 @@ use Rattle.trace_questions.specs.Shown.{shown_name}
 use Rattle.question_answers.specs.declared.side.Side.{Side}
 use Rattle.question_answers.specs.declared.side.Side.TheVariants.{Old, New}
 use Rattle.answer_json.specs.Lines.{json_line}
+use Rattle.trace_questions.specs.Refusals.{IsAnswerable}
 use Rattle.trace_questions.specs.Objects.{named_difference, reason_by, word_object}
 use Rattle.trace_questions.specs.declared.report.Report.{Report}
 use Rattle.trace_report.specs.declared.format.Format.{Format}
@@ -101,7 +102,8 @@ IsRefusedDiff below v output = IsTooLarge v.old.rules (side_text Old) output
 
 -- on two profiles that were read
 abbrev pub IsDiffOf : Report → Option (List Token) → Versions → Output → Type 0
-IsDiffOf report below v output = IsRefusedDiff below v output ⊎ IsCompared report below v output
+IsDiffOf report below v output = IsRefusedDiff below v output
+    ⊎ (IsAnswerable v.old.rules v.new.rules (rules_below below) × IsCompared report below v output)
 
 -- the two profiles that were read, with their texts
 abbrev pub versions_of : List ℕ → List RuleValue → List ℕ → List RuleValue → Versions

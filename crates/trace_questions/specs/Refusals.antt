@@ -17,3 +17,7 @@ IsOneTooLarge one two three = AreMoreThan most_sets one ⊎ (AreMoreThan most_se
 abbrev pub IsRefused : List RuleValue → List RuleValue → List RuleValue → Output → Type 0
 IsRefused one two three output = (IsOneTooLarge one two three × (output ≡ fault (compile_refusal TooManyStates) Refused))
     ⊎ (IsQuestionFault one two three question.TooManyStates × (output ≡ fault question_refusal Refused))
+
+-- none of them has too many states, nor have all together
+abbrev pub IsAnswerable : List RuleValue → List RuleValue → List RuleValue → Type 0
+IsAnswerable one two three = ¬ (IsOneTooLarge one two three) × ¬ (IsQuestionFault one two three question.TooManyStates)

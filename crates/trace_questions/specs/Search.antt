@@ -14,7 +14,7 @@ use Rattle.answer_json.specs.Lines.{json_line}
 use Rattle.trace_questions.specs.Asked.{asked_of}
 use Rattle.trace_questions.specs.Objects.{found_object, found_word, nothing_object, nothing_word}
 use Rattle.question_answers.specs.Findings.{Finding, IsFinding, found, no_name}
-use Rattle.trace_questions.specs.Refusals.{IsRefused}
+use Rattle.trace_questions.specs.Refusals.{IsAnswerable, IsRefused}
 use Rattle.trace_questions.specs.Shown.{shown_name}
 use Rattle.question_answers.specs.declared.quantifier.Quantifier.{Quantifier}
 use Rattle.trace_report.specs.declared.format.Format.{Format}
@@ -48,7 +48,7 @@ search_text format quantifier text rules spans ask (found (name ∷ names)) =
 -- what is written on a profile that was read
 abbrev pub IsSearchOf : Format → Quantifier → Perms → List Token → List ℕ → List RuleValue → Output → Type 0
 IsSearchOf format quantifier ask path text rules output = IsRefused rules [] (read_rule path ∷ []) output
-    ⊎ ((what : Finding) × IsFinding quantifier rules path ask what
+    ⊎ (IsAnswerable rules [] (read_rule path ∷ []) × (what : Finding) × IsFinding quantifier rules path ask what
     × (output ≡ search_text format quantifier text rules (spans_of text) ask what))
 
 -- the same, or what is written on a text that is refused

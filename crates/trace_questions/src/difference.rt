@@ -1,6 +1,8 @@
 //! `diff OLD NEW`: the names that only one of two profiles allows something to.
 ghost use Rattle.std.specs.Prelude.{◌≡◌, ℕ, List, Option, IfErr, IfOk, IsErr, option_map};
 ghost use Rattle.std.specs.Io.KnownBytes.{Keeps};
+ghost use Rattle.glob_automaton.specs.Automata.{most_sets};
+ghost use Rattle.glob_automaton.specs.Sets.{AreMoreThan};
 ghost use Rattle.rule_reader.specs.Reading.{outcome_of};
 ghost use Rattle.rule_globs.specs.Tokens.{Token};
 ghost use Rattle.rule_profile.specs.Profile.{profile_value};
@@ -165,7 +167,8 @@ fn answer_by(
     new: &CompiledRules,
 ) -> Result<Answer, Fault>
     ensures { (path : Option (List Token)) → IsOfBelow path below → old.now.spans ≡ spans_of texts.now.before.now →
-        new.now.spans ≡ spans_of texts.now.after.now → IsAnswered
+        new.now.spans ≡ spans_of texts.now.after.now → ¬ (AreMoreThan most_sets old.now.rules) →
+        ¬ (AreMoreThan most_sets new.now.rules) → IsAnswered
         (IsDiffOf report path (versions_of texts.now.before.now old.now.rules texts.now.after.now new.now.rules)) result }
 {
     let names = compiled(alloc, below.profile)?;
@@ -200,6 +203,7 @@ fn profile_in(alloc: Global, text: &[u8], side: Side) -> Result<Profile, SideFau
 fn compiled_in(alloc: Global, profile: Profile, side: Side) -> Result<CompiledRules, SideFault>
     ensures rules { IfOk result (λ compiled. compiled.rules ≡ (profile_value profile).rules) }
     ensures spans { IfOk result (λ compiled. compiled.spans ≡ profile_spans profile) }
+    ensures few { IfOk result (λ _. ¬ (AreMoreThan most_sets (profile_value profile).rules)) }
     ensures err { IfErr result (IsCompileRefusalIn side (profile_value profile).rules) }
 {
     match compiled(alloc, profile) {

@@ -2,6 +2,8 @@
 ghost use Rattle.std.specs.Prelude.{◌≡◌, ◌++◌, [], ℕ, List, Some, IfOk, IsErr, OnOk};
 ghost use Rattle.std.specs.List.{flat_map};
 ghost use Rattle.std.specs.Io.KnownBytes.{Keeps};
+ghost use Rattle.glob_automaton.specs.Automata.{most_sets};
+ghost use Rattle.glob_automaton.specs.Sets.{AreMoreThan};
 ghost use Rattle.rule_globs.specs.Tokens.{Token};
 ghost use Rattle.rule_profile.specs.Profile.{profile_value};
 ghost use Rattle.rule_profile.specs.RuleSpans.{profile_spans};
@@ -109,7 +111,7 @@ fn answer_by(
     rules: &CompiledRules,
 ) -> Result<Answer, Fault>
     ensures { (path : List Token) → IsOfPath path asked.pattern → rules.now.spans ≡ spans_of text.now →
-        IsAnswered (IsSearchOf format quantifier asked.ask path text.now rules.now.rules) result }
+        ¬ (AreMoreThan most_sets rules.now.rules) → IsAnswered (IsSearchOf format quantifier asked.ask path text.now rules.now.rules) result }
 {
     let nothing = no_rules(alloc)?;
     let names = compiled(alloc, asked.pattern)?;

@@ -7,7 +7,7 @@ use Rattle.profile_questions.specs.Names.{ComparisonValue}
 use Rattle.rule_globs.specs.Rules.{RuleValue}
 use Rattle.rule_profile.specs.Rules.{rule_value}
 use Rattle.rule_influence.specs.inner.Deciders.{AreNoted}
-use Rattle.rule_influence.proofs.ReversedSets.{pair_fault, passed_on}
+use Rattle.rule_influence.proofs.ReversedSets.{pair_answer, pair_fault, passed_on}
 use Rattle.rule_influence.proofs.Scans.{AreNotedSoFar, noted_first, noted_last, noted_more}
 use Rattle.rule_influence.proofs.influence.decided.Goals.{in-Some, in_default-records}
 use Rattle.rule_influence.proofs.influence.decided.Goals as goal
@@ -53,6 +53,11 @@ loop-index-preserved c =
         c.len-index-end.ensures.len,
       ))
     ]
+
+pub returns-clause-few : goal.returns-clause-few
+returns-clause-few c =
+    pair_answer c.args.pair.now.rules c.rules.result.now.rules c.reversed.result.now.rules c.rules-2.result.now.rules c.rules.ensures.rules
+    c.in_ok-comparison.ensures.few
 
 pub returns-clause-ok : goal.returns-clause-ok
 returns-clause-ok c =

@@ -42,6 +42,9 @@ returns-in-Ok-lines c =
     subst (λ (z : List IdleCase). AreStandIns c.args.pair.now.rules z (items c.deref-4.result.now)) cases
     (subst (λ (z : List (Vec ℕ Global)). AreStandIns c.args.pair.now.rules c.deref-2.result.now (items z))
     (sym c.deref-4.ensures.value) c.in_ok-lists.ensures.ok) in
-    inr (linted c.args.format c.args.text.now c.args.pair.now.rules rules (profile_spans c.profile-profile.result.now) c.args.decided.now
-    c.deref-3.result.now (items c.deref-4.result.now) c.in-Ok-lines.lines.items same spans c.requires.decided
-    (c.deref-3.ensures.value ∙ c.in-Ok.ensures) stands c.in-Ok-lines.ensures)
+    inr (
+      c.requires.answerable,
+      linted c.args.format c.args.text.now c.args.pair.now.rules rules (profile_spans c.profile-profile.result.now) c.args.decided.now
+          c.deref-3.result.now (items c.deref-4.result.now) c.in-Ok-lines.lines.items same spans c.requires.decided
+          (c.deref-3.ensures.value ∙ c.in-Ok.ensures) stands c.in-Ok-lines.ensures,
+    )

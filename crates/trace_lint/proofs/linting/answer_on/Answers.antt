@@ -1,4 +1,8 @@
 -- The rules are refused, or answered.
+use Rattle.std.proofs.Common.{List, subst, sym}
+use Rattle.glob_automaton.specs.Automata.{most_sets}
+use Rattle.glob_automaton.specs.Sets.{AreMoreThan}
+use Rattle.rule_globs.specs.Rules.{RuleValue}
 use Rattle.rule_profile.specs.Profile.{profile_value}
 use Rattle.rule_reader.specs.Reading.{outcome_of}
 use Rattle.trace_lint.specs.Linting.{IsLintOutputOf}
@@ -12,6 +16,12 @@ returns-in_err-decided c =
     (decided_refused c.args.format c.args.text.now (outcome_of c.args.text.now) (profile_value c.in_ok-profile.profile)
     c.in_ok-pair.pair.rules c.in_err-decided.field-0.0
     c.in_ok-profile.ensures.outcome c.in_ok-pair.ensures.rules c.in_err-decided.ensures.err)
+
+pub answer_by-requires-clause-answerable : goal.answer_by-requires-clause-answerable
+answer_by-requires-clause-answerable c = (
+  subst (λ (rules : List RuleValue). ¬ (AreMoreThan most_sets rules)) (sym c.in_ok-pair.ensures.rules) c.in_ok-pair.ensures.few,
+  c.in_ok-decided.ensures.few,
+)
 
 pub returns : goal.returns
 returns c =

@@ -1,5 +1,8 @@
 -- One of the profiles has too many states, or they are compared.
-use Rattle.std.proofs.Common.{◌∙◌, subst}
+use Rattle.std.proofs.Common.{◌∙◌, List, subst, sym}
+use Rattle.glob_automaton.specs.Automata.{most_sets}
+use Rattle.glob_automaton.specs.Sets.{AreMoreThan}
+use Rattle.rule_globs.specs.Rules.{RuleValue}
 use Rattle.rule_profile.specs.Profile.{profile_value}
 use Rattle.trace_questions.specs.Differences.{IsDiffOf, Versions, versions_of}
 use Rattle.trace_report.specs.Output.{finding}
@@ -27,4 +30,6 @@ returns-in-Ok c path h before after =
     subst (λ (v : Versions). IsDiffOf c.args.report path v output)
     (same_versions c.args.texts.now.before.now c.args.texts.now.after.now c.in_ok-old.old.rules c.in_ok-new.new.rules
     (profile_value c.args.old).rules (profile_value c.args.new).rules c.in_ok-old.ensures.rules c.in_ok-new.ensures.rules)
-    (c.in-Ok.ensures path h (c.in_ok-old.ensures.spans ∙ before) (c.in_ok-new.ensures.spans ∙ after))
+    (c.in-Ok.ensures path h (c.in_ok-old.ensures.spans ∙ before) (c.in_ok-new.ensures.spans ∙ after)
+    (subst (λ (them : List RuleValue). ¬ (AreMoreThan most_sets them)) (sym c.in_ok-old.ensures.rules) c.in_ok-old.ensures.few)
+    (subst (λ (them : List RuleValue). ¬ (AreMoreThan most_sets them)) (sym c.in_ok-new.ensures.rules) c.in_ok-new.ensures.few))

@@ -1,5 +1,8 @@
 -- The text or its rules are refused, or it is answered.
-use Rattle.std.proofs.Common.{◌∙◌}
+use Rattle.std.proofs.Common.{◌∙◌, List, subst, sym}
+use Rattle.glob_automaton.specs.Automata.{most_sets}
+use Rattle.glob_automaton.specs.Sets.{AreMoreThan}
+use Rattle.rule_globs.specs.Rules.{RuleValue}
 use Rattle.rule_profile.specs.Profile.{profile_value}
 use Rattle.rule_reader.specs.Reading.{outcome_of}
 use Rattle.trace_questions.specs.Search.{IsSearchOutputOf}
@@ -22,4 +25,5 @@ returns c path of =
     let text = c.args.text.now in
     of_text c.args.format c.args.quantifier c.args.asked.ask path text (profile_value c.in_ok-profile.profile) c.in_ok-rules.rules.rules
     (outcome_of text) c.answer_by.result c.in_ok-profile.ensures.outcome c.in_ok-rules.ensures.rules
-    (c.answer_by.ensures path of (c.in_ok-rules.ensures.spans ∙ c.in_ok-profile.ensures.spans))
+    (c.answer_by.ensures path of (c.in_ok-rules.ensures.spans ∙ c.in_ok-profile.ensures.spans)
+    (subst (λ (them : List RuleValue). ¬ (AreMoreThan most_sets them)) (sym c.in_ok-rules.ensures.rules) c.in_ok-rules.ensures.few))
