@@ -111,7 +111,8 @@ fn answer_by(
     rules: &CompiledRules,
 ) -> Result<Answer, Fault>
     ensures { (path : List Token) → IsOfPath path asked.pattern → rules.now.spans ≡ spans_of text.now →
-        ¬ (AreMoreThan most_sets rules.now.rules) → IsAnswered (IsSearchOf format quantifier asked.ask path text.now rules.now.rules) result }
+        ¬ (AreMoreThan most_sets rules.now.rules) →
+        IsAnswered (IsSearchOf format quantifier asked.ask path text.now rules.now.rules) result }
 {
     let nothing = no_rules(alloc)?;
     let names = compiled(alloc, asked.pattern)?;
