@@ -4,10 +4,8 @@
 //! The definitions to believe are those in `specs/`.
 #![tactic(auto)]
 
-mod copying;
 mod pattern;
 mod profiles;
 
-pub use copying::copy_of;
 pub use pattern::of_pattern;
 pub use profiles::{allow_rules, alone, reversed, without_rules};

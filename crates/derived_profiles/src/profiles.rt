@@ -6,8 +6,8 @@ ghost use Rattle.rule_profile.specs.Profile.{RuleValue, rule_value, profile_valu
 ghost use Rattle.rule_profile.specs.Readable.{is_rule, is_profile};
 ghost use Rattle.derived_profiles.specs.Derived.{is_allow, reversed, allow_rules, alone, without_rules};
 
-use crate::copying::copy_of;
 use names::{NoMemory, RuleKind};
+use profile_parts::copy_of;
 use rule_profile::{Profile, Rule};
 use std::alloc::Global;
 

@@ -1,5 +1,5 @@
 pub mod ChoiceLaws
-pub mod CopyLaws
+pub mod GroupLaws
 pub mod Ends
 pub mod SameNames
 pub mod Stays

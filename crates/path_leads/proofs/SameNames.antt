@@ -19,7 +19,7 @@ use Rattle.rule_globs.proofs.TokenItems.{item_induction, tokens-Byte, tokens-Any
 use Rattle.rule_globs.proofs.TokenLaws.{in_front, in_front-end, items_stand, each_item, same_pattern}
 use Rattle.rule_profile.specs.Readable.{begins_with_slash, begins_with_run, is_path}
 use Rattle.rule_profile.specs.PathTokens.{is_plain_slash}
-use Rattle.path_leads.specs.Leads.{can_be_split, gives_slash, slash_before, stands_alone, group_leads, slash_leads, front_leads, leads}
+use Rattle.path_leads.specs.Leads.{can_be_split, gives_slash, slash_before, group_leads, slash_leads, front_leads, leads}
 use Rattle.path_leads.specs.Leads.{led}
 
 -- ---- patterns that take the same names

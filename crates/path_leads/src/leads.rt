@@ -1,15 +1,14 @@
 //! Paths that begin with a slash, in the place of one that begins with a group.
-ghost use Rattle.std.specs.Prelude.{◌≡◌, ◌<◌, ◌∷◌, ◌++◌, [], IfOk, IsTrue, map, drop, length, ◌&&◌, if◌then◌else◌};
+ghost use Rattle.std.specs.Prelude.{◌≡◌, ◌<◌, ◌∷◌, ◌++◌, [], IfOk, IsTrue, map, drop, length, if◌then◌else◌};
 ghost use Rattle.std.specs.List.{list_all};
 ghost use Rattle.rule_globs.specs.Tokens.{tokens_of, all_full};
 ghost use Rattle.rule_profile.specs.Readable.{is_path};
 ghost use Rattle.path_leads.specs.Leads.{can_be_split, gives_slash, stands_alone, slash_before, group_leads, slash_leads, led};
 ghost use Rattle.path_leads.specs.inner.Readable.{all_readable};
 
-use crate::copies::{put, put_copies, put_list};
 use crate::shapes::{begins_with_slash, gives_slash, stands_alone};
 use names::NoMemory;
-use profile_parts::path_of;
+use profile_parts::{path_of, put_copies};
 use rule_globs::{Item, RulePath};
 use std::alloc::Global;
 
@@ -45,13 +44,32 @@ fn can_be_split(alternatives: &[Vec<Item>], follow: &[Item]) -> bool
     alternatives.len() <= MOST_PATHS && all_stand_alone(follow, alternatives)
 }
 
+/// Adds an item.
+fn put(items: &mut Vec<Item>, item: Item) -> Result<(), NoMemory>
+    ensures { IfOk result (λ _. items.new.items ≡ items.old.items ++ item ∷ []) }
+{
+    match items.push(item) {
+        Ok(()) => Ok(()),
+        Err(_) => Err(NoMemory),
+    }
+}
+
+/// Adds a list of items.
+fn put_list(lists: &mut Vec<Vec<Item>>, items: Vec<Item>) -> Result<(), NoMemory>
+    ensures { IfOk result (λ _. lists.new.items ≡ lists.old.items ++ items ∷ []) }
+{
+    match lists.push(items) {
+        Ok(()) => Ok(()),
+        Err(_) => Err(NoMemory),
+    }
+}
+
 /// The alternatives without their slashes.
 fn without_slashes(alloc: Global, alternatives: &[Vec<Item>]) -> Result<Vec<Vec<Item>>, NoMemory>
     requires { IsTrue (list_all gives_slash (map (λ items. tokens_of items.items) alternatives.now)) }
     ensures tokens { IfOk result (λ bare. map (λ items. tokens_of items.items) bare.items
         ≡ map (drop 1) (map (λ items. tokens_of items.items) alternatives.now)) }
-    ensures full { IfOk result (λ bare. map (λ items. all_full items.items) bare.items ≡ map (λ items. all_full items.items)
-        alternatives.now) }
+    ensures full { IfOk result (λ bare. IsTrue (list_all (λ items. all_full items.items) bare.items)) }
 {
     let mut bare = Vec::new(alloc);
     for items in alternatives {
@@ -72,7 +90,6 @@ fn slash_before(
 ) -> Result<Vec<Item>, NoMemory>
     requires slashes { IsTrue (list_all gives_slash (map (λ items. tokens_of items.items) alternatives.now)) }
     requires some { 0 < length alternatives.now }
-    requires full { IsTrue (list_all (λ items. all_full items.items) alternatives.now && all_full follow.now) }
     ensures tokens { IfOk result (λ items. tokens_of items.items ≡ slash_before (map (λ items. tokens_of items.items) alternatives.now)
         (tokens_of follow.now)) }
     ensures full { IfOk result (λ items. IsTrue (all_full items.items)) }
@@ -120,7 +137,6 @@ fn split(
     alternatives: &[Vec<Item>],
     follow: &[Item],
 ) -> Result<Vec<RulePath>, NoMemory>
-    requires { IsTrue (list_all (λ items. all_full items.items) alternatives.now && all_full follow.now) }
     ensures { IfOk result
         (λ paths. paths.items ≡ all_readable (map (λ items. tokens_of items.items ++ tokens_of follow.now) alternatives.now)) }
 {
@@ -142,8 +158,7 @@ fn group_paths(
     alternatives: &[Vec<Item>],
     follow: &[Item],
 ) -> Result<Vec<RulePath>, NoMemory>
-    requires some { 0 < length alternatives.now }
-    requires full { IsTrue (list_all (λ items. all_full items.items) alternatives.now && all_full follow.now) }
+    requires { 0 < length alternatives.now }
     ensures { IfOk result (λ paths. paths.items ≡ all_readable (group_leads (map (λ items. tokens_of items.items) alternatives.now)
         (tokens_of follow.now))) }
 {
@@ -158,7 +173,6 @@ fn group_paths(
 
 /// The path with these items, if it begins with a slash and can be read.
 fn slash_path(alloc: Global, items: &[Item]) -> Result<Vec<RulePath>, NoMemory>
-    requires { IsTrue (all_full items.now) }
     ensures { IfOk result (λ paths. paths.items ≡ all_readable (slash_leads (tokens_of items.now))) }
 {
     if !begins_with_slash(items) {

@@ -6,7 +6,6 @@
 
 mod alike;
 mod choices;
-mod copies;
 mod laws;
 mod leads;
 mod shapes;

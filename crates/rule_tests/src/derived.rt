@@ -1,10 +1,6 @@
 //! Profiles made of the rules of another, and the profile of a pattern, by their canonical texts.
-use derived_profiles::{allow_rules, alone, copy_of, of_pattern, reversed, without_rules};
-use names::{NoMemory, Permission, Perms, RuleKind};
-use rule_globs::RulePath;
-use rule_profile::Rule;
-use rule_reader::read_path;
-use rule_text::{Profile, read, write, write_rule};
+use derived_profiles::{allow_rules, alone, of_pattern, reversed, without_rules};
+use rule_text::{Profile, read, write};
 use std::alloc::Global;
 use std::test::Fail;
 
@@ -71,25 +67,5 @@ fn patterns(rt: HostRuntime) -> Result<(), Fail> {
     for text in [b"".as_slice(), b"a", b"{/a,/b}", b"/[", b"/a\""] {
         assert!(&rt; of_pattern(alloc, text)?.is_none(), "{text:?}");
     }
-    Ok(())
-}
-
-/// A copy of the path that the text is.
-fn copy_of_text(alloc: Global, text: &[u8]) -> Result<Option<RulePath>, NoMemory> {
-    match read_path(alloc, text)? {
-        Some(items) => Ok(Some(copy_of(alloc, &RulePath::new(items))?)),
-        None => Ok(None),
-    }
-}
-
-#[test]
-fn copies(rt: HostRuntime) -> Result<(), Fail> {
-    let alloc = rt.alloc();
-    let copy = copy_of_text(alloc, b"/{b,[^c-d],*{,?}}/**")?.ok_or("a path")?;
-    let rule = Rule::new(RuleKind::Allow, Perms::NONE.with(Permission::Read), copy);
-    assert_eq!(&rt;
-        write_rule(alloc, &rule)?.as_slice(),
-        b"\"/{b,[^c-d],*{,?}}/**\" r,".as_slice()
-    );
     Ok(())
 }

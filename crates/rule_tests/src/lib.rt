@@ -7,6 +7,8 @@ mod blocks;
 #[cfg(test)]
 mod components;
 #[cfg(test)]
+mod copies;
+#[cfg(test)]
 mod cuts;
 #[cfg(test)]
 mod derived;

@@ -3,7 +3,7 @@ use Rattle.std.proofs.Common.{sym, ap, ◌∙◌}
 use Rattle.std.proofs.lemmas.Result.{IfOk-weaker}
 use Rattle.rule_globs.specs.Tokens.{tokens_of}
 use Rattle.path_leads.specs.inner.Readable.{all_readable}
-use Rattle.path_leads.proofs.CopyLaws.{split_leads}
+use Rattle.path_leads.proofs.GroupLaws.{split_leads}
 use Rattle.path_leads.proofs.leads.group_paths.Goals as goal
 
 pub returns-then-can_be_split : goal.returns-then-can_be_split

@@ -1,10 +1,8 @@
 -- A slash, the group without slashes, and what follows it.
-use Rattle.std.proofs.Common.{◌++◌, ◌∷◌, [], ◌&&◌, ap, ◌∙◌, append_assoc}
-use Rattle.std.specs.List.{list_all}
-use Rattle.std.proofs.lemmas.Bool.{and_parts}
-use Rattle.rule_globs.specs.Tokens.{byte, opening, closing, with_commas, tokens_of, all_full}
+use Rattle.std.proofs.Common.{◌++◌, ◌∷◌, [], ap, ◌∙◌, append_assoc}
+use Rattle.rule_globs.specs.Tokens.{byte, opening, closing, with_commas, tokens_of}
 use Rattle.rule_writer.proofs.CanonWrites.{items_parts}
-use Rattle.path_leads.proofs.CopyLaws.{before_tokens, before_full}
+use Rattle.path_leads.proofs.GroupLaws.{before_tokens, before_full}
 use Rattle.path_leads.proofs.leads.slash_before.Goals as goal
 
 pub returns-clause-tokens : goal.returns-clause-tokens
@@ -19,10 +17,7 @@ returns-clause-tokens c =
 
 pub returns-clause-full : goal.returns-clause-full
 returns-clause-full c =
-    let parts = and_parts (list_all (λ items. all_full items.items) c.args.alternatives.now) (all_full c.args.follow.now)
-    c.requires.full in
     c.in_ok-put_copies.ensures.full
-    ∙ ap (λ b. b && all_full c.args.follow.now) (before_full c.new-items.result.items c.put.new.items.items c.put-2.new.items.items
-    c.in_ok-without_slashes.field-0 c.args.alternatives.now c.new-items.ensures.items c.in_ok-put.ensures c.in_ok-put-2.ensures
-    c.in_ok-without_slashes.ensures.full c.requires.some parts.0)
-    ∙ parts.1
+    ∙ before_full c.new-items.result.items c.put.new.items.items c.put-2.new.items.items c.in_ok-without_slashes.field-0
+    c.args.alternatives.now c.new-items.ensures.items c.in_ok-put.ensures c.in_ok-put-2.ensures c.in_ok-without_slashes.ensures.tokens
+    c.requires.some c.in_ok-without_slashes.ensures.full

@@ -11,6 +11,5 @@ invariant-loop-items l = record {
   tokens : map (λ items. tokens_of items.items) l.bare.items ++ map (drop 1)
       (map (λ items. tokens_of items.items) (drop l.items-index l.alternatives))
       ≡ map (drop 1) (map (λ items. tokens_of items.items) l.alternatives);
-  full : map (λ items. all_full items.items) l.bare.items ++ map (λ items. all_full items.items) (drop l.items-index l.alternatives)
-      ≡ map (λ items. all_full items.items) l.alternatives;
+  full : IsTrue (list_all (λ items. all_full items.items) l.bare.items);
 }

@@ -3,12 +3,12 @@ use Rattle.std.proofs.Common.{◌≡◌, ◌++◌, ◌+◌, ◌*◌, drop, lengt
 use Rattle.std.specs.List.{list_all}
 use Rattle.rule_globs.specs.Tokens.{tokens, tokens_of, all_full, with_commas}
 use Rattle.rule_writer.proofs.CanonWrites.{items_parts}
-use Rattle.derived_profiles.proofs.copying.+copy.Given as goal
+use Rattle.profile_parts.proofs.copying.+copy.Given as goal
 
-abbrev pub invariant-copies_of-loop-item : goal.invariant-copies_of-loop-item
-invariant-copies_of-loop-item l = record {
-  tokens : tokens_of l.copies.items ++ tokens_of (drop l.item-index l.items) ≡ tokens_of l.items;
-  full : IsTrue (all_full l.copies.items);
+abbrev pub invariant-put_copies-loop-item : goal.invariant-put_copies-loop-item
+invariant-put_copies-loop-item l = record {
+  tokens : tokens_of l.copies.items ++ tokens_of (drop l.item-index l.items) ≡ tokens_of l.initial.copies.items ++ tokens_of l.items;
+  full : all_full l.copies.items ≡ all_full l.initial.copies.items;
 }
 
 abbrev pub invariant-alternatives_copy-loop-items : goal.invariant-alternatives_copy-loop-items
@@ -20,8 +20,8 @@ invariant-alternatives_copy-loop-items l = record {
 abbrev pub decreases-item_copy : goal.decreases-item_copy
 decreases-item_copy l = 3 * length (tokens l.item.now)
 
-abbrev pub decreases-copies_of : goal.decreases-copies_of
-decreases-copies_of l = 3 * length (tokens_of l.items.now) + 1
+abbrev pub decreases-put_copies : goal.decreases-put_copies
+decreases-put_copies l = 3 * length (tokens_of l.items.now) + 1
 
 abbrev pub decreases-alternatives_copy : goal.decreases-alternatives_copy
 decreases-alternatives_copy l = 3 * length (with_commas (items_parts l.alternatives.now)) + 2

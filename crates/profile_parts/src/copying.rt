@@ -1,4 +1,4 @@
-//! Copies of paths.
+//! Copies of paths and of items.
 ghost use Rattle.std.specs.Prelude.{◌≡◌, ◌≤◌, ◌∷◌, [], ◌++◌, ◌==◌, ◌&&◌, not, IfOk, IsTrue, length, map};
 ghost use Rattle.std.specs.List.{list_all};
 ghost use Rattle.rule_globs.specs.Limits.{max_items};
@@ -13,21 +13,23 @@ pub fn copy_of(alloc: Global, path: &RulePath) -> Result<RulePath, NoMemory>
     requires { length path.now ≤ max_items }
     ensures { IfOk result (λ copy. copy ≡ path.now) }
 {
-    Ok(RulePath::new(copies_of(alloc, path.items())?))
+    let mut items = Vec::new(alloc);
+    put_copies(alloc, &mut items, path.items())?;
+    Ok(RulePath::new(items))
 }
 
-/// A copy of each item.
+/// Adds a copy of each item: it has the same tokens. A group without alternatives, which no path has, becomes a group of one
+/// alternative without items, so that each group that is added has an alternative.
 #[cycle(copy)]
-fn copies_of(alloc: Global, items: &[Item]) -> Result<Vec<Item>, NoMemory>
-    ensures tokens { IfOk result (λ copies. tokens_of copies.items ≡ tokens_of items.now) }
-    ensures full { IfOk result (λ copies. IsTrue (all_full copies.items)) }
+pub fn put_copies(alloc: Global, copies: &mut Vec<Item>, items: &[Item]) -> Result<(), NoMemory>
+    ensures tokens { IfOk result (λ _. tokens_of copies.new.items ≡ tokens_of copies.old.items ++ tokens_of items.now) }
+    ensures full { IfOk result (λ _. all_full copies.new.items ≡ all_full copies.old.items) }
 {
-    let mut copies = Vec::new(alloc);
     for item in items {
         let copy = item_copy(alloc, item)?;
-        put(&mut copies, copy)?;
+        put(copies, copy)?;
     }
-    Ok(copies)
+    Ok(())
 }
 
 #[cycle(copy)]
@@ -56,7 +58,8 @@ fn alternatives_copy(alloc: Global, alternatives: &[Vec<Item>]) -> Result<Vec<Ve
 {
     let mut copies = Vec::new(alloc);
     for items in alternatives {
-        let copy = copies_of(alloc, items)?;
+        let mut copy = Vec::new(alloc);
+        put_copies(alloc, &mut copy, items)?;
         put_list(&mut copies, copy)?;
     }
     Ok(copies)

@@ -3,11 +3,11 @@ use Rattle.std.proofs.Common.{sym, ap, ◌∙◌, length, arith}
 use Rattle.rule_globs.specs.Tokens.{tokens, tokens_of, with_commas}
 use Rattle.rule_globs.proofs.TokenItems.{full-Group}
 use Rattle.rule_writer.proofs.CanonWrites.{items_parts, length-Group, length_item, length_alternative}
-use Rattle.derived_profiles.proofs.CopyLaws.{same_group}
-use Rattle.derived_profiles.proofs.copying.+copy.Goals as goal
+use Rattle.profile_parts.proofs.CopyLaws.{same_group}
+use Rattle.profile_parts.proofs.copying.+copy.Goals as goal
 
-pub copies_of-item_copy-requires : goal.copies_of-item_copy-requires
-copies_of-item_copy-requires t c = (
+pub put_copies-item_copy-requires : goal.put_copies-item_copy-requires
+put_copies-item_copy-requires t c = (
   omega (arith, length_item c.args.items.now c.loop-item.item-index c.item-item.result c.loop-item-test.true c.item-item.is, c.decreases),
   tt,
 )
@@ -24,8 +24,8 @@ item_copy-alternatives_copy-requires t c = (
   tt,
 )
 
-pub alternatives_copy-copies_of-requires : goal.alternatives_copy-copies_of-requires
-alternatives_copy-copies_of-requires t c = (
+pub alternatives_copy-put_copies-requires : goal.alternatives_copy-put_copies-requires
+alternatives_copy-put_copies-requires t c = (
   omega (
     arith,
     length_alternative c.args.alternatives.now c.loop-items.items-index c.items-item.result c.loop-items-test.true
