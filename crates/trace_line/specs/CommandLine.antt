@@ -15,10 +15,16 @@ use Rattle.trace_line.specs.declared.import.ImportOptions.{ImportOptions}
 use Rattle.trace_line.specs.declared.import.OwnerRules.{OwnerRules}
 use Rattle.trace_line.specs.declared.import.OwnerRules.TheVariants.{Keep, Drop}
 use Rattle.trace_line.specs.declared.line.Line.{Line}
-use Rattle.trace_line.specs.declared.line.Line.TheVariants.{Judge, Explain, Any, All, Diff, Lint, Run, Compile, Check, Match, Steps, Storm}
-use Rattle.trace_line.specs.declared.line.Line.TheVariants.{Test, Import}
+use Rattle.trace_line.specs.declared.line.Line.TheVariants.{Name, Profile, Run, Test, Compile, Check, Steps, Storm, Import}
 use Rattle.trace_line.specs.declared.line.LineFault.{LineFault}
 use Rattle.trace_line.specs.declared.line.LineFault.TheVariants.{Usage, NoMemory}
+use Rattle.trace_line.specs.declared.line.StormSize.{StormSize}
+use Rattle.trace_line.specs.declared.questions.DiffQuestion.{DiffQuestion}
+use Rattle.trace_line.specs.declared.questions.NameCommand.{NameCommand}
+use Rattle.trace_line.specs.declared.questions.NameCommand.TheVariants.{Judge, Explain, Match}
+use Rattle.trace_line.specs.declared.questions.NameQuestion.{NameQuestion}
+use Rattle.trace_line.specs.declared.questions.ProfileQuestion.{ProfileQuestion}
+use Rattle.trace_line.specs.declared.questions.ProfileQuestion.TheVariants.{Any, All, Diff, Lint}
 
 -- a command, with what it is asked for
 pub data LineValue : Type 0 where
@@ -56,21 +62,36 @@ abbrev pub import_value : ImportOptions → LineValue
 import_value asked = import_text (option_map (λ name. name.now) asked.profile) asked.owners (map define_value asked.defines.items)
     asked.strict
 
+abbrev pub name_line : NameCommand → List ℕ → List ℕ → Format → LineValue
+name_line Judge = judge
+name_line Explain = explain
+name_line Match = match_name
+
+abbrev pub name_value : NameQuestion → LineValue
+name_value asked = name_line asked.command asked.perms.now asked.name.now asked.format
+
+abbrev pub diff_value : DiffQuestion → LineValue
+diff_value asked = diff asked.old.now (option_map (λ new. new.now) asked.new) (option_map (λ below. below.now) asked.below) asked.each_rule
+    asked.format
+
+abbrev pub profile_value : ProfileQuestion → LineValue
+profile_value (Any perms pattern each_rule format) = any_name perms.now pattern.now each_rule format
+profile_value (All perms pattern format) = all_names perms.now pattern.now format
+profile_value (Diff asked) = diff_value asked
+profile_value (Lint format) = lint format
+
+abbrev pub storm_value : StormSize → LineValue
+storm_value size = storm size.sessions size.opens size.changes
+
 abbrev pub line_value : Line → LineValue
-line_value (Judge perms name format) = judge perms.now name.now format
-line_value (Explain perms name format) = explain perms.now name.now format
-line_value (Any perms pattern each_rule format) = any_name perms.now pattern.now each_rule format
-line_value (All perms pattern format) = all_names perms.now pattern.now format
-line_value (Diff old new below each_rule format) =
-    diff old.now (option_map (λ new. new.now) new) (option_map (λ below. below.now) below) each_rule format
-line_value (Lint format) = lint format
+line_value (Name asked) = name_value asked
+line_value (Profile asked) = profile_value asked
 line_value (Run capacity) = run capacity
 line_value (Test capacity format) = test capacity format
 line_value (Compile depth) = compile depth
 line_value Check = check
-line_value (Match perms name format) = match_name perms.now name.now format
 line_value (Steps capacity) = steps capacity
-line_value (Storm sessions opens changes) = storm sessions opens changes
+line_value (Storm size) = storm_value size
 line_value (Import asked) = import_value asked
 
 -- how many entries a tree has room for, where the command has one

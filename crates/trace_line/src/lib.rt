@@ -10,7 +10,9 @@ mod line;
 mod lines;
 mod options;
 mod parser;
+mod questions;
 
 pub use import::{Define, ImportOptions, OwnerRules};
-pub use line::{Line, LineFault, command_line};
+pub use line::{Line, LineFault, StormSize, command_line};
+pub use questions::{DiffQuestion, NameCommand, NameQuestion, ProfileQuestion};
 pub use trace_report::Format;

@@ -5,10 +5,10 @@ ghost use Rattle.trace_line.specs.inner.Parser.{IsLineFaultOf, IsReadAs};
 
 use crate::import::{ImportOptions, import_in};
 use crate::lines::{
-    all_in, any_in, compile_in, diff_in, explain_in, judge_in, lint_in, match_in, run_in, steps_in,
-    storm_in, test_in,
+    all_in, any_in, compile_in, diff_in, lint_in, name_in, run_in, steps_in, storm_in, test_in,
 };
 use crate::parser::program;
+use crate::questions::{NameCommand, NameQuestion, ProfileQuestion};
 use clap::ArgMatches;
 use clap::error::ErrorKind;
 use names::NoMemory;
@@ -20,76 +20,34 @@ use trace_report::Format;
 /// A command, with what it is asked for.
 #[derive(Debug, Drop, PartialEq, Eq)]
 pub enum Line<'a> {
-    /// `judge [--json] PERMS NAME`
-    Judge {
-        perms: &'a str,
-        name: &'a str,
-        format: Format,
-    },
-    /// `explain [--json] PERMS NAME`
-    Explain {
-        perms: &'a str,
-        name: &'a str,
-        format: Format,
-    },
-    /// `any [--each-rule] [--json] PERMS PATTERN`
-    Any {
-        perms: &'a str,
-        pattern: &'a str,
-        each_rule: bool,
-        format: Format,
-    },
-    /// `all [--json] PERMS PATTERN`
-    All {
-        perms: &'a str,
-        pattern: &'a str,
-        format: Format,
-    },
-    /// `diff [--below PATTERN] [--each-rule] [--json] OLD [NEW]`
-    Diff {
-        old: &'a str,
-        new: Option<&'a str>,
-        below: Option<&'a str>,
-        each_rule: bool,
-        format: Format,
-    },
-    /// `lint [--json]`
-    Lint {
-        format: Format,
-    },
+    /// `judge`, `explain` and `match`: a question about one name.
+    Name(NameQuestion<'a>),
+    /// `any`, `all`, `diff` and `lint`: a question about all names.
+    Profile(ProfileQuestion<'a>),
     /// `run --capacity N`
-    Run {
-        capacity: u32,
-    },
+    Run { capacity: u32 },
     /// `test --capacity N [--json]`
-    Test {
-        capacity: u32,
-        format: Format,
-    },
+    Test { capacity: u32, format: Format },
     /// `compile --depth N`
-    Compile {
-        depth: u16,
-    },
+    Compile { depth: u16 },
     /// `check`
     Check,
-    /// `match [--json] PERMS NAME`
-    Match {
-        perms: &'a str,
-        name: &'a str,
-        format: Format,
-    },
     /// `steps --capacity N`
-    Steps {
-        capacity: u32,
-    },
+    Steps { capacity: u32 },
     /// `storm --sessions N --opens N --changes N`
-    Storm {
-        sessions: u32,
-        opens: u32,
-        changes: u32,
-    },
+    Storm(StormSize),
     /// `import --profile NAME --owner keep|drop --define VAR=VALUE --strict`
     Import(ImportOptions<'a>),
+}
+
+/// The size of a storm.
+#[derive(Clone, Copy, Debug, PartialEq, Eq)]
+pub struct StormSize {
+    pub sessions: u32,
+    /// How often each session opens.
+    pub opens: u32,
+    /// How often the tree is changed meanwhile, and the policy.
+    pub changes: u32,
 }
 
 /// Why a command line can't be followed.
@@ -147,8 +105,8 @@ pub fn command_line<'a, S: AsStr>(alloc: Global, words: &'a [S]) -> Result<Line<
     let matches = matches_of(alloc, words)?;
     let (command, found) = matches.subcommand().unwrap();
     match command {
-        "judge" => Ok(judge_in(found)),
-        "explain" => Ok(explain_in(found)),
+        "judge" => Ok(name_in(NameCommand::Judge, found)),
+        "explain" => Ok(name_in(NameCommand::Explain, found)),
         "any" => Ok(any_in(found)),
         "all" => Ok(all_in(found)),
         "diff" => Ok(diff_in(found)),
@@ -157,7 +115,7 @@ pub fn command_line<'a, S: AsStr>(alloc: Global, words: &'a [S]) -> Result<Line<
         "test" => Ok(test_in(found)),
         "compile" => Ok(compile_in(found)),
         "check" => Ok(Line::Check),
-        "match" => Ok(match_in(found)),
+        "match" => Ok(name_in(NameCommand::Match, found)),
         "steps" => Ok(steps_in(found)),
         "storm" => Ok(storm_in(found)),
         "import" => Ok(Line::Import(import_in(alloc, found)?)),

@@ -1,38 +1,28 @@
 //! The line of each command, by what the parser found.
 ghost use Rattle.std.specs.Prelude.{◌≤◌};
 ghost use Rattle.clap.specs.Words.{found_of, rows_of};
-ghost use Rattle.trace_line.specs.CommandLine.{all_command, any_command, compile_command, diff_command, explain_command, judge_command};
-ghost use Rattle.trace_line.specs.CommandLine.{line_value, lint_command, match_command, run_command, steps_command, storm_command};
+ghost use Rattle.trace_line.specs.CommandLine.{all_command, any_command, compile_command, diff_command};
+ghost use Rattle.trace_line.specs.CommandLine.{line_value, lint_command, run_command, steps_command, storm_command};
 ghost use Rattle.trace_line.specs.CommandLine.{capacity, capacity_of, test_command};
-ghost use Rattle.trace_line.specs.inner.Parser.{IsAsked, IsLineBy};
+ghost use Rattle.trace_line.specs.inner.Parser.{IsAsked, IsLineBy, name_command};
 
 use crate::found::{each_rule_in, format_in, number_in, text_in};
-use crate::line::Line;
+use crate::line::{Line, StormSize};
 use crate::options::{CAPACITY, CHANGES, DEPTH, OPENS, SESSIONS};
+use crate::questions::{DiffQuestion, NameCommand, NameQuestion, ProfileQuestion};
 use clap::ArgMatches;
 
-/// The line of `judge`, by what the parser found.
-pub(crate) fn judge_in<'a>(found: &ArgMatches<'a>) -> Line<'a>
-    requires { IsAsked judge_command (rows_of (found_of found.now)) }
-    ensures { IsLineBy judge_command (rows_of (found_of found.now)) (line_value result) }
+/// The line of a question about one name, by what the parser found.
+pub(crate) fn name_in<'a>(command: NameCommand, found: &ArgMatches<'a>) -> Line<'a>
+    requires { IsAsked (name_command command) (rows_of (found_of found.now)) }
+    ensures { IsLineBy (name_command command) (rows_of (found_of found.now)) (line_value result) }
 {
-    Line::Judge {
+    Line::Name(NameQuestion {
+        command,
         perms: text_in(found, "PERMS"),
         name: text_in(found, "NAME"),
         format: format_in(found),
-    }
-}
-
-/// The line of `explain`.
-pub(crate) fn explain_in<'a>(found: &ArgMatches<'a>) -> Line<'a>
-    requires { IsAsked explain_command (rows_of (found_of found.now)) }
-    ensures { IsLineBy explain_command (rows_of (found_of found.now)) (line_value result) }
-{
-    Line::Explain {
-        perms: text_in(found, "PERMS"),
-        name: text_in(found, "NAME"),
-        format: format_in(found),
-    }
+    })
 }
 
 /// The line of `any`.
@@ -40,12 +30,12 @@ pub(crate) fn any_in<'a>(found: &ArgMatches<'a>) -> Line<'a>
     requires { IsAsked any_command (rows_of (found_of found.now)) }
     ensures { IsLineBy any_command (rows_of (found_of found.now)) (line_value result) }
 {
-    Line::Any {
+    Line::Profile(ProfileQuestion::Any {
         perms: text_in(found, "PERMS"),
         pattern: text_in(found, "PATTERN"),
         each_rule: each_rule_in(found),
         format: format_in(found),
-    }
+    })
 }
 
 /// The line of `all`.
@@ -53,11 +43,11 @@ pub(crate) fn all_in<'a>(found: &ArgMatches<'a>) -> Line<'a>
     requires { IsAsked all_command (rows_of (found_of found.now)) }
     ensures { IsLineBy all_command (rows_of (found_of found.now)) (line_value result) }
 {
-    Line::All {
+    Line::Profile(ProfileQuestion::All {
         perms: text_in(found, "PERMS"),
         pattern: text_in(found, "PATTERN"),
         format: format_in(found),
-    }
+    })
 }
 
 /// The line of `diff`.
@@ -65,13 +55,13 @@ pub(crate) fn diff_in<'a>(found: &ArgMatches<'a>) -> Line<'a>
     requires { IsAsked diff_command (rows_of (found_of found.now)) }
     ensures { IsLineBy diff_command (rows_of (found_of found.now)) (line_value result) }
 {
-    Line::Diff {
+    Line::Profile(ProfileQuestion::Diff(DiffQuestion {
         old: text_in(found, "OLD"),
         new: found.get_str("NEW"),
         below: found.get_str("below"),
         each_rule: each_rule_in(found),
         format: format_in(found),
-    }
+    }))
 }
 
 /// The line of `lint`.
@@ -79,9 +69,9 @@ pub(crate) fn lint_in<'a>(found: &ArgMatches<'a>) -> Line<'a>
     requires { IsAsked lint_command (rows_of (found_of found.now)) }
     ensures { IsLineBy lint_command (rows_of (found_of found.now)) (line_value result) }
 {
-    Line::Lint {
+    Line::Profile(ProfileQuestion::Lint {
         format: format_in(found),
-    }
+    })
 }
 
 /// The line of `run`.
@@ -118,18 +108,6 @@ pub(crate) fn compile_in<'a>(found: &ArgMatches<'a>) -> Line<'a>
     }
 }
 
-/// The line of `match`.
-pub(crate) fn match_in<'a>(found: &ArgMatches<'a>) -> Line<'a>
-    requires { IsAsked match_command (rows_of (found_of found.now)) }
-    ensures { IsLineBy match_command (rows_of (found_of found.now)) (line_value result) }
-{
-    Line::Match {
-        perms: text_in(found, "PERMS"),
-        name: text_in(found, "NAME"),
-        format: format_in(found),
-    }
-}
-
 /// The line of `steps`.
 pub(crate) fn steps_in<'a>(found: &ArgMatches<'a>) -> Line<'a>
     requires { IsAsked steps_command (rows_of (found_of found.now)) }
@@ -146,9 +124,9 @@ pub(crate) fn storm_in<'a>(found: &ArgMatches<'a>) -> Line<'a>
     requires { IsAsked storm_command (rows_of (found_of found.now)) }
     ensures { IsLineBy storm_command (rows_of (found_of found.now)) (line_value result) }
 {
-    Line::Storm {
+    Line::Storm(StormSize {
         sessions: number_in(found, SESSIONS.name),
         opens: number_in(found, OPENS.name),
         changes: number_in(found, CHANGES.name),
-    }
+    })
 }

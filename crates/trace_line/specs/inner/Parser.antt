@@ -14,10 +14,12 @@ use Rattle.clap.specs.declared.error.Error.{Error}
 use Rattle.clap.specs.declared.error.kind.ErrorKind.TheVariants.{OutOfMemory}
 use Rattle.trace_line.specs.CommandLine.{ArgumentForm, CommandForm, Given, LineValue, NumberOption, OptionForm, Wants, command_named}
 use Rattle.trace_line.specs.CommandLine.{commands, has, has_required, import_of, json, line_of, many_texts, no_text, number_by, one_number}
-use Rattle.trace_line.specs.CommandLine.{one_text, option_named, required, text_given, texts_given}
+use Rattle.trace_line.specs.CommandLine.{name_line, one_text, option_named, pair_command, required, text_given, texts_given}
 use Rattle.trace_line.specs.declared.line.LineFault.{LineFault}
 use Rattle.trace_line.specs.declared.line.LineFault.TheVariants.{Usage, NoMemory}
 use Rattle.trace_line.specs.declared.options.NumberOption as declared
+use Rattle.trace_line.specs.declared.questions.NameCommand.{NameCommand}
+use Rattle.trace_line.specs.declared.questions.NameCommand.TheVariants.{Judge, Explain, Match}
 
 -- an out-of-memory error is a fault of memory, and any other is one of usage
 abbrev pub IsLineFaultOf : Error → LineFault → Type 0
@@ -85,6 +87,15 @@ wanted_app =
 
 abbrev pub program_app : App
 program_app = fold with_command wanted_app commands
+
+-- the command of a question about one name
+abbrev pub word_of : NameCommand → List ℕ
+word_of Judge = codes "judge"
+word_of Explain = codes "explain"
+word_of Match = codes "match"
+
+abbrev pub name_command : NameCommand → CommandForm
+name_command command = pair_command (word_of command) (codes "NAME") (name_line command)
 
 -- ---- what is found
 

@@ -5,25 +5,25 @@ use Rattle.trace_line.proofs.CommandLine.{asked, check_line, import_fault, impor
 use Rattle.trace_line.proofs.CommandLine.{import_line, known_command, line_given, opened_line}
 use Rattle.trace_line.proofs.line.command_line.Goals as goal
 
-pub judge_in-requires : goal.judge_in-requires
-judge_in-requires g c =
+pub name_in-requires : goal.name_in-requires
+name_in-requires g c =
     let line = opened_line _ _ _ _ c.in_ok-matches.ensures.ok c.unwrap.ensures c.subcommand.ensures.name c.subcommand.ensures.rows in
     asked _ _ _ line judge_command c.in-judge.is refl
 
 pub returns-in-judge-clause-ok : goal.returns-in-judge-clause-ok
 returns-in-judge-clause-ok g c =
     let line = opened_line _ _ _ _ c.in_ok-matches.ensures.ok c.unwrap.ensures c.subcommand.ensures.name c.subcommand.ensures.rows in
-    line_given _ _ _ line judge_command c.in-judge.is refl _ c.judge_in.ensures
+    line_given _ _ _ line judge_command c.in-judge.is refl _ c.name_in.ensures
 
-pub explain_in-requires : goal.explain_in-requires
-explain_in-requires g c =
+pub name_in-requires-in-explain : goal.name_in-requires-in-explain
+name_in-requires-in-explain g c =
     let line = opened_line _ _ _ _ c.in_ok-matches.ensures.ok c.unwrap.ensures c.subcommand.ensures.name c.subcommand.ensures.rows in
     asked _ _ _ line explain_command c.in-explain.is refl
 
 pub returns-in-explain-clause-ok : goal.returns-in-explain-clause-ok
 returns-in-explain-clause-ok g c =
     let line = opened_line _ _ _ _ c.in_ok-matches.ensures.ok c.unwrap.ensures c.subcommand.ensures.name c.subcommand.ensures.rows in
-    line_given _ _ _ line explain_command c.in-explain.is refl _ c.explain_in.ensures
+    line_given _ _ _ line explain_command c.in-explain.is refl _ c.name_in-in-explain.ensures
 
 pub any_in-requires : goal.any_in-requires
 any_in-requires g c =
@@ -95,15 +95,15 @@ returns-in-compile-clause-ok g c =
     let line = opened_line _ _ _ _ c.in_ok-matches.ensures.ok c.unwrap.ensures c.subcommand.ensures.name c.subcommand.ensures.rows in
     line_given _ _ _ line compile_command c.in-compile.is refl _ c.compile_in.ensures
 
-pub match_in-requires : goal.match_in-requires
-match_in-requires g c =
+pub name_in-requires-in-match : goal.name_in-requires-in-match
+name_in-requires-in-match g c =
     let line = opened_line _ _ _ _ c.in_ok-matches.ensures.ok c.unwrap.ensures c.subcommand.ensures.name c.subcommand.ensures.rows in
     asked _ _ _ line match_command c.in-match.is refl
 
 pub returns-in-match-clause-ok : goal.returns-in-match-clause-ok
 returns-in-match-clause-ok g c =
     let line = opened_line _ _ _ _ c.in_ok-matches.ensures.ok c.unwrap.ensures c.subcommand.ensures.name c.subcommand.ensures.rows in
-    line_given _ _ _ line match_command c.in-match.is refl _ c.match_in.ensures
+    line_given _ _ _ line match_command c.in-match.is refl _ c.name_in-in-match.ensures
 
 pub steps_in-requires : goal.steps_in-requires
 steps_in-requires g c =
