@@ -9,7 +9,6 @@ ghost use Rattle.trace_report.specs.Output.{line};
 ghost use Rattle.trace_report.specs.Streams.{EndsInOne, IsTold};
 ghost use Rattle.trace_report.specs.declared.status.Status.TheVariants.{Done};
 ghost use Rattle.trace_import.specs.Import.{ImportEndsOver, IsImportOutput, account_text, import_output, refusal_of};
-ghost use Rattle.trace_import.specs.inner.Reading.{IsTextRead};
 
 use crate::account::{account_text, refusal_of};
 use names::NoMemory;
@@ -17,7 +16,7 @@ use profile_import::{ImportFailure, ImportFault, ImportOptions, Imported, import
 use rule_writer::write;
 use std::alloc::Global;
 use std::io::{Read, Write};
-use trace_report::{Fault, Status, fail, write_answer, write_through};
+use trace_report::{Status, fail, read_all, write_through};
 
 /// Reads a flattened profile text from `input`, writes the requested profile to `answers`, in canonical text, and then the account
 /// to `faults`. If a text is refused, that is reported on `faults`, and nothing is written to `answers`.
@@ -40,15 +39,6 @@ pub fn import<R: Read, A: Write, F: Write>(
         Ok(text) => import_text(alloc, options, &text, answers, faults),
         Err(fault) => fail(faults, fault, fault.status()),
     }
-}
-
-/// All that is left to read.
-fn read_all<R: Read>(alloc: Global, input: &mut R) -> Result<Vec<u8>, Fault>
-    ensures { IsTextRead (R.remaining input.old) result }
-{
-    let mut text = Vec::new(alloc);
-    input.read_to_end(&mut text)?;
-    Ok(text)
 }
 
 /// Imports a text that was read.

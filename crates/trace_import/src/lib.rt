@@ -1,7 +1,7 @@
 //! The command `import`: a profile of a flattened AppArmor profile text in this program's language, and an account of what of the
 //! text isn't in it unchanged, over any streams.
 //!
-//! The definitions to believe are those in `specs/`; those in `specs/inner/` are of private contracts and proofs.
+//! The definitions to believe are those in `specs/`.
 #![tactic(auto)]
 
 mod account;
