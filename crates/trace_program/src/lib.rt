@@ -5,6 +5,7 @@
 #![tactic(auto)]
 
 mod importing;
+mod judging;
 mod plain;
 mod program;
 mod questions;

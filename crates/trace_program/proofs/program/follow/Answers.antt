@@ -2,6 +2,16 @@
 use Rattle.trace_report.proofs.Endings.{text_of}
 use Rattle.trace_program.proofs.program.follow.Goals as goal
 
+pub returns-in-Name-clause-output : goal.returns-in-Name-clause-output
+returns-in-Name-clause-output g c limit =
+    let asked = c.ask_of_name.ensures.output limit (g.T.NamedTexts.known c.args.texts.now) in
+    (asked.0, asked.1, rw c.in-Name.is asked.2)
+
+pub returns-in-Profile-clause-output : goal.returns-in-Profile-clause-output
+returns-in-Profile-clause-output g c limit =
+    let asked = c.ask_of_profile.ensures.output limit in
+    (asked.0, asked.1, rw c.in-Profile.is asked.2)
+
 pub returns-in-Run-clause-output : goal.returns-in-Run-clause-output
 returns-in-Run-clause-output g c limit =
     let ran = c.run.ensures limit in
@@ -20,5 +30,4 @@ returns-in-Steps-clause-output g c limit =
 pub returns-in-Storm-clause-output : goal.returns-in-Storm-clause-output
 returns-in-Storm-clause-output g c limit =
     let text = text_of (g.R.Read.remaining c.args.input.now) in
-    let ended = rw (c.from-in-Storm.ensures, c.from.ensures) at c.storm.ensures in
-    (text.0, text.1, rw c.in-Storm.is ended)
+    (text.0, text.1, rw c.in-Storm.is c.storm.ensures)
