@@ -31,6 +31,7 @@ pub fn stand_ins(
     cases: &[IdleCase],
 ) -> Result<Vec<Vec<u16>>, QuestionFault>
     ensures ok { IfOk result (λ lists. AreStandIns pair.now.rules cases.now (map (λ list. list.items) lists.items)) }
+    ensures few { IfOk result (λ _. ¬ (IsQuestionFault pair.now.rules [] [] QuestionFault.TooManyStates)) }
     ensures err { IfErr result (IsQuestionFault pair.now.rules [] []) }
 {
     // As for what rules decide, two lists of rules are enough.

@@ -9,7 +9,7 @@ use Rattle.rule_influence.specs.StandIns.{IsAscending}
 use Rattle.rule_influence.specs.declared.standing.IdleCase.{IdleCase}
 use Rattle.rule_influence.specs.inner.Candidates.{IsCandidateFor}
 use Rattle.rule_influence.specs.inner.Lists.{AreNotedAt, list_at}
-use Rattle.rule_influence.proofs.ReversedSets.{pair_fault, passed_on}
+use Rattle.rule_influence.proofs.ReversedSets.{pair_answer, pair_fault, passed_on}
 use Rattle.rule_influence.proofs.StandInLists.{AreFoundSoFar, found_first, found_last, kept_more, noted_more}
 use Rattle.rule_influence.proofs.standing.stand_ins.Goals.{in-Some+then-some_missing+in-Ok-name+in-Ok-note_name}
 use Rattle.rule_influence.proofs.standing.stand_ins.Goals.{in-Some+else-some_missing, in_default-records}
@@ -102,6 +102,11 @@ returns-clause-ok c =
     (subst (λ (z : List (List ℕ)). AreFoundSoFar c.args.pair.now.rules z c.args.cases.now c.loop-index.index c.loop-index.lists.items)
     names
     c.loop-index.invariant.found)
+
+pub returns-clause-few : goal.returns-clause-few
+returns-clause-few c =
+    pair_answer c.args.pair.now.rules c.rules.result.now.rules c.reversed.result.now.rules c.rules-2.result.now.rules c.rules.ensures.rules
+    c.in_ok-comparison.ensures.few
 
 pub returns-in_err-comparison-clause-err : goal.returns-in_err-comparison-clause-err
 returns-in_err-comparison-clause-err c =
